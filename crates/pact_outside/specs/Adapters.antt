@@ -1,0 +1,19 @@
+-- The adapters of real files and writers: what a call leaves, whatever the system answered.
+use Rattle.std.specs.Prelude.{ℕ, Bool, if◌then◌else◌, List, Result, is_ok}
+use Rattle.pact_outside.specs.Memory.{next_count}
+
+-- a count of faults after a call with that answer
+abbrev pub faults_after : {T E : Type 0} → ℕ → Result T E → ℕ
+faults_after faults result = if is_ok result then faults else next_count faults
+
+pub record FileState : Type 0 where
+  pub name : List ℕ
+  pub is_open : Bool
+  pub faults : ℕ
+
+-- a feed after a call on the file of that name: a failure is counted, and closes the file
+abbrev pub after_call : {T E : Type 0} → FileState → List ℕ → Result T E → FileState
+after_call feed name result = record { name = name; is_open = is_ok result; faults = faults_after feed.faults result }
+
+pub record StreamState : Type 0 where
+  pub faults : ℕ

@@ -1,0 +1,41 @@
+-- What a feed and a sink do.
+use Rattle.std.specs.Prelude.{◌≡◌, ◌≤◌, ◌<◌, ◌+◌, ◌-◌, ◌^◌, ℕ, min, Bool, true, false, List, [], ◌∷◌, ◌++◌, length, take, drop, Option, Some, None, Result, OnErr, IfSome, cond, eqb, ◌&&◌}
+use Rattle.pact_outside.specs.declared.files.NamedFile.{NamedFile}
+
+-- a count that stands still at its last value has risen
+abbrev pub Rose : ℕ → ℕ → Type 0
+Rose before now = min (before + 1) (2 ^ 64 - 1) ≤ now
+
+-- a count never falls, and an error comes only where it rose
+pub record HasCause {T E : Type 0} (before now : ℕ) (result : Result T E) : Type 0 where
+  pub later : before ≤ now
+  pub failed : OnErr result (Rose before now)
+
+abbrev pub same_bytes : List ℕ → List ℕ → Bool
+same_bytes [] [] = true
+same_bytes [] (b ∷ bs) = false
+same_bytes (a ∷ as1) [] = false
+same_bytes (a ∷ as1) (b ∷ bs) = eqb a b && same_bytes as1 bs
+
+-- the bytes of the first file of that name
+abbrev pub file_named : List NamedFile → List ℕ → Option (List ℕ)
+file_named [] name = None
+file_named (f ∷ fs) name = cond (same_bytes f.name name) (Some f.bytes) (file_named fs name)
+
+-- where the files are told, there is a file of that name, and all of its bytes are left
+abbrev pub Opens : Option (List NamedFile) → List ℕ → Option (List ℕ) → Type 0
+Opens None name left = left ≡ None
+Opens (Some files) name left = (bytes : List ℕ) × (file_named files name ≡ Some bytes) × (left ≡ Some bytes)
+
+-- a read gives the next bytes that are left, at least one where one is
+pub record Reads (room : ℕ) (old new : Option (List ℕ)) (count : ℕ) (buf : List ℕ) : Type 0 where
+  pub fits : count ≤ room
+  pub told : IfSome old (λ all. (take count buf ≡ take count all) × (new ≡ Some (drop count all)) × (count ≤ length all) × (count ≡ 0 → all ≡ []))
+  pub untold : old ≡ None → new ≡ None
+
+-- a write takes a front of the piece, at least one byte
+pub record Takes (old new : Option (List ℕ)) (piece : List ℕ) (count : ℕ) : Type 0 where
+  pub some : 0 < count
+  pub fits : count ≤ length piece
+  pub told : IfSome old (λ all. new ≡ Some (all ++ take count piece))
+  pub untold : old ≡ None → new ≡ None

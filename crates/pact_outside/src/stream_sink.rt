@@ -1,0 +1,63 @@
+ghost use Rattle.std.specs.Prelude.{◌≡◌, ◌<◌, length, IfOk};
+ghost use Rattle.pact_outside.specs.Outside.{HasCause, Takes};
+ghost use Rattle.pact_outside.specs.Adapters.{faults_after};
+
+use crate::{Failed, Sink};
+use std::io::Write;
+use std::marker::Model;
+
+/// A sink into a writer, such as the standard output. It tells nothing of what the writer holds.
+/// Each write is flushed, so that a writer with a buffer keeps nothing back where the program ends;
+/// where the flush fails, its bytes may be out or not.
+#[derive(Drop)]
+pub struct StreamSink<W: Write> {
+    to: W,
+    faults: u64,
+}
+
+impl<W: Write> Model for StreamSink<W> {
+    ghost use Rattle.pact_outside.specs.Adapters.{StreamState};
+
+    ghost Value = { StreamState };
+
+    ghost view = { λ s. record { faults = s.faults } };
+}
+
+impl<W: Write> StreamSink<W> {
+    pub fn new(to: W) -> StreamSink<W>
+        ensures no_fault { result.faults ≡ 0 }
+    {
+        StreamSink { to, faults: 0 }
+    }
+
+    pub fn faults(&self) -> u64
+        ensures { result ≡ self.now.faults }
+    {
+        self.faults
+    }
+}
+
+impl<W: Write> Sink for StreamSink<W> {
+    ghost use Rattle.std.specs.Prelude.{None};
+
+    ghost taken = { λ _. None };
+
+    ghost faults = { λ s. s.faults };
+
+    fn write(&mut self, piece: &[u8]) -> Result<usize, Failed>
+        requires { 0 < length piece.now }
+        ensures after { self.new.faults ≡ faults_after self.old.faults result }
+
+        ensures takes { IfOk result (λ count. Takes None None piece.now count) }
+        ensures cause { HasCause self.old.faults self.new.faults result }
+    {
+        if let Ok(count) = self.to.write(piece) {
+            // A writer that took nothing would be asked for ever.
+            if count > 0 && self.to.flush().is_ok() {
+                return Ok(count);
+            }
+        }
+        self.faults = self.faults.saturating_add(1);
+        Err(Failed)
+    }
+}

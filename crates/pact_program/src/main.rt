@@ -1,0 +1,33 @@
+//! The program: the command line, the system's files and the standard streams for `pact_main`.
+#![tactic(auto)]
+
+use pact_outside::{FileFeed, StreamSink};
+use pact_record::OutOfMemory;
+use pact_top::pact_main;
+use std::process::ExitCode;
+use std::{env, io};
+
+// The command line's words, without the program's own name. Words that are no text are none.
+fn read_words(rt: &HostRuntime) -> Result<Vec<String>, OutOfMemory> {
+    match env::args(rt) {
+        Ok(words) => words.skip(1).collect(rt.alloc()),
+        Err(error) if error.kind() == io::ErrorKind::OutOfMemory => Err(OutOfMemory),
+        Err(_) => Ok(Vec::new(rt.alloc())),
+    }
+}
+
+fn run(rt: &HostRuntime) -> Result<u8, OutOfMemory> {
+    let words = read_words(rt)?;
+    let words: Vec<&str> = words.iter().map(|word| word.as_str()).collect(rt.alloc())?;
+    let mut feed = FileFeed::new(rt);
+    let mut out = StreamSink::new(rt.stdout());
+    let mut err = StreamSink::new(rt.stderr());
+    Ok(pact_main(rt.alloc(), &words, &mut feed, &mut out, &mut err))
+}
+
+fn main(rt: HostRuntime) -> ExitCode {
+    match run(&rt) {
+        Ok(status) => ExitCode::from(status),
+        Err(_) => ExitCode::from(1),
+    }
+}

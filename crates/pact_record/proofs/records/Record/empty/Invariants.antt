@@ -1,0 +1,6 @@
+use Rattle.std.proofs.Common.{◌≡◌, replicate}
+use Rattle.pact_record.specs.declared.values.Value.TheVariants.{Null}
+use Rattle.pact_record.proofs.records.Record.empty.Given as goal
+
+abbrev pub invariant-loop : goal.invariant-loop
+invariant-loop l = l.values.items ≡ replicate l.counter Null

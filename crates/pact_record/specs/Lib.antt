@@ -1,0 +1,3 @@
+pub mod Value
+pub mod Record
+pub mod Order

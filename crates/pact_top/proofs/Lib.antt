@@ -1,0 +1,16 @@
+pub mod Answered
+pub mod Candidate
+pub mod Exclusive
+pub mod FirstPlans
+pub mod Fronts
+pub mod Numerals
+pub mod Pieces
+pub mod PlainWords
+pub mod ProgramPieces
+pub mod Records
+pub mod Rows
+pub mod Splits
+pub mod Tellings
+pub mod Told
+pub mod Unique
+pub mod Unread

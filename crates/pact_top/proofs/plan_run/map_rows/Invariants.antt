@@ -1,0 +1,10 @@
+use Rattle.std.proofs.Common.{◌≡◌, take, length}
+use Rattle.std.specs.List.{AllByRecursion}
+use Rattle.std.specs.Prelude.{flat_map}
+use Rattle.tac_syntax.specs.Call.{of_record, Out}
+use Rattle.pact_top.proofs.plan_run.map_rows.Given as goal
+
+abbrev pub invariant-loop-row : goal.invariant-loop-row
+invariant-loop-row l =
+    (l.bag.items ≡ flat_map (λ row. Out l.fields l.body (of_record row)) (take l.row-index l.rows))
+    × AllByRecursion (λ row. length row ≡ l.fields) l.bag.items

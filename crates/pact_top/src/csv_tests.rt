@@ -1,0 +1,119 @@
+ghost use Rattle.std.specs.Prelude.{◌≡◌, length, IfOk};
+
+use crate::csv_rows::{read_rows, write_rows};
+use crate::lines::sorted_lines;
+use pact_record::{OutOfMemory, Record, Value};
+use std::alloc::Global;
+use std::test::Fail;
+
+// The rows of a text whose columns go to the third field and the first of three, written again.
+fn rewritten(alloc: Global, text: &[u8]) -> Result<Option<Vec<u8>>, OutOfMemory> {
+    match read_rows(alloc, text, &[2, 0], 3)? {
+        Some(rows) => Ok(Some(Vec::from_slice(alloc, write_rows(alloc, &rows)?.bytes())?)),
+        None => Ok(None),
+    }
+}
+
+#[test]
+fn reads_rows(rt: HostRuntime) -> Result<(), Fail> {
+    let table: [(&[u8], &[u8]); 15] = [
+        (b"", b""),
+        (b"1,2\r\n3,4\r\n", b"2,,1\n4,,3\n"),
+        (b"1,2\n3,4", b"2,,1\n4,,3\n"),
+        (b"\n\r\n1,2\n\n3,4\n\n", b"2,,1\n4,,3\n"),
+        (b"\xEF\xBB\xBF1,2\n", b"2,,1\n"),
+        (b"\"1\",\"-2\"\n", b"-2,,1\n"),
+        (b",7\n", b"7,,\n"),
+        (b"7,\n", b",,7\n"),
+        (b"\"\",7\n", b"7,,\n"),
+        (b",\n", b",,\n"),
+        (b"+5,-0\n", b"0,,5\n"),
+        (b"007,-007\n", b"-7,,7\n"),
+        (b"9223372036854775807,1\n", b"1,,9223372036854775807\n"),
+        (b"1,-9223372036854775808\n", b"-9223372036854775808,,1\n"),
+        (b"1,2\n1,2\n", b"2,,1\n2,,1\n"),
+    ];
+    for (text, want) in table {
+        let found = rewritten(rt.alloc(), text)?.ok_or("bad")?;
+        assert_eq!(rt; found.as_slice(), want);
+    }
+    Ok(())
+}
+
+#[test]
+fn refuses_bad_rows(rt: HostRuntime) -> Result<(), Fail> {
+    let table: [&[u8]; 11] = [
+        b"9223372036854775808,1\n",
+        b"1,-9223372036854775809\n",
+        b"x,1\n",
+        b"1, 2\n",
+        b"1,+\n",
+        b"1.0,2\n",
+        b"1,2,3\n",
+        b"1,2,\n",
+        b"1\n",
+        b"1,\xFF\n",
+        b"1,2\n3,x\n5,6\n",
+    ];
+    for text in table {
+        assert!(rt; rewritten(rt.alloc(), text)?.is_none());
+    }
+    Ok(())
+}
+
+#[test]
+fn reads_one_column(rt: HostRuntime) -> Result<(), Fail> {
+    let table: [(&[u8], &[u8]); 3] = [
+        (b"5\n-6", b"5\n-6\n"),
+        (b"\"\"\n5\n", b"\"\"\n5\n"),
+        (b"\n5\n", b"5\n"),
+    ];
+    for (text, want) in table {
+        let rows = read_rows(rt.alloc(), text, &[0], 1)?.ok_or("bad")?;
+        assert_eq!(rt; write_rows(rt.alloc(), &rows)?.bytes(), want);
+    }
+    assert!(rt; read_rows(rt.alloc(), b"1,2\n", &[0], 1)?.is_none());
+    Ok(())
+}
+
+fn pair(alloc: Global, left: Value, right: Value) -> Result<Record, OutOfMemory>
+    ensures { IfOk result (λ row. length row ≡ 2) }
+{
+    let mut row = Record::empty(alloc, 2)?;
+    row.set(0, left);
+    row.set(1, right);
+    Ok(row)
+}
+
+#[test]
+fn writes_rows(rt: HostRuntime) -> Result<(), Fail> {
+    let rows = vec![in rt.alloc();
+        pair(rt.alloc(), Value::Null, Value::Int(-5))?,
+        pair(rt.alloc(), Value::Int(i64::MIN), Value::Null)?,
+        pair(rt.alloc(), Value::Null, Value::Null)?,
+    ]?;
+    let text = write_rows(rt.alloc(), &rows)?;
+    assert_eq!(rt; text.bytes(), b",-5\n-9223372036854775808,\n,\n".as_slice());
+    let blank = [Record::empty(rt.alloc(), 1)?];
+    assert_eq!(rt;
+        write_rows(rt.alloc(), &blank)?.bytes(),
+        b"\"\"\n".as_slice()
+    );
+    assert_eq!(rt; write_rows(rt.alloc(), &[])?.bytes(), b"".as_slice());
+    Ok(())
+}
+
+#[test]
+fn sorts_lines(rt: HostRuntime) -> Result<(), Fail> {
+    let bag = vec![in rt.alloc();
+        pair(rt.alloc(), Value::Int(1), Value::Int(10))?,
+        pair(rt.alloc(), Value::Int(2), Value::Int(-9))?,
+        pair(rt.alloc(), Value::Int(3), Value::Null)?,
+        pair(rt.alloc(), Value::Int(2), Value::Int(-9))?,
+    ]?;
+    let text = sorted_lines(rt.alloc(), &bag, &[1, 0])?;
+    assert_eq!(rt; text.bytes(), b",3\n-9,2\n-9,2\n10,1\n".as_slice());
+    let text = sorted_lines(rt.alloc(), &bag, &[1])?;
+    assert_eq!(rt; text.bytes(), b"\"\"\n-9\n-9\n10\n".as_slice());
+    Ok(())
+}

@@ -1,0 +1,176 @@
+ghost use Rattle.std.specs.Prelude.{◌≡◌, ◌≢◌, ◌<◌, ◌↔◌, IsTrue};
+ghost use Rattle.std.specs.List.{AllByRecursion};
+ghost use Rattle.tac_syntax.specs.Valid.{AreValid, IsValid};
+ghost use Rattle.pact_top.specs.Program.{AreDifferent, IsAbsent, IsFieldList, IsFirstForm, all_bytes};
+ghost use Rattle.pact_top.specs.Program as specs;
+
+use crate::program::Program;
+use pact_record::MAX_FIELDS;
+use tac_syntax::{RECORD_REGISTERS, Stmt, VALUE_REGISTERS};
+
+/// A function has at most so many statements.
+pub const MAX_STATEMENTS: usize = 1000;
+
+/// A name has at most so many bytes.
+pub const MAX_NAME: usize = 32;
+
+/// A file's name has at most so many bytes.
+pub const MAX_FILE_NAME: usize = 200;
+
+fn is_name_byte(byte: u8) -> bool
+    ensures { result ≡ specs.is_name_byte byte }
+{
+    byte.is_ascii_lowercase() || byte.is_ascii_digit() || byte == b'_'
+}
+
+fn are_name_bytes(bytes: &[u8]) -> bool
+    ensures { result ≡ all_bytes specs.is_name_byte bytes.now }
+{
+    for byte in bytes {
+        if !is_name_byte(*byte) {
+            return false;
+        }
+    }
+    true
+}
+
+fn is_name(name: &[u8]) -> bool
+    ensures { result ≡ specs.is_name name.now }
+{
+    match name {
+        [first, others @ ..] => first.is_ascii_lowercase()
+            && are_name_bytes(others)
+            && name.len() <= MAX_NAME,
+        [] => false,
+    }
+}
+
+fn is_file_byte(byte: u8) -> bool
+    ensures { result ≡ specs.is_file_byte byte }
+{
+    byte.is_ascii_lowercase()
+        || byte.is_ascii_uppercase()
+        || byte.is_ascii_digit()
+        || byte == b'.'
+        || byte == b'_'
+        || byte == b'-'
+        || byte == b'/'
+}
+
+fn are_file_bytes(bytes: &[u8]) -> bool
+    ensures { result ≡ all_bytes specs.is_file_byte bytes.now }
+{
+    for byte in bytes {
+        if !is_file_byte(*byte) {
+            return false;
+        }
+    }
+    true
+}
+
+fn is_file_name(name: &[u8]) -> bool
+    ensures { result ≡ specs.is_file_name name.now }
+{
+    !name.is_empty() && name.len() <= MAX_FILE_NAME && are_file_bytes(name)
+}
+
+fn is_absent(field: u32, list: &[u32]) -> bool
+    ensures { IsTrue result ↔ IsAbsent field list.now }
+{
+    for other in list {
+        if *other == field {
+            return false;
+        }
+    }
+    true
+}
+
+fn are_different(list: &[u32]) -> bool
+    ensures { IsTrue result ↔ AreDifferent list.now }
+{
+    for (n, field) in list.iter().enumerate() {
+        if !is_absent(*field, &list[n + 1..]) {
+            return false;
+        }
+    }
+    true
+}
+
+fn are_below(fields: u32, list: &[u32]) -> bool
+    ensures { IsTrue result ↔ AllByRecursion (λ field. field < fields) list.now }
+{
+    for field in list {
+        if *field >= fields {
+            return false;
+        }
+    }
+    true
+}
+
+fn is_field_list(fields: u32, list: &[u32]) -> bool
+    ensures { IsTrue result ↔ IsFieldList fields list.now }
+{
+    !list.is_empty() && list.len() <= MAX_FIELDS as usize && are_below(fields, list)
+}
+
+fn is_valid(fields: u32, stmt: &Stmt) -> bool
+    ensures { IsTrue result ↔ IsValid fields stmt.now }
+{
+    match *stmt {
+        Stmt::Get { to, from: _, field } => to < VALUE_REGISTERS && field < fields,
+        Stmt::New { to } => to < RECORD_REGISTERS,
+        Stmt::Copy { to, from: _ } => to < RECORD_REGISTERS,
+        Stmt::Set { to, field, value } => to < RECORD_REGISTERS
+            && field < fields
+            && value < VALUE_REGISTERS,
+        Stmt::Emit { from } => from < RECORD_REGISTERS,
+    }
+}
+
+fn are_valid(fields: u32, stmts: &[Stmt]) -> bool
+    ensures { IsTrue result ↔ AreValid fields stmts.now }
+{
+    for stmt in stmts {
+        if !is_valid(fields, stmt) {
+            return false;
+        }
+    }
+    true
+}
+
+fn are_columns(fields: u32, list: &[u32]) -> bool
+    ensures { IsTrue result ↔ (IsFieldList fields list.now × AreDifferent list.now) }
+{
+    is_field_list(fields, list) && are_different(list)
+}
+
+fn are_operator_names(operator: &[u8], source: &[u8]) -> bool
+    ensures { IsTrue result
+        ↔ (IsTrue (specs.is_name operator.now) × IsTrue (specs.is_name source.now) × (operator.now ≢ source.now)) }
+{
+    is_name(operator) && is_name(source) && operator != source
+}
+
+fn are_names(program: &Program) -> bool
+    ensures { let p = program.now in IsTrue result
+        ↔ (IsTrue (specs.is_name p.operator) × IsTrue (specs.is_name p.source) × (p.operator ≢ p.source)
+        × IsTrue (specs.is_file_name p.file) × IsTrue (specs.is_name p.function)) }
+{
+    are_operator_names(program.operator().bytes(), program.source().bytes())
+        && is_file_name(program.file().bytes())
+        && is_name(program.function().name.bytes())
+}
+
+/// Whether a program is one that a text may spell.
+pub fn is_first_form(program: &Program) -> bool
+    ensures { IsTrue result ↔ IsFirstForm program.now }
+{
+    let fields = program.fields();
+    1 <= fields
+        && fields <= MAX_FIELDS
+        && are_names(program)
+        && are_columns(fields, program.columns())
+        && is_field_list(fields, program.sink())
+        && program.body().len() <= MAX_STATEMENTS
+        && are_valid(fields, program.body().stmts())
+}

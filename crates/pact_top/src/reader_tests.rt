@@ -1,0 +1,131 @@
+use crate::program::Program;
+use crate::reader::read_program;
+use crate::spelling::write_program;
+use std::alloc::Global;
+use std::test::Fail;
+use tac_syntax::{Rec, Stmt};
+
+const TWO: &str = "pact 1
+fields 4
+source d d.csv int:0 int:1
+function two map
+  r0 = copy in
+  emit r0
+  emit r0
+end
+map m two d
+sink m 0 1
+";
+
+const EVERY_STATEMENT: &str = "pact 1
+fields 2
+source numbers data/In-1.csv int:1
+function every map
+  v31 = get in 1
+  r7 = new
+  set r7 0 v31
+  r0 = copy in
+  emit r7
+end
+map each every numbers
+sink each 1 1 0
+";
+
+const NO_STATEMENT: &str = "pact 1
+fields 64
+source s s int:63
+function s map
+end
+map f_1 s s
+sink f_1 63
+";
+
+// Each is a small change of the first program: what it replaces, and by what.
+const REFUSED: [(&str, &str); 26] = [
+    ("pact 1", "pact 2"),
+    ("fields 4\n", "fields 4\n# four\n"),
+    ("fields 4\n", "fields 4 # four\n"),
+    ("fields 4", "fields  4"),
+    ("fields 4", " fields 4"),
+    ("fields 4\n", "fields 4\r\n"),
+    ("fields 4\n", "fields 4\n\n"),
+    ("sink m 0 1\n", "sink m 0 1"),
+    ("sink m 0 1\n", "sink m 0 1\nsink m 0 1\n"),
+    ("int:1", "int:4"),
+    ("int:1", "int:0"),
+    ("int:0 int:1", "int:0 1"),
+    (" int:0 int:1", ""),
+    ("sink m 0 1", "sink m"),
+    ("sink m 0 1", "sink m 0 4"),
+    ("map m two d\nsink m", "map d two d\nsink d"),
+    ("fields 4", "fields 65"),
+    ("fields 4", "fields 04"),
+    ("fields 4", "fields +4"),
+    ("map m two d", "map m three d"),
+    ("map m two d", "map m two e"),
+    ("sink m", "sink n"),
+    ("r0 = copy in", "r8 = copy in"),
+    ("  r0 = copy", "  v32 = get in 0\n  r0 = copy"),
+    ("  r0 = copy", "  v0 = get in 4\n  r0 = copy"),
+    ("source d d.csv", "source d d,csv"),
+];
+
+fn is_read_back(alloc: Global, text: &str) -> Result<bool, Fail> {
+    let Some(program) = read_program(alloc, text.as_bytes())? else {
+        return Ok(false);
+    };
+    let spelled = write_program(alloc, &program)?;
+    Ok(spelled.bytes() == text.as_bytes())
+}
+
+fn has_first_pieces(program: &Program) -> bool {
+    program.fields() == 4
+        && program.source().bytes() == b"d".as_slice()
+        && program.file().bytes() == b"d.csv".as_slice()
+        && program.columns() == [0, 1].as_slice()
+        && program.function().name.bytes() == b"two".as_slice()
+        && program.operator().bytes() == b"m".as_slice()
+        && program.sink() == [0, 1].as_slice()
+}
+
+#[test]
+fn reads_the_pieces(rt: HostRuntime) -> Result<(), Fail> {
+    let program = read_program(rt.alloc(), TWO.as_bytes())?;
+    let Some(program) = program else {
+        assert!(rt; false);
+        return Ok(());
+    };
+    assert!(rt; has_first_pieces(&program));
+    let emit = Stmt::Emit { from: 0 };
+    let copy = Stmt::Copy {
+        to: 0,
+        from: Rec::Input,
+    };
+    assert!(rt; program.body().stmts() == [copy, emit, emit].as_slice());
+    Ok(())
+}
+
+#[test]
+fn reads_and_writes_back(rt: HostRuntime) -> Result<(), Fail> {
+    for text in [TWO, EVERY_STATEMENT, NO_STATEMENT] {
+        assert!(rt; is_read_back(rt.alloc(), text)?);
+    }
+    Ok(())
+}
+
+#[test]
+fn refuses_other_texts(rt: HostRuntime) -> Result<(), Fail> {
+    assert!(rt; !is_read_back(rt.alloc(), "")?);
+    for (old, new) in REFUSED {
+        let Some((before, after)) = TWO.split_once(old) else {
+            assert!(rt; false);
+            return Ok(());
+        };
+        let text = format!(in rt.alloc(); "{before}{new}{after}")?;
+        assert!(rt;
+            read_program(rt.alloc(), text.as_bytes())?.is_none(),
+            "{new}"
+        );
+    }
+    Ok(())
+}

@@ -1,0 +1,96 @@
+//! Why a call gives no answer, and what is told of it.
+
+ghost use Rattle.std.specs.Prelude.{◌≡◌, OnOk, OnErr};
+ghost use Rattle.pact_outside.specs.Outside.{HasCause};
+ghost use Rattle.pact_top.specs.Transfer.{Gains, GainsFront, Tells};
+ghost use Rattle.pact_top.specs.Refusal.{status_of, unreadable_line, refusal_line};
+ghost use Rattle.pact_top.specs.declared.refusals.Refusal.TheVariants as refusals;
+
+use crate::transfer::{Stop, write_all};
+use pact_outside::{Failed, Sink};
+use pact_record::{Bytes, OutOfMemory};
+
+#[derive(Debug, Drop)]
+pub enum Refusal {
+    OutOfMemory,
+    Usage,
+    /// The file of this name can't be read.
+    CannotRead(Bytes),
+    CannotWrite,
+    NotFirstForm,
+}
+
+impl From<OutOfMemory> for Refusal {
+    ghost from_gives = { λ _ r. r ≡ refusals.OutOfMemory };
+
+    fn from(_: OutOfMemory) -> Refusal {
+        Refusal::OutOfMemory
+    }
+}
+
+impl Refusal {
+    ghost use Rattle.pact_top.specs.Refusal.{stopped};
+
+    /// Why the file of that name wasn't read.
+    pub fn of_stop(stop: Stop, name: Bytes) -> Refusal
+        ensures { result ≡ stopped stop name }
+    {
+        match stop {
+            Stop::Memory => Refusal::OutOfMemory,
+            Stop::Fault => Refusal::CannotRead(name),
+            Stop::Long => Refusal::NotFirstForm,
+        }
+    }
+
+    pub fn status(&self) -> u8
+        ensures { result ≡ status_of self.now }
+    {
+        match self {
+            Refusal::OutOfMemory => 1,
+            Refusal::Usage => 2,
+            Refusal::CannotRead(_) => 3,
+            Refusal::CannotWrite => 4,
+            Refusal::NotFirstForm => 5,
+        }
+    }
+}
+
+// A line that can't be written changes no status.
+fn tell_line<E: Sink>(err: &mut E, line: &[u8])
+    ensures { Tells (E.taken err.old) (E.taken err.new) (E.faults err.old) (E.faults err.new) line.now }
+{
+    match write_all(err, line) {
+        Ok(()) | Err(Failed) => {}
+    }
+}
+
+fn write_unreadable<E: Sink>(err: &mut E, name: &[u8]) -> Result<(), Failed>
+    ensures all { OnOk result (Gains (E.taken err.old) (E.taken err.new) (unreadable_line name.now)) }
+    ensures part { OnErr result (GainsFront (E.taken err.old) (E.taken err.new) (unreadable_line name.now)) }
+    ensures cause { HasCause (E.faults err.old) (E.faults err.new) result }
+{
+    write_all(err, b"cannot read ")?;
+    write_all(err, name)?;
+    write_all(err, b"\n")
+}
+
+fn tell_unreadable<E: Sink>(err: &mut E, name: &[u8])
+    ensures { Tells (E.taken err.old) (E.taken err.new) (E.faults err.old) (E.faults err.new) (unreadable_line name.now) }
+{
+    match write_unreadable(err, name) {
+        Ok(()) | Err(Failed) => {}
+    }
+}
+
+/// Tells why, in one line.
+pub fn tell<E: Sink>(err: &mut E, refusal: &Refusal)
+    ensures { Tells (E.taken err.old) (E.taken err.new) (E.faults err.old) (E.faults err.new) (refusal_line refusal.now) }
+{
+    match refusal {
+        Refusal::OutOfMemory => tell_line(err, b"out of memory\n"),
+        Refusal::Usage => tell_line(err, b"usage: pact COMMAND ARGUMENTS\n"),
+        Refusal::CannotRead(name) => tell_unreadable(err, name.bytes()),
+        Refusal::CannotWrite => tell_line(err, b"cannot write\n"),
+        Refusal::NotFirstForm => tell_line(err, b"not in the first form\n"),
+    }
+}

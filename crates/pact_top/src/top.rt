@@ -1,0 +1,72 @@
+//! The call that the program makes.
+
+ghost use Rattle.std.specs.Prelude.{◌≡◌, ◌≢◌, ◌≤◌, ◌↔◌, ◌⊎◌, false, ℕ, List, None, IfSome, map};
+ghost use Rattle.pact_record.specs.declared.values.Value.{Value as FieldValue};
+ghost use Rattle.pact_outside.specs.Outside.{Rose};
+ghost use Rattle.pact_top.specs.Program.{Program};
+ghost use Rattle.pact_top.specs.Transfer.{Gains, GainsFront, Tells};
+ghost use Rattle.pact_top.specs.Verdict.{command_of, IsVerdict, missing, not_first_form, runs, IsOpened, IsAnswer, line_of};
+ghost use Rattle.pact_top.specs.Refusal.{status_of, refusal_line};
+
+use crate::answering::answer;
+use crate::refusals::{Refusal, tell};
+use crate::transfer::write_all;
+use pact_outside::{Failed, Feed, Sink};
+use std::alloc::Global;
+
+fn refuse<E: Sink>(err: &mut E, refusal: &Refusal) -> u8
+    ensures status { result ≡ status_of refusal.now }
+    ensures told { Tells (E.taken err.old) (E.taken err.new) (E.faults err.old) (E.faults err.new) (refusal_line refusal.now) }
+{
+    tell(err, refusal);
+    refusal.status()
+}
+
+/// Does what the command line's words ask for, and answers the exit status.
+///
+/// `words` are without the program's own name. Of `run PROGRAM`, the program's file and then its
+/// source's are opened and read, and the sorted rows are written on `out`; nothing is written
+/// before all of the text is made. What goes wrong is told on `err` in one line.
+///
+/// The statuses: 0 the text was written whole, 1 out of memory, 2 the words are no command, 3 a
+/// file can't be read, 4 `out` failed, 5 the program isn't in the first form, or a file is longer
+/// than its limit, or a row of the source is bad.
+pub fn pact_main<F: Feed, O: Sink, E: Sink>(
+    alloc: Global,
+    words: &[&str],
+    feed: &mut F,
+    out: &mut O,
+    err: &mut E,
+) -> u8
+    // What was written are the sorted rows of a bag that the program as written allows.
+    ensures answered { result ≡ 0 → IfSome (F.files feed.old) (λ files. (text : List ℕ) × IsAnswer (map (λ w. w.now) words.now) files text × Gains (O.taken out.old) (O.taken out.new) text) }
+    ensures answered_quietly { result ≡ 0 → E.taken err.new ≡ E.taken err.old }
+
+    // Otherwise memory ran out, or a fault of the feed or of `out` rose.
+    ensures complete { IfSome (F.files feed.old) (λ files. (program : Program) (rows : List (List FieldValue)) → IsVerdict (map (λ w. w.now) words.now) files (runs program rows) → ¬ (Rose (F.faults feed.old) (F.faults feed.new)) → ¬ (Rose (O.faults out.old) (O.faults out.new)) → (result ≡ 0) ⊎ (result ≡ 1)) }
+
+    ensures usage { (result ≡ 2) ↔ (command_of (map (λ w. w.now) words.now) ≡ None) }
+
+    ensures unread { result ≡ 3 → Rose (F.faults feed.old) (F.faults feed.new) }
+    ensures unread_shut { result ≡ 3 → F.is_open feed.new ≡ false }
+    ensures unread_named { result ≡ 3 → IfSome (F.files feed.old) (λ files. IsOpened (map (λ w. w.now) words.now) files (F.opened_name feed.new)) }
+    ensures missing_file { IfSome (F.files feed.old) (λ files. (name : List ℕ) → IsVerdict (map (λ w. w.now) words.now) files (missing name) → (result ≡ 1) ⊎ (result ≡ 3)) }
+
+    ensures unwritten { result ≡ 4 → Rose (O.faults out.old) (O.faults out.new) }
+    ensures unwritten_rest { result ≡ 4 → IfSome (F.files feed.old) (λ files. (text : List ℕ) × IsAnswer (map (λ w. w.now) words.now) files text × GainsFront (O.taken out.old) (O.taken out.new) text) }
+
+    ensures refused { result ≡ 5 → IfSome (F.files feed.old) (λ files. IsVerdict (map (λ w. w.now) words.now) files not_first_form) }
+    ensures refused_always { IfSome (F.files feed.old) (λ files. IsVerdict (map (λ w. w.now) words.now) files not_first_form → (result ≡ 1) ⊎ (result ≡ 3) ⊎ (result ≡ 5)) }
+
+    ensures nothing_written { result ≢ 0 → result ≢ 4 → O.taken out.new ≡ O.taken out.old }
+    ensures told { result ≢ 0 → Tells (E.taken err.old) (E.taken err.new) (E.faults err.old) (E.faults err.new) (line_of result (F.opened_name feed.new)) }
+    ensures no_other { result ≤ 5 }
+{
+    match answer(alloc, words, feed) {
+        Ok(text) => match write_all(out, text.bytes()) {
+            Ok(()) => 0,
+            Err(Failed) => refuse(err, &Refusal::CannotWrite),
+        },
+        Err(refusal) => refuse(err, &refusal),
+    }
+}
