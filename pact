@@ -19,17 +19,20 @@ build() {
     fi
     local log=$root/crates/pact_program/out/build.log
     mkdir -p "${log%/*}"
+    # What an older build left may not pass for what this one makes.
+    rm -f "$program" "$program.stamp"
     echo "pact: building; every proof is checked first, which takes some minutes (log: $log)" >&2
     # rt runs what it built; with no words that does nothing but tell the usage.
     (cd "$root/crates/pact_program" && rt run) </dev/null >"$log" 2>&1
-    if ! grep -q '^logic=proved' "$log" && ! [ -x "$program" ]; then
+    # The stamp is written last, of a program that was proved and linked.
+    if ! [ -x "$program" ] || ! [ -f "$program.stamp" ]; then
         tail -n 20 "$log" >&2
         echo 'pact: the build failed' >&2
         return 1
     fi
-    touch "$program"
     echo 'pact: built' >&2
 }
 
-is_current || build || exit 1
+# 127 is the shell's status for a command that isn't there; the statuses of pact are its own.
+is_current || build || exit 127
 exec "$program" "$@"

@@ -1,8 +1,7 @@
 -- The orders of values and of records are total.
-use Rattle.std.proofs.Common.{◌≡◌, ◌≤◌, ℕ, zero, suc, List, [], ◌∷◌, length, drop, ◌⊎◌, inl, inr, refl, ◌∙◌, arith, subst, ℤ}
-use Rattle.std.proofs.lemmas.Bool.Decides.{nat_tests}
-use Rattle.std.specs.Ordering.{nat_cmp, int_cmp, ordering_then}
-use Rattle.std.specs.Cmp.{nat_cmp_is, IsTotalOrder, int_cmp_total, on_total}
+use Rattle.std.proofs.Common.{◌≡◌, List, [], ◌∷◌, refl, subst, ℤ}
+use Rattle.std.specs.Ordering.{int_cmp, ordering_then}
+use Rattle.std.specs.Cmp.{IsTotalOrder, int_cmp_total, on_total}
 use Rattle.std.specs.Cmp.Lexicographic.{slice_cmp, lists_total}
 use Rattle.std.specs.declared.cmp.Ordering.{Ordering}
 use Rattle.std.specs.declared.cmp.Ordering.TheVariants.{Less, Equal, Greater}
@@ -33,18 +32,3 @@ values_total = subst IsTotalOrder (λ i a b. slice_cmp-numbers_of a b i) (on_tot
 
 pub records_total : IsTotalOrder record_cmp
 records_total = lists_total values_total
-
-nat_cmp-suc : (m n : ℕ) → nat_cmp m n ≡ nat_cmp (suc m) (suc n)
-nat_cmp-suc m n = grind (arith, nat_tests)
-
--- where one of two records ends, their lengths decide
-pub record_cmp-ends : (l r : List Value) (at : ℕ) → at ≤ length l → at ≤ length r → (length l ≤ at) ⊎ (length r ≤ at)
-    → record_cmp (drop at l) (drop at r) ≡ nat_cmp (length l) (length r)
-record_cmp-ends [] [] zero h k e = nat_cmp_is 0 0 Equal refl
-record_cmp-ends [] (y ∷ r) zero h k e = nat_cmp_is 0 (suc (length r)) Less (omega arith)
-record_cmp-ends (x ∷ l) [] zero h k e = nat_cmp_is (suc (length l)) 0 Greater (omega arith)
-record_cmp-ends (x ∷ l) (y ∷ r) zero h k e = absurd (elim e [ inl p ↦ omega arith | inr p ↦ omega arith ])
-record_cmp-ends [] r (suc at) h k e = absurd (omega arith)
-record_cmp-ends (x ∷ l) [] (suc at) h k e = absurd (omega arith)
-record_cmp-ends (x ∷ l) (y ∷ r) (suc at) h k e =
-    record_cmp-ends l r at (omega arith) (omega arith) (elim e [ inl p ↦ inl (omega arith) | inr p ↦ inr (omega arith) ]) ∙ nat_cmp-suc (length l) (length r)

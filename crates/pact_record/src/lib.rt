@@ -15,3 +15,6 @@ pub use records::{MAX_FIELDS, Record};
 pub use std::alloc::AllocError as OutOfMemory;
 pub use values::Value;
 pub use words::{MAX_WORD, Word};
+
+#[cfg(test)]
+mod tests;

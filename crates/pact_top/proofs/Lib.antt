@@ -7,10 +7,12 @@ pub mod Numerals
 pub mod Pieces
 pub mod PlainWords
 pub mod ProgramPieces
+pub mod Progress
 pub mod Records
+pub mod RefusalLines
 pub mod Rows
+pub mod RunsOn
 pub mod Splits
-pub mod Tellings
-pub mod Told
 pub mod Unique
-pub mod Unread
+pub mod WordsLeft
+pub mod WrittenParts

@@ -2,7 +2,6 @@
 use Rattle.std.specs.Prelude.{◌≡◌, ◌≢◌, ◌≤◌, ◌<◌, ◌*◌, ℕ, Bool, true, false, ◌&&◌, ◌||◌, ◌==◌, nat_le, IsTrue, List, [], ◌∷◌, ◌++◌, length, replicate, flat_map, map, codes}
 use Rattle.std.specs.List.{AllByRecursion}
 use Rattle.std.specs.Fmt.{decimal}
-use Rattle.pact_record.specs.declared.records.TheConstants.{MAX_FIELDS}
 use Rattle.tac_syntax.specs.declared.statements.Rec.{Rec}
 use Rattle.tac_syntax.specs.declared.statements.Rec.TheVariants.{Input}
 use Rattle.tac_syntax.specs.declared.statements.Stmt.{Stmt}
@@ -116,6 +115,10 @@ spelling p = flat_map line_text (program_lines p)
 
 -- ---- what may be spelled
 
+-- version 1 of the language has at most so many fields, and lists of fields are no longer
+abbrev pub field_limit : ℕ
+field_limit = 64
+
 abbrev pub IsAbsent : ℕ → List ℕ → Type 0
 IsAbsent n [] = Unit {0}
 IsAbsent n (m ∷ ms) = (n ≢ m) × IsAbsent n ms
@@ -126,12 +129,12 @@ AreDifferent (n ∷ ns) = IsAbsent n ns × AreDifferent ns
 
 pub record IsFieldList (fields : ℕ) (list : List ℕ) : Type 0 where
   pub some : 1 ≤ length list
-  pub few : length list ≤ MAX_FIELDS
+  pub few : length list ≤ field_limit
   pub within : AllByRecursion (λ field. field < fields) list
 
 pub record IsFirstForm (p : Program) : Type 0 where
   pub some_field : 1 ≤ p.fields
-  pub few_fields : p.fields ≤ MAX_FIELDS
+  pub few_fields : p.fields ≤ field_limit
   pub source_name : IsTrue (is_name p.source)
   pub file_name : IsTrue (is_file_name p.file)
   pub function_name : IsTrue (is_name p.function)

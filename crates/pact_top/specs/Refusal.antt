@@ -1,8 +1,9 @@
 -- The status and the line of a refusal, and what each refusal says of the words and the files.
-use Rattle.std.specs.Prelude.{◌≡◌, ◌++◌, ℕ, Bool, false, List, Option, Some, None, IfSome, codes}
+use Rattle.std.specs.Prelude.{◌≡◌, ℕ, Bool, false, List, Option, Some, None, IfSome, [], ◌⊎◌, IsTrue}
 use Rattle.pact_outside.specs.declared.files.NamedFile.{NamedFile}
 use Rattle.pact_outside.specs.Outside.{Rose, file_named}
-use Rattle.pact_top.specs.Verdict.{command_of, IsVerdict, not_first_form, IsOpened}
+use Rattle.pact_top.specs.Program.{is_file_name}
+use Rattle.pact_top.specs.Verdict.{command_of, IsVerdict, not_first_form, IsOpened, line_of}
 use Rattle.pact_top.specs.declared.transfer.Stop.{Stop}
 use Rattle.pact_top.specs.declared.transfer.Stop.TheVariants as stop
 use Rattle.pact_top.specs.declared.refusals.Refusal.{Refusal}
@@ -15,15 +16,16 @@ status_of (CannotRead name) = 3
 status_of CannotWrite = 4
 status_of NotFirstForm = 5
 
-abbrev pub unreadable_line : List ℕ → List ℕ
-unreadable_line name = codes "cannot read " ++ (name ++ codes "\n")
+-- the file that it names
+abbrev pub named_file : Refusal → List ℕ
+named_file OutOfMemory = []
+named_file Usage = []
+named_file (CannotRead name) = name
+named_file CannotWrite = []
+named_file NotFirstForm = []
 
 abbrev pub refusal_line : Refusal → List ℕ
-refusal_line OutOfMemory = codes "out of memory\n"
-refusal_line Usage = codes "usage: pact COMMAND ARGUMENTS\n"
-refusal_line (CannotRead name) = unreadable_line name
-refusal_line CannotWrite = codes "cannot write\n"
-refusal_line NotFirstForm = codes "not in the first form\n"
+refusal_line r = line_of (status_of r) (named_file r)
 
 -- a file that wasn't read
 abbrev pub stopped : Stop → List ℕ → Refusal
@@ -47,11 +49,15 @@ FileRefused files name IsBad before now is_open opened CannotWrite = ⊥
 FileRefused files name IsBad before now is_open opened NotFirstForm =
     IfSome files (λ fs. (bytes : List ℕ) × (file_named fs name ≡ Some bytes) × IsBad bytes)
 
+-- the program's file, or one that a program may name
+abbrev pub IsNamed : List (List ℕ) → List ℕ → Type 0
+IsNamed words name = (command_of words ≡ Some name) ⊎ IsTrue (is_file_name name)
+
 -- why there is no answer
 abbrev pub AnswerRefused : List (List ℕ) → Option (List NamedFile) → ℕ → ℕ → Bool → List ℕ → Refusal → Type 0
 AnswerRefused words files before now is_open opened OutOfMemory = Unit {0}
 AnswerRefused words files before now is_open opened Usage = command_of words ≡ None
 AnswerRefused words files before now is_open opened (CannotRead told) =
-    HasFailed before now is_open opened told × IfSome files (λ fs. IsOpened words fs opened)
+    HasFailed before now is_open opened told × IfSome files (λ fs. IsOpened words fs opened) × IsNamed words opened
 AnswerRefused words files before now is_open opened CannotWrite = ⊥
 AnswerRefused words files before now is_open opened NotFirstForm = IfSome files (λ fs. IsVerdict words fs not_first_form)

@@ -1,5 +1,6 @@
 -- What the words and the files decide: the first refusal that stands, or the program and its rows.
-use Rattle.std.specs.Prelude.{◌≡◌, ◌≤◌, ◌<◌, ◌⊎◌, ◌++◌, ◌==◌, ℕ, List, [], ◌∷◌, length, Option, Some, None, cond, codes}
+use Rattle.std.specs.Prelude.{◌≡◌, ◌≤◌, ◌<◌, ◌⊎◌, ◌++◌, ◌==◌, ℕ, List, [], ◌∷◌, length, map, Option, Some, None, cond, codes}
+use Rattle.std.proofs.Common.{Bor}
 use Rattle.pact_record.specs.declared.values.Value.{Value}
 use Rattle.pact_outside.specs.declared.files.NamedFile.{NamedFile}
 use Rattle.pact_outside.specs.Outside.{same_bytes, file_named}
@@ -8,7 +9,10 @@ use Rattle.pact_top.specs.Csv.{CsvRows, NoCsvRows}
 use Rattle.pact_top.specs.Allows.{Allows}
 use Rattle.pact_top.specs.FirstPlan.{ops_of, plan_of}
 use Rattle.pact_top.specs.Lines.{AreLines}
-use Rattle.pact_top.specs.declared.loading.TheConstants.{PROGRAM_LIMIT, SOURCE_LIMIT}
+
+-- the texts that words point to
+abbrev pub texts_of : List (Bor (List ℕ)) → List (List ℕ)
+texts_of words = map (λ w. w.now) words
 
 -- the program's name in `run PROGRAM`, and none where the words are others
 abbrev pub command_of : List (List ℕ) → Option (List ℕ)
@@ -18,6 +22,14 @@ command_of (w ∷ name ∷ []) = cond (same_bytes w (codes "run")) (Some name) N
 command_of (w ∷ name ∷ x ∷ ws) = None
 
 -- ---- the program file
+
+-- a program file has at most so many bytes
+abbrev pub program_limit : ℕ
+program_limit = 1048576
+
+-- and the file of a source so many
+abbrev pub source_limit : ℕ
+source_limit = 67108864
 
 -- there is a program file, and this is what it holds
 pub record HasProgramFile (words : List (List ℕ)) (files : List NamedFile) (text : List ℕ) : Type 0 where
@@ -29,7 +41,7 @@ pub record HasProgramFile (words : List (List ℕ)) (files : List NamedFile) (te
 pub record ReadsProgram (words : List (List ℕ)) (files : List NamedFile) (p : Program) : Type 0 where
   pub text : List ℕ
   pub file : HasProgramFile words files text
-  pub short : length text ≤ PROGRAM_LIMIT
+  pub short : length text ≤ program_limit
   pub spelled : IsProgram text p
 
 -- ---- its source
@@ -43,7 +55,7 @@ pub record HasSourceFile (words : List (List ℕ)) (files : List NamedFile) (p :
 pub record ReadsRows (words : List (List ℕ)) (files : List NamedFile) (p : Program) (rows : List (List Value)) : Type 0 where
   pub bytes : List ℕ
   pub file : HasSourceFile words files p bytes
-  pub short : length bytes ≤ SOURCE_LIMIT
+  pub short : length bytes ≤ source_limit
   pub rows_of : CsvRows p.fields p.columns bytes rows
 
 -- ---- the verdict
@@ -59,10 +71,10 @@ pub data Verdict : Type 0 where
   runs : (program : Program) → (rows : List (List Value)) → Verdict
 
 abbrev pub IsBadProgram : List ℕ → Type 0
-IsBadProgram text = (PROGRAM_LIMIT < length text) ⊎ NoProgram text
+IsBadProgram text = (program_limit < length text) ⊎ NoProgram text
 
 abbrev pub IsBadSource : Program → List ℕ → Type 0
-IsBadSource p bytes = (SOURCE_LIMIT < length bytes) ⊎ NoCsvRows p.fields p.columns bytes
+IsBadSource p bytes = (source_limit < length bytes) ⊎ NoCsvRows p.fields p.columns bytes
 
 -- Each case says of everything before it that it doesn't stand: a source is asked for only where a program was read.
 abbrev pub IsVerdict : List (List ℕ) → List NamedFile → Verdict → Type 0

@@ -1,11 +1,11 @@
 //! From the command line's words and the files to the text that is to be written.
 
-ghost use Rattle.std.specs.Prelude.{◌≡◌, ◌≤◌, ◌<◌, ℕ, List, length, map, Some, None, Err, IfOk, IfErr, IfSome};
+ghost use Rattle.std.specs.Prelude.{◌≡◌, ◌≤◌, ◌<◌, ℕ, List, length, Some, None, Err, IfOk, IfErr, IfSome};
 ghost use Rattle.std.specs.List.{AllByRecursion};
 ghost use Rattle.pact_outside.specs.Outside.{file_named};
 ghost use Rattle.pact_top.specs.Program.{IsFirstForm, IsProgram};
 ghost use Rattle.pact_top.specs.Csv.{CsvRows};
-ghost use Rattle.pact_top.specs.Verdict.{command_of, IsBadProgram, IsBadSource, IsAnswer};
+ghost use Rattle.pact_top.specs.Verdict.{program_limit, source_limit, texts_of, command_of, IsBadProgram, IsBadSource, IsAnswer};
 ghost use Rattle.pact_top.specs.Refusal.{FileRefused, AnswerRefused};
 
 use crate::csv_rows::read_rows;
@@ -21,7 +21,7 @@ use pact_record::{Bytes, Record};
 use std::alloc::Global;
 
 fn load_program<F: Feed>(alloc: Global, feed: &mut F, name: &[u8]) -> Result<Program, Refusal>
-    ensures read { IfOk result (λ p. IfSome (F.files feed.old) (λ files. (text : List ℕ) × (file_named files name.now ≡ Some text) × (length text ≤ PROGRAM_LIMIT) × IsProgram text p)) }
+    ensures read { IfOk result (λ p. IfSome (F.files feed.old) (λ files. (text : List ℕ) × (file_named files name.now ≡ Some text) × (length text ≤ program_limit) × IsProgram text p)) }
     ensures first_form { IfOk result IsFirstForm }
     ensures refused { IfErr result (FileRefused (F.files feed.old) name.now IsBadProgram (F.faults feed.old) (F.faults feed.new) (F.is_open feed.new) (F.opened_name feed.new)) }
     ensures later { F.faults feed.old ≤ F.faults feed.new }
@@ -44,7 +44,7 @@ fn load_rows<F: Feed>(
     program: &Program,
 ) -> Result<Vec<Record>, Refusal>
     requires { IsFirstForm program.now }
-    ensures read { IfOk result (λ rows. IfSome (F.files feed.old) (λ files. (bytes : List ℕ) × (file_named files program.now.file ≡ Some bytes) × (length bytes ≤ SOURCE_LIMIT) × CsvRows program.now.fields program.now.columns bytes rows.items)) }
+    ensures read { IfOk result (λ rows. IfSome (F.files feed.old) (λ files. (bytes : List ℕ) × (file_named files program.now.file ≡ Some bytes) × (length bytes ≤ source_limit) × CsvRows program.now.fields program.now.columns bytes rows.items)) }
     ensures widths { IfOk result (λ rows. AllByRecursion (λ row. length row ≡ program.now.fields) rows.items) }
     ensures refused { IfErr result (FileRefused (F.files feed.old) program.now.file (IsBadSource program.now) (F.faults feed.old) (F.faults feed.new) (F.is_open feed.new) (F.opened_name feed.new)) }
     ensures later { F.faults feed.old ≤ F.faults feed.new }
@@ -64,9 +64,10 @@ fn load_rows<F: Feed>(
 
 /// The text that the words ask for, or the first refusal that stands.
 pub fn answer<F: Feed>(alloc: Global, words: &[&str], feed: &mut F) -> Result<Bytes, Refusal>
-    ensures text { IfOk result (λ text. IfSome (F.files feed.old) (λ files. IsAnswer (map (λ w. w.now) words.now) files text)) }
-    ensures usage { command_of (map (λ w. w.now) words.now) ≡ None → result ≡ Err Refusal.Usage }
-    ensures refused { IfErr result (AnswerRefused (map (λ w. w.now) words.now) (F.files feed.old) (F.faults feed.old) (F.faults feed.new) (F.is_open feed.new) (F.opened_name feed.new)) }
+    ensures text { IfOk result (λ text. IfSome (F.files feed.old) (λ files. IsAnswer (texts_of words.now) files text)) }
+    ensures usage { command_of (texts_of words.now) ≡ None → result ≡ Err Refusal.Usage }
+    ensures usage_untouched { command_of (texts_of words.now) ≡ None → feed.new ≡ feed.old }
+    ensures refused { IfErr result (AnswerRefused (texts_of words.now) (F.files feed.old) (F.faults feed.old) (F.faults feed.new) (F.is_open feed.new) (F.opened_name feed.new)) }
     ensures later { F.faults feed.old ≤ F.faults feed.new }
 {
     let Some(name) = command(words) else {

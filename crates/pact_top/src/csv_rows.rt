@@ -125,7 +125,7 @@ pub fn write_rows(alloc: Global, rows: &[Record]) -> Result<Bytes, OutOfMemory>
         writer.write_byte_record(&texts).map_err(|_| OutOfMemory)?;
     }
     let text = writer.into_inner().map_err(|_| OutOfMemory)?;
-    Bytes::from_slice(alloc, &text)
+    Ok(Bytes::from_vec(text))
 }
 
 fn texts_of(alloc: Global, row: &Record) -> Result<ByteRecord, OutOfMemory>

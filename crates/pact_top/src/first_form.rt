@@ -5,8 +5,10 @@ ghost use Rattle.pact_top.specs.Program.{AreDifferent, IsAbsent, IsFieldList, Is
 ghost use Rattle.pact_top.specs.Program as specs;
 
 use crate::program::Program;
-use pact_record::MAX_FIELDS;
 use tac_syntax::{RECORD_REGISTERS, Stmt, VALUE_REGISTERS};
+
+/// Version 1 of the language has at most so many fields, and lists of fields are no longer.
+pub const FIELD_LIMIT: u32 = 64;
 
 /// A function has at most so many statements.
 pub const MAX_STATEMENTS: usize = 1000;
@@ -110,7 +112,7 @@ fn are_below(fields: u32, list: &[u32]) -> bool
 fn is_field_list(fields: u32, list: &[u32]) -> bool
     ensures { IsTrue result ↔ IsFieldList fields list.now }
 {
-    !list.is_empty() && list.len() <= MAX_FIELDS as usize && are_below(fields, list)
+    !list.is_empty() && list.len() <= FIELD_LIMIT as usize && are_below(fields, list)
 }
 
 fn is_valid(fields: u32, stmt: &Stmt) -> bool
@@ -167,7 +169,7 @@ pub fn is_first_form(program: &Program) -> bool
 {
     let fields = program.fields();
     1 <= fields
-        && fields <= MAX_FIELDS
+        && fields <= FIELD_LIMIT
         && are_names(program)
         && are_columns(fields, program.columns())
         && is_field_list(fields, program.sink())

@@ -5,8 +5,8 @@ ghost use Rattle.std.specs.List.{AllByRecursion};
 ghost use Rattle.pact_record.specs.declared.records.TheConstants.{MAX_FIELDS};
 ghost use Rattle.pact_record.specs.Record.{at_field};
 ghost use Rattle.tac_syntax.specs.Valid.{IsValid, AreValid};
-ghost use Rattle.tac_syntax.specs.Call.{of_record, Store, value_in, record_in, named_record, empty_record, put_value, put_record, after, start_store, end_state, Out};
-ghost use Rattle.tac_syntax.proofs.Straight.{after_all};
+ghost use Rattle.tac_syntax.specs.Call.{of_record, Store, named_record, after, start_store, Out};
+ghost use Rattle.tac_syntax.specs.Straight.{after_all};
 
 use pact_record::{OutOfMemory, Record, Value};
 use std::alloc::Global;
@@ -24,12 +24,13 @@ struct Machine<'a> {
 }
 
 impl<'a> Model for Machine<'a> {
+    ghost use Rattle.std.specs.Prelude.{[]};
     ghost use Rattle.tac_syntax.specs.Call.{Store, of_record};
     ghost use Rattle.pact_top.specs.Machine.{IsWide};
 
     ghost Value = { Store };
 
-    ghost view = { λ m. record { fields = m.fields; input = of_record m.input.now; values = m.values.items; records = m.records.items; emitted = m.emitted.items } };
+    ghost view = { λ m. record { fields = m.fields; input = of_record m.input.now; values = m.values.items; records = m.records.items; loops = []; emitted = m.emitted.items } };
 
     ghost invariant = { λ m. IsWide m.fields m.input.now m.values.items m.records.items m.emitted.items };
 }
@@ -155,7 +156,6 @@ pub fn call_map(
     requires valid { AreValid fields body.now }
     requires width { length row.now ≡ fields }
     ensures emitted { IfOk result (λ rows. rows.items ≡ Out fields body.now (of_record row.now)) }
-    ensures over { (end_state fields body.now (of_record row.now)).items ≡ [] }
     ensures widths { IfOk result (λ rows. AllByRecursion (λ r. length r ≡ fields) rows.items) }
 {
     let mut machine = Machine::start(alloc, fields, row)?;

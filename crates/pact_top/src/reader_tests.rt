@@ -90,11 +90,7 @@ fn has_first_pieces(program: &Program) -> bool {
 
 #[test]
 fn reads_the_pieces(rt: HostRuntime) -> Result<(), Fail> {
-    let program = read_program(rt.alloc(), TWO.as_bytes())?;
-    let Some(program) = program else {
-        assert!(rt; false);
-        return Ok(());
-    };
+    let program = read_program(rt.alloc(), TWO.as_bytes())?.ok_or("no program")?;
     assert!(rt; has_first_pieces(&program));
     let emit = Stmt::Emit { from: 0 };
     let copy = Stmt::Copy {
@@ -117,10 +113,7 @@ fn reads_and_writes_back(rt: HostRuntime) -> Result<(), Fail> {
 fn refuses_other_texts(rt: HostRuntime) -> Result<(), Fail> {
     assert!(rt; !is_read_back(rt.alloc(), "")?);
     for (old, new) in REFUSED {
-        let Some((before, after)) = TWO.split_once(old) else {
-            assert!(rt; false);
-            return Ok(());
-        };
+        let (before, after) = TWO.split_once(old).ok_or(old)?;
         let text = format!(in rt.alloc(); "{before}{new}{after}")?;
         assert!(rt;
             read_program(rt.alloc(), text.as_bytes())?.is_none(),

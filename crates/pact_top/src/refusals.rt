@@ -3,7 +3,8 @@
 ghost use Rattle.std.specs.Prelude.{◌≡◌, OnOk, OnErr};
 ghost use Rattle.pact_outside.specs.Outside.{HasCause};
 ghost use Rattle.pact_top.specs.Transfer.{Gains, GainsFront, Tells};
-ghost use Rattle.pact_top.specs.Refusal.{status_of, unreadable_line, refusal_line};
+ghost use Rattle.pact_top.specs.Refusal.{status_of, refusal_line};
+ghost use Rattle.pact_top.specs.Verdict.{line_of};
 ghost use Rattle.pact_top.specs.declared.refusals.Refusal.TheVariants as refusals;
 
 use crate::transfer::{Stop, write_all};
@@ -65,8 +66,8 @@ fn tell_line<E: Sink>(err: &mut E, line: &[u8])
 }
 
 fn write_unreadable<E: Sink>(err: &mut E, name: &[u8]) -> Result<(), Failed>
-    ensures all { OnOk result (Gains (E.taken err.old) (E.taken err.new) (unreadable_line name.now)) }
-    ensures part { OnErr result (GainsFront (E.taken err.old) (E.taken err.new) (unreadable_line name.now)) }
+    ensures all { OnOk result (Gains (E.taken err.old) (E.taken err.new) (line_of 3 name.now)) }
+    ensures part { OnErr result (GainsFront (E.taken err.old) (E.taken err.new) (line_of 3 name.now)) }
     ensures cause { HasCause (E.faults err.old) (E.faults err.new) result }
 {
     write_all(err, b"cannot read ")?;
@@ -75,7 +76,7 @@ fn write_unreadable<E: Sink>(err: &mut E, name: &[u8]) -> Result<(), Failed>
 }
 
 fn tell_unreadable<E: Sink>(err: &mut E, name: &[u8])
-    ensures { Tells (E.taken err.old) (E.taken err.new) (E.faults err.old) (E.faults err.new) (unreadable_line name.now) }
+    ensures { Tells (E.taken err.old) (E.taken err.new) (E.faults err.old) (E.faults err.new) (line_of 3 name.now) }
 {
     match write_unreadable(err, name) {
         Ok(()) | Err(Failed) => {}

@@ -172,6 +172,17 @@ fn tells_faults(rt: HostRuntime) -> Result<(), Fail> {
 }
 
 #[test]
+fn answers_though_nothing_can_be_told(rt: HostRuntime) -> Result<(), Fail> {
+    let alloc = rt.alloc();
+    let mut feed = MemFeed::new(files_of(alloc, None)?, 5, fail_at(alloc, 0)?);
+    let mut out = sink(alloc, 0)?;
+    let mut err = sink(alloc, 2)?;
+    let status = pact_main(alloc, &["run", "twice.pact"], &mut feed, &mut out, &mut err);
+    assert!(rt; status == 3 && err.taken() == b"cann".as_slice() && err.faults() == 1);
+    Ok(())
+}
+
+#[test]
 fn refuses(rt: HostRuntime) -> Result<(), Fail> {
     for words in ["run", "", "walk twice.pact"] {
         let usage = outcome_of(rt.alloc(), words, DATA, 0, 0)?;

@@ -1,12 +1,12 @@
 //! The call that the program makes.
 
-ghost use Rattle.std.specs.Prelude.{◌≡◌, ◌≢◌, ◌≤◌, ◌↔◌, ◌⊎◌, false, ℕ, List, None, IfSome, map};
+ghost use Rattle.std.specs.Prelude.{◌≡◌, ◌≢◌, ◌≤◌, ◌↔◌, ◌⊎◌, false, ℕ, List, None, IfSome};
 ghost use Rattle.pact_record.specs.declared.values.Value.{Value as FieldValue};
 ghost use Rattle.pact_outside.specs.Outside.{Rose};
 ghost use Rattle.pact_top.specs.Program.{Program};
 ghost use Rattle.pact_top.specs.Transfer.{Gains, GainsFront, Tells};
-ghost use Rattle.pact_top.specs.Verdict.{command_of, IsVerdict, missing, not_first_form, runs, IsOpened, IsAnswer, line_of};
-ghost use Rattle.pact_top.specs.Refusal.{status_of, refusal_line};
+ghost use Rattle.pact_top.specs.Verdict.{texts_of, command_of, IsVerdict, missing, not_first_form, runs, IsOpened, IsAnswer, line_of};
+ghost use Rattle.pact_top.specs.Refusal.{IsNamed, status_of, refusal_line};
 
 use crate::answering::answer;
 use crate::refusals::{Refusal, tell};
@@ -39,26 +39,30 @@ pub fn pact_main<F: Feed, O: Sink, E: Sink>(
     err: &mut E,
 ) -> u8
     // What was written are the sorted rows of a bag that the program as written allows.
-    ensures answered { result ≡ 0 → IfSome (F.files feed.old) (λ files. (text : List ℕ) × IsAnswer (map (λ w. w.now) words.now) files text × Gains (O.taken out.old) (O.taken out.new) text) }
+    ensures answered { result ≡ 0 → IfSome (F.files feed.old) (λ files. (text : List ℕ) × IsAnswer (texts_of words.now) files text × Gains (O.taken out.old) (O.taken out.new) text) }
     ensures answered_quietly { result ≡ 0 → E.taken err.new ≡ E.taken err.old }
 
     // Otherwise memory ran out, or a fault of the feed or of `out` rose.
-    ensures complete { IfSome (F.files feed.old) (λ files. (program : Program) (rows : List (List FieldValue)) → IsVerdict (map (λ w. w.now) words.now) files (runs program rows) → ¬ (Rose (F.faults feed.old) (F.faults feed.new)) → ¬ (Rose (O.faults out.old) (O.faults out.new)) → (result ≡ 0) ⊎ (result ≡ 1)) }
+    ensures complete { IfSome (F.files feed.old) (λ files. (program : Program) (rows : List (List FieldValue)) → IsVerdict (texts_of words.now) files (runs program rows) → ¬ (Rose (F.faults feed.old) (F.faults feed.new)) → ¬ (Rose (O.faults out.old) (O.faults out.new)) → (result ≡ 0) ⊎ (result ≡ 1)) }
 
-    ensures usage { (result ≡ 2) ↔ (command_of (map (λ w. w.now) words.now) ≡ None) }
+    ensures usage { (result ≡ 2) ↔ (command_of (texts_of words.now) ≡ None) }
+
+    ensures usage_untouched { result ≡ 2 → feed.new ≡ feed.old }
 
     ensures unread { result ≡ 3 → Rose (F.faults feed.old) (F.faults feed.new) }
-    ensures unread_shut { result ≡ 3 → F.is_open feed.new ≡ false }
-    ensures unread_named { result ≡ 3 → IfSome (F.files feed.old) (λ files. IsOpened (map (λ w. w.now) words.now) files (F.opened_name feed.new)) }
-    ensures missing_file { IfSome (F.files feed.old) (λ files. (name : List ℕ) → IsVerdict (map (λ w. w.now) words.now) files (missing name) → (result ≡ 1) ⊎ (result ≡ 3)) }
+    ensures unread_closed { result ≡ 3 → F.is_open feed.new ≡ false }
+    ensures unread_name { result ≡ 3 → IsNamed (texts_of words.now) (F.opened_name feed.new) }
+    ensures unread_opened { result ≡ 3 → IfSome (F.files feed.old) (λ files. IsOpened (texts_of words.now) files (F.opened_name feed.new)) }
+    ensures missing_file { IfSome (F.files feed.old) (λ files. (name : List ℕ) → IsVerdict (texts_of words.now) files (missing name) → (result ≡ 1) ⊎ (result ≡ 3)) }
 
     ensures unwritten { result ≡ 4 → Rose (O.faults out.old) (O.faults out.new) }
-    ensures unwritten_rest { result ≡ 4 → IfSome (F.files feed.old) (λ files. (text : List ℕ) × IsAnswer (map (λ w. w.now) words.now) files text × GainsFront (O.taken out.old) (O.taken out.new) text) }
+    ensures unwritten_prefix { result ≡ 4 → IfSome (F.files feed.old) (λ files. (text : List ℕ) × IsAnswer (texts_of words.now) files text × GainsFront (O.taken out.old) (O.taken out.new) text) }
 
-    ensures refused { result ≡ 5 → IfSome (F.files feed.old) (λ files. IsVerdict (map (λ w. w.now) words.now) files not_first_form) }
-    ensures refused_always { IfSome (F.files feed.old) (λ files. IsVerdict (map (λ w. w.now) words.now) files not_first_form → (result ≡ 1) ⊎ (result ≡ 3) ⊎ (result ≡ 5)) }
+    ensures refused { result ≡ 5 → IfSome (F.files feed.old) (λ files. IsVerdict (texts_of words.now) files not_first_form) }
+    ensures refused_always { IfSome (F.files feed.old) (λ files. IsVerdict (texts_of words.now) files not_first_form → (result ≡ 1) ⊎ (result ≡ 3) ⊎ (result ≡ 5)) }
 
     ensures nothing_written { result ≢ 0 → result ≢ 4 → O.taken out.new ≡ O.taken out.old }
+    ensures output_untouched { result ≢ 0 → result ≢ 4 → O.faults out.new ≡ O.faults out.old }
     ensures told { result ≢ 0 → Tells (E.taken err.old) (E.taken err.new) (E.faults err.old) (E.faults err.new) (line_of result (F.opened_name feed.new)) }
     ensures no_other { result ≤ 5 }
 {

@@ -1,5 +1,5 @@
 -- What one call of a function means, by small steps over a flat list of items still to do.
-use Rattle.std.specs.Prelude.{ℕ, zero, suc, ◌+◌, List, [], ◌∷◌, ◌++◌, get_or, slice_set, replicate, map}
+use Rattle.std.specs.Prelude.{ℕ, zero, suc, ◌+◌, ◌-◌, List, [], ◌∷◌, ◌++◌, get_or, slice_set, replicate, take, map}
 use Rattle.pact_record.specs.declared.values.Value.{Value}
 use Rattle.pact_record.specs.declared.values.Value.TheVariants.{Null}
 use Rattle.pact_record.specs.Record.{at_field}
@@ -17,17 +17,21 @@ pub data CallInput : Type 0 where
   of_group : (key : List Value) → (group : List (List Value)) → CallInput
   of_groups : (key : List Value) → (left right : List (List Value)) → CallInput
 
--- the registers, and what was emitted so far
+-- the registers, the record bound to each loop's name, and what was emitted so far
 pub record Store : Type 0 where
   pub fields : ℕ
   pub input : CallInput
   pub values : List Value
   pub records : List (List Value)
+  pub loops : List (List Value)
   pub emitted : List (List Value)
 
--- what is still to do
+-- What is still to do: a statement, a body so many times more, or a body once for each record that is left, which is
+-- bound to the loop's name.
 pub data Item : Type 0 where
   act : (stmt : Stmt) → Item
+  again : (count : ℕ) → (body : List Stmt) → Item
+  each : (name : ℕ) → (left : List (List Value)) → (body : List Stmt) → Item
 
 pub record CallState : Type 0 where
   pub store : Store
@@ -61,6 +65,10 @@ put_value s to v = record s { values = slice_set s.values to v }
 abbrev pub put_record : Store → ℕ → List Value → Store
 put_record s to r = record s { records = slice_set s.records to r }
 
+-- A loop's name, one more than the number of loops around it, is bound to a record; theirs stay bound.
+abbrev pub bind : Store → ℕ → List Value → Store
+bind s name row = record s { loops = take (name - 1) s.loops ++ row ∷ [] }
+
 -- what a statement of one line does to the registers and the output
 abbrev pub after : Stmt → Store → Store
 after (Get to from field) s = put_value s to (at_field (named_record s from) field)
@@ -73,6 +81,10 @@ after (Emit from) s = record s { emitted = s.emitted ++ record_in s from ∷ [] 
 abbrev pub step_items : Store → List Item → CallState
 step_items s [] = record { store = s; items = [] }
 step_items s (act stmt ∷ rest) = record { store = after stmt s; items = rest }
+step_items s (again zero body ∷ rest) = record { store = s; items = rest }
+step_items s (again (suc n) body ∷ rest) = record { store = s; items = map act body ++ (again n body ∷ rest) }
+step_items s (each name [] body ∷ rest) = record { store = s; items = rest }
+step_items s (each name (row ∷ rows) body ∷ rest) = record { store = bind s name row; items = map act body ++ (each name rows body ∷ rest) }
 
 abbrev pub step : CallState → CallState
 step c = step_items c.store c.items
@@ -83,7 +95,7 @@ run (suc n) c = run n (step c)
 
 -- at the start every value and every field is Null, nothing was emitted, and the body is to do
 abbrev pub start_store : ℕ → CallInput → Store
-start_store fields input = record { fields = fields; input = input; values = replicate VALUE_REGISTERS Null; records = replicate RECORD_REGISTERS (empty_record fields); emitted = [] }
+start_store fields input = record { fields = fields; input = input; values = replicate VALUE_REGISTERS Null; records = replicate RECORD_REGISTERS (empty_record fields); loops = []; emitted = [] }
 
 abbrev pub start_state : ℕ → List Stmt → CallInput → CallState
 start_state fields body input = record { store = start_store fields input; items = map act body }

@@ -10,3 +10,6 @@ pub mod statements;
 
 pub use functions::{Body, Function, Kind};
 pub use statements::{RECORD_REGISTERS, Rec, Stmt, VALUE_REGISTERS};
+
+#[cfg(test)]
+mod tests;

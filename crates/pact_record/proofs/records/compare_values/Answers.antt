@@ -1,5 +1,5 @@
 use Rattle.std.proofs.Common.{inl, inr, arith, ◌≤◌, ◌⊎◌, length}
-use Rattle.pact_record.specs.Order.{record_cmp-ends}
+use Rattle.pact_record.proofs.SameBefore.{record_cmp-ends}
 use Rattle.pact_record.proofs.records.compare_values.Goals.{then-loop-at-test+else-at-right, else-loop-at-test}
 use Rattle.pact_record.proofs.records.compare_values.Goals as goal
 

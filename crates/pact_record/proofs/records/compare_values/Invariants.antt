@@ -1,5 +1,5 @@
 use Rattle.std.proofs.Common.{◌-◌, length}
-use Rattle.pact_record.specs.Record.{SameBefore}
+use Rattle.pact_record.proofs.SameBefore.{SameBefore}
 use Rattle.pact_record.proofs.records.compare_values.Given as goal
 
 abbrev pub invariant-loop-at : goal.invariant-loop-at

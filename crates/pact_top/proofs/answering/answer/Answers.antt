@@ -1,10 +1,10 @@
-use Rattle.std.proofs.Common.{◌≡◌, ℕ, List, Option, Some, map, subst, sym, ◌∙◌, ap}
+use Rattle.std.proofs.Common.{◌≡◌, ℕ, List, Option, Some, subst, sym, ◌∙◌, ap}
 use Rattle.pact_record.specs.declared.values.Value.{Value}
 use Rattle.pact_outside.specs.declared.files.NamedFile.{NamedFile}
 use Rattle.pact_top.specs.Allows.{Allows}
 use Rattle.pact_top.specs.FirstPlan.{ops_of, plan_of}
 use Rattle.pact_top.specs.Lines.{AreLines}
-use Rattle.pact_top.specs.Verdict.{command_of}
+use Rattle.pact_top.specs.Verdict.{texts_of, command_of}
 use Rattle.pact_top.proofs.Answered.{RowsRead, answered}
 use Rattle.pact_top.proofs.answering.answer.Goals as goal
 
@@ -13,7 +13,7 @@ returns-clause-text g c =
     let p = c.in_ok-program.program in
     let rows = c.in_ok-rows.rows.items in
     let bag = c.in_ok-bag.bag.items in
-    let words = map (λ w. w.now) c.args.words.now in
+    let words = texts_of c.args.words.now in
     let command : command_of words ≡ Some c.as_bytes.result.now =
     sym c.in-Some.ensures ∙ ap Some (sym c.as_bytes.ensures.value) in
     let read : RowsRead (g.F.Feed.files c.args.feed.now) p rows =

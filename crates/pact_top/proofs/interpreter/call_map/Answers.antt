@@ -2,17 +2,8 @@ use Rattle.std.proofs.Common.{◌≡◌, ap, sym, ◌∙◌, subst, ℕ, List, l
 use Rattle.std.specs.List.{AllByRecursion}
 use Rattle.pact_record.specs.declared.values.Value.{Value}
 use Rattle.tac_syntax.specs.Call.{of_record, Store}
-use Rattle.tac_syntax.proofs.Straight.{after_all, Out-after_all, end_state-items}
+use Rattle.tac_syntax.specs.Straight.{after_all, Out-after_all}
 use Rattle.pact_top.proofs.interpreter.call_map.Goals as goal
-
-pub returns-in_err-machine-clause-over : goal.returns-in_err-machine-clause-over
-returns-in_err-machine-clause-over c = end_state-items c.args.fields c.args.body.now (of_record c.args.row.now)
-
-pub returns-in_err-act_all-clause-over : goal.returns-in_err-act_all-clause-over
-returns-in_err-act_all-clause-over c = end_state-items c.args.fields c.args.body.now (of_record c.args.row.now)
-
-pub returns-clause-over : goal.returns-clause-over
-returns-clause-over c = end_state-items c.args.fields c.args.body.now (of_record c.args.row.now)
 
 pub returns-clause-emitted : goal.returns-clause-emitted
 returns-clause-emitted c =

@@ -1,5 +1,5 @@
 use Rattle.std.proofs.Common.{◌∙◌}
-use Rattle.pact_top.proofs.Unread.{Turn-Unread, Unread-Turn}
+use Rattle.pact_top.proofs.WordsLeft.{Turn-Unread, Unread-Turn}
 use Rattle.pact_top.proofs.numbers.read_numbers.Goals as goal
 
 pub returns-in_default : goal.returns-in_default

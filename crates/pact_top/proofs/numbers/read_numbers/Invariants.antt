@@ -1,6 +1,6 @@
 use Rattle.std.proofs.Common.{◌≡◌, ◌<◌, ◌^◌, ◌++◌, ℕ, List, length, map, decimal, drop}
 use Rattle.std.specs.List.{AllByRecursion}
-use Rattle.pact_top.proofs.Unread.{Unread}
+use Rattle.pact_top.proofs.WordsLeft.{Unread}
 use Rattle.pact_top.proofs.numbers.read_numbers.Given as goal
 
 abbrev pub invariant-loop-word : goal.invariant-loop-word

@@ -4,7 +4,7 @@ use Rattle.pact_record.specs.declared.records.TheConstants.{MAX_FIELDS}
 use Rattle.tac_syntax.specs.declared.statements.Stmt.{Stmt}
 use Rattle.tac_syntax.specs.Valid.{IsValid, AreValid}
 use Rattle.pact_top.specs.Program.{statement_words}
-use Rattle.pact_top.proofs.Unread.{Turn-Unread, Unread-Turn, Unread-start}
+use Rattle.pact_top.proofs.WordsLeft.{Turn-Unread, Unread-Turn, Unread-start}
 use Rattle.pact_top.proofs.statements.read_body.Goals as goal
 
 each_valid : (ss : List Stmt) → AreValid MAX_FIELDS ss → AllByRecursion (IsValid MAX_FIELDS) ss

@@ -3,7 +3,7 @@ use Rattle.pact_record.specs.declared.records.TheConstants.{MAX_FIELDS}
 use Rattle.tac_syntax.specs.declared.statements.Stmt.{Stmt}
 use Rattle.tac_syntax.specs.Valid.{IsValid, AreValid}
 use Rattle.pact_top.specs.Program.{statement_words}
-use Rattle.pact_top.proofs.Unread.{Unread}
+use Rattle.pact_top.proofs.WordsLeft.{Unread}
 use Rattle.pact_top.proofs.statements.read_body.Given as goal
 
 abbrev pub invariant-loop-line : goal.invariant-loop-line

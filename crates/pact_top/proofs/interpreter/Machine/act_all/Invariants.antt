@@ -1,5 +1,5 @@
 use Rattle.std.proofs.Common.{drop}
-use Rattle.pact_top.specs.Machine.{RunsOn}
+use Rattle.pact_top.proofs.RunsOn.{RunsOn}
 use Rattle.pact_top.proofs.interpreter.Machine.act_all.Given as goal
 
 abbrev pub invariant-loop-stmt : goal.invariant-loop-stmt

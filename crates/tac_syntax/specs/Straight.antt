@@ -1,4 +1,4 @@
--- Straight code: the steps of a call run its statements one after the other.
+-- Laws of straight code: the steps of a call run its statements one after the other, and within their bound no item is left.
 use Rattle.std.proofs.Common.{◌≡◌, ℕ, suc, List, [], ◌∷◌, refl, ◌∙◌, ap, map, arith}
 use Rattle.tac_syntax.specs.declared.statements.Stmt.{Stmt}
 use Rattle.tac_syntax.specs.declared.statements.Stmt.TheVariants.{Get, New, Copy, Set, Emit}

@@ -1,0 +1,31 @@
+use crate::{Bytes, Record, Value, Word};
+use std::cmp::Ordering;
+use std::test::Fail;
+
+#[test]
+fn records_are_set_copied_and_compared(rt: HostRuntime) -> Result<(), Fail> {
+    let mut row = Record::empty(rt.alloc(), 2)?;
+    let blank = row.copy(rt.alloc())?;
+    row.set(1, Value::Int(-5));
+    assert!(rt; matches!(row.get(0), Value::Null));
+    assert!(rt; matches!(row.get(1).copy(rt.alloc())?, Value::Int(-5)));
+    let same = row.copy(rt.alloc())?;
+    assert!(rt; row.compare(&same) == Ordering::Equal);
+    assert!(rt; blank.compare(&row) == Ordering::Less);
+    let short = Record::empty(rt.alloc(), 1)?;
+    assert!(rt; short.len() == 1 && short.compare(&blank) == Ordering::Less);
+    Ok(())
+}
+
+#[test]
+fn bytes_and_words_are_kept(rt: HostRuntime) -> Result<(), Fail> {
+    let mut bytes = Bytes::new(rt.alloc());
+    bytes.push(b'p')?;
+    bytes.extend_from_slice(b"act")?;
+    assert!(rt; bytes.bytes() == b"pact".as_slice() && bytes.len() == 4);
+    let same = Bytes::from_slice(rt.alloc(), bytes.bytes())?;
+    assert!(rt; same.bytes() == b"pact".as_slice());
+    let word = Word::from_bytes(rt.alloc(), b"d.csv")?;
+    assert!(rt; word.bytes() == b"d.csv".as_slice());
+    Ok(())
+}
