@@ -1,4 +1,5 @@
-use crate::{Bytes, Record, Value, Word};
+use crate::{Bytes, MAX_TEXT, NotText, OutOfMemory, Record, Text, Value, Word};
+use std::alloc::Global;
 use std::cmp::Ordering;
 use std::test::Fail;
 
@@ -27,5 +28,21 @@ fn bytes_and_words_are_kept(rt: HostRuntime) -> Result<(), Fail> {
     assert!(rt; same.bytes() == b"pact".as_slice());
     let word = Word::from_bytes(rt.alloc(), b"d.csv")?;
     assert!(rt; word.bytes() == b"d.csv".as_slice());
+    Ok(())
+}
+
+fn letters(alloc: Global, count: usize) -> Result<Vec<u8>, OutOfMemory> {
+    vec![in alloc; b'a'; count]
+}
+
+#[test]
+fn texts_are_short_and_utf8(rt: HostRuntime) -> Result<(), Fail> {
+    let most = letters(rt.alloc(), MAX_TEXT)?;
+    assert!(rt;
+        matches!(Text::from_bytes(rt.alloc(), &most), Ok(text) if text.bytes() == most.as_slice())
+    );
+    let more = letters(rt.alloc(), MAX_TEXT + 1)?;
+    assert!(rt; matches!(Text::from_bytes(rt.alloc(), &more), Err(NotText::Long)));
+    assert!(rt; matches!(Text::from_bytes(rt.alloc(), b"\xff"), Err(NotText::Utf8)));
     Ok(())
 }

@@ -2,7 +2,6 @@ pub mod Answered
 pub mod Candidate
 pub mod Exclusive
 pub mod FirstPlans
-pub mod Fronts
 pub mod Numerals
 pub mod Pieces
 pub mod PlainWords

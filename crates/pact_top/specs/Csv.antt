@@ -5,7 +5,7 @@ use Rattle.std.specs.Fmt.{signed_decimal}
 use Rattle.csv.specs.Reading.{default_config, strip_bom, records}
 use Rattle.csv.specs.Writing.{default_writer, row_text}
 use Rattle.pact_record.specs.declared.values.Value.{Value}
-use Rattle.pact_record.specs.declared.values.Value.TheVariants.{Null, Int}
+use Rattle.pact_record.specs.declared.values.Value.TheVariants.{Null, Int, Text}
 use Rattle.tac_syntax.specs.Call.{empty_record}
 use mir.Syntax.{w64}
 
@@ -13,6 +13,7 @@ use mir.Syntax.{w64}
 abbrev pub FieldValue : List ℕ → Value → Type 0
 FieldValue text Null = text ≡ []
 FieldValue text (Int z) = ParsesSigned {E = Unit {0}} w64 10 text (Ok z)
+FieldValue text (Text t) = ⊥
 
 -- a record's texts go to the columns' fields, from the left, and there are as many as columns
 abbrev pub FillsColumns : List ℕ → List (List ℕ) → List Value → List Value → Type 0
@@ -39,10 +40,11 @@ CsvRows fields columns bytes rows = AreRows fields columns (records default_conf
 abbrev pub NoCsvRows : ℕ → List ℕ → List ℕ → Type 0
 NoCsvRows fields columns bytes = (rows : List (List Value)) → CsvRows fields columns bytes rows → ⊥
 
--- Null is the empty field, a number its decimal text
+-- Null is the empty field, a number its decimal text, a text its bytes
 abbrev pub value_text : Value → List ℕ
 value_text Null = []
 value_text (Int z) = signed_decimal z
+value_text (Text t) = t
 
 abbrev pub csv_text : List (List Value) → List ℕ
 csv_text rows = flat_map (λ row. row_text default_writer (map value_text row)) rows

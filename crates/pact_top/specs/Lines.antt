@@ -2,12 +2,9 @@
 use Rattle.std.specs.Prelude.{◌≡◌, ℕ, List, map}
 use Rattle.std.specs.List.Sorted.{IsPermutation, IsSorted}
 use Rattle.pact_record.specs.declared.values.Value.{Value}
-use Rattle.pact_record.specs.Record.{at_field, record_cmp}
+use Rattle.pact_record.specs.Record.{record_cmp}
+use Rattle.pact_bag.specs.Rows.{cut}
 use Rattle.pact_top.specs.Csv.{csv_text}
-
--- the listed fields of a record, in that order
-abbrev pub cut : List ℕ → List Value → List Value
-cut fields row = map (at_field row) fields
 
 pub record AreLines (fields : List ℕ) (bag : List (List Value)) (text : List ℕ) : Type 0 where
   pub rows : List (List Value)

@@ -16,8 +16,9 @@ use crate::program::Program;
 use crate::reader::read_program;
 use crate::refusals::Refusal;
 use crate::words::command;
+use pact_bag::Rows;
 use pact_outside::Feed;
-use pact_record::{Bytes, Record};
+use pact_record::Bytes;
 use std::alloc::Global;
 
 fn load_program<F: Feed>(alloc: Global, feed: &mut F, name: &[u8]) -> Result<Program, Refusal>
@@ -38,14 +39,10 @@ fn load_program<F: Feed>(alloc: Global, feed: &mut F, name: &[u8]) -> Result<Pro
     }
 }
 
-fn load_rows<F: Feed>(
-    alloc: Global,
-    feed: &mut F,
-    program: &Program,
-) -> Result<Vec<Record>, Refusal>
+fn load_rows<F: Feed>(alloc: Global, feed: &mut F, program: &Program) -> Result<Rows, Refusal>
     requires { IsFirstForm program.now }
-    ensures read { IfOk result (λ rows. IfSome (F.files feed.old) (λ files. (bytes : List ℕ) × (file_named files program.now.file ≡ Some bytes) × (length bytes ≤ source_limit) × CsvRows program.now.fields program.now.columns bytes rows.items)) }
-    ensures widths { IfOk result (λ rows. AllByRecursion (λ row. length row ≡ program.now.fields) rows.items) }
+    ensures read { IfOk result (λ rows. IfSome (F.files feed.old) (λ files. (bytes : List ℕ) × (file_named files program.now.file ≡ Some bytes) × (length bytes ≤ source_limit) × CsvRows program.now.fields program.now.columns bytes rows)) }
+    ensures widths { IfOk result (λ rows. AllByRecursion (λ row. length row ≡ program.now.fields) rows) }
     ensures refused { IfErr result (FileRefused (F.files feed.old) program.now.file (IsBadSource program.now) (F.faults feed.old) (F.faults feed.new) (F.is_open feed.new) (F.opened_name feed.new)) }
     ensures later { F.faults feed.old ≤ F.faults feed.new }
     ensures files { F.files feed.new ≡ F.files feed.old }

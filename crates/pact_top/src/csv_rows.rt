@@ -7,6 +7,7 @@ ghost use Rattle.pact_record.specs.declared.values.Value.{Value as FieldsValue};
 ghost use Rattle.pact_top.specs.Csv.{AreRows, CsvRows, FieldValue, IsRow, NoCsvRows, csv_text, value_text};
 
 use csv::{ByteRecord, ReaderBuilder, WriterBuilder};
+use pact_bag::Rows;
 use pact_record::{Bytes, MAX_FIELDS, OutOfMemory, Record, Value};
 use std::alloc::Global;
 use std::str;
@@ -17,11 +18,11 @@ pub fn read_rows(
     text: &[u8],
     columns: &[u32],
     fields: u32,
-) -> Result<Option<Vec<Record>>, OutOfMemory>
+) -> Result<Option<Rows>, OutOfMemory>
     requires fields { fields ≤ MAX_FIELDS }
     requires columns { AllByRecursion (λ field. field < fields) columns.now }
-    ensures rows { IfOk result (λ o. MatchOption o (NoCsvRows fields columns.now text.now) (λ rows. CsvRows fields columns.now text.now rows.items)) }
-    ensures widths { IfOk result (λ o. MatchOption o (Unit {0}) (λ rows. AllByRecursion (λ row. length row ≡ fields) rows.items)) }
+    ensures rows { IfOk result (λ o. MatchOption o (NoCsvRows fields columns.now text.now) (λ rows. CsvRows fields columns.now text.now rows)) }
+    ensures widths { IfOk result (λ o. MatchOption o (Unit {0}) (λ rows. AllByRecursion (λ row. length row ≡ fields) rows)) }
 {
     let records = read_records(alloc, text)?;
     rows_of(alloc, &records, columns, fields)
@@ -50,13 +51,13 @@ fn rows_of(
     records: &[ByteRecord],
     columns: &[u32],
     fields: u32,
-) -> Result<Option<Vec<Record>>, OutOfMemory>
+) -> Result<Option<Rows>, OutOfMemory>
     requires fields { fields ≤ MAX_FIELDS }
     requires columns { AllByRecursion (λ field. field < fields) columns.now }
-    ensures rows { IfOk result (λ o. MatchOption o ((rows : List (List FieldsValue)) → AreRows fields columns.now (map fields_of records.now) rows → ⊥) (λ rows. AreRows fields columns.now (map fields_of records.now) rows.items)) }
-    ensures widths { IfOk result (λ o. MatchOption o (Unit {0}) (λ rows. AllByRecursion (λ row. length row ≡ fields) rows.items)) }
+    ensures rows { IfOk result (λ o. MatchOption o ((rows : List (List FieldsValue)) → AreRows fields columns.now (map fields_of records.now) rows → ⊥) (λ rows. AreRows fields columns.now (map fields_of records.now) rows)) }
+    ensures widths { IfOk result (λ o. MatchOption o (Unit {0}) (λ rows. AllByRecursion (λ row. length row ≡ fields) rows)) }
 {
-    let mut rows = Vec::new(alloc);
+    let mut rows = Rows::new(alloc);
     for texts in records {
         match row_of(alloc, texts, columns, fields)? {
             Some(row) => rows.push(row)?,
@@ -135,6 +136,7 @@ fn texts_of(alloc: Global, row: &Record) -> Result<ByteRecord, OutOfMemory>
     for field in 0..row.len() {
         match row.get(field) {
             Value::Null => texts.push_field(b"")?,
+            Value::Text(text) => texts.push_field(text.bytes())?,
             Value::Int(number) => {
                 let text = format!(in alloc; "{number}")?;
                 texts.push_field(text.as_bytes())?;

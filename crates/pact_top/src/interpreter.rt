@@ -8,6 +8,7 @@ ghost use Rattle.tac_syntax.specs.Valid.{IsValid, AreValid};
 ghost use Rattle.tac_syntax.specs.Call.{of_record, Store, named_record, after, start_store, Out};
 ghost use Rattle.tac_syntax.specs.Straight.{after_all};
 
+use pact_bag::Rows;
 use pact_record::{OutOfMemory, Record, Value};
 use std::alloc::Global;
 use std::marker::Model;
@@ -20,7 +21,7 @@ struct Machine<'a> {
     input: &'a Record,
     values: Vec<Value>,
     records: Vec<Record>,
-    emitted: Vec<Record>,
+    emitted: Rows,
 }
 
 impl<'a> Model for Machine<'a> {
@@ -30,9 +31,9 @@ impl<'a> Model for Machine<'a> {
 
     ghost Value = { Store };
 
-    ghost view = { λ m. record { fields = m.fields; input = of_record m.input.now; values = m.values.items; records = m.records.items; loops = []; emitted = m.emitted.items } };
+    ghost view = { λ m. record { fields = m.fields; input = of_record m.input.now; values = m.values.items; records = m.records.items; loops = []; emitted = m.emitted } };
 
-    ghost invariant = { λ m. IsWide m.fields m.input.now m.values.items m.records.items m.emitted.items };
+    ghost invariant = { λ m. IsWide m.fields m.input.now m.values.items m.records.items m.emitted };
 }
 
 impl<'a> Machine<'a> {
@@ -54,7 +55,7 @@ impl<'a> Machine<'a> {
             input: row,
             values,
             records,
-            emitted: Vec::new(alloc),
+            emitted: Rows::new(alloc),
         })
     }
 
@@ -137,9 +138,9 @@ impl<'a> Machine<'a> {
         Ok(())
     }
 
-    fn into_emitted(self) -> Vec<Record>
-        ensures rows { result.items ≡ self.entry.emitted }
-        ensures widths { AllByRecursion (λ row. length row ≡ self.entry.fields) result.items }
+    fn into_emitted(self) -> Rows
+        ensures rows { result ≡ self.entry.emitted }
+        ensures widths { AllByRecursion (λ row. length row ≡ self.entry.fields) result }
     {
         self.emitted
     }
@@ -151,12 +152,12 @@ pub fn call_map(
     fields: u32,
     body: &[Stmt],
     row: &Record,
-) -> Result<Vec<Record>, OutOfMemory>
+) -> Result<Rows, OutOfMemory>
     requires fields { fields ≤ MAX_FIELDS }
     requires valid { AreValid fields body.now }
     requires width { length row.now ≡ fields }
-    ensures emitted { IfOk result (λ rows. rows.items ≡ Out fields body.now (of_record row.now)) }
-    ensures widths { IfOk result (λ rows. AllByRecursion (λ r. length r ≡ fields) rows.items) }
+    ensures emitted { IfOk result (λ rows. rows ≡ Out fields body.now (of_record row.now)) }
+    ensures widths { IfOk result (λ rows. AllByRecursion (λ r. length r ≡ fields) rows) }
 {
     let mut machine = Machine::start(alloc, fields, row)?;
     machine.act_all(alloc, body)?;

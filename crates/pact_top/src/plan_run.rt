@@ -10,25 +10,21 @@ ghost use Rattle.pact_top.specs.FirstPlan.{ops_of, plan_of};
 
 use crate::interpreter::call_map;
 use crate::program::Program;
-use pact_record::{OutOfMemory, Record};
+use pact_bag::Rows;
+use pact_record::OutOfMemory;
 use std::alloc::Global;
 use tac_syntax::Stmt;
 
 // What the function emits for each row, one row after the other.
-fn map_rows(
-    alloc: Global,
-    fields: u32,
-    body: &[Stmt],
-    rows: &[Record],
-) -> Result<Vec<Record>, OutOfMemory>
+fn map_rows(alloc: Global, fields: u32, body: &[Stmt], rows: &Rows) -> Result<Rows, OutOfMemory>
     requires fields { fields ≤ MAX_FIELDS }
     requires valid { AreValid fields body.now }
     requires widths { AllByRecursion (λ row. length row ≡ fields) rows.now }
-    ensures emitted { IfOk result (λ bag. bag.items ≡ flat_map (λ row. Out fields body.now (of_record row)) rows.now) }
-    ensures widths { IfOk result (λ bag. AllByRecursion (λ row. length row ≡ fields) bag.items) }
+    ensures emitted { IfOk result (λ bag. bag ≡ flat_map (λ row. Out fields body.now (of_record row)) rows.now) }
+    ensures widths { IfOk result (λ bag. AllByRecursion (λ row. length row ≡ fields) bag) }
 {
-    let mut bag = Vec::new(alloc);
-    for row in rows {
+    let mut bag = Rows::new(alloc);
+    for row in rows.rows() {
         let mut emitted = call_map(alloc, fields, body, row)?;
         bag.append(&mut emitted)?;
     }
@@ -36,16 +32,12 @@ fn map_rows(
 }
 
 /// A bag that the program's plan allows on the rows of its source.
-pub fn run_plan(
-    alloc: Global,
-    program: &Program,
-    rows: &[Record],
-) -> Result<Vec<Record>, OutOfMemory>
+pub fn run_plan(alloc: Global, program: &Program, rows: &Rows) -> Result<Rows, OutOfMemory>
     requires fields { program.now.fields ≤ MAX_FIELDS }
     requires valid { AreValid program.now.fields program.now.body }
     requires widths { AllByRecursion (λ row. length row ≡ program.now.fields) rows.now }
-    ensures allowed { IfOk result (λ bag. Allows (ops_of program.now rows.now) (plan_of program.now) bag.items) }
-    ensures widths { IfOk result (λ bag. AllByRecursion (λ row. length row ≡ program.now.fields) bag.items) }
+    ensures allowed { IfOk result (λ bag. Allows (ops_of program.now rows.now) (plan_of program.now) bag) }
+    ensures widths { IfOk result (λ bag. AllByRecursion (λ row. length row ≡ program.now.fields) bag) }
 {
     let bag = map_rows(alloc, program.fields(), program.body().stmts(), rows)?;
     Ok(bag)

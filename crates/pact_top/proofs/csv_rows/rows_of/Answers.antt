@@ -1,6 +1,5 @@
-use Rattle.std.proofs.Common.{◌≡◌, ◌<◌, true, length, map, arith, rules, []}
+use Rattle.std.proofs.Common.{◌≡◌, ◌<◌, length, map, arith, []}
 use Rattle.std.proofs.lemmas.List.{get_or-map, map_more, length-map}
-use Rattle.std.specs.Result.{is_ok}
 use Rattle.csv.specs.Records.{fields_of}
 use Rattle.pact_top.proofs.Rows.{all_more, rows_at, rows_more}
 use Rattle.pact_top.proofs.csv_rows.rows_of.Goals as goal
@@ -8,8 +7,7 @@ use Rattle.pact_top.proofs.csv_rows.rows_of.Goals as goal
 pub loop-texts-preserved : goal.loop-texts-preserved
 loop-texts-preserved c =
     let inv = c.loop-texts.invariant in
-    let pushed : is_ok c.push.result ≡ true = search rules in
-    let items = rw pushed at c.push.ensures.items in
+    let items = c.in_ok-push-in-Some.ensures.ok in
     let row = rw c.in-Some.is at c.in_ok-row.ensures.row in
     let width = rw c.in-Some.is at c.in_ok-row.ensures.width in
     rw (items, map_more fields_of c.args.records.now c.loop-texts.texts-index c.texts-item.result (omega arith), ← c.texts-item.is)

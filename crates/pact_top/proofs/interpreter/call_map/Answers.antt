@@ -14,4 +14,4 @@ returns-clause-emitted c =
 pub returns-clause-widths : goal.returns-clause-widths
 returns-clause-widths c =
     let e = c.in_ok-act_all.ensures.fields ∙ ap (λ (s : Store). s.fields) c.in_ok-machine.ensures in
-    subst (λ (n : ℕ). AllByRecursion (λ (row : List Value). length row ≡ n) c.into_emitted.result.items) e c.into_emitted.ensures.widths
+    subst (λ (n : ℕ). AllByRecursion (λ (row : List Value). length row ≡ n) c.into_emitted.result) e c.into_emitted.ensures.widths

@@ -6,5 +6,5 @@ use Rattle.pact_top.proofs.plan_run.map_rows.Given as goal
 
 abbrev pub invariant-loop-row : goal.invariant-loop-row
 invariant-loop-row l =
-    (l.bag.items ≡ flat_map (λ row. Out l.fields l.body (of_record row)) (take l.row-index l.rows))
-    × AllByRecursion (λ row. length row ≡ l.fields) l.bag.items
+    (l.bag ≡ flat_map (λ row. Out l.fields l.body (of_record row)) (take l.row-index l.row-items))
+    × AllByRecursion (λ row. length row ≡ l.fields) l.bag

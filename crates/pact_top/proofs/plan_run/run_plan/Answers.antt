@@ -6,9 +6,9 @@ use Rattle.pact_top.proofs.plan_run.run_plan.Goals as goal
 
 pub returns-clause-allowed : goal.returns-clause-allowed
 returns-clause-allowed c =
-    emitted_allowed c.args.program.now c.args.rows.now c.in_ok-bag.bag.items c.fields.result c.stmts.result.now
+    emitted_allowed c.args.program.now c.args.rows.now c.in_ok-bag.bag c.fields.result c.stmts.result.now
     c.fields.ensures (c.stmts.ensures ∙ c.body.ensures) c.in_ok-bag.ensures.emitted
 
 pub returns-clause-widths : goal.returns-clause-widths
 returns-clause-widths c =
-    subst (λ (n : ℕ). AllByRecursion (λ (row : List Value). length row ≡ n) c.in_ok-bag.bag.items) c.fields.ensures c.in_ok-bag.ensures.widths
+    subst (λ (n : ℕ). AllByRecursion (λ (row : List Value). length row ≡ n) c.in_ok-bag.bag) c.fields.ensures c.in_ok-bag.ensures.widths

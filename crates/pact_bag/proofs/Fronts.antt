@@ -4,7 +4,7 @@ use Rattle.std.proofs.lemmas.List.{set_at, append_assoc, map_more, length-take-l
 use Rattle.pact_record.specs.declared.values.Value.{Value}
 use Rattle.pact_record.specs.declared.values.Value.TheVariants.{Null}
 use Rattle.pact_record.specs.Record.{at_field}
-use Rattle.pact_top.specs.Lines.{cut}
+use Rattle.pact_bag.specs.Rows.{cut}
 
 -- the next place of a list that is blank from there on
 pub set_next : {X : Type 0} (front : List X) (blank x : X) (n size : ℕ) → length front ≡ n → n < size

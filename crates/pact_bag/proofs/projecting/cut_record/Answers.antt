@@ -1,7 +1,7 @@
 use Rattle.std.proofs.Common.{arith, ◌∙◌}
 use Rattle.std.proofs.lemmas.List.{length-set}
-use Rattle.pact_top.proofs.Fronts.{cut_next}
-use Rattle.pact_top.proofs.lines.cut_record.Goals as goal
+use Rattle.pact_bag.proofs.Fronts.{cut_next}
+use Rattle.pact_bag.proofs.projecting.cut_record.Goals as goal
 
 pub loop-at-preserved : goal.loop-at-preserved
 loop-at-preserved c =

@@ -1,0 +1,82 @@
+ghost use Rattle.std.specs.Prelude.{◌≡◌, ◌≤◌, ◌<◌, length, IsUtf8, IfOk, IsErrOf};
+ghost use Rattle.pact_record.specs.declared.texts.NotText.TheVariants.{Utf8, Long};
+
+use crate::OutOfMemory;
+use std::alloc::Global;
+use std::marker::Model;
+use std::str;
+
+/// A text has at most so many bytes.
+pub const MAX_TEXT: usize = 4096;
+
+/// A short text: UTF-8 of at most `MAX_TEXT` bytes.
+#[derive(Debug, Drop)]
+pub struct Text {
+    held: Vec<u8>,
+}
+
+/// Why bytes are no text.
+#[derive(Clone, Copy, Debug, PartialEq, Eq)]
+pub enum NotText {
+    /// They aren't UTF-8.
+    Utf8,
+    /// They are UTF-8, and too many.
+    Long,
+    Memory,
+}
+
+impl From<OutOfMemory> for NotText {
+    ghost use Rattle.pact_record.specs.declared.texts.NotText.TheVariants.{Memory};
+
+    ghost from_gives = { λ _ e. e ≡ Memory };
+
+    fn from(_: OutOfMemory) -> NotText {
+        NotText::Memory
+    }
+}
+
+impl Model for Text {
+    ghost use Rattle.std.specs.Prelude.{List, ℕ, length, ◌≤◌, IsUtf8};
+    ghost use Rattle.pact_record.specs.declared.texts.TheConstants.{MAX_TEXT};
+
+    ghost Value = { List ℕ };
+
+    ghost view = { λ t. t.held.items };
+
+    ghost invariant = { λ t. (length t.held.items ≤ MAX_TEXT) × IsUtf8 t.held.items };
+}
+
+impl Text {
+    pub fn from_bytes(alloc: Global, bytes: &[u8]) -> Result<Text, NotText>
+        ensures ok { IfOk result (λ t. t ≡ bytes.now) }
+        ensures fits { IfOk result (λ t. (length t ≤ MAX_TEXT) × IsUtf8 t) }
+        ensures utf8 { IsErrOf result Utf8 → IsUtf8 bytes.now → ⊥ }
+        ensures long { IsErrOf result Long → IsUtf8 bytes.now × (MAX_TEXT < length bytes.now) }
+    {
+        if str::from_utf8(bytes).is_err() {
+            return Err(NotText::Utf8);
+        }
+        if bytes.len() > MAX_TEXT {
+            return Err(NotText::Long);
+        }
+        Ok(Text {
+            held: Vec::from_slice(alloc, bytes)?,
+        })
+    }
+
+    pub fn bytes(&self) -> &[u8]
+        ensures text { result.now ≡ self.now }
+        ensures short { length self.now ≤ MAX_TEXT }
+        ensures utf8 { IsUtf8 self.now }
+    {
+        &self.held
+    }
+
+    pub fn copy(&self, alloc: Global) -> Result<Text, OutOfMemory>
+        ensures { IfOk result (λ t. t ≡ self.now) }
+    {
+        Ok(Text {
+            held: Vec::from_slice(alloc, &self.held)?,
+        })
+    }
+}
