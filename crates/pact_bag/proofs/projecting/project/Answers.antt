@@ -1,4 +1,3 @@
-use Rattle.std.proofs.Common.{take}
 use Rattle.pact_bag.proofs.Widths.{widths-projected}
 use Rattle.pact_bag.proofs.projecting.project.Goals as goal
 

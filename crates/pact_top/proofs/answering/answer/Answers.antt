@@ -1,5 +1,4 @@
 use Rattle.std.proofs.Common.{◌≡◌, ℕ, List, Option, Some, subst, sym, ◌∙◌, ap}
-use Rattle.pact_record.specs.declared.values.Value.{Value}
 use Rattle.pact_outside.specs.declared.files.NamedFile.{NamedFile}
 use Rattle.pact_top.specs.Lines.{AreLines}
 use Rattle.pact_top.specs.Verdict.{texts_of, command_of}

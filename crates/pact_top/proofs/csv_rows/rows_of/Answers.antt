@@ -1,4 +1,4 @@
-use Rattle.std.proofs.Common.{◌≡◌, ◌<◌, length, map, arith, []}
+use Rattle.std.proofs.Common.{◌<◌, length, map, arith, []}
 use Rattle.std.proofs.lemmas.List.{get_or-map, map_more, length-map}
 use Rattle.csv.specs.Records.{fields_of}
 use Rattle.pact_top.proofs.Rows.{all_more, rows_at, rows_more}
