@@ -13,7 +13,7 @@ pub All-from_recursion : {X : Type 0} (P : X → Type 0) (xs : List X) → AllBy
 All-from_recursion P [] h = All-nil P
 All-from_recursion P (x ∷ xs) h = All-cons P x xs h.0 (All-from_recursion P xs h.1)
 
-AllByRecursion-last : {X : Type 0} (P : X → Type 0) (xs : List X) (x : X) → AllByRecursion P xs → P x → AllByRecursion P (xs ++ x ∷ [])
+pub AllByRecursion-last : {X : Type 0} (P : X → Type 0) (xs : List X) (x : X) → AllByRecursion P xs → P x → AllByRecursion P (xs ++ x ∷ [])
 AllByRecursion-last P [] x h k = (k, tt)
 AllByRecursion-last P (y ∷ xs) x h k = (h.0, AllByRecursion-last P xs x h.1 k)
 

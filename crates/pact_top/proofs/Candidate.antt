@@ -1,16 +1,18 @@
 -- The words that a first-form program's text is split into, and what fits in them.
-use Rattle.std.proofs.Common.{◌≡◌, ◌<◌, ◌≤◌, ◌^◌, ℕ, List, [], ◌∷◌, ◌++◌, map, codes, decimal, refl, ap, ◌∙◌, arith}
+use Rattle.std.proofs.Common.{◌≡◌, ◌<◌, ◌≤◌, ◌^◌, ℕ, Bool, true, false, List, [], ◌∷◌, ◌++◌, map, codes, decimal, refl, ap, ◌∙◌, arith}
 use Rattle.std.specs.List.{AllByRecursion}
 use Rattle.pact_record.specs.declared.records.TheConstants.{MAX_FIELDS}
 use Rattle.tac_syntax.specs.declared.statements.Rec.TheVariants.{Input}
 use Rattle.tac_syntax.specs.declared.statements.Stmt.{Stmt}
 use Rattle.tac_syntax.specs.declared.statements.Stmt.TheVariants.{Get, New, Copy, Set, Emit}
 use Rattle.tac_syntax.specs.Valid.{IsValid, AreValid}
-use Rattle.pact_top.specs.Program.{Program, IsFirstForm, Line, column_word, program_lines, spelling, statement_line, statement_words, tail_lines}
+use Rattle.pact_bag.specs.declared.columns.Column.{Column}
+use Rattle.pact_top.specs.Program.{Program, IsFirstForm, Line, column_word, kind_word, program_lines, spelling, statement_line, statement_words, tail_lines}
 use Rattle.pact_top.specs.Reading.{IsReadable, program_words}
 use Rattle.pact_top.specs.Splits.{lines_in}
 use Rattle.pact_top.proofs.PlainWords.{IsSplitWord-fixed, IsSplitWord-numbered, IsSplitWord-decimal, IsSplitWord-name, IsSplitWord-file_name, length-name-le, length-file_name-le}
-use Rattle.pact_top.proofs.Splits.{AreSplitWords, lines_in-flat_map}
+use Rattle.pact_top.proofs.ColumnFields.{columns_below}
+use Rattle.pact_top.proofs.Splits.{AreSplitWords, IsSplitWord, lines_in-flat_map}
 
 -- ---- bounds
 
@@ -36,7 +38,7 @@ IsReadable-first_form p h =
       fields = omega arith;
       source = length-name-le p.source h.source_name;
       file = length-file_name-le p.file h.file_name;
-      columns = below_more p.fields (2 ^ 32) p.columns (omega arith) h.columns.within;
+      columns = columns_below p.fields (2 ^ 32) p.columns (omega arith) h.columns.within;
       function = length-name-le p.function h.function_name;
       body = all_valid_more p.fields p.body few h.body_valid;
       operator = length-name-le p.operator h.operator_name;
@@ -45,9 +47,13 @@ IsReadable-first_form p h =
 
 -- ---- words
 
-column_words : (ns : List ℕ) → AllByRecursion (λ n. n < 2 ^ 32) ns → AreSplitWords (map column_word ns)
+IsSplitWord-column : (text : Bool) (field : ℕ) → field < 2 ^ 32 → IsSplitWord (kind_word text ++ decimal field)
+IsSplitWord-column false field h = IsSplitWord-numbered (codes "int:") field refl (omega arith)
+IsSplitWord-column true field h = IsSplitWord-numbered (codes "text:") field refl (omega arith)
+
+column_words : (cs : List Column) → AllByRecursion (λ c. c.field < 2 ^ 32) cs → AreSplitWords (map column_word cs)
 column_words [] h = tt
-column_words (n ∷ ns) h = (IsSplitWord-numbered (codes "int:") n refl (omega (arith, h.0)), column_words ns h.1)
+column_words (c ∷ cs) h = (IsSplitWord-column c.text c.field h.0, column_words cs h.1)
 
 sink_words : (ns : List ℕ) → AllByRecursion (λ n. n < 2 ^ 32) ns → AreSplitWords (map decimal ns)
 sink_words [] h = tt

@@ -1,5 +1,6 @@
 pub mod Answered
 pub mod Candidate
+pub mod ColumnFields
 pub mod Exclusive
 pub mod FirstPlans
 pub mod Numerals

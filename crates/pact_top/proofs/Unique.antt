@@ -1,5 +1,5 @@
 -- A text spells one program.
-use Rattle.std.proofs.Common.{◌≡◌, ◌<◌, ◌^◌, ℕ, List, [], ◌∷◌, ◌++◌, map, codes, decimal, refl, ap, sym, ◌∙◌, arith}
+use Rattle.std.proofs.Common.{◌≡◌, ◌<◌, ◌^◌, ℕ, Bool, true, false, List, [], ◌∷◌, ◌++◌, get_or, map, codes, decimal, refl, ap, sym, ◌∙◌, arith}
 use Rattle.std.specs.List.{AllByRecursion}
 use Rattle.std.proofs.lemmas.Fmt.{decimal_injective}
 use Rattle.pact_record.specs.declared.records.TheConstants.{MAX_FIELDS}
@@ -7,30 +7,42 @@ use Rattle.tac_syntax.specs.declared.statements.Rec.TheVariants.{Input}
 use Rattle.tac_syntax.specs.declared.statements.Stmt.{Stmt}
 use Rattle.tac_syntax.specs.declared.statements.Stmt.TheVariants.{Get, New, Copy, Set, Emit}
 use Rattle.tac_syntax.specs.Valid.{IsValid, AreValid}
-use Rattle.pact_top.specs.Program.{Program, IsProgram, column_word, statement_words, spelling}
+use Rattle.pact_bag.specs.declared.columns.Column.{Column}
+use Rattle.pact_top.specs.Program.{Program, IsProgram, column_word, kind_word, statement_words, spelling}
 use Rattle.pact_top.specs.Reading.{IsReadable, program_words, tail_words}
 use Rattle.pact_top.specs.Splits.{lines_in}
 use Rattle.pact_top.proofs.Candidate.{IsReadable-first_form, lines_in-spelling}
 
--- ---- lists of numbers
+-- ---- lists of numbers and of columns
 
-map_injective : (f : ℕ → List ℕ) → ((m n : ℕ) → m < 2 ^ 32 → n < 2 ^ 32 → f m ≡ f n → m ≡ n) → (ms ns : List ℕ) → AllByRecursion (λ n. n < 2 ^ 32) ms → AllByRecursion (λ n. n < 2 ^ 32) ns
-    → map f ms ≡ map f ns → ms ≡ ns
-map_injective f each [] [] h k e = refl
-map_injective f each [] (n ∷ ns) h k e = absurd cc
-map_injective f each (m ∷ ms) [] h k e = absurd cc
-map_injective f each (m ∷ ms) (n ∷ ns) h k e =
-    let head : f m ≡ f n = cc in
-    let rest : map f ms ≡ map f ns = cc in
-    let first = each m n h.0 k.0 head in
-    let others = map_injective f each ms ns h.1 k.1 rest in
+map_injective : {X : Type 0} (P : X → Type 0) (f : X → List ℕ) → ((x y : X) → P x → P y → f x ≡ f y → x ≡ y) → (xs ys : List X) → AllByRecursion P xs → AllByRecursion P ys
+    → map f xs ≡ map f ys → xs ≡ ys
+map_injective P f each [] [] h k e = refl
+map_injective P f each [] (y ∷ ys) h k e = absurd cc
+map_injective P f each (x ∷ xs) [] h k e = absurd cc
+map_injective P f each (x ∷ xs) (y ∷ ys) h k e =
+    let head : f x ≡ f y = cc in
+    let rest : map f xs ≡ map f ys = cc in
+    let first = each x y h.0 k.0 head in
+    let others = map_injective P f each xs ys h.1 k.1 rest in
     λ i. first i ∷ others i
 
 same_decimal : (m n : ℕ) → m < 2 ^ 32 → n < 2 ^ 32 → decimal m ≡ decimal n → m ≡ n
 same_decimal m n h k e = decimal_injective m n (omega arith) (omega arith) e
 
-same_column : (m n : ℕ) → m < 2 ^ 32 → n < 2 ^ 32 → column_word m ≡ column_word n → m ≡ n
-same_column m n h k e = same_decimal m n h k cc
+-- the two kinds of column begin with different letters
+same_kind : (s t : Bool) (m n : ℕ) → kind_word s ++ decimal m ≡ kind_word t ++ decimal n → (s ≡ t) × (decimal m ≡ decimal n)
+same_kind false false m n e = (refl, cc)
+same_kind true true m n e = (refl, cc)
+same_kind false true m n e = let first : 105 ≡ 116 = ap (λ (w : List ℕ). get_or w 0 0) e in absurd (omega (arith, first))
+same_kind true false m n e = let first : 116 ≡ 105 = ap (λ (w : List ℕ). get_or w 0 0) e in absurd (omega (arith, first))
+
+same_column : (c d : Column) → c.field < 2 ^ 32 → d.field < 2 ^ 32 → column_word c ≡ column_word d → c ≡ d
+same_column c d h k e =
+    let both = same_kind c.text d.text c.field d.field e in
+    let field = same_decimal c.field d.field h k both.1 in
+    let text = both.0 in
+    λ i. record { field = field i; text = text i }
 
 -- ---- statements
 
@@ -119,12 +131,12 @@ same_words p q h k e =
     let source : p.source ≡ q.source = cc in
     let file : p.file ≡ q.file = cc in
     let column_words : map column_word p.columns ≡ map column_word q.columns = cc in
-    let columns = map_injective column_word same_column p.columns q.columns h.columns k.columns column_words in
+    let columns = map_injective (λ c. c.field < 2 ^ 32) column_word same_column p.columns q.columns h.columns k.columns column_words in
     let function : p.function ≡ q.function = cc in
     let rest = both.rest in
     let operator : p.operator ≡ q.operator = cc in
     let sink_words : map decimal p.sink ≡ map decimal q.sink = cc in
-    let sink = map_injective decimal same_decimal p.sink q.sink h.sink k.sink sink_words in
+    let sink = map_injective (λ n. n < 2 ^ 32) decimal same_decimal p.sink q.sink h.sink k.sink sink_words in
     let body = both.body in
     λ i. record {
       fields = fields i;

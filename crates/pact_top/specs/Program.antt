@@ -2,6 +2,7 @@
 use Rattle.std.specs.Prelude.{◌≡◌, ◌≢◌, ◌≤◌, ◌<◌, ◌*◌, ℕ, Bool, true, false, ◌&&◌, ◌||◌, ◌==◌, nat_le, IsTrue, List, [], ◌∷◌, ◌++◌, length, replicate, flat_map, map, codes}
 use Rattle.std.specs.List.{AllByRecursion}
 use Rattle.std.specs.Fmt.{decimal}
+use Rattle.pact_bag.specs.declared.columns.Column.{Column}
 use Rattle.tac_syntax.specs.declared.statements.Rec.{Rec}
 use Rattle.tac_syntax.specs.declared.statements.Rec.TheVariants.{Input}
 use Rattle.tac_syntax.specs.declared.statements.Stmt.{Stmt}
@@ -13,7 +14,7 @@ pub record Program : Type 0 where
   pub fields : ℕ
   pub source : List ℕ
   pub file : List ℕ
-  pub columns : List ℕ
+  pub columns : List Column
   pub function : List ℕ
   pub body : List Stmt
   pub operator : List ℕ
@@ -82,8 +83,13 @@ statement_words (Copy to from) = record_register to ∷ codes "=" ∷ codes "cop
 statement_words (Set to field value) = codes "set" ∷ record_register to ∷ decimal field ∷ value_register value ∷ []
 statement_words (Emit from) = codes "emit" ∷ record_register from ∷ []
 
-abbrev pub column_word : ℕ → List ℕ
-column_word field = codes "int:" ++ decimal field
+-- what stands before the field's number, for texts or for numbers
+abbrev pub kind_word : Bool → List ℕ
+kind_word false = codes "int:"
+kind_word true = codes "text:"
+
+abbrev pub column_word : Column → List ℕ
+column_word c = kind_word c.text ++ decimal c.field
 
 abbrev pub top_line : List (List ℕ) → Line
 top_line words = record { depth = 0; words = words }
@@ -127,6 +133,10 @@ abbrev pub AreDifferent : List ℕ → Type 0
 AreDifferent [] = Unit {0}
 AreDifferent (n ∷ ns) = IsAbsent n ns × AreDifferent ns
 
+-- the fields that columns go to
+abbrev pub column_fields : List Column → List ℕ
+column_fields columns = map (λ c. c.field) columns
+
 pub record IsFieldList (fields : ℕ) (list : List ℕ) : Type 0 where
   pub some : 1 ≤ length list
   pub few : length list ≤ field_limit
@@ -140,8 +150,8 @@ pub record IsFirstForm (p : Program) : Type 0 where
   pub function_name : IsTrue (is_name p.function)
   pub operator_name : IsTrue (is_name p.operator)
   pub names_differ : p.operator ≢ p.source
-  pub columns : IsFieldList p.fields p.columns
-  pub columns_differ : AreDifferent p.columns
+  pub columns : IsFieldList p.fields (column_fields p.columns)
+  pub columns_differ : AreDifferent (column_fields p.columns)
   pub sink : IsFieldList p.fields p.sink
   pub few_statements : length p.body ≤ 1000
   pub body_valid : AreValid p.fields p.body

@@ -41,7 +41,7 @@ pub record IsReadable (p : Program) : Type 0 where
   pub fields : p.fields < 2 ^ 32
   pub source : length p.source ≤ MAX_WORD
   pub file : length p.file ≤ MAX_WORD
-  pub columns : AllByRecursion (λ n. n < 2 ^ 32) p.columns
+  pub columns : AllByRecursion (λ c. c.field < 2 ^ 32) p.columns
   pub function : length p.function ≤ MAX_WORD
   pub body : AreValid MAX_FIELDS p.body
   pub operator : length p.operator ≤ MAX_WORD

@@ -1,4 +1,4 @@
-ghost use Rattle.std.specs.Prelude.{◌≡◌, ◌≤◌, ◌<◌, length, map, IfOk, IfSome, MatchOption, List, [], slice_index_or};
+ghost use Rattle.std.specs.Prelude.{◌≡◌, ◌≢◌, ◌≤◌, ◌<◌, true, false, length, map, IfOk, IfSome, MatchOption, List, [], slice_index_or};
 ghost use Rattle.std.specs.List.{AllByRecursion};
 ghost use Rattle.csv.specs.Reading.{AreRecords, default_config, strip_bom};
 ghost use Rattle.csv.specs.Records.{fields_of};
@@ -7,8 +7,8 @@ ghost use Rattle.pact_record.specs.declared.values.Value.{Value as FieldsValue};
 ghost use Rattle.pact_top.specs.Csv.{AreRows, CsvRows, FieldValue, IsRow, NoCsvRows, csv_text, value_text};
 
 use csv::{ByteRecord, ReaderBuilder, WriterBuilder};
-use pact_bag::Rows;
-use pact_record::{Bytes, MAX_FIELDS, OutOfMemory, Record, Value};
+use pact_bag::{Column, Rows};
+use pact_record::{Bytes, MAX_FIELDS, NotText, OutOfMemory, Record, Text, Value};
 use std::alloc::Global;
 use std::str;
 
@@ -16,11 +16,11 @@ use std::str;
 pub fn read_rows(
     alloc: Global,
     text: &[u8],
-    columns: &[u32],
+    columns: &[Column],
     fields: u32,
 ) -> Result<Option<Rows>, OutOfMemory>
     requires fields { fields ≤ MAX_FIELDS }
-    requires columns { AllByRecursion (λ field. field < fields) columns.now }
+    requires columns { AllByRecursion (λ column. column.field < fields) columns.now }
     ensures rows { IfOk result (λ o. MatchOption o (NoCsvRows fields columns.now text.now) (λ rows. CsvRows fields columns.now text.now rows)) }
     ensures widths { IfOk result (λ o. MatchOption o (Unit {0}) (λ rows. AllByRecursion (λ row. length row ≡ fields) rows)) }
 {
@@ -49,11 +49,11 @@ fn read_records(alloc: Global, text: &[u8]) -> Result<Vec<ByteRecord>, OutOfMemo
 fn rows_of(
     alloc: Global,
     records: &[ByteRecord],
-    columns: &[u32],
+    columns: &[Column],
     fields: u32,
 ) -> Result<Option<Rows>, OutOfMemory>
     requires fields { fields ≤ MAX_FIELDS }
-    requires columns { AllByRecursion (λ field. field < fields) columns.now }
+    requires columns { AllByRecursion (λ column. column.field < fields) columns.now }
     ensures rows { IfOk result (λ o. MatchOption o ((rows : List (List FieldsValue)) → AreRows fields columns.now (map fields_of records.now) rows → ⊥) (λ rows. AreRows fields columns.now (map fields_of records.now) rows)) }
     ensures widths { IfOk result (λ o. MatchOption o (Unit {0}) (λ rows. AllByRecursion (λ row. length row ≡ fields) rows)) }
 {
@@ -70,11 +70,11 @@ fn rows_of(
 fn row_of(
     alloc: Global,
     texts: &ByteRecord,
-    columns: &[u32],
+    columns: &[Column],
     fields: u32,
 ) -> Result<Option<Record>, OutOfMemory>
     requires fields { fields ≤ MAX_FIELDS }
-    requires columns { AllByRecursion (λ field. field < fields) columns.now }
+    requires columns { AllByRecursion (λ column. column.field < fields) columns.now }
     ensures row { IfOk result (λ o. MatchOption o ((row : List FieldsValue) → IsRow fields columns.now (fields_of texts.now) row → ⊥) (λ row. IsRow fields columns.now (fields_of texts.now) row)) }
     ensures width { IfOk result (λ o. IfSome o (λ row. length row ≡ fields)) }
 {
@@ -83,31 +83,59 @@ fn row_of(
     }
     let mut row = Record::empty(alloc, fields)?;
     for (at, column) in columns.iter().enumerate() {
-        let Some(value) = value_at(texts, at) else {
+        let Some(value) = value_at(alloc, texts, at, column.text)? else {
             return Ok(None);
         };
-        row.set(*column, value);
+        row.set(column.field, value);
     }
     Ok(Some(row))
 }
 
-fn value_at(texts: &ByteRecord, at: usize) -> Option<Value>
+fn value_at(
+    alloc: Global,
+    texts: &ByteRecord,
+    at: usize,
+    is_text: bool,
+) -> Result<Option<Value>, OutOfMemory>
     requires { at < length (fields_of texts.now) }
-    ensures { MatchOption result ((value : FieldsValue) → FieldValue (slice_index_or (fields_of texts.now) at []) value → ⊥) (FieldValue (slice_index_or (fields_of texts.now) at [])) }
+    ensures { IfOk result (λ found. MatchOption found ((value : FieldsValue) → FieldValue is_text (slice_index_or (fields_of texts.now) at []) value → ⊥) (FieldValue is_text (slice_index_or (fields_of texts.now) at []))) }
 {
     match texts.get(at) {
-        Some(text) => field_value(text),
-        None => None,
+        Some(bytes) => field_value(alloc, bytes, is_text),
+        None => Ok(None),
     }
 }
 
-fn field_value(text: &[u8]) -> Option<Value>
-    ensures { MatchOption result ((value : FieldsValue) → FieldValue text.now value → ⊥) (FieldValue text.now) }
+// What a field says in a column of texts, or in one of numbers.
+fn field_value(alloc: Global, bytes: &[u8], is_text: bool) -> Result<Option<Value>, OutOfMemory>
+    ensures { IfOk result (λ found. MatchOption found ((value : FieldsValue) → FieldValue is_text bytes.now value → ⊥) (FieldValue is_text bytes.now)) }
 {
-    if text.is_empty() {
-        return Some(Value::Null);
+    if bytes.is_empty() {
+        return Ok(Some(Value::Null));
     }
-    match str::from_utf8(text) {
+    if is_text {
+        text_value(alloc, bytes)
+    } else {
+        Ok(number_value(bytes))
+    }
+}
+
+fn text_value(alloc: Global, bytes: &[u8]) -> Result<Option<Value>, OutOfMemory>
+    requires { bytes.now ≢ [] }
+    ensures { IfOk result (λ found. MatchOption found ((value : FieldsValue) → FieldValue true bytes.now value → ⊥) (FieldValue true bytes.now)) }
+{
+    match Text::from_bytes(alloc, bytes) {
+        Ok(text) => Ok(Some(Value::Text(text))),
+        Err(NotText::Utf8 | NotText::Long) => Ok(None),
+        Err(NotText::Memory) => Err(OutOfMemory),
+    }
+}
+
+fn number_value(bytes: &[u8]) -> Option<Value>
+    requires { bytes.now ≢ [] }
+    ensures { MatchOption result ((value : FieldsValue) → FieldValue false bytes.now value → ⊥) (FieldValue false bytes.now) }
+{
+    match str::from_utf8(bytes) {
         Ok(text) => match text.parse::<i64>() {
             Ok(number) => Some(Value::Int(number)),
             Err(_) => None,

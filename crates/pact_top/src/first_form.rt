@@ -1,10 +1,11 @@
 ghost use Rattle.std.specs.Prelude.{◌≡◌, ◌≢◌, ◌<◌, ◌↔◌, IsTrue};
 ghost use Rattle.std.specs.List.{AllByRecursion};
 ghost use Rattle.tac_syntax.specs.Valid.{AreValid, IsValid};
-ghost use Rattle.pact_top.specs.Program.{AreDifferent, IsAbsent, IsFieldList, IsFirstForm, all_bytes};
+ghost use Rattle.pact_top.specs.Program.{AreDifferent, IsAbsent, IsFieldList, IsFirstForm, all_bytes, column_fields};
 ghost use Rattle.pact_top.specs.Program as specs;
 
 use crate::program::Program;
+use pact_bag::Column;
 use tac_syntax::{RECORD_REGISTERS, Stmt, VALUE_REGISTERS};
 
 /// Version 1 of the language has at most so many fields, and lists of fields are no longer.
@@ -76,22 +77,33 @@ fn is_file_name(name: &[u8]) -> bool
     !name.is_empty() && name.len() <= MAX_FILE_NAME && are_file_bytes(name)
 }
 
-fn is_absent(field: u32, list: &[u32]) -> bool
-    ensures { IsTrue result ↔ IsAbsent field list.now }
+fn is_absent(field: u32, columns: &[Column]) -> bool
+    ensures { IsTrue result ↔ IsAbsent field (column_fields columns.now) }
 {
-    for other in list {
-        if *other == field {
+    for column in columns {
+        if column.field == field {
             return false;
         }
     }
     true
 }
 
-fn are_different(list: &[u32]) -> bool
-    ensures { IsTrue result ↔ AreDifferent list.now }
+fn are_different(columns: &[Column]) -> bool
+    ensures { IsTrue result ↔ AreDifferent (column_fields columns.now) }
 {
-    for (n, field) in list.iter().enumerate() {
-        if !is_absent(*field, &list[n + 1..]) {
+    for (n, column) in columns.iter().enumerate() {
+        if !is_absent(column.field, &columns[n + 1..]) {
+            return false;
+        }
+    }
+    true
+}
+
+fn are_columns_below(fields: u32, columns: &[Column]) -> bool
+    ensures { IsTrue result ↔ AllByRecursion (λ field. field < fields) (column_fields columns.now) }
+{
+    for column in columns {
+        if column.field >= fields {
             return false;
         }
     }
@@ -140,10 +152,18 @@ fn are_valid(fields: u32, stmts: &[Stmt]) -> bool
     true
 }
 
-fn are_columns(fields: u32, list: &[u32]) -> bool
-    ensures { IsTrue result ↔ (IsFieldList fields list.now × AreDifferent list.now) }
+fn have_field_list(fields: u32, columns: &[Column]) -> bool
+    ensures { IsTrue result ↔ IsFieldList fields (column_fields columns.now) }
 {
-    is_field_list(fields, list) && are_different(list)
+    !columns.is_empty()
+        && columns.len() <= FIELD_LIMIT as usize
+        && are_columns_below(fields, columns)
+}
+
+fn are_columns(fields: u32, columns: &[Column]) -> bool
+    ensures { IsTrue result ↔ (IsFieldList fields (column_fields columns.now) × AreDifferent (column_fields columns.now)) }
+{
+    have_field_list(fields, columns) && are_different(columns)
 }
 
 fn are_operator_names(operator: &[u8], source: &[u8]) -> bool

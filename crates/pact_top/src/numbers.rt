@@ -25,19 +25,15 @@ pub fn read_number_behind(skipped: usize, word: &[u8]) -> Option<u32>
     read_number(&word[skipped..])
 }
 
-// The numbers of words, each behind so many bytes.
-pub fn read_numbers(
-    alloc: Global,
-    skipped: usize,
-    words: &[Bytes],
-) -> Result<Option<Vec<u32>>, OutOfMemory>
+// The numbers that words spell.
+pub fn read_numbers(alloc: Global, words: &[Bytes]) -> Result<Option<Vec<u32>>, OutOfMemory>
     ensures { IfOk result (λ found.
-        (front : List ℕ) (ns : List ℕ) → length front ≡ skipped → AllByRecursion (λ n. n < 2 ^ 32) ns
-        → words.now ≡ map (λ n. front ++ decimal n) ns → MatchOption found ⊥ (λ v. v.items ≡ ns)) }
+        (ns : List ℕ) → AllByRecursion (λ n. n < 2 ^ 32) ns → words.now ≡ map decimal ns
+        → MatchOption found ⊥ (λ v. v.items ≡ ns)) }
 {
     let mut numbers = Vec::new(alloc);
     for word in words {
-        let Some(number) = read_number_behind(skipped, word.bytes()) else {
+        let Some(number) = read_number(word.bytes()) else {
             return Ok(None);
         };
         numbers.push(number)?;

@@ -1,6 +1,7 @@
 ghost use Rattle.std.specs.Prelude.{◌≡◌};
 ghost use Rattle.tac_syntax.specs.declared.functions.Kind.TheVariants.{Map};
 
+use pact_bag::{Column, Columns};
 use pact_record::Word;
 use std::marker::Model;
 use tac_syntax::{Body, Function};
@@ -11,8 +12,8 @@ pub struct Program {
     pub(crate) fields: u32,
     pub(crate) source: Word,
     pub(crate) file: Word,
-    /// The field that each column of the file is for.
-    pub(crate) columns: Vec<u32>,
+    /// What each column of the file is for.
+    pub(crate) columns: Columns,
     pub(crate) function: Function,
     /// The Map's name.
     pub(crate) operator: Word,
@@ -30,7 +31,7 @@ impl Model for Program {
       fields = p.fields;
       source = p.source;
       file = p.file;
-      columns = p.columns.items;
+      columns = p.columns;
       function = p.function.name;
       body = p.function.body;
       operator = p.operator;
@@ -59,10 +60,10 @@ impl Program {
         &self.file
     }
 
-    pub fn columns(&self) -> &[u32]
+    pub fn columns(&self) -> &[Column]
         ensures { result.now ≡ self.now.columns }
     {
-        &self.columns
+        self.columns.columns()
     }
 
     pub fn function(&self) -> &Function

@@ -1,14 +1,16 @@
 ghost use Rattle.std.specs.Prelude.{◌≡◌, ◌≤◌, ◌<◌, ◌^◌, ◌∷◌, ℕ, List, [], length, map, codes, decimal, IfOk, MatchOption, Some};
 ghost use Rattle.std.specs.List.{AllByRecursion};
+ghost use Rattle.pact_bag.specs.declared.columns.Column.{Column as ColumnData};
 ghost use Rattle.pact_top.specs.Program.{Program as ProgramData, IsProgram, NoProgram, column_word};
 ghost use Rattle.pact_top.specs.Reading.{program_words, ArePieces, IsReadable};
 
 use crate::first_form::is_first_form;
-use crate::numbers::{read_number, read_numbers};
+use crate::numbers::{read_number, read_number_behind, read_numbers};
 use crate::program::Program;
 use crate::spelling::write_program;
 use crate::splitting::{Words, split_lines};
 use crate::statements::read_body;
+use pact_bag::{Column, Columns};
 use pact_record::{Bytes, MAX_WORD, OutOfMemory, Word};
 use std::alloc::Global;
 use tac_syntax::{Function, Kind};
@@ -18,7 +20,7 @@ use tac_syntax::{Function, Kind};
 struct SourceLine {
     name: Word,
     file: Word,
-    columns: Vec<u32>,
+    columns: Columns,
 }
 
 fn short_word(alloc: Global, word: &Bytes) -> Result<Option<Word>, OutOfMemory>
@@ -51,12 +53,43 @@ fn read_fields(words: &[Bytes]) -> Option<u32>
     }
 }
 
+// The column that a word is for: `text:` tells one of texts.
+fn read_column(word: &[u8]) -> Option<Column>
+    ensures { (c : ColumnData) → c.field < 2 ^ 32 → word.now ≡ column_word c → result ≡ Some c }
+{
+    match word.strip_prefix(b"text:") {
+        Some(digits) => Some(Column {
+            field: read_number(digits)?,
+            text: true,
+        }),
+        None => Some(Column {
+            field: read_number_behind(b"int:".len(), word)?,
+            text: false,
+        }),
+    }
+}
+
+fn read_columns(alloc: Global, words: &[Bytes]) -> Result<Option<Columns>, OutOfMemory>
+    ensures { IfOk result (λ found.
+        (cs : List ColumnData) → AllByRecursion (λ c. c.field < 2 ^ 32) cs → words.now ≡ map column_word cs
+        → found ≡ Some cs) }
+{
+    let mut columns = Columns::new(alloc);
+    for word in words {
+        let Some(column) = read_column(word.bytes()) else {
+            return Ok(None);
+        };
+        columns.push(column)?;
+    }
+    Ok(Some(columns))
+}
+
 fn read_source(alloc: Global, words: &[Bytes]) -> Result<Option<SourceLine>, OutOfMemory>
     ensures { IfOk result (λ found.
-        (name file ns : List ℕ) → length name ≤ MAX_WORD → length file ≤ MAX_WORD
-        → AllByRecursion (λ n. n < 2 ^ 32) ns
-        → words.now ≡ codes "source" ∷ name ∷ file ∷ map column_word ns
-        → MatchOption found ⊥ (λ s. (s.name ≡ name) × (s.file ≡ file) × (s.columns.items ≡ ns))) }
+        (name file : List ℕ) (cs : List ColumnData) → length name ≤ MAX_WORD → length file ≤ MAX_WORD
+        → AllByRecursion (λ c. c.field < 2 ^ 32) cs
+        → words.now ≡ codes "source" ∷ name ∷ file ∷ map column_word cs
+        → MatchOption found ⊥ (λ s. (s.name ≡ name) × (s.file ≡ file) × (s.columns ≡ cs))) }
 {
     let [_, name, file, columns @ ..] = words else {
         return Ok(None);
@@ -67,7 +100,7 @@ fn read_source(alloc: Global, words: &[Bytes]) -> Result<Option<SourceLine>, Out
     let Some(file) = short_word(alloc, file)? else {
         return Ok(None);
     };
-    let Some(columns) = read_numbers(alloc, b"int:".len(), columns)? else {
+    let Some(columns) = read_columns(alloc, columns)? else {
         return Ok(None);
     };
     Ok(Some(SourceLine {
@@ -84,7 +117,7 @@ fn read_sink(alloc: Global, words: &[Bytes]) -> Result<Option<Vec<u32>>, OutOfMe
         → MatchOption found ⊥ (λ v. v.items ≡ ns)) }
 {
     match words {
-        [_, _, fields @ ..] => read_numbers(alloc, 0, fields),
+        [_, _, fields @ ..] => read_numbers(alloc, fields),
         _ => Ok(None),
     }
 }

@@ -1,3 +1,4 @@
+use crate::csv_tests::{numbers, texts};
 use crate::program::Program;
 use crate::reader::read_program;
 use crate::spelling::write_program;
@@ -19,7 +20,7 @@ sink m 0 1
 
 const EVERY_STATEMENT: &str = "pact 1
 fields 2
-source numbers data/In-1.csv int:1
+source numbers data/In-1.csv int:1 text:0
 function every map
   v31 = get in 1
   r7 = new
@@ -41,7 +42,7 @@ sink f_1 63
 ";
 
 // Each is a small change of the first program: what it replaces, and by what.
-const REFUSED: [(&str, &str); 26] = [
+const REFUSED: [(&str, &str); 31] = [
     ("pact 1", "pact 2"),
     ("fields 4\n", "fields 4\n# four\n"),
     ("fields 4\n", "fields 4 # four\n"),
@@ -54,6 +55,11 @@ const REFUSED: [(&str, &str); 26] = [
     ("int:1", "int:4"),
     ("int:1", "int:0"),
     ("int:0 int:1", "int:0 1"),
+    ("int:1", "text:"),
+    ("int:1", "texts:1"),
+    ("int:1", "text:01"),
+    ("int:1", "text:4"),
+    ("int:1", "text:0"),
     (" int:0 int:1", ""),
     ("sink m 0 1", "sink m"),
     ("sink m 0 1", "sink m 0 4"),
@@ -82,7 +88,7 @@ fn has_first_pieces(program: &Program) -> bool {
     program.fields() == 4
         && program.source().bytes() == b"d".as_slice()
         && program.file().bytes() == b"d.csv".as_slice()
-        && program.columns() == [0, 1].as_slice()
+        && program.columns() == [numbers(0), numbers(1)].as_slice()
         && program.function().name.bytes() == b"two".as_slice()
         && program.operator().bytes() == b"m".as_slice()
         && program.sink() == [0, 1].as_slice()
@@ -98,6 +104,13 @@ fn reads_the_pieces(rt: HostRuntime) -> Result<(), Fail> {
         from: Rec::Input,
     };
     assert!(rt; program.body().stmts() == [copy, emit, emit].as_slice());
+    Ok(())
+}
+
+#[test]
+fn reads_both_kinds_of_column(rt: HostRuntime) -> Result<(), Fail> {
+    let program = read_program(rt.alloc(), EVERY_STATEMENT.as_bytes())?.ok_or("no program")?;
+    assert!(rt; program.columns() == [numbers(1), texts(0)].as_slice());
     Ok(())
 }
 

@@ -3,6 +3,7 @@ ghost use Rattle.pact_top.specs.Program.{column_word, head_lines, line_text, rec
 
 use crate::program::Program;
 use crate::splitting::Words;
+use pact_bag::Column;
 use pact_record::{Bytes, OutOfMemory};
 use std::alloc::Global;
 use tac_syntax::{Rec, Stmt};
@@ -30,16 +31,30 @@ fn add_number(
     Ok(())
 }
 
-fn add_numbers(
-    alloc: Global,
-    words: &mut Words,
-    front: &[u8],
-    numbers: &[u32],
-) -> Result<(), OutOfMemory>
-    ensures { OnOk result (words.new ≡ words.old ++ map (λ n. front.now ++ decimal n) numbers.now) }
+fn add_numbers(alloc: Global, words: &mut Words, numbers: &[u32]) -> Result<(), OutOfMemory>
+    ensures { OnOk result (words.new ≡ words.old ++ map decimal numbers.now) }
 {
     for number in numbers {
-        add_number(alloc, words, front, *number)?;
+        add_number(alloc, words, b"", *number)?;
+    }
+    Ok(())
+}
+
+fn add_column(alloc: Global, words: &mut Words, column: Column) -> Result<(), OutOfMemory>
+    ensures { OnOk result (words.new ≡ words.old ++ column_word column ∷ []) }
+{
+    if column.text {
+        add_number(alloc, words, b"text:", column.field)
+    } else {
+        add_number(alloc, words, b"int:", column.field)
+    }
+}
+
+fn add_columns(alloc: Global, words: &mut Words, columns: &[Column]) -> Result<(), OutOfMemory>
+    ensures { OnOk result (words.new ≡ words.old ++ map column_word columns.now) }
+{
+    for column in columns {
+        add_column(alloc, words, *column)?;
     }
     Ok(())
 }
@@ -145,7 +160,7 @@ fn words_of_source(alloc: Global, program: &Program) -> Result<Words, OutOfMemor
     add_word(alloc, &mut words, b"source")?;
     add_word(alloc, &mut words, program.source().bytes())?;
     add_word(alloc, &mut words, program.file().bytes())?;
-    add_numbers(alloc, &mut words, b"int:", program.columns())?;
+    add_columns(alloc, &mut words, program.columns())?;
     Ok(words)
 }
 
@@ -177,7 +192,7 @@ fn words_of_sink(alloc: Global, program: &Program) -> Result<Words, OutOfMemory>
     let mut words = Words::new(alloc);
     add_word(alloc, &mut words, b"sink")?;
     add_word(alloc, &mut words, program.operator().bytes())?;
-    add_numbers(alloc, &mut words, b"", program.sink())?;
+    add_numbers(alloc, &mut words, program.sink())?;
     Ok(words)
 }
 

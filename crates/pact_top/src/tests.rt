@@ -53,10 +53,23 @@ map m swap s
 sink m 0 1
 ";
 
-const PROGRAMS: [(&str, &str); 3] = [
+// Texts are sorted by their bytes, behind Null.
+const NAMES_FIRST: &str = "pact 1
+fields 3
+source s s.csv int:0 text:1
+function keep map
+  r0 = copy in
+  emit r0
+end
+map m keep s
+sink m 1 0
+";
+
+const PROGRAMS: [(&str, &str); 4] = [
     ("twice.pact", TWICE),
     ("sum.pact", SUM),
     ("swapped.pact", SWAPPED),
+    ("names_first.pact", NAMES_FIRST),
 ];
 
 const USAGE: &str = "usage: pact COMMAND ARGUMENTS\n";
@@ -155,6 +168,28 @@ fn answers(rt: HostRuntime) -> Result<(), Fail> {
         0,
     )?;
     assert!(rt; swapped.is(0, ",\n,\n-3,\n-3,\n5,\n5,1\n", ""));
+    Ok(())
+}
+
+#[test]
+fn sorts_texts(rt: HostRuntime) -> Result<(), Fail> {
+    let rows = "3,b\n1,b\n10,\n2,\n5,9\n-1,10\n2,\"x,y\"\n";
+    let named = outcome_of(
+        rt.alloc(),
+        "run names_first.pact",
+        Some(("s.csv", rows)),
+        0,
+        0,
+    )?;
+    assert!(rt; named.is(0, ",2\n,10\n10,-1\n9,5\nb,1\nb,3\n\"x,y\",2\n", ""));
+    let exchanged = outcome_of(
+        rt.alloc(),
+        "run names_first.pact",
+        Some(("s.csv", "b,3\n")),
+        0,
+        0,
+    )?;
+    assert!(rt; exchanged.is(5, "", NOT_FIRST_FORM));
     Ok(())
 }
 

@@ -1,7 +1,8 @@
 use Rattle.std.proofs.Common.{◌<◌, length, map, arith, []}
 use Rattle.std.proofs.lemmas.List.{get_or-map, map_more, length-map}
 use Rattle.csv.specs.Records.{fields_of}
-use Rattle.pact_top.proofs.Rows.{all_more, rows_at, rows_more}
+use Rattle.pact_bag.proofs.Widths.{AllByRecursion-last}
+use Rattle.pact_top.proofs.Rows.{rows_at, rows_more}
 use Rattle.pact_top.proofs.csv_rows.rows_of.Goals as goal
 
 pub loop-texts-preserved : goal.loop-texts-preserved
@@ -11,7 +12,7 @@ loop-texts-preserved c =
     let row = rw c.in-Some.is at c.in_ok-row.ensures.row in
     let width = rw c.in-Some.is at c.in_ok-row.ensures.width in
     rw (items, map_more fields_of c.args.records.now c.loop-texts.texts-index c.texts-item.result (omega arith), ← c.texts-item.is)
-    (rows_more _ _ _ _ _ _ inv.0 row, all_more _ _ _ inv.1 width)
+    (rows_more _ _ _ _ _ _ inv.0 row, AllByRecursion-last _ _ _ inv.1 width)
 
 pub returns-in-None-clause-rows : goal.returns-in-None-clause-rows
 returns-in-None-clause-rows c rows h =

@@ -1,4 +1,5 @@
 use Rattle.std.proofs.Common.{◌≡◌, ℕ, List, Option, Some, ◌∙◌}
+use Rattle.pact_bag.specs.declared.columns.Column.{Column}
 use Rattle.tac_syntax.specs.declared.statements.Stmt.{Stmt}
 use Rattle.pact_top.specs.Program.{Program}
 use Rattle.pact_top.proofs.reader.read_lines.Goals as goal
@@ -21,7 +22,7 @@ taken o x y p q = cc
 some_is : (x y : ℕ) → Some x ≡ Some y → x ≡ y
 some_is x y e = cc
 
-same_program : (p : Program) (fields : ℕ) (source file columns function : List ℕ) (body : List Stmt) (operator sink : List ℕ) → fields ≡ p.fields → source ≡ p.source → file ≡ p.file → columns ≡ p.columns → function ≡ p.function → body ≡ p.body → operator ≡ p.operator → sink ≡ p.sink
+same_program : (p : Program) (fields : ℕ) (source file : List ℕ) (columns : List Column) (function : List ℕ) (body : List Stmt) (operator sink : List ℕ) → fields ≡ p.fields → source ≡ p.source → file ≡ p.file → columns ≡ p.columns → function ≡ p.function → body ≡ p.body → operator ≡ p.operator → sink ≡ p.sink
     → Some (let q : Program = record { fields = fields; source = source; file = file; columns = columns; function = function; body = body; operator = operator; sink = sink } in q) ≡ Some p
 same_program p fields source file columns function body operator sink a b c d e f g h =
     λ i. Some (record { fields = a i; source = b i; file = c i; columns = d i; function = e i; body = f i; operator = g i; sink = h i })
