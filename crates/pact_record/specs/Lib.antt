@@ -1,3 +1,4 @@
 pub mod Value
 pub mod Record
 pub mod Order
+pub mod Operations

@@ -1,22 +1,26 @@
 //! Values, records and byte strings: what every other crate speaks of.
 //!
-//! A value is Null, a whole number or a text. A record is a list of values, one for each field of the
-//! program, so a field number is a place in that list. `Bytes` is a text of any length, `Word` a
-//! short one, such as a name.
+//! A value is Null, a whole number or a text; `apply1` and `apply2` are the operations on values.
+//! A record is a list of values, one for each field of the program, so a field number is a place
+//! in that list. `Bytes` is a text of any length, `Word` a short one, such as a name.
 #![tactic(auto)]
 
 pub mod bytes;
+pub mod operations;
 pub mod records;
 pub mod texts;
 pub mod values;
 pub mod words;
 
 pub use bytes::Bytes;
+pub use operations::{Op1, Op2, apply1, apply2};
 pub use records::{MAX_FIELDS, Record};
 pub use std::alloc::AllocError as OutOfMemory;
 pub use texts::{MAX_TEXT, NotText, Text};
 pub use values::Value;
 pub use words::{MAX_WORD, Word};
 
+#[cfg(test)]
+mod operations_tests;
 #[cfg(test)]
 mod tests;

@@ -31,7 +31,7 @@ fn bytes_and_words_are_kept(rt: HostRuntime) -> Result<(), Fail> {
     Ok(())
 }
 
-fn letters(alloc: Global, count: usize) -> Result<Vec<u8>, OutOfMemory> {
+pub(crate) fn letters(alloc: Global, count: usize) -> Result<Vec<u8>, OutOfMemory> {
     vec![in alloc; b'a'; count]
 }
 
@@ -44,5 +44,15 @@ fn texts_are_short_and_utf8(rt: HostRuntime) -> Result<(), Fail> {
     let more = letters(rt.alloc(), MAX_TEXT + 1)?;
     assert!(rt; matches!(Text::from_bytes(rt.alloc(), &more), Err(NotText::Long)));
     assert!(rt; matches!(Text::from_bytes(rt.alloc(), b"\xff"), Err(NotText::Utf8)));
+    Ok(())
+}
+
+#[test]
+fn texts_are_copied(rt: HostRuntime) -> Result<(), Fail> {
+    let text = Text::from_bytes(rt.alloc(), "aé".as_bytes())?;
+    let copy = text.copy(rt.alloc())?;
+    assert!(rt; copy.bytes() == "aé".as_bytes() && text.bytes() == "aé".as_bytes());
+    let value = Value::Text(copy).copy(rt.alloc())?;
+    assert!(rt; matches!(&value, Value::Text(same) if same.bytes() == text.bytes()));
     Ok(())
 }

@@ -1,4 +1,4 @@
-ghost use Rattle.std.specs.Prelude.{◌≡◌, ◌≤◌, ◌<◌, length, IsUtf8, IfOk, IsErrOf};
+ghost use Rattle.std.specs.Prelude.{◌≡◌, ◌+◌, ◌≤◌, ◌<◌, ◌++◌, length, IsUtf8, IfOk, IsErrOf, SomeIff};
 ghost use Rattle.pact_record.specs.declared.texts.NotText.TheVariants.{Utf8, Long};
 
 use crate::OutOfMemory;
@@ -78,5 +78,22 @@ impl Text {
         Ok(Text {
             held: Vec::from_slice(alloc, &self.held)?,
         })
+    }
+
+    /// The bytes of this text and then those of the other, where they aren't too many.
+    pub(crate) fn concatenated(
+        &self,
+        alloc: Global,
+        other: &Text,
+    ) -> Result<Option<Text>, OutOfMemory>
+        ensures { IfOk result (λ found.
+            SomeIff found (length self.now + length other.now ≤ MAX_TEXT) (self.now ++ other.now)) }
+    {
+        if self.held.len() + other.held.len() > MAX_TEXT {
+            return Ok(None);
+        }
+        let mut held = Vec::from_slice(alloc, &self.held)?;
+        held.extend_from_slice(&other.held)?;
+        Ok(Some(Text { held }))
     }
 }
