@@ -11,8 +11,6 @@ pub mod Progress
 pub mod Records
 pub mod RefusalLines
 pub mod Rows
-pub mod RunsOn
-pub mod Splits
 pub mod Unique
 pub mod WordsLeft
 pub mod WrittenParts

@@ -1,17 +1,15 @@
 -- A text spells one program.
-use Rattle.std.proofs.Common.{◌≡◌, ◌<◌, ◌^◌, ℕ, Bool, true, false, List, [], ◌∷◌, ◌++◌, get_or, map, codes, decimal, refl, ap, sym, ◌∙◌, arith}
+use Rattle.std.proofs.Common.{◌≡◌, ◌<◌, ◌-◌, ◌^◌, ℕ, Bool, true, false, List, [], ◌∷◌, ◌++◌, get_or, length, take, map, codes, decimal, refl, ap, sym, ◌∙◌, arith}
 use Rattle.std.specs.List.{AllByRecursion}
 use Rattle.std.proofs.lemmas.Fmt.{decimal_injective}
-use Rattle.pact_record.specs.declared.records.TheConstants.{MAX_FIELDS}
-use Rattle.tac_syntax.specs.declared.statements.Rec.TheVariants.{Input}
-use Rattle.tac_syntax.specs.declared.statements.Stmt.{Stmt}
-use Rattle.tac_syntax.specs.declared.statements.Stmt.TheVariants.{Get, New, Copy, Set, Emit}
-use Rattle.tac_syntax.specs.Valid.{IsValid, AreValid}
 use Rattle.pact_bag.specs.declared.columns.Column.{Column}
-use Rattle.pact_top.specs.Program.{Program, IsProgram, column_word, kind_word, statement_words, spelling}
+use Rattle.tac_text.specs.Spelling.{body_text, words_of}
+use Rattle.tac_text.specs.Splits.{lines_in}
+use Rattle.tac_text.proofs.Unique.{body_in, body_in-body_text}
+use Rattle.pact_top.specs.Program.{Program, IsProgram, column_word, kind_word, spelling}
 use Rattle.pact_top.specs.Reading.{IsReadable, program_words, tail_words}
-use Rattle.pact_top.specs.Splits.{lines_in}
 use Rattle.pact_top.proofs.Candidate.{IsReadable-first_form, lines_in-spelling}
+use Rattle.pact_top.proofs.ProgramPieces.{take-three, get_or-last}
 
 -- ---- lists of numbers and of columns
 
@@ -44,88 +42,19 @@ same_column c d h k e =
     let text = both.0 in
     λ i. record { field = field i; text = text i }
 
--- ---- statements
-
-abbrev first_byte : List (List ℕ) → ℕ
-first_byte [] = 0
-first_byte ([] ∷ ws) = 0
-first_byte ((b ∷ w) ∷ ws) = b
-
-same_statement : (s t : Stmt) → IsValid MAX_FIELDS s → IsValid MAX_FIELDS t → statement_words s ≡ statement_words t → s ≡ t
-same_statement (Get to Input field) (Get to2 Input field2) h k e =
-    let a : decimal to ≡ decimal to2 = cc in
-    let b : decimal field ≡ decimal field2 = cc in
-    let x = same_decimal to to2 (omega (arith, h.0)) (omega (arith, k.0)) a in
-    let y = same_decimal field field2 (omega (arith, h.1)) (omega (arith, k.1)) b in
-    λ i. Get (x i) Input (y i)
-same_statement (New to) (New to2) h k e =
-    let a : decimal to ≡ decimal to2 = cc in
-    ap New (same_decimal to to2 (omega (arith, h)) (omega (arith, k)) a)
-same_statement (Copy to Input) (Copy to2 Input) h k e =
-    let a : decimal to ≡ decimal to2 = cc in
-    ap (λ (n : ℕ). Copy n Input) (same_decimal to to2 (omega (arith, h)) (omega (arith, k)) a)
-same_statement (Set to field value) (Set to2 field2 value2) h k e =
-    let a : decimal to ≡ decimal to2 = cc in
-    let b : decimal field ≡ decimal field2 = cc in
-    let c : decimal value ≡ decimal value2 = cc in
-    let x = same_decimal to to2 (omega (arith, h.0)) (omega (arith, k.0)) a in
-    let y = same_decimal field field2 (omega (arith, h.1)) (omega (arith, k.1)) b in
-    let z = same_decimal value value2 (omega (arith, h.2)) (omega (arith, k.2)) c in
-    λ i. Set (x i) (y i) (z i)
-same_statement (Emit from) (Emit from2) h k e =
-    let a : decimal from ≡ decimal from2 = cc in
-    ap Emit (same_decimal from from2 (omega (arith, h)) (omega (arith, k)) a)
-same_statement (Get to from field) (New to2) h k e = absurd cc
-same_statement (Get to from field) (Copy to2 from2) h k e = absurd cc
-same_statement (Get to from field) (Set to2 field2 value2) h k e = absurd cc
-same_statement (Get to from field) (Emit from2) h k e = absurd cc
-same_statement (New to) (Get to2 from2 field2) h k e = absurd cc
-same_statement (New to) (Copy to2 from2) h k e = absurd cc
-same_statement (New to) (Set to2 field2 value2) h k e = absurd cc
-same_statement (New to) (Emit from2) h k e = absurd cc
-same_statement (Copy to from) (Get to2 from2 field2) h k e = absurd cc
-same_statement (Copy to from) (New to2) h k e = absurd cc
-same_statement (Copy to from) (Set to2 field2 value2) h k e = let first : 114 ≡ 115 = ap first_byte e in absurd (omega (arith, first))
-same_statement (Copy to from) (Emit from2) h k e = absurd cc
-same_statement (Set to field value) (Get to2 from2 field2) h k e = absurd cc
-same_statement (Set to field value) (New to2) h k e = absurd cc
-same_statement (Set to field value) (Copy to2 from2) h k e = let first : 115 ≡ 114 = ap first_byte e in absurd (omega (arith, first))
-same_statement (Set to field value) (Emit from2) h k e = absurd cc
-same_statement (Emit from) (Get to2 from2 field2) h k e = absurd cc
-same_statement (Emit from) (New to2) h k e = absurd cc
-same_statement (Emit from) (Copy to2 from2) h k e = absurd cc
-same_statement (Emit from) (Set to2 field2 value2) h k e = absurd cc
-
--- a statement has more words than the line that ends a function
-no_end : {A : Type 0} (s : Stmt) → statement_words s ≡ codes "end" ∷ [] → A
-no_end (Get to from field) e = absurd cc
-no_end (New to) e = absurd cc
-no_end (Copy to from) e = absurd cc
-no_end (Set to field value) e = absurd cc
-no_end (Emit from) e = absurd cc
-
--- the same statements, and the same lines behind them
-record SameBody (ss ts : List Stmt) (p q : Program) : Type 0 where
-  body : ss ≡ ts
-  rest : tail_words p ≡ tail_words q
-
-same_body : (ss ts : List Stmt) (p q : Program) → AreValid MAX_FIELDS ss → AreValid MAX_FIELDS ts → map statement_words ss ++ tail_words p ≡ map statement_words ts ++ tail_words q → SameBody ss ts p q
-same_body [] [] p q h k e = record { body = refl; rest = e }
-same_body [] (t ∷ ts) p q h k e = no_end t cc
-same_body (s ∷ ss) [] p q h k e = no_end s cc
-same_body (s ∷ ss) (t ∷ ts) p q h k e =
-    let head : statement_words s ≡ statement_words t = cc in
-    let others : map statement_words ss ++ tail_words p ≡ map statement_words ts ++ tail_words q = cc in
-    let first = same_statement s t h.0 k.0 head in
-    let more = same_body ss ts p q h.1 k.1 others in
-    record { body = λ i. first i ∷ more.body i; rest = more.rest }
-
 -- ---- programs
 
 same_words : (p q : Program) → IsReadable p → IsReadable q → program_words p ≡ program_words q → p ≡ q
 same_words p q h k e =
-    let bodies : map statement_words p.body ++ tail_words p ≡ map statement_words q.body ++ tail_words q = cc in
-    let both = same_body p.body q.body p q h.body k.body bodies in
+    let fp = words_of (body_text 1 p.body) in
+    let fq = words_of (body_text 1 q.body) in
+    let rest : fp ++ tail_words p ≡ fq ++ tail_words q = cc in
+    let last = length (fp ++ tail_words p) - 1 in
+    let long = ap length rest in
+    let fronts : fp ≡ fq = sym (take-three fp _ _ _ (last - 2) (omega arith)) ∙ ap (take (last - 2)) rest ∙ take-three fq _ _ _ (last - 2) (omega (arith, long)) in
+    let sink_line : codes "sink" ∷ p.operator ∷ map decimal p.sink ≡ codes "sink" ∷ q.operator ∷ map decimal q.sink =
+    sym (get_or-last fp _ _ _ last [] (omega arith)) ∙ ap (λ (l : List (List (List ℕ))). get_or l last []) rest ∙ get_or-last fq _ _ _ last [] (omega (arith, long)) in
+    let body = sym (body_in-body_text 1 0 p.body h.spelled) ∙ ap body_in fronts ∙ body_in-body_text 1 0 q.body k.spelled in
     let number : decimal p.fields ≡ decimal q.fields = cc in
     let fields = same_decimal p.fields q.fields h.fields k.fields number in
     let source : p.source ≡ q.source = cc in
@@ -133,11 +62,9 @@ same_words p q h k e =
     let column_words : map column_word p.columns ≡ map column_word q.columns = cc in
     let columns = map_injective (λ c. c.field < 2 ^ 32) column_word same_column p.columns q.columns h.columns k.columns column_words in
     let function : p.function ≡ q.function = cc in
-    let rest = both.rest in
     let operator : p.operator ≡ q.operator = cc in
     let sink_words : map decimal p.sink ≡ map decimal q.sink = cc in
     let sink = map_injective (λ n. n < 2 ^ 32) decimal same_decimal p.sink q.sink h.sink k.sink sink_words in
-    let body = both.body in
     λ i. record {
       fields = fields i;
       source = source i;

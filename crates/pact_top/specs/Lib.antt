@@ -1,12 +1,11 @@
 pub mod Program
-pub mod Splits
+pub mod ProgramCode
 pub mod Reading
 pub mod Csv
 pub mod Lines
 pub mod Plan
 pub mod Allows
 pub mod FirstPlan
-pub mod Machine
 pub mod Transfer
 pub mod Verdict
 pub mod Refusal

@@ -1,13 +1,15 @@
 -- Programs of one Map over one source, and the one spelling of each.
-use Rattle.std.specs.Prelude.{◌≡◌, ◌≢◌, ◌≤◌, ◌<◌, ◌*◌, ℕ, Bool, true, false, ◌&&◌, ◌||◌, ◌==◌, nat_le, IsTrue, List, [], ◌∷◌, ◌++◌, length, replicate, flat_map, map, codes}
+use Rattle.std.specs.Prelude.{◌≡◌, ◌≢◌, ◌≤◌, ◌<◌, ℕ, Bool, true, false, ◌&&◌, ◌||◌, ◌==◌, nat_le, IsTrue, List, [], ◌∷◌, ◌++◌, length, flat_map, map, codes}
 use Rattle.std.specs.List.{AllByRecursion}
 use Rattle.std.specs.Fmt.{decimal}
 use Rattle.pact_bag.specs.declared.columns.Column.{Column}
-use Rattle.tac_syntax.specs.declared.statements.Rec.{Rec}
-use Rattle.tac_syntax.specs.declared.statements.Rec.TheVariants.{Input}
-use Rattle.tac_syntax.specs.declared.statements.Stmt.{Stmt}
-use Rattle.tac_syntax.specs.declared.statements.Stmt.TheVariants.{Get, New, Copy, Set, Emit}
-use Rattle.tac_syntax.specs.Valid.{AreValid}
+use Rattle.tac_syntax.specs.declared.functions.Function.{Function}
+use Rattle.tac_syntax.specs.declared.functions.Kind.TheVariants.{Map}
+use Rattle.tac_syntax.specs.Code.{Code, nesting}
+use Rattle.tac_syntax.specs.Limits.{nesting_limit}
+use Rattle.tac_syntax.specs.Valid.{IsValid}
+use Rattle.tac_text.specs.Grammar.{IsSpelled}
+use Rattle.tac_text.specs.Spelling.{TextLine, line_text, body_text}
 
 -- the number of fields, the source with its file and columns, the function, the Map's name and the fields of the sink
 pub record Program : Type 0 where
@@ -16,7 +18,7 @@ pub record Program : Type 0 where
   pub file : List ℕ
   pub columns : List Column
   pub function : List ℕ
-  pub body : List Stmt
+  pub body : Code
   pub operator : List ℕ
   pub sink : List ℕ
 
@@ -53,36 +55,6 @@ is_file_name name = nat_le 1 (length name) && nat_le (length name) 200 && all_by
 
 -- ---- the spelling
 
--- a line: how deep it stands, and its words
-pub record Line : Type 0 where
-  pub depth : ℕ
-  pub words : List (List ℕ)
-
--- one space between words
-abbrev pub spaced : List (List ℕ) → List ℕ
-spaced [] = []
-spaced (w ∷ ws) = w ++ flat_map (λ v. 32 ∷ v) ws
-
--- two spaces for each block that is open, and a line feed behind the words
-abbrev pub line_text : Line → List ℕ
-line_text l = replicate (2 * l.depth) 32 ++ (spaced l.words ++ 10 ∷ [])
-
-abbrev pub value_register : ℕ → List ℕ
-value_register n = codes "v" ++ decimal n
-
-abbrev pub record_register : ℕ → List ℕ
-record_register n = codes "r" ++ decimal n
-
-abbrev pub record_word : Rec → List ℕ
-record_word Input = codes "in"
-
-abbrev pub statement_words : Stmt → List (List ℕ)
-statement_words (Get to from field) = value_register to ∷ codes "=" ∷ codes "get" ∷ record_word from ∷ decimal field ∷ []
-statement_words (New to) = record_register to ∷ codes "=" ∷ codes "new" ∷ []
-statement_words (Copy to from) = record_register to ∷ codes "=" ∷ codes "copy" ∷ record_word from ∷ []
-statement_words (Set to field value) = codes "set" ∷ record_register to ∷ decimal field ∷ value_register value ∷ []
-statement_words (Emit from) = codes "emit" ∷ record_register from ∷ []
-
 -- what stands before the field's number, for texts or for numbers
 abbrev pub kind_word : Bool → List ℕ
 kind_word false = codes "int:"
@@ -91,13 +63,10 @@ kind_word true = codes "text:"
 abbrev pub column_word : Column → List ℕ
 column_word c = kind_word c.text ++ decimal c.field
 
-abbrev pub top_line : List (List ℕ) → Line
+abbrev pub top_line : List (List ℕ) → TextLine
 top_line words = record { depth = 0; words = words }
 
-abbrev pub statement_line : Stmt → Line
-statement_line s = record { depth = 1; words = statement_words s }
-
-abbrev pub head_lines : Program → List Line
+abbrev pub head_lines : Program → List TextLine
 head_lines p =
     top_line (codes "pact" ∷ codes "1" ∷ [])
     ∷ top_line (codes "fields" ∷ decimal p.fields ∷ [])
@@ -105,15 +74,16 @@ head_lines p =
     ∷ top_line (codes "function" ∷ p.function ∷ codes "map" ∷ [])
     ∷ []
 
-abbrev pub tail_lines : Program → List Line
+abbrev pub tail_lines : Program → List TextLine
 tail_lines p =
     top_line (codes "end" ∷ [])
     ∷ top_line (codes "map" ∷ p.operator ∷ p.function ∷ p.source ∷ [])
     ∷ top_line (codes "sink" ∷ p.operator ∷ map decimal p.sink)
     ∷ []
 
-abbrev pub program_lines : Program → List Line
-program_lines p = head_lines p ++ (map statement_line p.body ++ tail_lines p)
+-- the function's statements stand inside one block
+abbrev pub program_lines : Program → List TextLine
+program_lines p = head_lines p ++ (body_text 1 p.body ++ tail_lines p)
 
 -- the bytes that spell a program
 abbrev pub spelling : Program → List ℕ
@@ -142,6 +112,14 @@ pub record IsFieldList (fields : ℕ) (list : List ℕ) : Type 0 where
   pub few : length list ≤ field_limit
   pub within : AllByRecursion (λ field. field < fields) list
 
+abbrev pub function_of : Program → Function
+function_of p = record { name = p.function; kind = Map; keys = 0; body = p.body }
+
+-- a number of fields that a program may have
+abbrev pub HasFields : Program → Type 0
+HasFields p = (1 ≤ p.fields) × (p.fields ≤ field_limit)
+
+-- The function's numbers are in the grammar's ranges, and it is valid.
 pub record IsFirstForm (p : Program) : Type 0 where
   pub some_field : 1 ≤ p.fields
   pub few_fields : p.fields ≤ field_limit
@@ -153,8 +131,9 @@ pub record IsFirstForm (p : Program) : Type 0 where
   pub columns : IsFieldList p.fields (column_fields p.columns)
   pub columns_differ : AreDifferent (column_fields p.columns)
   pub sink : IsFieldList p.fields p.sink
-  pub few_statements : length p.body ≤ 1000
-  pub body_valid : AreValid p.fields p.body
+  pub spelled : IsSpelled 0 p.body
+  pub nested : nesting p.body ≤ nesting_limit
+  pub valid : IsValid (function_of p) p.fields
 
 -- a text is a program in the first form where it is the spelling of one
 pub record IsProgram (text : List ℕ) (p : Program) : Type 0 where

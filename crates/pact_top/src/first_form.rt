@@ -1,18 +1,15 @@
-ghost use Rattle.std.specs.Prelude.{◌≡◌, ◌≢◌, ◌<◌, ◌↔◌, IsTrue};
+ghost use Rattle.std.specs.Prelude.{◌≡◌, ◌≢◌, ◌≤◌, ◌<◌, ◌↔◌, IsTrue};
 ghost use Rattle.std.specs.List.{AllByRecursion};
-ghost use Rattle.tac_syntax.specs.Valid.{AreValid, IsValid};
+ghost use Rattle.tac_syntax.specs.Code.{nesting};
+ghost use Rattle.tac_syntax.specs.Limits.{nesting_limit};
+ghost use Rattle.tac_text.specs.Grammar.{IsSpelled};
 ghost use Rattle.pact_top.specs.Program.{AreDifferent, IsAbsent, IsFieldList, IsFirstForm, all_bytes, column_fields};
 ghost use Rattle.pact_top.specs.Program as specs;
 
-use crate::program::Program;
+use crate::program::{FIELD_LIMIT, Program};
 use pact_bag::Column;
-use tac_syntax::{RECORD_REGISTERS, Stmt, VALUE_REGISTERS};
-
-/// Version 1 of the language has at most so many fields, and lists of fields are no longer.
-pub const FIELD_LIMIT: u32 = 64;
-
-/// A function has at most so many statements.
-pub const MAX_STATEMENTS: usize = 1000;
+use tac_syntax::{Body, MAX_NESTING};
+use tac_text::is_spelled;
 
 /// A name has at most so many bytes.
 pub const MAX_NAME: usize = 32;
@@ -127,31 +124,6 @@ fn is_field_list(fields: u32, list: &[u32]) -> bool
     !list.is_empty() && list.len() <= FIELD_LIMIT as usize && are_below(fields, list)
 }
 
-fn is_valid(fields: u32, stmt: &Stmt) -> bool
-    ensures { IsTrue result ↔ IsValid fields stmt.now }
-{
-    match *stmt {
-        Stmt::Get { to, from: _, field } => to < VALUE_REGISTERS && field < fields,
-        Stmt::New { to } => to < RECORD_REGISTERS,
-        Stmt::Copy { to, from: _ } => to < RECORD_REGISTERS,
-        Stmt::Set { to, field, value } => to < RECORD_REGISTERS
-            && field < fields
-            && value < VALUE_REGISTERS,
-        Stmt::Emit { from } => from < RECORD_REGISTERS,
-    }
-}
-
-fn are_valid(fields: u32, stmts: &[Stmt]) -> bool
-    ensures { IsTrue result ↔ AreValid fields stmts.now }
-{
-    for stmt in stmts {
-        if !is_valid(fields, stmt) {
-            return false;
-        }
-    }
-    true
-}
-
 fn have_field_list(fields: u32, columns: &[Column]) -> bool
     ensures { IsTrue result ↔ IsFieldList fields (column_fields columns.now) }
 {
@@ -180,19 +152,26 @@ fn are_names(program: &Program) -> bool
 {
     are_operator_names(program.operator().bytes(), program.source().bytes())
         && is_file_name(program.file().bytes())
-        && is_name(program.function().name.bytes())
+        && is_name(program.name().bytes())
+}
+
+// Whether a text can spell the body of a function.
+fn is_function_body(body: &Body) -> bool
+    ensures { IsTrue result ↔ (IsSpelled 0 body.now × (nesting body.now ≤ nesting_limit)) }
+{
+    body.depth() <= MAX_NESTING && is_spelled(0, body)
 }
 
 /// Whether a program is one that a text may spell.
 pub fn is_first_form(program: &Program) -> bool
     ensures { IsTrue result ↔ IsFirstForm program.now }
 {
-    let fields = program.fields();
+    let function = program.function();
+    let fields = function.fields();
     1 <= fields
         && fields <= FIELD_LIMIT
         && are_names(program)
         && are_columns(fields, program.columns())
         && is_field_list(fields, program.sink())
-        && program.body().len() <= MAX_STATEMENTS
-        && are_valid(fields, program.body().stmts())
+        && is_function_body(program.body())
 }

@@ -10,7 +10,6 @@
 mod answering;
 mod csv_rows;
 mod first_form;
-mod interpreter;
 mod lines;
 mod loading;
 mod numbers;
@@ -19,8 +18,6 @@ mod program;
 mod reader;
 mod refusals;
 mod spelling;
-mod splitting;
-mod statements;
 mod top;
 mod transfer;
 mod words;

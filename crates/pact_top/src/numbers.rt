@@ -1,29 +1,9 @@
-ghost use Rattle.std.specs.Prelude.{◌≡◌, ◌<◌, ◌^◌, ◌++◌, ℕ, List, length, map, decimal, IfOk, MatchOption};
+ghost use Rattle.std.specs.Prelude.{◌≡◌, ◌<◌, ◌^◌, ℕ, List, map, decimal, IfOk, MatchOption};
 ghost use Rattle.std.specs.List.{AllByRecursion};
 
 use pact_record::{Bytes, OutOfMemory};
 use std::alloc::Global;
-
-// The number that a word spells in digits.
-pub fn read_number(word: &[u8]) -> Option<u32>
-    ensures { (n : ℕ) → n < 2 ^ 32 → word.now ≡ decimal n → result ≡ Some n }
-{
-    match str::from_utf8(word) {
-        Ok(text) => text.parse::<u32>().ok(),
-        Err(_) => None,
-    }
-}
-
-// The number behind the first bytes of a word, so many as `skipped`.
-pub fn read_number_behind(skipped: usize, word: &[u8]) -> Option<u32>
-    ensures { (front : List ℕ) (n : ℕ) → length front ≡ skipped → n < 2 ^ 32 → word.now ≡ front ++ decimal n
-        → result ≡ Some n }
-{
-    if word.len() < skipped {
-        return None;
-    }
-    read_number(&word[skipped..])
-}
+use tac_text::read_number;
 
 // The numbers that words spell.
 pub fn read_numbers(alloc: Global, words: &[Bytes]) -> Result<Option<Vec<u32>>, OutOfMemory>

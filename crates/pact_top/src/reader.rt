@@ -5,15 +5,14 @@ ghost use Rattle.pact_top.specs.Program.{Program as ProgramData, IsProgram, NoPr
 ghost use Rattle.pact_top.specs.Reading.{program_words, ArePieces, IsReadable};
 
 use crate::first_form::is_first_form;
-use crate::numbers::{read_number, read_number_behind, read_numbers};
-use crate::program::Program;
+use crate::numbers::read_numbers;
+use crate::program::{Draft, Program};
 use crate::spelling::write_program;
-use crate::splitting::{Words, split_lines};
-use crate::statements::read_body;
 use pact_bag::{Column, Columns};
 use pact_record::{Bytes, MAX_WORD, OutOfMemory, Word};
 use std::alloc::Global;
 use tac_syntax::{Function, Kind};
+use tac_text::{Words, read_body, read_number, read_number_behind, split_lines};
 
 // What the line of a source says.
 #[derive(Debug, Drop)]
@@ -151,7 +150,7 @@ fn pieces_of(lines: &[Words]) -> Option<Pieces<'_>>
 }
 
 // What the lines are for if they are those of a program; it checks little.
-pub fn read_lines(alloc: Global, lines: &[Words]) -> Result<Option<Program>, OutOfMemory>
+pub fn read_lines(alloc: Global, lines: &[Words]) -> Result<Option<Draft>, OutOfMemory>
     ensures { IfOk result (λ found.
         (p : ProgramData) → IsReadable p → lines.now ≡ program_words p → found ≡ Some p) }
 {
@@ -176,7 +175,7 @@ pub fn read_lines(alloc: Global, lines: &[Words]) -> Result<Option<Program>, Out
     let Some(sink) = read_sink(alloc, pieces.sink.words())? else {
         return Ok(None);
     };
-    Ok(Some(Program {
+    Ok(Some(Draft {
         fields,
         source: source.name,
         file: source.file,
@@ -193,7 +192,7 @@ pub fn read_lines(alloc: Global, lines: &[Words]) -> Result<Option<Program>, Out
 }
 
 // The one program that a text can spell, if it spells any: what it gives is still to be checked.
-fn candidate(alloc: Global, text: &[u8]) -> Result<Option<Program>, OutOfMemory>
+fn candidate(alloc: Global, text: &[u8]) -> Result<Option<Draft>, OutOfMemory>
     ensures { IfOk result (λ found. (p : ProgramData) → IsProgram text.now p → found ≡ Some p) }
 {
     let lines = split_lines(alloc, text)?;
@@ -204,7 +203,10 @@ fn candidate(alloc: Global, text: &[u8]) -> Result<Option<Program>, OutOfMemory>
 pub fn read_program(alloc: Global, text: &[u8]) -> Result<Option<Program>, OutOfMemory>
     ensures { IfOk result (λ o. MatchOption o (NoProgram text.now) (λ p. IsProgram text.now p)) }
 {
-    let Some(program) = candidate(alloc, text)? else {
+    let Some(draft) = candidate(alloc, text)? else {
+        return Ok(None);
+    };
+    let Some(program) = draft.checked() else {
         return Ok(None);
     };
     if !is_first_form(&program) {

@@ -18,15 +18,52 @@ map m two d
 sink m 0 1
 ";
 
+// Each statement, operand and block that a Map has.
 const EVERY_STATEMENT: &str = "pact 1
 fields 2
 source numbers data/In-1.csv int:1 text:0
 function every map
   v31 = get in 1
+  v0 = int -9223372036854775808
+  v1 = text \"a  b # \\\\ \\\" \\n\\r\\t é\"
+  v2 = null
+  v3 = mov v31
+  v4 = not v3
+  v4 = isnull v3
+  v4 = len v1
+  v5 = add v0 v3
+  v5 = sub v0 v3
+  v5 = mul v0 v3
+  v5 = div v0 v3
+  v5 = rem v0 v3
+  v5 = addw v0 v3
+  v5 = min v0 v3
+  v5 = max v0 v3
+  v5 = lt v0 v3
+  v5 = le v0 v3
+  v5 = eq v0 v3
+  v5 = and v0 v3
+  v5 = or v0 v3
+  v5 = cat v1 v1
   r7 = new
   set r7 0 v31
   r0 = copy in
-  emit r7
+  r1 = copy r0
+  v6 = get r1 0
+  if v5
+    repeat 1000
+      emit r7
+      repeat 3
+        if v4
+        end
+      end
+    end
+  else
+    if v3
+    else
+      emit r1
+    end
+  end
 end
 map each every numbers
 sink each 1 1 0
@@ -42,7 +79,7 @@ sink f_1 63
 ";
 
 // Each is a small change of the first program: what it replaces, and by what.
-const REFUSED: [(&str, &str); 31] = [
+const REFUSED: [(&str, &str); 47] = [
     ("pact 1", "pact 2"),
     ("fields 4\n", "fields 4\n# four\n"),
     ("fields 4\n", "fields 4 # four\n"),
@@ -74,6 +111,25 @@ const REFUSED: [(&str, &str); 31] = [
     ("  r0 = copy", "  v32 = get in 0\n  r0 = copy"),
     ("  r0 = copy", "  v0 = get in 4\n  r0 = copy"),
     ("source d d.csv", "source d d,csv"),
+    ("r0 = copy in", "r0 = copy left"),
+    ("r0 = copy in", "r0 = copy first"),
+    ("r0 = copy in", "r0 = copy x1"),
+    ("r0 = copy in", "r0 = copy r8"),
+    ("  r0 = copy", "  v0 = key 0\n  r0 = copy"),
+    ("  r0 = copy", "  v0 = ad v0 v1\n  r0 = copy"),
+    ("  r0 = copy", "  v0 = int 9223372036854775808\n  r0 = copy"),
+    ("  r0 = copy", "  v0 = int -0\n  r0 = copy"),
+    ("  r0 = copy", "  v0 = text \"a\n  r0 = copy"),
+    ("  r0 = copy", "  v0 = text \"\\q\"\n  r0 = copy"),
+    ("  r0 = copy", "  repeat 0\n  end\n  r0 = copy"),
+    ("  r0 = copy", "  repeat 1001\n  end\n  r0 = copy"),
+    (
+        "  r0 = copy",
+        "  repeat 1000\n    repeat 101\n    end\n  end\n  r0 = copy",
+    ),
+    ("  r0 = copy", "  if v0\n  r0 = copy"),
+    ("  r0 = copy", "  if v0\n  else\n  end\n  r0 = copy"),
+    ("  r0 = copy", "  else\n  end\n  r0 = copy"),
 ];
 
 fn is_read_back(alloc: Global, text: &str) -> Result<bool, Fail> {
@@ -89,7 +145,7 @@ fn has_first_pieces(program: &Program) -> bool {
         && program.source().bytes() == b"d".as_slice()
         && program.file().bytes() == b"d.csv".as_slice()
         && program.columns() == [numbers(0), numbers(1)].as_slice()
-        && program.function().name.bytes() == b"two".as_slice()
+        && program.name().bytes() == b"two".as_slice()
         && program.operator().bytes() == b"m".as_slice()
         && program.sink() == [0, 1].as_slice()
 }
@@ -98,12 +154,20 @@ fn has_first_pieces(program: &Program) -> bool {
 fn reads_the_pieces(rt: HostRuntime) -> Result<(), Fail> {
     let program = read_program(rt.alloc(), TWO.as_bytes())?.ok_or("no program")?;
     assert!(rt; has_first_pieces(&program));
-    let emit = Stmt::Emit { from: 0 };
-    let copy = Stmt::Copy {
-        to: 0,
-        from: Rec::Input,
+    let [copy, first, second] = program.body().stmts() else {
+        return Err("another body")?;
     };
-    assert!(rt; program.body().stmts() == [copy, emit, emit].as_slice());
+    assert!(rt;
+        matches!(
+            copy,
+            Stmt::Copy {
+                to: 0,
+                from: Rec::Input
+            }
+        )
+    );
+    assert!(rt; matches!(first, Stmt::Emit { from: 0 }));
+    assert!(rt; matches!(second, Stmt::Emit { from: 0 }));
     Ok(())
 }
 

@@ -65,11 +65,90 @@ map m keep s
 sink m 1 0
 ";
 
-const PROGRAMS: [(&str, &str); 4] = [
+// A branch keeps the rows whose second field is above 0.
+const FILTER: &str = "pact 1
+fields 4
+source s s.csv int:0 int:1
+function pos map
+  r0 = copy in
+  v0 = get in 1
+  v1 = int 0
+  v2 = lt v1 v0
+  if v2
+    emit r0
+  end
+end
+map m pos s
+sink m 0 1
+";
+
+// What has no answer as a number is Null; the wrapped sum has one.
+const ODD: &str = "pact 1
+fields 4
+source s s1.csv int:0 int:1
+function odd map
+  r0 = new
+  v0 = int 7
+  v1 = int 0
+  v2 = div v0 v1
+  set r0 0 v2
+  v0 = int -9223372036854775808
+  v1 = int -1
+  v2 = div v0 v1
+  set r0 1 v2
+  v0 = int 9223372036854775807
+  v1 = int 1
+  v2 = add v0 v1
+  set r0 2 v2
+  v2 = addw v0 v1
+  set r0 3 v2
+  emit r0
+end
+map m odd s
+sink m 0 1 2 3
+";
+
+// Loops, both bodies of a branch, and texts.
+const WORDS: &str = "pact 1
+fields 3
+source s s.csv text:0 int:1
+function say map
+  r0 = copy in
+  v0 = get in 0
+  v1 = text \", \\\"x\\\"\"
+  v2 = int 0
+  v3 = int 1
+  repeat 2
+    v0 = cat v0 v1
+    repeat 3
+      v2 = add v2 v3
+    end
+  end
+  set r0 0 v0
+  set r0 2 v2
+  v4 = get in 1
+  if v4
+    emit r0
+  else
+    v5 = len v0
+    r1 = new
+    set r1 1 v5
+    emit r1
+    emit r0
+  end
+end
+map m say s
+sink m 2 0 1
+";
+
+const PROGRAMS: [(&str, &str); 7] = [
     ("twice.pact", TWICE),
     ("sum.pact", SUM),
     ("swapped.pact", SWAPPED),
     ("names_first.pact", NAMES_FIRST),
+    ("filter.pact", FILTER),
+    ("odd.pact", ODD),
+    ("words.pact", WORDS),
 ];
 
 const USAGE: &str = "usage: pact COMMAND ARGUMENTS\n";
@@ -168,6 +247,25 @@ fn answers(rt: HostRuntime) -> Result<(), Fail> {
         0,
     )?;
     assert!(rt; swapped.is(0, ",\n,\n-3,\n-3,\n5,\n5,1\n", ""));
+    Ok(())
+}
+
+#[test]
+fn runs_branches_and_operations(rt: HostRuntime) -> Result<(), Fail> {
+    let rows = Some(("s.csv", "1,5\n2,-3\n1,7\n"));
+    let filtered = outcome_of(rt.alloc(), "run filter.pact", rows, 0, 0)?;
+    assert!(rt; filtered.is(0, "1,5\n1,7\n", ""));
+    let odd = outcome_of(rt.alloc(), "run odd.pact", Some(("s1.csv", "1,5\n")), 0, 0)?;
+    assert!(rt; odd.is(0, ",,,-9223372036854775808\n", ""));
+    Ok(())
+}
+
+#[test]
+fn runs_loops_and_texts(rt: HostRuntime) -> Result<(), Fail> {
+    let rows = Some(("s.csv", "cd,0\nab,1\n,7\n"));
+    let said = outcome_of(rt.alloc(), "run words.pact", rows, 0, 0)?;
+    let lines = ",,12\n6,,7\n6,\"ab, \"\"x\"\", \"\"x\"\"\",1\n6,\"cd, \"\"x\"\", \"\"x\"\"\",0\n";
+    assert!(rt; said.is(0, lines, ""));
     Ok(())
 }
 

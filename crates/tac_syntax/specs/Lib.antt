@@ -1,3 +1,13 @@
-pub mod Valid
+pub mod Code
+pub mod Coding
+pub mod Trees
+pub mod Falls
+pub mod Limits
+pub mod Pushing
 pub mod Call
-pub mod Straight
+pub mod Exec
+pub mod Places
+pub mod Rules
+pub mod Valid
+pub mod Sealed
+pub mod Bounded

@@ -1,9 +1,10 @@
-ghost use Rattle.std.specs.Prelude.{◌≡◌, ◌<◌, ◌++◌, ◌∷◌, [], length, OnOk, OnErr, IfErr, slice_get};
+//! User functions.
 
-use crate::statements::Stmt;
-use pact_record::Word;
-use std::alloc::{AllocFailed, Global};
-use std::marker::Model;
+ghost use Rattle.std.specs.Prelude.{◌≡◌, IfOk};
+
+use crate::statements::Body;
+use pact_record::{OutOfMemory, Word};
+use std::alloc::Global;
 
 /// Which operator a function is for.
 #[derive(Clone, Copy, Debug, PartialEq, Eq)]
@@ -15,58 +16,6 @@ pub enum Kind {
     CoGroup,
 }
 
-/// The statements of a function, in the order of its text.
-#[derive(Debug, Drop)]
-pub struct Body {
-    stmts: Vec<Stmt>,
-}
-
-impl Model for Body {
-    ghost use Rattle.std.specs.Prelude.{List};
-    ghost use Rattle.tac_syntax.specs.declared.statements.Stmt.{Stmt as Statement};
-
-    ghost Value = { List Statement };
-
-    ghost view = { λ b. b.stmts.items };
-}
-
-impl Body {
-    pub fn new(alloc: Global) -> Body
-        ensures { result ≡ [] }
-    {
-        Body {
-            stmts: Vec::new(alloc),
-        }
-    }
-
-    pub fn push(&mut self, stmt: Stmt) -> Result<(), AllocFailed<Stmt>>
-        ensures ok { OnOk result (self.new ≡ self.old ++ stmt ∷ []) }
-        ensures err { OnErr result (self.new ≡ self.old) }
-        ensures handed_back { IfErr result (λ e. e.value ≡ stmt) }
-    {
-        self.stmts.push(stmt)
-    }
-
-    pub fn len(&self) -> usize
-        ensures { result ≡ length self.now }
-    {
-        self.stmts.len()
-    }
-
-    pub fn at(&self, n: usize) -> &Stmt
-        requires { n < length self.now }
-        ensures { slice_get self.now n ≡ Some result.now }
-    {
-        &self.stmts[n]
-    }
-
-    pub fn stmts(&self) -> &[Stmt]
-        ensures { result.now ≡ self.now }
-    {
-        &self.stmts
-    }
-}
-
 /// A user function. `keys` is the number of key fields of a Reduce or CoGroup, and 0 for the
 /// other kinds.
 #[derive(Debug, Drop)]
@@ -75,4 +24,17 @@ pub struct Function {
     pub kind: Kind,
     pub keys: u32,
     pub body: Body,
+}
+
+impl Function {
+    pub fn copy(&self, alloc: Global) -> Result<Function, OutOfMemory>
+        ensures { IfOk result (λ f. f ≡ self.now) }
+    {
+        Ok(Function {
+            name: Word::from_bytes(alloc, self.name.bytes())?,
+            kind: self.kind,
+            keys: self.keys,
+            body: self.body.copy(alloc)?,
+        })
+    }
 }

@@ -1,17 +1,92 @@
-use crate::{Body, Rec, Stmt};
+use crate::{Body, Function, Kind, LoopList, NotPushed, Rec, Stmt};
+use pact_record::{Text, Word};
+use std::alloc::Global;
 use std::test::Fail;
+
+// A `repeat` around a `repeat` and so on, so many in all.
+fn nested(alloc: Global, blocks: u32) -> Result<Body, NotPushed> {
+    let mut body = Body::new(alloc);
+    for _ in 0..blocks {
+        let inside = body;
+        body = Body::new(alloc);
+        body.push(Stmt::Repeat {
+            count: 2,
+            body: inside,
+        })?;
+    }
+    Ok(body)
+}
+
+#[test]
+fn a_body_is_nested_64_blocks_deep(rt: HostRuntime) -> Result<(), Fail> {
+    let body = nested(rt.alloc(), 64).map_err(|_| "refused")?;
+    assert!(rt; body.depth() == 64 && body.size() == 64 && body.len() == 1);
+    let mut outer = Body::new(rt.alloc());
+    let refused = outer.push(Stmt::If {
+        on: 3,
+        body: Body::new(rt.alloc()),
+        other: body,
+    });
+    assert!(rt;
+        matches!(&refused, Err(NotPushed::Deep { stmt: Stmt::If { on: 3, other, .. } }) if other.depth() == 64)
+    );
+    assert!(rt; outer.len() == 0 && outer.depth() == 0);
+    Ok(())
+}
+
+// A body with each of the three blocks, and five statements in all.
+fn blocks(alloc: Global) -> Result<Body, NotPushed> {
+    let mut inside = Body::new(alloc);
+    inside.push(Stmt::Copy {
+        to: 1,
+        from: Rec::Loop(1),
+    })?;
+    let mut body = Body::new(alloc);
+    body.push(Stmt::Each {
+        name: 1,
+        list: LoopList::Group,
+        body: inside,
+    })?;
+    body.push(Stmt::If {
+        on: 0,
+        body: Body::new(alloc),
+        other: nested(alloc, 1)?,
+    })?;
+    body.push(Stmt::Emit { from: 1 })?;
+    Ok(body)
+}
 
 #[test]
 fn statements_are_kept_in_order(rt: HostRuntime) -> Result<(), Fail> {
-    let copy = Stmt::Copy {
-        to: 0,
-        from: Rec::Input,
+    let body = blocks(rt.alloc()).map_err(|_| "refused")?;
+    assert!(rt; body.len() == 3 && body.size() == 5 && body.depth() == 2);
+    assert!(rt;
+        matches!(body.at(0), Stmt::Each { name: 1, list: LoopList::Group, body } if body.len() == 1)
+    );
+    assert!(rt;
+        matches!(body.at(1), Stmt::If { on: 0, body, other } if body.len() == 0 && other.len() == 1)
+    );
+    assert!(rt; matches!(body.at(2), Stmt::Emit { from: 1 }));
+    Ok(())
+}
+
+#[test]
+fn copies_are_the_same(rt: HostRuntime) -> Result<(), Fail> {
+    let mut body = blocks(rt.alloc()).map_err(|_| "refused")?;
+    let value = Text::from_bytes(rt.alloc(), b"pact").map_err(|_| "no text")?;
+    body.push(Stmt::Text { to: 7, value })
+        .map_err(|_| "refused")?;
+    let function = Function {
+        name: Word::from_bytes(rt.alloc(), b"f")?,
+        kind: Kind::Reduce,
+        keys: 2,
+        body,
     };
-    let emit = Stmt::Emit { from: 0 };
-    let mut body = Body::new(rt.alloc());
-    body.push(copy)?;
-    body.push(emit)?;
-    assert!(rt; body.stmts() == [copy, emit].as_slice());
-    assert!(rt; body.len() == 2);
+    let copy = function.copy(rt.alloc())?;
+    assert!(rt; copy.kind == Kind::Reduce && copy.keys == 2 && copy.name.bytes() == b"f".as_slice());
+    assert!(rt; copy.body.len() == 4 && copy.body.size() == 6 && copy.body.depth() == 2);
+    assert!(rt;
+        matches!(copy.body.at(3), Stmt::Text { to: 7, value } if value.bytes() == b"pact".as_slice())
+    );
     Ok(())
 }

@@ -6,5 +6,5 @@ use Rattle.pact_top.proofs.plan_run.map_rows.Given as goal
 
 abbrev pub invariant-loop-row : goal.invariant-loop-row
 invariant-loop-row l =
-    (l.bag ≡ flat_map (λ row. Out l.fields l.body (of_record row)) (take l.row-index l.row-items))
-    × AllByRecursion (λ row. length row ≡ l.fields) l.bag
+    (l.bag ≡ flat_map (λ row. Out l.f.fields l.f.function.body (of_record row)) (take l.row-index l.row-items))
+    × AllByRecursion (λ row. length row ≡ l.f.fields) l.bag

@@ -1,6 +1,6 @@
 use Rattle.std.proofs.Common.{ap, ◌∙◌}
 use Rattle.std.proofs.lemmas.Result.{IfOk-weaker}
-use Rattle.pact_top.specs.Splits.{lines_in}
+use Rattle.tac_text.specs.Splits.{lines_in}
 use Rattle.pact_top.proofs.Candidate.{IsReadable-first_form, lines_in-spelling}
 use Rattle.pact_top.proofs.reader.candidate.Goals as goal
 

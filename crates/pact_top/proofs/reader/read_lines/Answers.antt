@@ -1,6 +1,6 @@
 use Rattle.std.proofs.Common.{◌≡◌, ℕ, List, Option, Some, ◌∙◌}
 use Rattle.pact_bag.specs.declared.columns.Column.{Column}
-use Rattle.tac_syntax.specs.declared.statements.Stmt.{Stmt}
+use Rattle.tac_syntax.specs.Code.{Code}
 use Rattle.pact_top.specs.Program.{Program}
 use Rattle.pact_top.proofs.reader.read_lines.Goals as goal
 
@@ -22,7 +22,7 @@ taken o x y p q = cc
 some_is : (x y : ℕ) → Some x ≡ Some y → x ≡ y
 some_is x y e = cc
 
-same_program : (p : Program) (fields : ℕ) (source file : List ℕ) (columns : List Column) (function : List ℕ) (body : List Stmt) (operator sink : List ℕ) → fields ≡ p.fields → source ≡ p.source → file ≡ p.file → columns ≡ p.columns → function ≡ p.function → body ≡ p.body → operator ≡ p.operator → sink ≡ p.sink
+same_program : (p : Program) (fields : ℕ) (source file : List ℕ) (columns : List Column) (function : List ℕ) (body : Code) (operator sink : List ℕ) → fields ≡ p.fields → source ≡ p.source → file ≡ p.file → columns ≡ p.columns → function ≡ p.function → body ≡ p.body → operator ≡ p.operator → sink ≡ p.sink
     → Some (let q : Program = record { fields = fields; source = source; file = file; columns = columns; function = function; body = body; operator = operator; sink = sink } in q) ≡ Some p
 same_program p fields source file columns function body operator sink a b c d e f g h =
     λ i. Some (record { fields = a i; source = b i; file = c i; columns = d i; function = e i; body = f i; operator = g i; sink = h i })
@@ -35,6 +35,6 @@ returns c p r w =
     let fields = c.in-Some-read_fields.ensures p.fields r.fields (c.words.ensures ∙ pieces.fields_line) in
     same_program p _ _ _ _ _ _ _ _ (some_is _ _ fields) source.0 source.1 source.2
     (taken _ _ _ c.in-Some-3.is (c.in_ok-name.ensures _ p.function _ r.function (c.words-3.ensures ∙ pieces.function_line)))
-    (taken _ _ _ c.in-Some-4.is (c.in_ok-body.ensures p.body r.body pieces.body_lines))
+    (taken _ _ _ c.in-Some-4.is (c.in_ok-body.ensures 1 0 p.body r.spelled r.nested pieces.body_lines))
     (taken _ _ _ c.in-Some-5.is (c.in_ok-operator.ensures _ p.operator _ r.operator (c.words-4.ensures ∙ pieces.operator_line)))
     sink

@@ -1,0 +1,38 @@
+-- A call of a valid function begins where its body may be run.
+use Rattle.std.proofs.Common.{◌≡◌, ◌∙◌, ℕ, List, [], length, refl, ap, sym, subst, arith}
+use Rattle.std.specs.List.{AllByRecursion}
+use Rattle.std.proofs.lemmas.List.Elements.{All-from_recursion, recursion_from_All, All-weaker}
+use Rattle.pact_record.specs.declared.values.Value.{Value}
+use Rattle.tac_syntax.specs.declared.functions.Kind.{Kind}
+use Rattle.tac_syntax.specs.declared.functions.Kind.TheVariants.{Map}
+use Rattle.tac_syntax.specs.declared.functions.Function.{Function}
+use Rattle.tac_syntax.specs.Code.{Code}
+use Rattle.tac_syntax.specs.Call.{CallInput, of_record, Store, start_store}
+use Rattle.tac_syntax.specs.Exec.{exec}
+use Rattle.tac_syntax.specs.Places.{top_place}
+use Rattle.tac_syntax.specs.Valid.{IsValid}
+use Rattle.tac_syntax.specs.Bounded.{IsBounded, AreBounded}
+use Rattle.tac_interp.specs.CallInputs.{IsInputOf}
+use Rattle.tac_interp.specs.Ready.{Fits, IsReady}
+use Rattle.tac_interp.proofs.Ranges.{AreInRange-valid}
+
+pub Fits-map : (f : Function) (fields : ℕ) (row : List Value) → f.kind ≡ Map → Fits (top_place f fields) fields (of_record row) []
+Fits-map f fields row k = record { fields = refl; kind = subst (λ (kind : Kind). IsInputOf kind (of_record row)) (sym k) tt; keys = tt; lists = omega arith }
+
+pub IsReady-start : (f g : Function) (fields : ℕ) (input : CallInput) (start : Store) → IsValid f fields → Fits (top_place f fields) fields input []
+    → g ≡ f → start ≡ start_store fields input → IsReady g.body start
+IsReady-start f g fields input start v h e s =
+    let here : IsReady f.body (start_store fields input) = record { place = top_place f fields; in_range = AreInRange-valid f fields v; fits = h } in
+    subst (IsReady g.body) (sym s) (subst (λ (x : Function). IsReady x.body (start_store fields input)) (sym e) here)
+
+-- what is emitted in the end, from the steps of a call
+pub emitted-exec : (f g : Function) (fields : ℕ) (input : CallInput) (start done : Store) (rows : List (List Value)) → rows ≡ done.emitted → done ≡ exec g.body start
+    → g ≡ f → start ≡ start_store fields input → rows ≡ (exec f.body (start_store fields input)).emitted
+emitted-exec f g fields input start done rows r d e s =
+    r ∙ ap (λ (x : Store). x.emitted) (d ∙ ap (exec g.body) s ∙ ap (λ (x : Function). exec x.body (start_store fields input)) e)
+
+pub widths-bounded : (fields : ℕ) (body : Code) (input : CallInput) (rows : List (List Value)) → AreBounded fields body input rows → AllByRecursion (λ r. length r ≡ fields) rows
+widths-bounded fields body input rows h =
+    let P = IsBounded fields body input in
+    let Q : List Value → Type 0 = λ r. length r ≡ fields in
+    recursion_from_All Q rows (All-weaker P Q (λ r b. b.width) rows (All-from_recursion P rows h))

@@ -1,0 +1,4 @@
+pub mod CallInputs
+pub mod InRange
+pub mod Ready
+pub mod Machine

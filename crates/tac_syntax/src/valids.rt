@@ -1,0 +1,62 @@
+//! Functions that are known to be valid.
+
+ghost use Rattle.std.specs.Prelude.{◌≡◌, IfOk};
+ghost use Rattle.tac_syntax.specs.Valid.{IsValid};
+
+use crate::functions::Function;
+use pact_record::OutOfMemory;
+use std::alloc::Global;
+use std::marker::Model;
+
+/// A function with the number of fields of its program, which keeps to every rule.
+#[derive(Debug, Drop)]
+pub struct Valid {
+    function: Function,
+    fields: u32,
+}
+
+impl Model for Valid {
+    ghost use Rattle.tac_syntax.specs.Valid.{IsValid, WithFields};
+    ghost use Rattle.tac_syntax.specs.Sealed.{coded_with_fields};
+
+    ghost Value = { WithFields };
+
+    ghost coded = { coded_with_fields };
+
+    ghost view = { λ v. record { function = v.function; fields = v.fields } };
+
+    ghost invariant = { λ v. IsValid v.function v.fields };
+}
+
+impl Valid {
+    pub fn seal(function: Function, fields: u32) -> Valid
+        requires { IsValid function fields }
+        ensures function { result.function ≡ function }
+        ensures fields { result.fields ≡ fields }
+    {
+        Valid { function, fields }
+    }
+
+    pub fn function(&self) -> &Function
+        ensures function { result.now ≡ self.now.function }
+        ensures valid { IsValid self.now.function self.now.fields }
+    {
+        &self.function
+    }
+
+    /// The number of fields of the program.
+    pub fn fields(&self) -> u32
+        ensures { result ≡ self.now.fields }
+    {
+        self.fields
+    }
+
+    pub fn copy(&self, alloc: Global) -> Result<Valid, OutOfMemory>
+        ensures { IfOk result (λ v. v ≡ self.now) }
+    {
+        Ok(Valid {
+            function: self.function.copy(alloc)?,
+            fields: self.fields,
+        })
+    }
+}

@@ -1,0 +1,12 @@
+pub mod BodyLines
+pub mod Builds
+pub mod Escapes
+pub mod LineForms
+pub mod LineWords
+pub mod OperandWords
+pub mod PlainWords
+pub mod ReadsOn
+pub mod SplitBodies
+pub mod Splits
+pub mod Unique
+pub mod Written

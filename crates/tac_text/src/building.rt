@@ -1,0 +1,203 @@
+//! A body built from its lines, one after the other.
+
+ghost use Rattle.std.specs.Prelude.{◌≡◌, ◌∷◌, IfOk, OnOk};
+ghost use Rattle.tac_syntax.specs.Code.{Line, stop, test, turns, over, otherwise, close};
+ghost use Rattle.tac_syntax.specs.Trees.{only};
+ghost use Rattle.tac_text.specs.Building.{IsBuilt, build_start, built, closed, finished, with_statement};
+ghost use Rattle.tac_text.specs.Said.{said};
+
+use crate::lines::BodyLine;
+use pact_record::OutOfMemory;
+use std::alloc::Global;
+use std::marker::Model;
+use std::mem;
+use tac_syntax::{Body, LoopList, NotPushed, Stmt};
+
+/// A block that is open, with what stood before it in the body around it.
+#[derive(Debug, Drop)]
+pub enum Block {
+    If {
+        on: u32,
+        before: Body,
+    },
+    Else {
+        on: u32,
+        first: Body,
+        before: Body,
+    },
+    Repeat {
+        count: u32,
+        before: Body,
+    },
+    Each {
+        name: u32,
+        list: LoopList,
+        before: Body,
+    },
+}
+
+/// A body as far as its lines were read.
+#[derive(Debug, Drop)]
+pub struct Builder {
+    // the innermost last
+    blocks: Vec<Block>,
+    body: Body,
+}
+
+impl Model for Builder {
+    ghost use Rattle.std.specs.Prelude.{reverse};
+    ghost use Rattle.tac_text.specs.Building.{Build};
+    ghost use Rattle.tac_text.specs.BuildCode.{coded_build};
+
+    ghost Value = { Build };
+
+    ghost coded = { coded_build };
+
+    ghost view = { λ b. record { blocks = reverse b.blocks.items; body = b.body } };
+}
+
+impl Builder {
+    pub fn new(alloc: Global) -> Builder
+        ensures { result ≡ build_start }
+    {
+        Builder {
+            blocks: Vec::new(alloc),
+            body: Body::new(alloc),
+        }
+    }
+
+    fn push(&mut self, stmt: Stmt) -> Result<bool, OutOfMemory>
+        ensures { IfOk result (λ taken. IsBuilt (with_statement self.old.blocks self.old.body (only stmt)) taken self.new) }
+    {
+        match self.body.push(stmt) {
+            Ok(()) => Ok(true),
+            Err(NotPushed::Deep { .. }) => Ok(false),
+            Err(NotPushed::Memory { .. }) => Err(OutOfMemory),
+        }
+    }
+
+    // The body as far as it was read, in whose place an empty one stands.
+    fn take_body(&mut self, alloc: Global) -> Body
+        ensures body { result ≡ self.old.body }
+        ensures rest { self.new ≡ record { blocks = self.old.blocks; body = stop } }
+    {
+        mem::replace(&mut self.body, Body::new(alloc))
+    }
+
+    fn open(&mut self, block: Block) -> Result<(), OutOfMemory>
+        ensures { OnOk result (self.new ≡ record { blocks = block ∷ self.old.blocks; body = self.old.body }) }
+    {
+        self.blocks.push(block)?;
+        Ok(())
+    }
+
+    fn open_if(&mut self, alloc: Global, on: u32) -> Result<bool, OutOfMemory>
+        ensures { IfOk result (λ taken. IsBuilt (built self.old (test on)) taken self.new) }
+    {
+        let before = self.take_body(alloc);
+        self.open(Block::If { on, before })?;
+        Ok(true)
+    }
+
+    fn open_repeat(&mut self, alloc: Global, count: u32) -> Result<bool, OutOfMemory>
+        ensures { IfOk result (λ taken. IsBuilt (built self.old (turns count)) taken self.new) }
+    {
+        let before = self.take_body(alloc);
+        self.open(Block::Repeat { count, before })?;
+        Ok(true)
+    }
+
+    fn open_each(&mut self, alloc: Global, name: u32, list: LoopList) -> Result<bool, OutOfMemory>
+        ensures { IfOk result (λ taken. IsBuilt (built self.old (over name list)) taken self.new) }
+    {
+        let before = self.take_body(alloc);
+        self.open(Block::Each { name, list, before })?;
+        Ok(true)
+    }
+
+    fn part(&mut self, alloc: Global) -> Result<bool, OutOfMemory>
+        ensures { IfOk result (λ taken. IsBuilt (built self.old otherwise) taken self.new) }
+    {
+        match self.blocks.pop() {
+            Some(Block::If { on, before }) => {
+                let first = self.take_body(alloc);
+                self.open(Block::Else { on, first, before })?;
+                Ok(true)
+            }
+            _ => Ok(false),
+        }
+    }
+
+    // Ends the innermost block with its last body.
+    fn close_block(&mut self, alloc: Global, block: Block, last: Body) -> Result<bool, OutOfMemory>
+        ensures { IfOk result (λ taken. IsBuilt (closed (block ∷ self.old.blocks) last) taken self.new) }
+    {
+        match block {
+            Block::If { on, before } => {
+                self.body = before;
+                self.push(Stmt::If {
+                    on,
+                    body: last,
+                    other: Body::new(alloc),
+                })
+            }
+            Block::Else { on, first, before } => {
+                self.body = before;
+                self.push(Stmt::If {
+                    on,
+                    body: first,
+                    other: last,
+                })
+            }
+            Block::Repeat { count, before } => {
+                self.body = before;
+                self.push(Stmt::Repeat { count, body: last })
+            }
+            Block::Each { name, list, before } => {
+                self.body = before;
+                self.push(Stmt::Each {
+                    name,
+                    list,
+                    body: last,
+                })
+            }
+        }
+    }
+
+    fn close(&mut self, alloc: Global) -> Result<bool, OutOfMemory>
+        ensures { IfOk result (λ taken. IsBuilt (built self.old close) taken self.new) }
+    {
+        match self.blocks.pop() {
+            Some(block) => {
+                let last = self.take_body(alloc);
+                self.close_block(alloc, block, last)
+            }
+            None => Ok(false),
+        }
+    }
+
+    /// Takes one line more, if it may stand here.
+    pub fn step(&mut self, alloc: Global, line: BodyLine) -> Result<bool, OutOfMemory>
+        ensures { IfOk result (λ taken. (l : Line) → said line ≡ Some l → IsBuilt (built self.old l) taken self.new) }
+    {
+        match line {
+            BodyLine::Plain(stmt) => self.push(stmt),
+            BodyLine::If { on } => self.open_if(alloc, on),
+            BodyLine::Repeat { count } => self.open_repeat(alloc, count),
+            BodyLine::Each { name, list } => self.open_each(alloc, name, list),
+            BodyLine::Else => self.part(alloc),
+            BodyLine::End => self.close(alloc),
+        }
+    }
+
+    /// The body, where each block was ended.
+    pub fn into_body(self) -> Option<Body>
+        ensures { result ≡ finished self }
+    {
+        if self.blocks.is_empty() {
+            Some(self.body)
+        } else {
+            None
+        }
+    }
+}

@@ -1,0 +1,103 @@
+//! The form of a line, which its fixed words tell.
+
+ghost use Rattle.std.specs.Prelude.{◌≡◌, bytes_eq};
+ghost use Rattle.tac_text.specs.Lines.{assigned_form, form_in, other_form, word_in};
+
+use pact_record::Bytes;
+
+/// What a line says besides its operands.
+#[derive(Clone, Copy, Debug, PartialEq, Eq)]
+pub enum Form {
+    Int,
+    Text,
+    Null,
+    Mov,
+    Get,
+    Key,
+    One,
+    Two,
+    New,
+    Copy,
+    Set,
+    Emit,
+    If,
+    Repeat,
+    Each,
+    Else,
+    End,
+}
+
+/// A word by its place, empty where there is none.
+pub fn word_at(words: &[Bytes], n: usize) -> &[u8]
+    ensures { result.now ≡ word_in words.now n }
+{
+    match words.get(n) {
+        Some(word) => word.bytes(),
+        None => b"",
+    }
+}
+
+pub fn is_word(word: &[u8], name: &[u8]) -> bool
+    ensures { result ≡ bytes_eq word.now name.now }
+{
+    word == name
+}
+
+// What the word behind `=` is for.
+fn form_assigned(word: &[u8], count: usize) -> Form
+    ensures { result ≡ assigned_form word.now count }
+{
+    if is_word(word, b"int") {
+        Form::Int
+    } else if is_word(word, b"text") {
+        Form::Text
+    } else if is_word(word, b"null") {
+        Form::Null
+    } else if is_word(word, b"mov") {
+        Form::Mov
+    } else if is_word(word, b"get") {
+        Form::Get
+    } else if is_word(word, b"key") {
+        Form::Key
+    } else if is_word(word, b"new") {
+        Form::New
+    } else if is_word(word, b"copy") {
+        Form::Copy
+    } else if count > 4 {
+        Form::Two
+    } else {
+        Form::One
+    }
+}
+
+// What the first word of another line is for.
+fn form_by_first(word: &[u8]) -> Form
+    ensures { result ≡ other_form word.now }
+{
+    if is_word(word, b"set") {
+        Form::Set
+    } else if is_word(word, b"emit") {
+        Form::Emit
+    } else if is_word(word, b"if") {
+        Form::If
+    } else if is_word(word, b"repeat") {
+        Form::Repeat
+    } else if is_word(word, b"each") {
+        Form::Each
+    } else if is_word(word, b"else") {
+        Form::Else
+    } else {
+        Form::End
+    }
+}
+
+/// The form that a line with these words can have.
+pub fn form_of(words: &[Bytes]) -> Form
+    ensures { result ≡ form_in words.now }
+{
+    if is_word(word_at(words, 1), b"=") {
+        form_assigned(word_at(words, 2), words.len())
+    } else {
+        form_by_first(word_at(words, 0))
+    }
+}

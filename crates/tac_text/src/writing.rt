@@ -1,0 +1,348 @@
+//! The canonical spelling of bodies.
+
+ghost use Rattle.std.specs.Prelude.{◌≡◌, ◌≤◌, ◌+◌, ◌*◌, ◌++◌, ◌∷◌, [], OnOk, IfOk, replicate, flat_map, codes};
+ghost use Rattle.std.specs.Fmt.{decimal};
+ghost use Rattle.tac_syntax.specs.Code.{load_int, load_text, load_null, move_value, get_field, get_key, apply_one, apply_two, new_record, copy_record, set_field, emit_record, test, turns, over, nesting};
+ghost use Rattle.tac_syntax.specs.Limits.{nesting_limit};
+ghost use Rattle.tac_syntax.specs.Trees.{first_line, only};
+ghost use Rattle.tac_text.specs.Spelling.{body_text, deepest, escaped, line_text, line_words, list_word, literal, op1_word, op2_word, record_word, simple_words};
+
+use crate::words::Words;
+use pact_record::{Bytes, Op1, Op2, OutOfMemory, Text};
+use std::alloc::Global;
+use tac_syntax::{Body, LoopList, Rec, Stmt};
+
+fn op1_name(op: Op1) -> &'static [u8]
+    ensures { result.now ≡ op1_word op }
+{
+    match op {
+        Op1::Not => b"not",
+        Op1::IsNull => b"isnull",
+        Op1::Len => b"len",
+    }
+}
+
+fn op2_name(op: Op2) -> &'static [u8]
+    ensures { result.now ≡ op2_word op }
+{
+    match op {
+        Op2::Add => b"add",
+        Op2::Sub => b"sub",
+        Op2::Mul => b"mul",
+        Op2::Div => b"div",
+        Op2::Rem => b"rem",
+        Op2::AddW => b"addw",
+        Op2::Min => b"min",
+        Op2::Max => b"max",
+        Op2::Lt => b"lt",
+        Op2::Le => b"le",
+        Op2::Eq => b"eq",
+        Op2::And => b"and",
+        Op2::Or => b"or",
+        Op2::Cat => b"cat",
+    }
+}
+
+fn list_name(list: LoopList) -> &'static [u8]
+    ensures { result.now ≡ list_word list }
+{
+    match list {
+        LoopList::Group => b"group",
+        LoopList::Left => b"left",
+        LoopList::Right => b"right",
+    }
+}
+
+fn put_escaped(out: &mut Bytes, byte: u8) -> Result<(), OutOfMemory>
+    ensures { OnOk result (out.new ≡ out.old ++ escaped byte) }
+{
+    match byte {
+        b'\\' => out.extend_from_slice(b"\\\\"),
+        b'"' => out.extend_from_slice(b"\\\""),
+        b'\n' => out.extend_from_slice(b"\\n"),
+        b'\r' => out.extend_from_slice(b"\\r"),
+        b'\t' => out.extend_from_slice(b"\\t"),
+        _ => out.extend_from_slice(&[byte]),
+    }
+}
+
+// A text between quotation marks.
+fn literal_of(alloc: Global, text: &[u8]) -> Result<Bytes, OutOfMemory>
+    ensures { IfOk result (λ word. word ≡ literal text.now) }
+{
+    let mut word = Bytes::new(alloc);
+    word.extend_from_slice(b"\"")?;
+    for byte in text {
+        put_escaped(&mut word, *byte)?;
+    }
+    word.extend_from_slice(b"\"")?;
+    Ok(word)
+}
+
+// The register that a value goes to, and `=`.
+fn assignment(alloc: Global, front: &[u8], to: u32, form: &[u8]) -> Result<Words, OutOfMemory>
+    ensures { IfOk result (λ words. words ≡ (front.now ++ decimal to) ∷ codes "=" ∷ form.now ∷ []) }
+{
+    let mut words = Words::new(alloc);
+    words.add_number(alloc, front, to)?;
+    words.add(alloc, b"=")?;
+    words.add(alloc, form)?;
+    Ok(words)
+}
+
+fn add_record(alloc: Global, words: &mut Words, from: Rec) -> Result<(), OutOfMemory>
+    ensures { OnOk result (words.new ≡ words.old ++ record_word from ∷ []) }
+{
+    match from {
+        Rec::Reg(number) => words.add_number(alloc, b"r", number),
+        Rec::Loop(name) => words.add_number(alloc, b"x", name),
+        Rec::Input => words.add(alloc, b"in"),
+        Rec::Left => words.add(alloc, b"left"),
+        Rec::Right => words.add(alloc, b"right"),
+        Rec::Join => words.add(alloc, b"join"),
+        Rec::First => words.add(alloc, b"first"),
+    }
+}
+
+fn int_words(alloc: Global, to: u32, value: i64) -> Result<Words, OutOfMemory>
+    ensures { IfOk result (λ words. words ≡ simple_words (load_int to value)) }
+{
+    let mut words = assignment(alloc, b"v", to, b"int")?;
+    words.add_signed(alloc, value)?;
+    Ok(words)
+}
+
+fn text_words(alloc: Global, to: u32, value: &Text) -> Result<Words, OutOfMemory>
+    ensures { IfOk result (λ words. words ≡ simple_words (load_text to value.now)) }
+{
+    let mut words = assignment(alloc, b"v", to, b"text")?;
+    words.push(literal_of(alloc, value.bytes())?)?;
+    Ok(words)
+}
+
+fn null_words(alloc: Global, to: u32) -> Result<Words, OutOfMemory>
+    ensures { IfOk result (λ words. words ≡ simple_words (load_null to)) }
+{
+    assignment(alloc, b"v", to, b"null")
+}
+
+fn mov_words(alloc: Global, to: u32, from: u32) -> Result<Words, OutOfMemory>
+    ensures { IfOk result (λ words. words ≡ simple_words (move_value to from)) }
+{
+    let mut words = assignment(alloc, b"v", to, b"mov")?;
+    words.add_number(alloc, b"v", from)?;
+    Ok(words)
+}
+
+fn get_words(alloc: Global, to: u32, from: Rec, field: u32) -> Result<Words, OutOfMemory>
+    ensures { IfOk result (λ words. words ≡ simple_words (get_field to from field)) }
+{
+    let mut words = assignment(alloc, b"v", to, b"get")?;
+    add_record(alloc, &mut words, from)?;
+    words.add_number(alloc, b"", field)?;
+    Ok(words)
+}
+
+fn key_words(alloc: Global, to: u32, at: u32) -> Result<Words, OutOfMemory>
+    ensures { IfOk result (λ words. words ≡ simple_words (get_key to at)) }
+{
+    let mut words = assignment(alloc, b"v", to, b"key")?;
+    words.add_number(alloc, b"", at)?;
+    Ok(words)
+}
+
+fn one_words(alloc: Global, to: u32, op: Op1, a: u32) -> Result<Words, OutOfMemory>
+    ensures { IfOk result (λ words. words ≡ simple_words (apply_one to op a)) }
+{
+    let mut words = assignment(alloc, b"v", to, op1_name(op))?;
+    words.add_number(alloc, b"v", a)?;
+    Ok(words)
+}
+
+fn two_words(alloc: Global, to: u32, op: Op2, a: u32, b: u32) -> Result<Words, OutOfMemory>
+    ensures { IfOk result (λ words. words ≡ simple_words (apply_two to op a b)) }
+{
+    let mut words = assignment(alloc, b"v", to, op2_name(op))?;
+    words.add_number(alloc, b"v", a)?;
+    words.add_number(alloc, b"v", b)?;
+    Ok(words)
+}
+
+fn new_words(alloc: Global, to: u32) -> Result<Words, OutOfMemory>
+    ensures { IfOk result (λ words. words ≡ simple_words (new_record to)) }
+{
+    assignment(alloc, b"r", to, b"new")
+}
+
+fn copy_words(alloc: Global, to: u32, from: Rec) -> Result<Words, OutOfMemory>
+    ensures { IfOk result (λ words. words ≡ simple_words (copy_record to from)) }
+{
+    let mut words = assignment(alloc, b"r", to, b"copy")?;
+    add_record(alloc, &mut words, from)?;
+    Ok(words)
+}
+
+fn set_words(alloc: Global, to: u32, field: u32, value: u32) -> Result<Words, OutOfMemory>
+    ensures { IfOk result (λ words. words ≡ simple_words (set_field to field value)) }
+{
+    let mut words = Words::new(alloc);
+    words.add(alloc, b"set")?;
+    words.add_number(alloc, b"r", to)?;
+    words.add_number(alloc, b"", field)?;
+    words.add_number(alloc, b"v", value)?;
+    Ok(words)
+}
+
+fn emit_words(alloc: Global, from: u32) -> Result<Words, OutOfMemory>
+    ensures { IfOk result (λ words. words ≡ simple_words (emit_record from)) }
+{
+    let mut words = Words::new(alloc);
+    words.add(alloc, b"emit")?;
+    words.add_number(alloc, b"r", from)?;
+    Ok(words)
+}
+
+fn if_words(alloc: Global, on: u32) -> Result<Words, OutOfMemory>
+    ensures { IfOk result (λ words. words ≡ line_words (test on)) }
+{
+    let mut words = Words::new(alloc);
+    words.add(alloc, b"if")?;
+    words.add_number(alloc, b"v", on)?;
+    Ok(words)
+}
+
+fn repeat_words(alloc: Global, count: u32) -> Result<Words, OutOfMemory>
+    ensures { IfOk result (λ words. words ≡ line_words (turns count)) }
+{
+    let mut words = Words::new(alloc);
+    words.add(alloc, b"repeat")?;
+    words.add_number(alloc, b"", count)?;
+    Ok(words)
+}
+
+fn each_words(alloc: Global, name: u32, list: LoopList) -> Result<Words, OutOfMemory>
+    ensures { IfOk result (λ words. words ≡ line_words (over name list)) }
+{
+    let mut words = Words::new(alloc);
+    words.add(alloc, b"each")?;
+    words.add_number(alloc, b"x", name)?;
+    words.add(alloc, b"of")?;
+    words.add(alloc, list_name(list))?;
+    Ok(words)
+}
+
+// The words of a statement's first line.
+fn first_words(alloc: Global, stmt: &Stmt) -> Result<Words, OutOfMemory>
+    ensures { IfOk result (λ words. words ≡ line_words (first_line stmt.now)) }
+{
+    match stmt {
+        Stmt::Int { to, value } => int_words(alloc, *to, *value),
+        Stmt::Text { to, value } => text_words(alloc, *to, value),
+        Stmt::Null { to } => null_words(alloc, *to),
+        Stmt::Mov { to, from } => mov_words(alloc, *to, *from),
+        Stmt::Get { to, from, field } => get_words(alloc, *to, *from, *field),
+        Stmt::Key { to, at } => key_words(alloc, *to, *at),
+        Stmt::One { to, op, a } => one_words(alloc, *to, *op, *a),
+        Stmt::Two { to, op, a, b } => two_words(alloc, *to, *op, *a, *b),
+        Stmt::New { to } => new_words(alloc, *to),
+        Stmt::Copy { to, from } => copy_words(alloc, *to, *from),
+        Stmt::Set { to, field, value } => set_words(alloc, *to, *field, *value),
+        Stmt::Emit { from } => emit_words(alloc, *from),
+        Stmt::If { on, .. } => if_words(alloc, *on),
+        Stmt::Repeat { count, .. } => repeat_words(alloc, *count),
+        Stmt::Each { name, list, .. } => each_words(alloc, *name, *list),
+    }
+}
+
+fn put_indent(out: &mut Bytes, depth: u32) -> Result<(), OutOfMemory>
+    ensures { OnOk result (out.new ≡ out.old ++ replicate (2 * depth) 32) }
+{
+    for _ in 0..depth {
+        out.extend_from_slice(b"  ")?;
+    }
+    Ok(())
+}
+
+fn put_words(out: &mut Bytes, words: &[Bytes]) -> Result<(), OutOfMemory>
+    ensures { OnOk result (out.new ≡ out.old ++ flat_map (λ w. 32 ∷ w) words.now) }
+{
+    for word in words {
+        out.extend_from_slice(b" ")?;
+        out.extend_from_slice(word.bytes())?;
+    }
+    Ok(())
+}
+
+/// Writes a line: two spaces for each open block, its words with one space between, a line feed.
+pub fn put_line(out: &mut Bytes, depth: u32, words: &Words) -> Result<(), OutOfMemory>
+    ensures { OnOk result (out.new ≡ out.old ++ line_text (record { depth = depth; words = words.now })) }
+{
+    put_indent(out, depth)?;
+    if let [first, others @ ..] = words.words() {
+        out.extend_from_slice(first.bytes())?;
+        put_words(out, others)?;
+    }
+    out.extend_from_slice(b"\n")
+}
+
+// A line of one word.
+fn put_word(alloc: Global, out: &mut Bytes, depth: u32, word: &[u8]) -> Result<(), OutOfMemory>
+    ensures { OnOk result (out.new ≡ out.old ++ line_text (record { depth = depth; words = word.now ∷ [] })) }
+{
+    let mut words = Words::new(alloc);
+    words.add(alloc, word)?;
+    put_line(out, depth, &words)
+}
+
+#[cycle(write)]
+fn write_stmt(alloc: Global, out: &mut Bytes, depth: u32, stmt: &Stmt) -> Result<(), OutOfMemory>
+    requires { depth + nesting (only stmt.now) ≤ deepest }
+    ensures { OnOk result (out.new ≡ out.old ++ flat_map line_text (body_text depth (only stmt.now))) }
+{
+    put_line(out, depth, &first_words(alloc, stmt)?)?;
+    match stmt {
+        Stmt::If { body, other, .. } => {
+            write_lines(alloc, out, depth + 1, body)?;
+            if other.len() > 0 {
+                put_word(alloc, out, depth, b"else")?;
+                write_lines(alloc, out, depth + 1, other)?;
+            }
+            put_word(alloc, out, depth, b"end")
+        }
+        Stmt::Repeat { body, .. } => {
+            write_lines(alloc, out, depth + 1, body)?;
+            put_word(alloc, out, depth, b"end")
+        }
+        Stmt::Each { body, .. } => {
+            write_lines(alloc, out, depth + 1, body)?;
+            put_word(alloc, out, depth, b"end")
+        }
+        _ => Ok(()),
+    }
+}
+
+#[cycle(write)]
+fn write_lines(alloc: Global, out: &mut Bytes, depth: u32, body: &Body) -> Result<(), OutOfMemory>
+    requires { depth + nesting body.now ≤ deepest }
+    ensures { OnOk result (out.new ≡ out.old ++ flat_map line_text (body_text depth body.now)) }
+{
+    for stmt in body.stmts() {
+        write_stmt(alloc, out, depth, stmt)?;
+    }
+    Ok(())
+}
+
+/// Writes the lines of a body that stands inside so many blocks, at most 64.
+pub fn write_body(
+    alloc: Global,
+    out: &mut Bytes,
+    depth: u32,
+    body: &Body,
+) -> Result<(), OutOfMemory>
+    requires { depth ≤ nesting_limit }
+    ensures { OnOk result (out.new ≡ out.old ++ flat_map line_text (body_text depth body.now)) }
+{
+    // it is at most 64, so depths can be counted
+    let _nesting = body.depth();
+    write_lines(alloc, out, depth, body)
+}

@@ -1,0 +1,5 @@
+pub mod Bodies
+pub mod Going
+pub mod Refusals
+pub mod Turns
+pub mod Walked
