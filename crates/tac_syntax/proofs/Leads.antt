@@ -22,10 +22,12 @@ one_step : (c : CallState) → Leads c (step c) 1
 one_step c = record { more = λ k. (suc k, omega arith, refl) }
 
 joins : {c d e : CallState} {a b : ℕ} → Leads c d a → Leads d e b → Leads c e (a + b)
-joins p q = record { more = λ k.
-  let second = q.more k in
-  let first = p.more second.0 in
-  (first.0, omega (arith, first.1, second.1), first.2 ∙ second.2) }
+joins p q = record {
+  more = λ k.
+      let second = q.more k in
+      let first = p.more second.0 in
+      (first.0, omega (arith, first.1, second.1), first.2 ∙ second.2);
+}
 
 within : {c d : CallState} {a b : ℕ} → Leads c d a → a ≤ b → Leads c d b
 within p h = record { more = λ k. let first = p.more k in (first.0, omega (arith, first.1, h), first.2) }

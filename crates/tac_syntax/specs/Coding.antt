@@ -306,8 +306,8 @@ parse-lines_of (suc k) (branch on body other next) l e h =
     let second = other_part-other_first k other rest (parse-lines_of k other (close ∷ rest) tt (omega arith)) in
     let third = parse-lines_of k next l e (omega arith) in
     let all : (lines_of body ++ other_first other (close ∷ lines_of next)) ++ l ≡ lines_of body ++ others =
-      append_assoc (lines_of body) (other_first other (close ∷ lines_of next)) l
-      ∙ ap (λ (m : List Line). lines_of body ++ m) (other_lines-append (is_stop other) (lines_of other) (close ∷ lines_of next) l) in
+    append_assoc (lines_of body) (other_first other (close ∷ lines_of next)) l
+    ∙ ap (λ (m : List Line). lines_of body ++ m) (other_lines-append (is_stop other) (lines_of other) (close ∷ lines_of next) l) in
     ap (λ (m : List Line). three_bodies on k (parse k m)) all
     ∙ ap (three_bodies on k) first
     ∙ ap (last_body on k body) second

@@ -54,33 +54,78 @@ pub enum LoopList {
 #[cycle(tree)]
 pub enum Stmt {
     /// The value register becomes that number.
-    Int { to: u32, value: i64 },
+    Int {
+        to: u32,
+        value: i64,
+    },
     /// The value register becomes that text.
-    Text { to: u32, value: Text },
+    Text {
+        to: u32,
+        value: Text,
+    },
     /// The value register becomes Null.
-    Null { to: u32 },
+    Null {
+        to: u32,
+    },
     /// The value register becomes the other one's value.
-    Mov { to: u32, from: u32 },
+    Mov {
+        to: u32,
+        from: u32,
+    },
     /// The value register becomes that field of the record.
-    Get { to: u32, from: Rec, field: u32 },
+    Get {
+        to: u32,
+        from: Rec,
+        field: u32,
+    },
     /// The value register becomes the value at that position of the key.
-    Key { to: u32, at: u32 },
+    Key {
+        to: u32,
+        at: u32,
+    },
     /// The value register becomes what the operation gives.
-    One { to: u32, op: Op1, a: u32 },
+    One {
+        to: u32,
+        op: Op1,
+        a: u32,
+    },
     /// The value register becomes what the operation gives.
-    Two { to: u32, op: Op2, a: u32, b: u32 },
+    Two {
+        to: u32,
+        op: Op2,
+        a: u32,
+        b: u32,
+    },
     /// The record register becomes empty: Null in each field.
-    New { to: u32 },
+    New {
+        to: u32,
+    },
     /// The record register becomes a copy of the record.
-    Copy { to: u32, from: Rec },
+    Copy {
+        to: u32,
+        from: Rec,
+    },
     /// That field of the register's record becomes the value register's value.
-    Set { to: u32, field: u32, value: u32 },
+    Set {
+        to: u32,
+        field: u32,
+        value: u32,
+    },
     /// A copy of the register's record goes to the output.
-    Emit { from: u32 },
+    Emit {
+        from: u32,
+    },
     /// The body where the value register holds something true, else the other one.
-    If { on: u32, body: Body, other: Body },
+    If {
+        on: u32,
+        body: Body,
+        other: Body,
+    },
     /// The body so many times.
-    Repeat { count: u32, body: Body },
+    Repeat {
+        count: u32,
+        body: Body,
+    },
     /// The body once for each record of the list, in its order.
     Each {
         name: u32,

@@ -83,7 +83,9 @@ fn copies_are_the_same(rt: HostRuntime) -> Result<(), Fail> {
         body,
     };
     let copy = function.copy(rt.alloc())?;
-    assert!(rt; copy.kind == Kind::Reduce && copy.keys == 2 && copy.name.bytes() == b"f".as_slice());
+    assert!(rt;
+        copy.kind == Kind::Reduce && copy.keys == 2 && copy.name.bytes() == b"f".as_slice()
+    );
     assert!(rt; copy.body.len() == 4 && copy.body.size() == 6 && copy.body.depth() == 2);
     assert!(rt;
         matches!(copy.body.at(3), Stmt::Text { to: 7, value } if value.bytes() == b"pact".as_slice())
