@@ -8,6 +8,7 @@ use Rattle.std.proofs.lemmas.List.Sorted.{All-permutation}
 use Rattle.pact_record.specs.declared.values.Value.{Value}
 use Rattle.pact_bag.specs.Rows.{HaveOneWidth, cut}
 use Rattle.pact_record.specs.Record.{at_field}
+use Rattle.pact_record.proofs.Lists.{AllByRecursion-append}
 
 pub All-from_recursion : {X : Type 0} (P : X → Type 0) (xs : List X) → AllByRecursion P xs → All P xs
 All-from_recursion P [] h = All-nil P
@@ -22,10 +23,6 @@ HaveOneWidth-nil = record { width = 0; all = All-nil (λ (row : List Value). len
 
 pub HaveOneWidth-last : (rows : List (List Value)) (row : List Value) → AllByRecursion (λ held. length held ≡ length row) rows → HaveOneWidth (rows ++ row ∷ [])
 HaveOneWidth-last rows row h = record { width = length row; all = All-from_recursion (λ (held : List Value). length held ≡ length row) (rows ++ row ∷ []) (AllByRecursion-last (λ (held : List Value). length held ≡ length row) rows row h refl) }
-
-AllByRecursion-append : {X : Type 0} (P : X → Type 0) (xs ys : List X) → AllByRecursion P xs → AllByRecursion P ys → AllByRecursion P (xs ++ ys)
-AllByRecursion-append P [] ys h k = k
-AllByRecursion-append P (x ∷ xs) ys h k = (h.0, AllByRecursion-append P xs ys h.1 k)
 
 pub HaveOneWidth-append : (width : ℕ) (xs ys : List (List Value)) → AllByRecursion (λ row. length row ≡ width) xs → AllByRecursion (λ row. length row ≡ width) ys → HaveOneWidth (xs ++ ys)
 HaveOneWidth-append width xs ys h k =

@@ -22,7 +22,7 @@ fn numbers(rows: &Rows, field: u32, wanted: &[i64]) -> bool {
 }
 
 #[test]
-fn rows_are_sorted_and_projected(rt: HostRuntime) -> Result<(), Fail> {
+fn rows_are_sorted_and_copied(rt: HostRuntime) -> Result<(), Fail> {
     let mut rows = Rows::new(rt.alloc());
     rows.push(pair(rt.alloc(), 2, 5)?)?;
     rows.push(pair(rt.alloc(), 1, 7)?)?;

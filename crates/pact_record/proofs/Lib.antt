@@ -1,1 +1,3 @@
 pub mod SameBefore
+pub mod Lists
+pub mod Members

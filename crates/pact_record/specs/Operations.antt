@@ -8,6 +8,7 @@ use Rattle.pact_record.specs.declared.operations.Op2.{Op2}
 use Rattle.pact_record.specs.declared.operations.Op2.TheVariants.{Add, Sub, Mul, Div, Rem, AddW, Min, Max, Lt, Le, Eq, And, Or, Cat}
 use Rattle.pact_record.specs.declared.values.Value.{Value}
 use Rattle.pact_record.specs.declared.values.Value.TheVariants.{Null, Int, Text}
+use Rattle.pact_record.specs.Limits.{text_limit}
 use Rattle.pact_record.specs.Value.{value_cmp, is_true}
 
 -- ---- tests
@@ -83,9 +84,9 @@ greater_of a b = if is_lt (value_cmp a b) then b else a
 
 -- ---- texts
 
--- the text of these bytes, where they are at most 4096; else Null
+-- the text of these bytes, where they are no more than a text may have; else Null
 abbrev pub text_or_null : List ℕ → Value
-text_or_null t = if nat_le (length t) 4096 then Text t else Null
+text_or_null t = if nat_le (length t) text_limit then Text t else Null
 
 -- of two texts their bytes in a row; Null where one of them isn't a text, or where the bytes are too many
 abbrev pub concatenation_of : Value → Value → Value
@@ -131,5 +132,5 @@ applied2 Eq a b = truth (is_eq (value_cmp a b))
 -- 1 where both are true, where one of them is; else 0
 applied2 And a b = truth (is_true a && is_true b)
 applied2 Or a b = truth (is_true a || is_true b)
--- of two texts their bytes in a row, where they are at most 4096; else Null
+-- of two texts their bytes in a row, where they are no more than a text may have; else Null
 applied2 Cat a b = concatenation_of a b

@@ -2,10 +2,13 @@
 //!
 //! A value is Null, a whole number or a text; `apply1` and `apply2` are the operations on values.
 //! A record is a list of values, one for each field of the program, so a field number is a place
-//! in that list. `Bytes` is a text of any length, `Word` a short one, such as a name.
+//! in that list. `Fields` is a set of field numbers, `Keys` the list of those of a key. `Bytes` is a
+//! text of any length, `Word` a short one, such as a name.
 #![tactic(auto)]
 
 pub mod bytes;
+pub mod field_sets;
+pub mod keys;
 pub mod operations;
 pub mod records;
 pub mod texts;
@@ -13,6 +16,8 @@ pub mod values;
 pub mod words;
 
 pub use bytes::Bytes;
+pub use field_sets::Fields;
+pub use keys::{Keys, MAX_KEYS};
 pub use operations::{Op1, Op2, apply1, apply2};
 pub use records::{MAX_FIELDS, Record};
 pub use std::alloc::AllocError as OutOfMemory;
@@ -20,6 +25,8 @@ pub use texts::{MAX_TEXT, NotText, Text};
 pub use values::Value;
 pub use words::{MAX_WORD, Word};
 
+#[cfg(test)]
+mod field_tests;
 #[cfg(test)]
 mod operations_tests;
 #[cfg(test)]

@@ -246,6 +246,25 @@ fn joined_len(alloc: Global, left: usize, right: usize) -> Result<Option<usize>,
 }
 
 #[test]
+fn operations_on_the_least_and_the_greatest_number(rt: HostRuntime) {
+    check1(&rt, Op1::Not, LEAST, Int(0));
+    check1(&rt, Op1::IsNull, LEAST, Int(0));
+    check1(&rt, Op1::Len, GREATEST, Null);
+    check2(&rt, Op2::Min, LEAST, GREATEST, LEAST);
+    check2(&rt, Op2::Max, LEAST, GREATEST, GREATEST);
+    check2(&rt, Op2::Lt, LEAST, GREATEST, Int(1));
+    check2(&rt, Op2::Lt, GREATEST, LEAST, Int(0));
+    check2(&rt, Op2::Le, GREATEST, GREATEST, Int(1));
+    check2(&rt, Op2::Le, GREATEST, LEAST, Int(0));
+    check2(&rt, Op2::Eq, LEAST, LEAST, Int(1));
+    check2(&rt, Op2::Eq, LEAST, GREATEST, Int(0));
+    check2(&rt, Op2::And, LEAST, GREATEST, Int(1));
+    check2(&rt, Op2::Or, Int(0), LEAST, Int(1));
+    check2(&rt, Op2::Cat, LEAST, Str("a"), Null);
+    check2(&rt, Op2::Cat, Str("a"), GREATEST, Null);
+}
+
+#[test]
 fn a_joined_text_has_at_most_4096_bytes(rt: HostRuntime) -> Result<(), Fail> {
     assert!(rt; joined_len(rt.alloc(), 2048, 2048)? == Some(4096));
     assert!(rt; joined_len(rt.alloc(), 2048, 2049)? == None);

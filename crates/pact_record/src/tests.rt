@@ -44,6 +44,8 @@ fn texts_are_short_and_utf8(rt: HostRuntime) -> Result<(), Fail> {
     let more = letters(rt.alloc(), MAX_TEXT + 1)?;
     assert!(rt; matches!(Text::from_bytes(rt.alloc(), &more), Err(NotText::Long)));
     assert!(rt; matches!(Text::from_bytes(rt.alloc(), b"\xff"), Err(NotText::Utf8)));
+    let both = vec![in rt.alloc(); 0xff_u8; more.len()]?;
+    assert!(rt; matches!(Text::from_bytes(rt.alloc(), &both), Err(NotText::Utf8)));
     Ok(())
 }
 

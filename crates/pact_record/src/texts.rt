@@ -1,5 +1,6 @@
 ghost use Rattle.std.specs.Prelude.{◌≡◌, ◌+◌, ◌≤◌, ◌<◌, ◌++◌, length, IsUtf8, IfOk, IsErrOf, SomeIff};
 ghost use Rattle.pact_record.specs.declared.texts.NotText.TheVariants.{Utf8, Long};
+ghost use Rattle.pact_record.specs.Limits.{text_limit};
 
 use crate::OutOfMemory;
 use std::alloc::Global;
@@ -37,21 +38,21 @@ impl From<OutOfMemory> for NotText {
 
 impl Model for Text {
     ghost use Rattle.std.specs.Prelude.{List, ℕ, length, ◌≤◌, IsUtf8};
-    ghost use Rattle.pact_record.specs.declared.texts.TheConstants.{MAX_TEXT};
+    ghost use Rattle.pact_record.specs.Limits.{text_limit};
 
     ghost Value = { List ℕ };
 
     ghost view = { λ t. t.held.items };
 
-    ghost invariant = { λ t. (length t.held.items ≤ MAX_TEXT) × IsUtf8 t.held.items };
+    ghost invariant = { λ t. (length t.held.items ≤ text_limit) × IsUtf8 t.held.items };
 }
 
 impl Text {
     pub fn from_bytes(alloc: Global, bytes: &[u8]) -> Result<Text, NotText>
         ensures ok { IfOk result (λ t. t ≡ bytes.now) }
-        ensures fits { IfOk result (λ t. (length t ≤ MAX_TEXT) × IsUtf8 t) }
+        ensures fits { IfOk result (λ t. (length t ≤ text_limit) × IsUtf8 t) }
         ensures utf8 { IsErrOf result Utf8 → IsUtf8 bytes.now → ⊥ }
-        ensures long { IsErrOf result Long → IsUtf8 bytes.now × (MAX_TEXT < length bytes.now) }
+        ensures long { IsErrOf result Long → IsUtf8 bytes.now × (text_limit < length bytes.now) }
     {
         if str::from_utf8(bytes).is_err() {
             return Err(NotText::Utf8);
@@ -66,7 +67,7 @@ impl Text {
 
     pub fn bytes(&self) -> &[u8]
         ensures text { result.now ≡ self.now }
-        ensures short { length self.now ≤ MAX_TEXT }
+        ensures short { length self.now ≤ text_limit }
         ensures utf8 { IsUtf8 self.now }
     {
         &self.held
@@ -87,7 +88,7 @@ impl Text {
         other: &Text,
     ) -> Result<Option<Text>, OutOfMemory>
         ensures { IfOk result (λ found.
-            SomeIff found (length self.now + length other.now ≤ MAX_TEXT) (self.now ++ other.now)) }
+            SomeIff found (length self.now + length other.now ≤ text_limit) (self.now ++ other.now)) }
     {
         if self.held.len() + other.held.len() > MAX_TEXT {
             return Ok(None);

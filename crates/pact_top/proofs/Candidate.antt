@@ -4,7 +4,8 @@ use Rattle.std.specs.List.{AllByRecursion}
 use Rattle.pact_bag.specs.declared.columns.Column.{Column}
 use Rattle.tac_text.specs.Spelling.{body_text}
 use Rattle.tac_text.specs.Splits.{lines_in}
-use Rattle.tac_text.proofs.BodyLines.{words_of-append, AllByRecursion-append}
+use Rattle.pact_record.proofs.Lists.{AllByRecursion-append}
+use Rattle.tac_text.proofs.BodyLines.{words_of-append}
 use Rattle.tac_text.proofs.LineWords.{IsSplitWord-fixed, IsSplitWord-numbered, IsSplitWord-decimal}
 use Rattle.tac_text.proofs.SplitBodies.{AreSplitLines, AreSplitLines-body_text}
 use Rattle.tac_text.proofs.Splits.{AreSplitWords, IsSplitWord, lines_in-flat_map}

@@ -1,7 +1,7 @@
 -- Names and the bytes that they are made of.
 use Rattle.std.proofs.Common.{◌≡◌, ◌≤◌, ◌&&◌, inl, ℕ, Bool, true, false, nat_le, List, [], ◌∷◌, length, refl, arith}
-use Rattle.std.proofs.lemmas.Bool.{leb-true}
-use Rattle.tac_text.proofs.PlainWords.{ArePlain, IsPlainWord, and_parts, is_other}
+use Rattle.std.proofs.lemmas.Bool.{and_parts, leb-true}
+use Rattle.tac_text.proofs.PlainWords.{ArePlain, IsPlainWord, is_other}
 use Rattle.tac_text.proofs.Splits.{IsSplitWord}
 use Rattle.pact_top.specs.Program.{all_bytes, is_small_letter, is_name_byte, is_name, is_file_byte, is_file_name}
 

@@ -3,12 +3,8 @@ use Rattle.std.specs.Prelude.{◌≡◌, ℕ, Bool, not, cond, List, [], ◌∷�
 use Rattle.std.specs.Ordering.{is_eq}
 use Rattle.std.specs.List.Sorted.{IsPermutation}
 use Rattle.pact_record.specs.declared.values.Value.{Value}
-use Rattle.pact_record.specs.Record.{at_field, record_cmp}
+use Rattle.pact_record.specs.Record.{key_of, record_cmp}
 use Rattle.pact_top.specs.Plan.{PlanTree, leaf, over, both, OpKind, source_op, map_op, reduce_op, match_op, cross_op, cogroup_op, Ops}
-
--- the values of the key fields
-abbrev pub key_of : List ℕ → List Value → List Value
-key_of keys row = map (at_field row) keys
 
 -- equal values, Null equal to Null
 abbrev pub is_same_key : List Value → List Value → Bool

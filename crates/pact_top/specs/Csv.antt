@@ -8,12 +8,9 @@ use Rattle.csv.specs.Writing.{default_writer, row_text}
 use Rattle.pact_bag.specs.declared.columns.Column.{Column}
 use Rattle.pact_record.specs.declared.values.Value.{Value}
 use Rattle.pact_record.specs.declared.values.Value.TheVariants.{Null, Int, Text}
+use Rattle.pact_record.specs.Limits.{text_limit}
 use Rattle.tac_syntax.specs.Call.{empty_record}
 use mir.Syntax.{w64}
-
--- a text has at most so many bytes
-abbrev pub text_limit : ℕ
-text_limit = 4096
 
 -- Of a column of texts, or of one of numbers: an empty field is Null; another one is the text of its bytes, or the
 -- number that std's parse of an i64 takes it for.

@@ -2,9 +2,9 @@
 //!
 //! `top` has the call with its clauses. `answering` goes from the words of the command line and
 //! the files to the text that is to be written; below it, `reader` and `spelling` read a program,
-//! `csv_rows` reads and writes rows, `plan_run` and `interpreter` run the plan, and `lines` makes
-//! the sorted text. `loading` and `transfer` read whole files and write whole texts, and
-//! `refusals` has what is told of a call that gives no answer.
+//! `csv_rows` reads and writes rows, `plan_run` runs the plan, and `lines` makes the sorted text.
+//! `loading` and `transfer` read whole files and write whole texts, and `refusals` has what is told
+//! of a call that gives no answer.
 #![tactic(auto)]
 
 mod answering;

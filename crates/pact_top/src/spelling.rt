@@ -1,12 +1,12 @@
 ghost use Rattle.std.specs.Prelude.{◌≡◌, ◌++◌, ◌∷◌, [], OnOk, IfOk, flat_map, map, codes, decimal};
 ghost use Rattle.tac_text.specs.Spelling.{line_text};
-ghost use Rattle.pact_top.specs.Program.{column_word, head_lines, spelling, tail_lines};
+ghost use Rattle.pact_top.specs.Program.{column_word, head_lines, spelling, tail_lines, top_line};
 
 use crate::program::Program;
 use pact_bag::Column;
 use pact_record::{Bytes, OutOfMemory};
 use std::alloc::Global;
-use tac_text::{Words, put_line, write_body};
+use tac_text::{Words, write_body, write_line};
 
 fn add_numbers(alloc: Global, words: &mut Words, numbers: &[u32]) -> Result<(), OutOfMemory>
     ensures { OnOk result (words.new ≡ words.old ++ map decimal numbers.now) }
@@ -89,21 +89,27 @@ fn words_of_sink(alloc: Global, program: &Program) -> Result<Words, OutOfMemory>
     Ok(words)
 }
 
+fn put_line(alloc: Global, out: &mut Bytes, words: &Words) -> Result<(), OutOfMemory>
+    ensures { OnOk result (out.new ≡ out.old ++ line_text (top_line words.now)) }
+{
+    out.extend_from_slice(write_line(alloc, 0, words)?.bytes())
+}
+
 fn put_head(alloc: Global, out: &mut Bytes, program: &Program) -> Result<(), OutOfMemory>
     ensures { OnOk result (out.new ≡ out.old ++ flat_map line_text (head_lines program.now)) }
 {
     out.extend_from_slice(b"pact 1\n")?;
-    put_line(out, 0, &words_of_fields(alloc, program.fields())?)?;
-    put_line(out, 0, &words_of_source(alloc, program)?)?;
-    put_line(out, 0, &words_of_function(alloc, program)?)
+    put_line(alloc, out, &words_of_fields(alloc, program.fields())?)?;
+    put_line(alloc, out, &words_of_source(alloc, program)?)?;
+    put_line(alloc, out, &words_of_function(alloc, program)?)
 }
 
 fn put_tail(alloc: Global, out: &mut Bytes, program: &Program) -> Result<(), OutOfMemory>
     ensures { OnOk result (out.new ≡ out.old ++ flat_map line_text (tail_lines program.now)) }
 {
     out.extend_from_slice(b"end\n")?;
-    put_line(out, 0, &words_of_operator(alloc, program)?)?;
-    put_line(out, 0, &words_of_sink(alloc, program)?)
+    put_line(alloc, out, &words_of_operator(alloc, program)?)?;
+    put_line(alloc, out, &words_of_sink(alloc, program)?)
 }
 
 /// The one text that spells a program.
@@ -112,7 +118,7 @@ pub fn write_program(alloc: Global, program: &Program) -> Result<Bytes, OutOfMem
 {
     let mut out = Bytes::new(alloc);
     put_head(alloc, &mut out, program)?;
-    write_body(alloc, &mut out, 1, program.body())?;
+    out.extend_from_slice(write_body(alloc, 1, program.body())?.bytes())?;
     put_tail(alloc, &mut out, program)?;
     Ok(out)
 }

@@ -8,12 +8,12 @@ use Rattle.tac_syntax.specs.Code.{Code, stop}
 use Rattle.tac_syntax.specs.Trees.{Statement, one_line, choice, turning, going_through, onto, statement_of, only, code_of}
 use Rattle.tac_syntax.specs.Call.{Store, bind}
 use Rattle.tac_syntax.specs.Exec.{times, for_each, exec}
-use Rattle.tac_syntax.proofs.Bodies.{code_of-drop}
+use Rattle.tac_syntax.proofs.Bodies.{code_of-drop, placed-onto}
 use Rattle.tac_syntax.specs.Places.{placed, in_if, in_repeat, in_each}
 use Rattle.tac_interp.specs.CallInputs.{AreWide}
 use Rattle.tac_interp.specs.InRange.{IsInRange}
 use Rattle.tac_interp.specs.Ready.{FitsStore, IsReady, IsReadyIn, CanStart}
-use Rattle.tac_interp.proofs.Ranges.{first_part, second_part, placed-onto}
+use Rattle.tac_interp.proofs.Ranges.{first_part, second_part}
 use Rattle.tac_interp.proofs.Fitting.{CanAct-fits, next_name-over, value_register, Fits-bind, Fits-out_of_each, Fits-exec}
 
 -- ---- a body that is ready

@@ -41,10 +41,3 @@ first_part P (x ∷ xs) ys h = (h.0, first_part P xs ys h.1)
 pub second_part : {X : Type 0} (P : X → Type 0) (xs ys : List X) → AllByRecursion P (xs ++ ys) → AllByRecursion P ys
 second_part P [] ys h = h
 second_part P (x ∷ xs) ys h = second_part P xs ys h.1
-
--- a statement's own places come before those of what follows
-pub placed-onto : (p : Place) (stmt : Statement) (next : Code) → placed p (onto stmt next) ≡ placed p (onto stmt stop) ++ placed p next
-placed-onto p (one_line a) next = refl
-placed-onto p (choice on body other) next = simp (append_assoc, append-nil)
-placed-onto p (turning count body) next = simp append-nil
-placed-onto p (going_through name list body) next = simp append-nil

@@ -1,9 +1,10 @@
 -- Bodies as lists of statements.
-use Rattle.std.proofs.Common.{◌≡◌, ◌≤◌, ◌<◌, ◌+◌, ℕ, zero, suc, max, List, [], ◌∷◌, ◌++◌, length, drop, get_or, refl, ap, sym, ◌∙◌, arith}
+use Rattle.std.proofs.Common.{◌≡◌, ◌≤◌, ◌<◌, ◌+◌, ℕ, zero, suc, max, List, [], ◌∷◌, ◌++◌, length, drop, get_or, refl, ap, sym, ◌∙◌, append_assoc, append-nil, arith}
 use Rattle.std.proofs.lemmas.List.{drop_more}
 use Rattle.tac_syntax.specs.declared.statements.Stmt.{Stmt}
 use Rattle.tac_syntax.specs.Code.{Code, stop, plain, branch, again, each, joined, nesting, count_of, length_of}
 use Rattle.tac_syntax.specs.Coding.{tall}
+use Rattle.tac_syntax.specs.Places.{Place, placed}
 use Rattle.tac_syntax.specs.Falls.{tall_positive, next_less}
 use Rattle.tac_syntax.specs.Trees.{Statement, one_line, choice, turning, going_through, onto, statement_of, before, only, code_of, skip}
 
@@ -96,3 +97,18 @@ pub nesting-only-le : (stmts : List Stmt) (n : ℕ) (stmt : Stmt) → n < length
 nesting-only-le [] n stmt h = absurd (omega arith)
 nesting-only-le (s ∷ stmts) zero stmt h = nesting-only-first (statement_of s) (code_of stmts)
 nesting-only-le (s ∷ stmts) (suc n) stmt h = omega (arith, nesting-next (statement_of s) (code_of stmts), nesting-only-le stmts n stmt (omega arith))
+
+-- ---- a statement, and what follows it
+
+pub count_of-onto : (s : Statement) (next : Code) → count_of (onto s next) ≡ count_of (onto s stop) + count_of next
+count_of-onto (one_line s) next = omega arith
+count_of-onto (choice on body other) next = omega arith
+count_of-onto (turning count body) next = omega arith
+count_of-onto (going_through name list body) next = omega arith
+
+-- its own places come first
+pub placed-onto : (p : Place) (s : Statement) (next : Code) → placed p (onto s next) ≡ placed p (onto s stop) ++ placed p next
+placed-onto p (one_line s) next = refl
+placed-onto p (choice on body other) next = simp (append_assoc, append-nil)
+placed-onto p (turning count body) next = simp append-nil
+placed-onto p (going_through name list body) next = simp append-nil

@@ -1,5 +1,5 @@
 -- Which fields what a call emits may have a value in.
-use Rattle.std.specs.Prelude.{◌≡◌, ◌≢◌, ◌⊎◌, ℕ, List, [], ◌∷◌, length}
+use Rattle.std.specs.Prelude.{◌≡◌, ◌≢◌, ◌<◌, ◌⊎◌, ℕ, List, [], ◌∷◌, length}
 use Rattle.std.specs.List.{AllByRecursion}
 use Rattle.pact_record.specs.declared.values.Value.{Value}
 use Rattle.pact_record.specs.declared.values.Value.TheVariants.{Null}
@@ -45,6 +45,10 @@ Names field (plain s next) = NamesField field s ⊎ Names field next
 Names field (branch on body other next) = Names field body ⊎ Names field other ⊎ Names field next
 Names field (again count body next) = Names field body ⊎ Names field next
 Names field (each name list body next) = Names field body ⊎ Names field next
+
+-- each field that a body sets is below the bound
+abbrev pub NamesBelow : ℕ → Code → Type 0
+NamesBelow bound body = (field : ℕ) → Names field body → field < bound
 
 -- A record of the program's width that is Null outside the fields in which the input has a value and those that the body sets.
 pub record IsBounded (fields : ℕ) (body : Code) (input : CallInput) (row : List Value) : Type 0 where

@@ -280,10 +280,6 @@ other_lines-append : (empty : Bool) (lines rest l : List Line) → other_lines e
 other_lines-append true lines rest l = refl
 other_lines-append false lines rest l = ap (λ (m : List Line). otherwise ∷ m) (append_assoc lines rest l)
 
-length-other_lines : (empty : Bool) (lines rest : List Line) → length rest ≤ length (other_lines empty lines rest)
-length-other_lines true lines rest = omega arith
-length-other_lines false lines rest = omega (arith, length-append lines rest)
-
 -- a second body is no taller than its lines allow
 tall-other : (other : Code) (rest : List Line) → tall other ≤ suc (2 * length (lines_of other)) → tall other + 2 * length rest ≤ suc (2 * length (other_first other rest))
 tall-other stop rest h = omega arith

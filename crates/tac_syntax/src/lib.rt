@@ -7,6 +7,7 @@
 #![tactic(auto)]
 
 pub mod functions;
+mod named_fields;
 pub mod rules;
 pub mod statements;
 pub mod valids;

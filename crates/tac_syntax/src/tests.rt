@@ -1,5 +1,5 @@
-use crate::{Body, Function, Kind, LoopList, NotPushed, Rec, Stmt};
-use pact_record::{Text, Word};
+use crate::{Body, Function, Kind, LoopList, NotPushed, Rec, Stmt, Valid};
+use pact_record::{Fields, Text, Word};
 use std::alloc::Global;
 use std::test::Fail;
 
@@ -90,5 +90,41 @@ fn copies_are_the_same(rt: HostRuntime) -> Result<(), Fail> {
     assert!(rt;
         matches!(copy.body.at(3), Stmt::Text { to: 7, value } if value.bytes() == b"pact".as_slice())
     );
+    Ok(())
+}
+
+// Sets field 3, and field 1 in the second body of an `if`.
+fn setting(alloc: Global, name: Word) -> Result<Valid, NotPushed> {
+    let mut other = Body::new(alloc);
+    other.push(Stmt::Set {
+        to: 0,
+        field: 1,
+        value: 2,
+    })?;
+    let mut body = Body::new(alloc);
+    body.push(Stmt::Set {
+        to: 0,
+        field: 3,
+        value: 2,
+    })?;
+    body.push(Stmt::If {
+        on: 2,
+        body: Body::new(alloc),
+        other,
+    })?;
+    let function = Function {
+        name,
+        kind: Kind::Map,
+        keys: 0,
+        body,
+    };
+    Ok(Valid::seal(function, 4))
+}
+
+#[test]
+fn set_fields_are_named(rt: HostRuntime) -> Result<(), Fail> {
+    let name = Word::from_bytes(rt.alloc(), b"f")?;
+    let valid = setting(rt.alloc(), name).map_err(|_| "refused")?;
+    assert!(rt; valid.named() == Fields::empty().with(1).with(3));
     Ok(())
 }

@@ -1,10 +1,13 @@
 //! Functions that are known to be valid.
 
-ghost use Rattle.std.specs.Prelude.{◌≡◌, IfOk};
+ghost use Rattle.std.specs.Prelude.{◌≡◌, ◌↔◌, ℕ, IsTrue, IfOk};
+ghost use Rattle.pact_record.specs.FieldSets.{has_field};
+ghost use Rattle.tac_syntax.specs.Bounded.{Names};
 ghost use Rattle.tac_syntax.specs.Valid.{IsValid};
 
 use crate::functions::Function;
-use pact_record::OutOfMemory;
+use crate::named_fields::named_in;
+use pact_record::{Fields, OutOfMemory};
 use std::alloc::Global;
 use std::marker::Model;
 
@@ -49,6 +52,13 @@ impl Valid {
         ensures { result ≡ self.now.fields }
     {
         self.fields
+    }
+
+    /// The fields that some `set` of the function names.
+    pub fn named(&self) -> Fields
+        ensures { (k : ℕ) → IsTrue (has_field result k) ↔ Names k self.now.function.body }
+    {
+        named_in(&self.function.body)
     }
 
     pub fn copy(&self, alloc: Global) -> Result<Valid, OutOfMemory>

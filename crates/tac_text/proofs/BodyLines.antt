@@ -3,6 +3,7 @@ use Rattle.std.proofs.Common.{◌≡◌, ◌+◌, ℕ, Bool, true, false, List, 
 use Rattle.tac_syntax.specs.Code.{Code, stop, plain, branch, again, each, Line, joined, simple, test, turns, over, otherwise, close}
 use Rattle.tac_syntax.specs.Coding.{is_stop, other_lines, lines_of}
 use Rattle.std.specs.List.{AllByRecursion}
+use Rattle.pact_record.proofs.Lists.{AllByRecursion-append}
 use Rattle.tac_text.specs.Grammar.{IsSpelledLine, IsSpelled}
 use Rattle.tac_text.specs.Spelling.{TextLine, at_depth, body_text, line_words, other_text, words_of}
 
@@ -68,10 +69,6 @@ words_of-body_text depth (each name list body next) =
     (both (body_text (depth + 1) body) (at_depth depth close ∷ body_text depth next) (lines_of body) (close ∷ lines_of next) (words_of-body_text (depth + 1) body) last)
 
 -- ---- lines that can be spelled
-
-pub AllByRecursion-append : {X : Type 0} (P : X → Type 0) (a b : List X) → AllByRecursion P a → AllByRecursion P b → AllByRecursion P (a ++ b)
-AllByRecursion-append P [] b p q = q
-AllByRecursion-append P (x ∷ a) b p q = (p.0, AllByRecursion-append P a b p.1 q)
 
 abbrev pub AreSpelledLines : List Line → Type 0
 AreSpelledLines ls = AllByRecursion (λ l. (lists : ℕ) × IsSpelledLine lists l) ls

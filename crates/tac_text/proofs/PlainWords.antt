@@ -1,6 +1,7 @@
 -- Words and the bytes that they are made of.
 use Rattle.std.proofs.Common.{◌≡◌, ◌<◌, ◌+◌, ◌%◌, ◌^◌, ◌==◌, ◌&&◌, inl, inr, ℕ, suc, ℤ, pos, negsuc, Bool, true, false, nat_le, FitsSigned, List, [], ◌∷◌, ◌++◌, length, refl, ap, decimal, arith}
 use Rattle.std.specs.Fmt.{signed_decimal}
+use Rattle.std.proofs.lemmas.Bool.{and_parts}
 use Rattle.std.proofs.lemmas.Bool.Decides.{eqb_tells, nat_tests}
 use Rattle.std.proofs.lemmas.Fmt.{decimal_by_steps}
 use mir.Syntax.{w64}
@@ -14,10 +15,6 @@ ArePlain (b ∷ bs) = ((b == 10) ≡ false) × ((b == 32) ≡ false) × ArePlain
 abbrev pub IsPlainWord : List ℕ → Type 0
 IsPlainWord [] = ⊥
 IsPlainWord (b ∷ bs) = ((b == 34) ≡ false) × ArePlain (b ∷ bs)
-
-pub and_parts : (a b : Bool) → (a && b) ≡ true → (a ≡ true) × (b ≡ true)
-and_parts true b h = (refl, h)
-and_parts false b h = absurd cc
 
 -- a byte that passes a test is none that fails it
 pub is_other : (test : ℕ → Bool) (b k : ℕ) → test b ≡ true → test k ≡ false → (b == k) ≡ false

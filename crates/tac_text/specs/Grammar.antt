@@ -1,6 +1,7 @@
 -- What a text can spell.
 use Rattle.std.specs.Prelude.{◌≡◌, ◌≤◌, ◌+◌, ℕ, List, length, IsUtf8, FitsSigned}
 use mir.Syntax.{w64}
+use Rattle.pact_record.specs.Limits.{text_limit}
 use Rattle.tac_syntax.specs.declared.statements.Rec.{Rec}
 use Rattle.tac_syntax.specs.declared.statements.Rec.TheVariants.{Reg, Loop, Input, Left, Right, Join, First}
 use Rattle.tac_syntax.specs.Code.{Simple, load_int, load_text, load_null, move_value, get_field, get_key, apply_one, apply_two, new_record, copy_record, set_field, emit_record, Code, stop, plain, branch, again, each, Line, simple, test, turns, over, otherwise, close}
@@ -19,12 +20,9 @@ IsLoopName n = (1 ≤ n) × (n ≤ 64)
 abbrev pub IsTurnCount : ℕ → Type 0
 IsTurnCount n = (1 ≤ n) × (n ≤ 1000)
 
--- a literal stands for so many bytes
-abbrev pub literal_limit : ℕ
-literal_limit = 4096
-
+-- a literal stands for the bytes of a text
 abbrev pub IsLiteral : List ℕ → Type 0
-IsLiteral bytes = (length bytes ≤ literal_limit) × IsUtf8 bytes
+IsLiteral bytes = (length bytes ≤ text_limit) × IsUtf8 bytes
 
 -- ---- statements
 

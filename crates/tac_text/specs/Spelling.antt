@@ -5,8 +5,6 @@ use Rattle.pact_record.specs.declared.operations.Op1.{Op1}
 use Rattle.pact_record.specs.declared.operations.Op1.TheVariants.{Not, IsNull, Len}
 use Rattle.pact_record.specs.declared.operations.Op2.{Op2}
 use Rattle.pact_record.specs.declared.operations.Op2.TheVariants.{Add, Sub, Mul, Div, Rem, AddW, Min, Max, Lt, Le, Eq, And, Or, Cat}
-use Rattle.tac_syntax.specs.declared.functions.Kind.{Kind}
-use Rattle.tac_syntax.specs.declared.functions.Kind.TheVariants.{Map, Match, Cross, Reduce, CoGroup}
 use Rattle.tac_syntax.specs.declared.statements.Rec.{Rec}
 use Rattle.tac_syntax.specs.declared.statements.Rec.TheVariants.{Reg, Loop, Input, Left, Right, Join, First}
 use Rattle.tac_syntax.specs.declared.statements.LoopList.{LoopList}
@@ -54,13 +52,6 @@ abbrev pub list_word : LoopList → List ℕ
 list_word Group = codes "group"
 list_word LeftGroup = codes "left"
 list_word RightGroup = codes "right"
-
-abbrev pub kind_word : Kind → List ℕ
-kind_word Map = codes "map"
-kind_word Match = codes "match"
-kind_word Cross = codes "cross"
-kind_word Reduce = codes "reduce"
-kind_word CoGroup = codes "cogroup"
 
 abbrev pub op1_word : Op1 → List ℕ
 op1_word Not = codes "not"

@@ -23,7 +23,7 @@ pub use numbers::{read_number, read_number_behind};
 pub use reading::read_body;
 pub use splitting::split_lines;
 pub use words::Words;
-pub use writing::{put_line, write_body};
+pub use writing::{write_body, write_line};
 
 #[cfg(test)]
 mod tests;

@@ -46,7 +46,8 @@ impl Words {
 
     /// Puts a copy of a word behind the others.
     pub fn add(&mut self, alloc: Global, word: &[u8]) -> Result<(), OutOfMemory>
-        ensures { OnOk result (self.new ≡ self.old ++ word.now ∷ []) }
+        ensures ok { OnOk result (self.new ≡ self.old ++ word.now ∷ []) }
+        ensures err { OnErr result (self.new ≡ self.old) }
     {
         self.push(Bytes::from_slice(alloc, word)?)?;
         Ok(())
@@ -59,7 +60,8 @@ impl Words {
         front: &[u8],
         number: u32,
     ) -> Result<(), OutOfMemory>
-        ensures { OnOk result (self.new ≡ self.old ++ (front.now ++ decimal number) ∷ []) }
+        ensures ok { OnOk result (self.new ≡ self.old ++ (front.now ++ decimal number) ∷ []) }
+        ensures err { OnErr result (self.new ≡ self.old) }
     {
         let mut word = Bytes::from_slice(alloc, front)?;
         let digits = number.to_string(alloc)?;
@@ -70,7 +72,8 @@ impl Words {
 
     /// Puts a word behind the others that is a number with its sign.
     pub fn add_signed(&mut self, alloc: Global, number: i64) -> Result<(), OutOfMemory>
-        ensures { OnOk result (self.new ≡ self.old ++ signed_decimal number ∷ []) }
+        ensures ok { OnOk result (self.new ≡ self.old ++ signed_decimal number ∷ []) }
+        ensures err { OnErr result (self.new ≡ self.old) }
     {
         let digits = number.to_string(alloc)?;
         self.add(alloc, digits.as_bytes())

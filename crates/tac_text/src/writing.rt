@@ -273,8 +273,8 @@ fn put_words(out: &mut Bytes, words: &[Bytes]) -> Result<(), OutOfMemory>
     Ok(())
 }
 
-/// Writes a line: two spaces for each open block, its words with one space between, a line feed.
-pub fn put_line(out: &mut Bytes, depth: u32, words: &Words) -> Result<(), OutOfMemory>
+// Two spaces for each open block, the words with one space between, a line feed.
+fn put_line(out: &mut Bytes, depth: u32, words: &Words) -> Result<(), OutOfMemory>
     ensures { OnOk result (out.new ≡ out.old ++ line_text (record { depth = depth; words = words.now })) }
 {
     put_indent(out, depth)?;
@@ -332,17 +332,24 @@ fn write_lines(alloc: Global, out: &mut Bytes, depth: u32, body: &Body) -> Resul
     Ok(())
 }
 
-/// Writes the lines of a body that stands inside so many blocks, at most 64.
-pub fn write_body(
-    alloc: Global,
-    out: &mut Bytes,
-    depth: u32,
-    body: &Body,
-) -> Result<(), OutOfMemory>
+/// The text of a line: two spaces for each open block, its words with one space between, a line
+/// feed.
+pub fn write_line(alloc: Global, depth: u32, words: &Words) -> Result<Bytes, OutOfMemory>
+    ensures { IfOk result (λ text. text ≡ line_text (record { depth = depth; words = words.now })) }
+{
+    let mut out = Bytes::new(alloc);
+    put_line(&mut out, depth, words)?;
+    Ok(out)
+}
+
+/// The text of a body that stands inside so many blocks, at most 64.
+pub fn write_body(alloc: Global, depth: u32, body: &Body) -> Result<Bytes, OutOfMemory>
     requires { depth ≤ nesting_limit }
-    ensures { OnOk result (out.new ≡ out.old ++ flat_map line_text (body_text depth body.now)) }
+    ensures { IfOk result (λ text. text ≡ flat_map line_text (body_text depth body.now)) }
 {
     // it is at most 64, so depths can be counted
     let _nesting = body.depth();
-    write_lines(alloc, out, depth, body)
+    let mut out = Bytes::new(alloc);
+    write_lines(alloc, &mut out, depth, body)?;
+    Ok(out)
 }

@@ -1,4 +1,3 @@
-pub mod Bodies
 pub mod Going
 pub mod Refusals
 pub mod Turns

@@ -1,6 +1,7 @@
 -- What going through a body finds, one statement after the other.
 use Rattle.std.proofs.Common.{◌≡◌, ◌+◌, ◌*◌, ℕ, Bool, true, false, if◌then◌else◌, List, [], ◌∷◌, ◌++◌, length, Option, Some, None, Result, Ok, Err, min, refl, ap, sym, ◌∙◌, arith, length-append, append-nil, append_assoc}
 use Rattle.tac_syntax.specs.declared.rules.Rule.{Rule}
+use Rattle.tac_syntax.proofs.Bodies.{placed-onto}
 use Rattle.tac_syntax.specs.Code.{Code, stop, plain, branch, again, each, count_of, Line, simple, test, turns, over}
 use Rattle.tac_syntax.specs.Trees.{Statement, one_line, choice, turning, going_through, onto}
 use Rattle.tac_syntax.specs.Places.{Place, Placed, at_place, placed, in_if, in_repeat, in_each}
@@ -74,18 +75,6 @@ pub number_after : (rule : Rule) (n m : ℕ) (p : Place) (c : Code) → walked r
 number_after rule n m p c e = found_or-ok (first_break_from rule n (placed p c)) (n + count_of c) m e
 
 -- ---- a statement, and what follows it
-
-placed-onto : (p : Place) (s : Statement) (next : Code) → placed p (onto s next) ≡ placed p (onto s stop) ++ placed p next
-placed-onto p (one_line s) next = refl
-placed-onto p (choice on body other) next =
-    let a = placed (in_if p) body in
-    let b = placed (in_if p) other in
-    ap (λ (l : List Placed). at_place p (test on) ∷ (a ++ l)) (ap (λ (l : List Placed). l ++ placed p next) (sym (append-nil b)))
-    ∙ ap (λ (l : List Placed). at_place p (test on) ∷ l) (sym (append_assoc a (b ++ []) (placed p next)))
-placed-onto p (turning count body) next =
-    ap (λ (l : List Placed). at_place p (turns count) ∷ (l ++ placed p next)) (sym (append-nil (placed (in_repeat count p) body)))
-placed-onto p (going_through name list body) next =
-    ap (λ (l : List Placed). at_place p (over name list) ∷ (l ++ placed p next)) (sym (append-nil (placed (in_each p) body)))
 
 walked-onto : (rule : Rule) (n : ℕ) (p : Place) (s : Statement) (next : Code) → walked rule n p (onto s next) ≡ bind (walked rule n p (onto s stop)) (λ m. through rule m (placed p next))
 walked-onto rule n p s next =

@@ -44,9 +44,13 @@ fn refusal(alloc: Global, kind: Kind, keys: u32, body: Body) -> Result<Option<(u
     })
 }
 
-// The same, of the start with one more statement.
+// The same, of the start with one more statement; a kind with keys has one.
 fn refusal_after(alloc: Global, kind: Kind, stmt: Stmt) -> Result<Option<(u32, u32)>, Fail> {
-    refusal(alloc, kind, 1, with(start(alloc)?, stmt)?)
+    let keys = match kind {
+        Kind::Map | Kind::Match | Kind::Cross => 0,
+        Kind::Reduce | Kind::CoGroup => 1,
+    };
+    refusal(alloc, kind, keys, with(start(alloc)?, stmt)?)
 }
 
 fn get(from: Rec, field: u32) -> Stmt {
@@ -242,5 +246,28 @@ fn each_kind_has_valid_functions(rt: HostRuntime) -> Result<(), Fail> {
     let left = each(1, LoopList::Left, only(alloc, right)?);
     let cogroup = with(with(common(alloc)?, Stmt::Key { to: 0, at: 0 })?, left)?;
     assert_eq!(rt; refusal(alloc, Kind::CoGroup, 1, cogroup)?, None);
+    Ok(())
+}
+
+#[test]
+fn a_copy_is_valid_too(rt: HostRuntime) -> Result<(), Fail> {
+    let function = Function {
+        name: Word::from_bytes(rt.alloc(), b"f")?,
+        kind: Kind::Map,
+        keys: 0,
+        body: start(rt.alloc())?,
+    };
+    let Ok(valid) = validate(function, 4) else {
+        return Err("refused")?;
+    };
+    let copy = valid.copy(rt.alloc())?;
+    assert!(rt; copy.fields() == 4 && copy.function().name.bytes() == b"f".as_slice());
+    assert!(rt; copy.function().body.size() == 4 && copy.function().body.depth() == 1);
+    assert!(rt;
+        matches!(
+            copy.function().body.stmts(),
+            [Stmt::New { to: 7 }, Stmt::If { on: 0, .. }]
+        )
+    );
     Ok(())
 }
