@@ -3,7 +3,7 @@ use Rattle.std.proofs.Common.{◌≡◌, ◌≤◌, ◌&&◌, inl, ℕ, Bool, tr
 use Rattle.std.proofs.lemmas.Bool.{and_parts, leb-true}
 use Rattle.tac_text.proofs.PlainWords.{ArePlain, IsPlainWord, is_other}
 use Rattle.tac_text.proofs.Splits.{IsSplitWord}
-use Rattle.pact_top.specs.Program.{all_bytes, is_small_letter, is_name_byte, is_name, is_file_byte, is_file_name}
+use Rattle.tac_syntax.specs.Names.{all_bytes, is_small_letter, is_name_byte, is_name, is_file_byte, is_file_name}
 
 pub ArePlain-all_bytes : (test : ℕ → Bool) → test 10 ≡ false → test 32 ≡ false → (bs : List ℕ) → all_bytes test bs ≡ true → ArePlain bs
 ArePlain-all_bytes test f g [] h = tt

@@ -1,5 +1,5 @@
 -- Programs of one Map over one source, and the one spelling of each.
-use Rattle.std.specs.Prelude.{◌≡◌, ◌≢◌, ◌≤◌, ◌<◌, ℕ, Bool, true, false, ◌&&◌, ◌||◌, ◌==◌, nat_le, IsTrue, List, [], ◌∷◌, ◌++◌, length, flat_map, map, codes}
+use Rattle.std.specs.Prelude.{◌≡◌, ◌≢◌, ◌≤◌, ◌<◌, ℕ, Bool, true, false, IsTrue, List, [], ◌∷◌, ◌++◌, length, flat_map, map, codes}
 use Rattle.std.specs.List.{AllByRecursion}
 use Rattle.std.specs.Fmt.{decimal}
 use Rattle.pact_bag.specs.declared.columns.Column.{Column}
@@ -7,9 +7,11 @@ use Rattle.tac_syntax.specs.declared.functions.Function.{Function}
 use Rattle.tac_syntax.specs.declared.functions.Kind.TheVariants.{Map}
 use Rattle.tac_syntax.specs.Code.{Code, nesting}
 use Rattle.tac_syntax.specs.Limits.{nesting_limit}
+use Rattle.tac_syntax.specs.Names.{is_name, is_file_name}
 use Rattle.tac_syntax.specs.Valid.{IsValid}
-use Rattle.tac_text.specs.Grammar.{IsSpelled}
-use Rattle.tac_text.specs.Spelling.{TextLine, line_text, body_text}
+use Rattle.tac_syntax.specs.Grammar.{IsSpelled}
+use Rattle.tac_text.specs.Spelling.{body_text}
+use Rattle.text_lines.specs.CanonicalLines.{TextLine, line_text}
 
 -- the number of fields, the source with its file and columns, the function, the Map's name and the fields of the sink
 pub record Program : Type 0 where
@@ -21,37 +23,6 @@ pub record Program : Type 0 where
   pub body : Code
   pub operator : List ℕ
   pub sink : List ℕ
-
--- ---- names
-
-abbrev pub all_bytes : (ℕ → Bool) → List ℕ → Bool
-all_bytes test [] = true
-all_bytes test (b ∷ bs) = test b && all_bytes test bs
-
-abbrev pub is_small_letter : ℕ → Bool
-is_small_letter b = nat_le 97 b && nat_le b 122
-
-abbrev pub is_capital_letter : ℕ → Bool
-is_capital_letter b = nat_le 65 b && nat_le b 90
-
-abbrev pub is_digit : ℕ → Bool
-is_digit b = nat_le 48 b && nat_le b 57
-
--- behind its first letter a name has small letters, digits and underscores
-abbrev pub is_name_byte : ℕ → Bool
-is_name_byte b = is_small_letter b || is_digit b || (b == 95)
-
--- a small letter, and at most 31 bytes behind it
-abbrev pub is_name : List ℕ → Bool
-is_name [] = false
-is_name (b ∷ bs) = is_small_letter b && all_bytes is_name_byte bs && nat_le (length bs) 31
-
--- letters, digits, full stops, underscores, hyphens and slashes
-abbrev pub is_file_byte : ℕ → Bool
-is_file_byte b = is_small_letter b || is_capital_letter b || is_digit b || (b == 46) || (b == 95) || (b == 45) || (b == 47)
-
-abbrev pub is_file_name : List ℕ → Bool
-is_file_name name = nat_le 1 (length name) && nat_le (length name) 200 && all_bytes is_file_byte name
 
 -- ---- the spelling
 

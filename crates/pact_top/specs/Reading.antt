@@ -5,7 +5,7 @@ use Rattle.std.specs.Fmt.{decimal}
 use Rattle.pact_record.specs.declared.words.TheConstants.{MAX_WORD}
 use Rattle.tac_syntax.specs.Code.{nesting}
 use Rattle.tac_syntax.specs.Limits.{nesting_limit}
-use Rattle.tac_text.specs.Grammar.{IsSpelled}
+use Rattle.tac_syntax.specs.Grammar.{IsSpelled}
 use Rattle.tac_text.specs.Spelling.{body_text, words_of}
 use Rattle.pact_top.specs.Program.{Program, column_word}
 

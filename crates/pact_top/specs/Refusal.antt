@@ -2,7 +2,7 @@
 use Rattle.std.specs.Prelude.{◌≡◌, ℕ, Bool, false, List, Option, Some, None, IfSome, [], ◌⊎◌, IsTrue}
 use Rattle.pact_outside.specs.declared.files.NamedFile.{NamedFile}
 use Rattle.pact_outside.specs.Outside.{Rose, file_named}
-use Rattle.pact_top.specs.Program.{is_file_name}
+use Rattle.tac_syntax.specs.Names.{is_file_name}
 use Rattle.pact_top.specs.Verdict.{command_of, IsVerdict, not_first_form, IsOpened, line_of}
 use Rattle.pact_top.specs.declared.transfer.Stop.{Stop}
 use Rattle.pact_top.specs.declared.transfer.Stop.TheVariants as stop

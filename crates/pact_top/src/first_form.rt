@@ -2,77 +2,14 @@ ghost use Rattle.std.specs.Prelude.{◌≡◌, ◌≢◌, ◌≤◌, ◌<◌, �
 ghost use Rattle.std.specs.List.{AllByRecursion};
 ghost use Rattle.tac_syntax.specs.Code.{nesting};
 ghost use Rattle.tac_syntax.specs.Limits.{nesting_limit};
-ghost use Rattle.tac_text.specs.Grammar.{IsSpelled};
-ghost use Rattle.pact_top.specs.Program.{AreDifferent, IsAbsent, IsFieldList, IsFirstForm, all_bytes, column_fields};
-ghost use Rattle.pact_top.specs.Program as specs;
+ghost use Rattle.tac_syntax.specs.Grammar.{IsSpelled};
+ghost use Rattle.pact_top.specs.Program.{AreDifferent, IsAbsent, IsFieldList, IsFirstForm, column_fields};
+ghost use Rattle.tac_syntax.specs.Names as names;
 
 use crate::program::{FIELD_LIMIT, Program};
 use pact_bag::Column;
-use tac_syntax::{Body, MAX_NESTING};
+use tac_syntax::{Body, MAX_NESTING, is_file_name, is_name};
 use tac_text::is_spelled;
-
-/// A name has at most so many bytes.
-pub const MAX_NAME: usize = 32;
-
-/// A file's name has at most so many bytes.
-pub const MAX_FILE_NAME: usize = 200;
-
-fn is_name_byte(byte: u8) -> bool
-    ensures { result ≡ specs.is_name_byte byte }
-{
-    byte.is_ascii_lowercase() || byte.is_ascii_digit() || byte == b'_'
-}
-
-fn are_name_bytes(bytes: &[u8]) -> bool
-    ensures { result ≡ all_bytes specs.is_name_byte bytes.now }
-{
-    for byte in bytes {
-        if !is_name_byte(*byte) {
-            return false;
-        }
-    }
-    true
-}
-
-fn is_name(name: &[u8]) -> bool
-    ensures { result ≡ specs.is_name name.now }
-{
-    match name {
-        [first, others @ ..] => first.is_ascii_lowercase()
-            && are_name_bytes(others)
-            && name.len() <= MAX_NAME,
-        [] => false,
-    }
-}
-
-fn is_file_byte(byte: u8) -> bool
-    ensures { result ≡ specs.is_file_byte byte }
-{
-    byte.is_ascii_lowercase()
-        || byte.is_ascii_uppercase()
-        || byte.is_ascii_digit()
-        || byte == b'.'
-        || byte == b'_'
-        || byte == b'-'
-        || byte == b'/'
-}
-
-fn are_file_bytes(bytes: &[u8]) -> bool
-    ensures { result ≡ all_bytes specs.is_file_byte bytes.now }
-{
-    for byte in bytes {
-        if !is_file_byte(*byte) {
-            return false;
-        }
-    }
-    true
-}
-
-fn is_file_name(name: &[u8]) -> bool
-    ensures { result ≡ specs.is_file_name name.now }
-{
-    !name.is_empty() && name.len() <= MAX_FILE_NAME && are_file_bytes(name)
-}
 
 fn is_absent(field: u32, columns: &[Column]) -> bool
     ensures { IsTrue result ↔ IsAbsent field (column_fields columns.now) }
@@ -140,15 +77,15 @@ fn are_columns(fields: u32, columns: &[Column]) -> bool
 
 fn are_operator_names(operator: &[u8], source: &[u8]) -> bool
     ensures { IsTrue result
-        ↔ (IsTrue (specs.is_name operator.now) × IsTrue (specs.is_name source.now) × (operator.now ≢ source.now)) }
+        ↔ (IsTrue (names.is_name operator.now) × IsTrue (names.is_name source.now) × (operator.now ≢ source.now)) }
 {
     is_name(operator) && is_name(source) && operator != source
 }
 
 fn are_names(program: &Program) -> bool
     ensures { let p = program.now in IsTrue result
-        ↔ (IsTrue (specs.is_name p.operator) × IsTrue (specs.is_name p.source) × (p.operator ≢ p.source)
-        × IsTrue (specs.is_file_name p.file) × IsTrue (specs.is_name p.function)) }
+        ↔ (IsTrue (names.is_name p.operator) × IsTrue (names.is_name p.source) × (p.operator ≢ p.source)
+        × IsTrue (names.is_file_name p.file) × IsTrue (names.is_name p.function)) }
 {
     are_operator_names(program.operator().bytes(), program.source().bytes())
         && is_file_name(program.file().bytes())

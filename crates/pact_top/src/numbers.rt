@@ -3,7 +3,7 @@ ghost use Rattle.std.specs.List.{AllByRecursion};
 
 use pact_record::{Bytes, OutOfMemory};
 use std::alloc::Global;
-use tac_text::read_number;
+use text_lines::read_number;
 
 // The numbers that words spell.
 pub fn read_numbers(alloc: Global, words: &[Bytes]) -> Result<Option<Vec<u32>>, OutOfMemory>

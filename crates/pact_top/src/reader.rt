@@ -12,7 +12,8 @@ use pact_bag::{Column, Columns};
 use pact_record::{Bytes, MAX_WORD, OutOfMemory, Word};
 use std::alloc::Global;
 use tac_syntax::{Function, Kind};
-use tac_text::{Words, read_body, read_number, read_number_behind, split_lines};
+use tac_text::{Words, read_body, split_lines};
+use text_lines::{read_number, read_number_behind};
 
 // What the line of a source says.
 #[derive(Debug, Drop)]

@@ -1,5 +1,5 @@
 ghost use Rattle.std.specs.Prelude.{◌≡◌, ◌++◌, ◌∷◌, [], OnOk, IfOk, flat_map, map, codes, decimal};
-ghost use Rattle.tac_text.specs.Spelling.{line_text};
+ghost use Rattle.text_lines.specs.CanonicalLines.{line_text};
 ghost use Rattle.pact_top.specs.Program.{column_word, head_lines, spelling, tail_lines, top_line};
 
 use crate::program::Program;

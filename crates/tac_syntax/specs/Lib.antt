@@ -11,3 +11,6 @@ pub mod Rules
 pub mod Valid
 pub mod Sealed
 pub mod Bounded
+pub mod Grammar
+pub mod Names
+pub mod Functions

@@ -8,11 +8,13 @@
 
 pub mod functions;
 mod named_fields;
+pub mod names;
 pub mod rules;
 pub mod statements;
 pub mod valids;
 
 pub use functions::{Function, Kind};
+pub use names::{is_file_name, is_name};
 pub use rules::Rule;
 pub use statements::{
     Body, LoopList, MAX_NESTING, NotPushed, RECORD_REGISTERS, Rec, Stmt, VALUE_REGISTERS,

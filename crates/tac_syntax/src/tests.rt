@@ -1,4 +1,4 @@
-use crate::{Body, Function, Kind, LoopList, NotPushed, Rec, Stmt, Valid};
+use crate::{Body, Function, Kind, LoopList, NotPushed, Rec, Stmt, Valid, is_file_name, is_name};
 use pact_record::{Fields, Text, Word};
 use std::alloc::Global;
 use std::test::Fail;
@@ -127,4 +127,20 @@ fn set_fields_are_named(rt: HostRuntime) -> Result<(), Fail> {
     let valid = setting(rt.alloc(), name).map_err(|_| "refused")?;
     assert!(rt; valid.named() == Fields::empty().with(1).with(3));
     Ok(())
+}
+
+#[test]
+fn names_are_known(rt: HostRuntime) {
+    let longest = b"a234567890123456789012345678901_";
+    assert!(rt; is_name(b"z") && is_name(b"m_1") && is_name(longest.as_slice()));
+    assert!(rt; !is_name(b"a234567890123456789012345678901_3") && !is_name(b""));
+    assert!(rt; !is_name(b"A") && !is_name(b"_a") && !is_name(b"1a") && !is_name(b"a-b"));
+}
+
+#[test]
+fn file_names_are_known(rt: HostRuntime) {
+    let bytes = [b'9'; 201];
+    assert!(rt; is_file_name(b"../data/D-1_z.csv") && is_file_name(&bytes[..200]));
+    assert!(rt; !is_file_name(&bytes) && !is_file_name(b"") && !is_file_name(b"a b"));
+    assert!(rt; !is_file_name(b"C:a") && !is_file_name(b"\xc3\xa9"));
 }

@@ -1,7 +1,7 @@
 -- What a literal stands for is what it was made of.
 use Rattle.std.proofs.Common.{◌≡◌, ◌==◌, ℕ, Bool, true, false, List, [], ◌∷◌, ◌++◌, flat_map, refl, ap, sym, ◌∙◌, append_assoc, append-nil}
 use Rattle.std.proofs.lemmas.Bool.{eqb-true}
-use Rattle.tac_text.specs.Spelling.{escaped, literal}
+use Rattle.text_lines.specs.CanonicalLines.{escaped, literal}
 use Rattle.tac_text.specs.Literals.{Unescape, unescape_on, unescaped}
 
 abbrev read_so_far : List ℕ → Unescape

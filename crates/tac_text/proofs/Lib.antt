@@ -1,6 +1,10 @@
 pub mod BodyLines
+pub mod BodySteps
 pub mod Builds
 pub mod Escapes
+pub mod FunctionReads
+pub mod FunctionRuns
+pub mod HeaderWords
 pub mod LineForms
 pub mod LineWords
 pub mod OperandWords
@@ -10,3 +14,9 @@ pub mod SplitBodies
 pub mod Splits
 pub mod Unique
 pub mod Written
+pub mod SlotWords
+pub mod StatementWords
+pub mod FaultlessWords
+pub mod StatementReads
+pub mod WrittenWords
+pub mod WrittenFunctions

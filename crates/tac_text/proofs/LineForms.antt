@@ -9,7 +9,7 @@ use Rattle.tac_syntax.specs.declared.statements.Rec.TheVariants.{Reg, Loop, Inpu
 use Rattle.tac_syntax.specs.Code.{load_int, load_text, load_null, move_value, get_field, get_key, apply_one, apply_two, new_record, copy_record, set_field, emit_record, Line, simple, test, turns, over, otherwise, close}
 use Rattle.tac_text.specs.declared.forms.Form.{Form}
 use Rattle.tac_text.specs.declared.forms.Form.TheVariants.{One, Two, Repeat}
-use Rattle.tac_text.specs.Grammar.{IsNumber, IsSpelledRecord, IsSpelledLine}
+use Rattle.tac_syntax.specs.Grammar.{IsNumber, IsSpelledRecord, IsSpelledLine}
 use Rattle.tac_text.specs.Lines.{IsNumberWord, IsRecordWord, IsRegisterWord, HasOperands, assigned_form, form_in, line_in, line_with, number_in}
 use Rattle.tac_text.specs.declared.lines.BodyLine.{BodyLine}
 use Rattle.tac_text.specs.Said.{Says}

@@ -9,8 +9,9 @@ use Rattle.tac_syntax.specs.declared.statements.Rec.TheVariants.{Reg, Loop, Inpu
 use Rattle.tac_syntax.specs.declared.statements.LoopList.{LoopList}
 use Rattle.tac_syntax.specs.declared.statements.LoopList.TheVariants.{Group, Left as LeftGroup, Right as RightGroup}
 use Rattle.tac_syntax.specs.Code.{load_int, load_text, load_null, move_value, get_field, get_key, apply_one, apply_two, new_record, copy_record, set_field, emit_record, Line, simple, test, turns, over, otherwise, close}
-use Rattle.tac_text.specs.Grammar.{IsNumber, IsLoopName, IsSpelledRecord, IsSpelledLine}
-use Rattle.tac_text.specs.Spelling.{record_word, list_word, op1_word, op2_word, literal, line_words}
+use Rattle.tac_syntax.specs.Grammar.{IsNumber, IsLoopName, IsSpelledRecord, IsSpelledLine}
+use Rattle.tac_text.specs.Spelling.{record_word, list_word, op1_word, op2_word, line_words}
+use Rattle.text_lines.specs.CanonicalLines.{literal}
 use Rattle.tac_text.proofs.PlainWords.{all_above, IsPlainWord-decimal, IsPlainWord-fixed, IsPlainWord-numbered, IsPlainWord-signed_decimal}
 use Rattle.tac_text.proofs.Splits.{IsSplitWord, AreSplitWords}
 

@@ -13,7 +13,7 @@ use Rattle.tac_syntax.specs.declared.statements.Rec.{Rec}
 use Rattle.tac_syntax.specs.declared.statements.Rec.TheVariants.{Reg, Loop, Input, Left, Right, Join, First}
 use Rattle.tac_syntax.specs.declared.statements.LoopList.{LoopList}
 use Rattle.tac_syntax.specs.declared.statements.LoopList.TheVariants.{Group, Left as LeftGroup, Right as RightGroup}
-use Rattle.tac_text.specs.Grammar.{IsSpelledRecord}
+use Rattle.tac_syntax.specs.Grammar.{IsSpelledRecord}
 use Rattle.tac_text.specs.Lines.{number_in, signed_in, fixed_record, numbered_record, record_in, list_in, op1_in, op2_in}
 use Rattle.tac_text.specs.Spelling.{record_word, list_word, op1_word, op2_word}
 

@@ -6,7 +6,7 @@ use Rattle.tac_syntax.specs.Coding.{lines_of}
 use Rattle.tac_syntax.specs.Limits.{nesting_limit}
 use Rattle.tac_text.specs.declared.lines.BodyLine.{BodyLine}
 use Rattle.tac_text.specs.Building.{Build, build_start, built, built_all, finished, IsBuilt}
-use Rattle.tac_text.specs.Grammar.{IsSpelled, IsSpelledLine}
+use Rattle.tac_syntax.specs.Grammar.{IsSpelled, IsSpelledLine}
 use Rattle.tac_text.specs.Said.{said}
 use Rattle.tac_text.specs.Spelling.{body_text, line_words, words_of}
 use Rattle.tac_text.proofs.BodyLines.{AreSpelledLines, AreSpelledLines-lines_of, words_of-body_text}

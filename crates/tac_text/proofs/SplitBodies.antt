@@ -3,8 +3,9 @@ use Rattle.std.proofs.Common.{ℕ, List, [], ◌∷◌, map, sym, subst}
 use Rattle.std.specs.List.{AllByRecursion}
 use Rattle.tac_syntax.specs.Code.{Code, Line}
 use Rattle.tac_syntax.specs.Coding.{lines_of}
-use Rattle.tac_text.specs.Grammar.{IsSpelled}
-use Rattle.tac_text.specs.Spelling.{TextLine, body_text, line_words, words_of}
+use Rattle.tac_syntax.specs.Grammar.{IsSpelled}
+use Rattle.tac_text.specs.Spelling.{body_text, line_words, words_of}
+use Rattle.text_lines.specs.CanonicalLines.{TextLine}
 use Rattle.tac_text.proofs.BodyLines.{AreSpelledLines, AreSpelledLines-lines_of, words_of-body_text}
 use Rattle.tac_text.proofs.LineWords.{AreSplitWords-line_words}
 use Rattle.tac_text.proofs.Splits.{AreSplitWords}

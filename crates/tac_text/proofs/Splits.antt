@@ -3,7 +3,7 @@ use Rattle.std.proofs.Common.{◌≡◌, ◌⊎◌, inl, inr, ◌*◌, ◌==◌,
 use Rattle.std.specs.List.{AllByRecursion}
 use Rattle.tac_text.specs.declared.splitting.Mode.{Mode}
 use Rattle.tac_text.specs.declared.splitting.Mode.TheVariants.{Plain, Quoted}
-use Rattle.tac_text.specs.Spelling.{TextLine, line_text, spaced, escaped, literal}
+use Rattle.text_lines.specs.CanonicalLines.{TextLine, line_text, spaced, escaped, literal}
 use Rattle.tac_text.specs.Splits.{Split, split_on, split_step, lines_in, with_word}
 use Rattle.tac_text.proofs.PlainWords.{ArePlain, IsPlainWord}
 

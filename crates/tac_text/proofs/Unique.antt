@@ -2,7 +2,7 @@
 use Rattle.std.proofs.Common.{◌≡◌, ℕ, List, [], ◌∷◌, map, refl, ap, ◌∙◌}
 use Rattle.tac_syntax.specs.Code.{Code, Line}
 use Rattle.tac_syntax.specs.Coding.{lines_of, code_from, code_from-lines_of}
-use Rattle.tac_text.specs.Grammar.{IsSpelled}
+use Rattle.tac_syntax.specs.Grammar.{IsSpelled}
 use Rattle.tac_text.specs.Lines.{line_in}
 use Rattle.tac_text.specs.Spelling.{body_text, line_words, words_of}
 use Rattle.tac_text.proofs.BodyLines.{AreSpelledLines, AreSpelledLines-lines_of, words_of-body_text}

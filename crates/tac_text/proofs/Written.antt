@@ -5,7 +5,8 @@ use Rattle.std.proofs.lemmas.List.Concat.{flat_map-append}
 use Rattle.tac_syntax.specs.declared.statements.Stmt.{Stmt}
 use Rattle.tac_syntax.specs.Trees.{code_of, only}
 use Rattle.tac_syntax.proofs.Bodies.{code_of-last}
-use Rattle.tac_text.specs.Spelling.{TextLine, body_text, line_text}
+use Rattle.tac_text.specs.Spelling.{body_text}
+use Rattle.text_lines.specs.CanonicalLines.{TextLine, line_text}
 use Rattle.tac_text.proofs.BodyLines.{body_text-joined}
 
 body_text-take : (depth : ℕ) (stmts : List Stmt) (n : ℕ) (stmt : Stmt) → n < length stmts → stmt ≡ get_or stmts n stmt

@@ -14,9 +14,9 @@ use Rattle.tac_syntax.specs.declared.statements.LoopList.TheVariants.{Group, Lef
 use Rattle.tac_syntax.specs.Code.{load_int, load_text, load_null, move_value, get_field, get_key, apply_one, apply_two, new_record, copy_record, set_field, emit_record, Line, simple, test, turns, over, otherwise, close}
 use Rattle.tac_text.specs.declared.forms.Form.{Form}
 use Rattle.tac_text.specs.declared.forms.Form.TheVariants.{Int, Text, Null, Mov, Get, Key, One, Two, New, Copy, Set, Emit, If, Repeat, Each, Else, End}
-use Rattle.tac_text.specs.Grammar.{IsLiteral}
+use Rattle.tac_syntax.specs.Grammar.{IsLiteral}
 use Rattle.tac_text.specs.Literals.{unescaped}
-use Rattle.tac_text.specs.Spelling.{literal}
+use Rattle.text_lines.specs.CanonicalLines.{literal}
 
 -- a word by its place, empty where there is none
 abbrev pub word_in : List (List ℕ) → ℕ → List ℕ

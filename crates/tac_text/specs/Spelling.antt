@@ -1,5 +1,5 @@
 -- The one canonical spelling of statements, bodies and functions.
-use Rattle.std.specs.Prelude.{ℕ, ◌+◌, ◌*◌, ◌==◌, Bool, if◌then◌else◌, List, [], ◌∷◌, ◌++◌, replicate, flat_map, map, codes}
+use Rattle.std.specs.Prelude.{ℕ, ◌+◌, Bool, if◌then◌else◌, List, [], ◌∷◌, ◌++◌, flat_map, map, codes}
 use Rattle.std.specs.Fmt.{decimal, signed_decimal}
 use Rattle.pact_record.specs.declared.operations.Op1.{Op1}
 use Rattle.pact_record.specs.declared.operations.Op1.TheVariants.{Not, IsNull, Len}
@@ -11,22 +11,10 @@ use Rattle.tac_syntax.specs.declared.statements.LoopList.{LoopList}
 use Rattle.tac_syntax.specs.declared.statements.LoopList.TheVariants.{Group, Left as LeftGroup, Right as RightGroup}
 use Rattle.tac_syntax.specs.Code.{Simple, load_int, load_text, load_null, move_value, get_field, get_key, apply_one, apply_two, new_record, copy_record, set_field, emit_record, Code, stop, plain, branch, again, each, Line, simple, test, turns, over, otherwise, close}
 use Rattle.tac_syntax.specs.Coding.{is_stop}
-
--- ---- lines of words
-
--- a line: how many blocks are open, and its words
-pub record TextLine : Type 0 where
-  pub depth : ℕ
-  pub words : List (List ℕ)
-
--- one space between words
-abbrev pub spaced : List (List ℕ) → List ℕ
-spaced [] = []
-spaced (w ∷ ws) = w ++ flat_map (λ v. 32 ∷ v) ws
-
--- two spaces for each block that is open, and a line feed behind the words
-abbrev pub line_text : TextLine → List ℕ
-line_text l = replicate (2 * l.depth) 32 ++ (spaced l.words ++ 10 ∷ [])
+use Rattle.tac_syntax.specs.declared.functions.Function.{Function}
+use Rattle.tac_syntax.specs.declared.functions.Kind.{Kind}
+use Rattle.tac_syntax.specs.declared.functions.Kind.TheVariants.{Map, Match, Cross, Reduce, CoGroup}
+use Rattle.text_lines.specs.CanonicalLines.{TextLine, line_text, literal}
 
 -- ---- words
 
@@ -73,20 +61,6 @@ op2_word Eq = codes "eq"
 op2_word And = codes "and"
 op2_word Or = codes "or"
 op2_word Cat = codes "cat"
-
--- A byte of a literal: a backslash, a quotation mark, a line feed, a carriage return and a tab are two bytes, each other byte stands
--- for itself.
-abbrev pub escaped : ℕ → List ℕ
-escaped b =
-    if b == 92 then 92 ∷ 92 ∷ []
-    else (if b == 34 then 92 ∷ 34 ∷ []
-    else (if b == 10 then 92 ∷ 110 ∷ []
-    else (if b == 13 then 92 ∷ 114 ∷ []
-    else (if b == 9 then 92 ∷ 116 ∷ [] else b ∷ []))))
-
--- between quotation marks
-abbrev pub literal : List ℕ → List ℕ
-literal bytes = 34 ∷ (flat_map escaped bytes ++ 34 ∷ [])
 
 -- ---- statements
 
@@ -139,3 +113,30 @@ body_text depth (each name list body next) = at_depth depth (over name list) ∷
 
 abbrev pub words_of : List TextLine → List (List (List ℕ))
 words_of lines = map (λ l. l.words) lines
+
+-- ---- functions
+
+abbrev pub kind_word : Kind → List ℕ
+kind_word Map = codes "map"
+kind_word Match = codes "match"
+kind_word Cross = codes "cross"
+kind_word Reduce = codes "reduce"
+kind_word CoGroup = codes "cogroup"
+
+-- the number of keys, where the kind has keys
+abbrev pub key_words : Kind → ℕ → List (List ℕ)
+key_words Map keys = []
+key_words Match keys = []
+key_words Cross keys = []
+key_words Reduce keys = decimal keys ∷ []
+key_words CoGroup keys = decimal keys ∷ []
+
+abbrev pub header_texts : List ℕ → Kind → ℕ → List (List ℕ)
+header_texts name kind keys = codes "function" ∷ name ∷ kind_word kind ∷ key_words kind keys
+
+-- its header, the body inside it, and `end`
+abbrev pub function_lines : Function → List TextLine
+function_lines f = record { depth = 0; words = header_texts f.name f.kind f.keys } ∷ (body_text 1 f.body ++ at_depth 0 close ∷ [])
+
+abbrev pub function_spelling : Function → List ℕ
+function_spelling f = flat_map line_text (function_lines f)

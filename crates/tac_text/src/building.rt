@@ -1,12 +1,16 @@
 //! A body built from its lines, one after the other.
 
-ghost use Rattle.std.specs.Prelude.{◌≡◌, ◌∷◌, IfOk, OnOk};
+ghost use Rattle.std.specs.Bool.{OnFalse, OnTrue};
+ghost use Rattle.std.specs.Prelude.{◌≡◌, ◌≤◌, ◌<◌, ◌∷◌, [], length, reverse, IfOk, OnOk};
 ghost use Rattle.tac_syntax.specs.Code.{Line, stop, test, turns, over, otherwise, close};
 ghost use Rattle.tac_syntax.specs.Trees.{only};
 ghost use Rattle.tac_text.specs.Building.{IsBuilt, build_start, built, closed, finished, with_statement};
+ghost use Rattle.tac_syntax.specs.Limits.{nesting_limit};
+ghost use Rattle.tac_text.specs.Places.{lists_in, may_part, place_of};
 ghost use Rattle.tac_text.specs.Said.{said};
 
 use crate::lines::BodyLine;
+use crate::statement_faults::Place;
 use pact_record::OutOfMemory;
 use std::alloc::Global;
 use std::marker::Model;
@@ -34,6 +38,31 @@ pub enum Block {
         list: LoopList,
         before: Body,
     },
+}
+
+// How many of the blocks are `each`.
+fn lists_in(blocks: &[Block]) -> u32
+    requires { length blocks.now ≤ nesting_limit }
+    ensures { result ≡ lists_in (reverse blocks.now) }
+{
+    let mut lists = 0;
+    for block in blocks {
+        if let Block::Each { .. } = block {
+            lists += 1;
+        }
+    }
+    lists
+}
+
+// Whether the innermost block is the first body of an `if`.
+fn may_part(blocks: &[Block]) -> bool
+    ensures { result ≡ may_part (reverse blocks.now) }
+{
+    match blocks.split_last() {
+        Some((Block::If { .. }, _)) => true,
+        Some((Block::Else { .. } | Block::Repeat { .. } | Block::Each { .. }, _)) => false,
+        None => false,
+    }
 }
 
 /// A body as far as its lines were read.
@@ -64,6 +93,26 @@ impl Builder {
             blocks: Vec::new(alloc),
             body: Body::new(alloc),
         }
+    }
+
+    /// Where the next line stands.
+    pub fn place(&self) -> Place
+        requires { length self.now.blocks ≤ nesting_limit }
+        ensures { result ≡ place_of self.now }
+    {
+        Place {
+            blocks: self.blocks.len() as u32,
+            lists: lists_in(&self.blocks),
+            may_part: may_part(&self.blocks),
+        }
+    }
+
+    /// Whether no block is open.
+    pub fn is_outside(&self) -> bool
+        ensures outside { OnTrue result (self.now.blocks ≡ []) }
+        ensures inside { OnFalse result (0 < length self.now.blocks) }
+    {
+        self.blocks.is_empty()
     }
 
     fn push(&mut self, stmt: Stmt) -> Result<bool, OutOfMemory>

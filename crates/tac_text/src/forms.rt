@@ -4,6 +4,7 @@ ghost use Rattle.std.specs.Prelude.{◌≡◌, bytes_eq};
 ghost use Rattle.tac_text.specs.Lines.{assigned_form, form_in, other_form, word_in};
 
 use pact_record::Bytes;
+use text_lines::is_word;
 
 /// What a line says besides its operands.
 #[derive(Clone, Copy, Debug, PartialEq, Eq)]
@@ -35,12 +36,6 @@ pub fn word_at(words: &[Bytes], n: usize) -> &[u8]
         Some(word) => word.bytes(),
         None => b"",
     }
-}
-
-pub fn is_word(word: &[u8], name: &[u8]) -> bool
-    ensures { result ≡ bytes_eq word.now name.now }
-{
-    word == name
 }
 
 // What the word behind `=` is for.

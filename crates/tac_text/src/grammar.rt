@@ -3,7 +3,7 @@
 ghost use Rattle.std.specs.Prelude.{◌≤◌, ◌+◌, ◌↔◌, IsTrue};
 ghost use Rattle.tac_syntax.specs.Code.{load_int, nesting};
 ghost use Rattle.tac_syntax.specs.Trees.{only};
-ghost use Rattle.tac_text.specs.Grammar.{IsNumber, IsLoopName, IsTurnCount, IsSpelledRecord, IsSpelledSimple, IsSpelled};
+ghost use Rattle.tac_syntax.specs.Grammar.{IsNumber, IsLoopName, IsTurnCount, IsSpelledRecord, IsSpelledSimple, IsSpelled};
 ghost use Rattle.tac_text.specs.Spelling.{deepest};
 
 use tac_syntax::{Body, Rec, Stmt};

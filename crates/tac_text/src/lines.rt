@@ -3,7 +3,7 @@
 ghost use Rattle.std.specs.Prelude.{◌≡◌, ℕ, IfOk};
 ghost use Rattle.tac_syntax.specs.Code.{Line};
 ghost use Rattle.tac_text.specs.declared.forms.Form.TheVariants.{Int, Text, Null, Mov, Get, Key, One, Two, New, Copy, Set, Emit, If, Repeat, Each};
-ghost use Rattle.tac_text.specs.Grammar.{IsSpelledLine};
+ghost use Rattle.tac_syntax.specs.Grammar.{IsSpelledLine};
 ghost use Rattle.tac_text.specs.Lines.{HasOperands, line_with};
 ghost use Rattle.tac_text.specs.Said.{Says};
 ghost use Rattle.tac_text.specs.Spelling.{line_words};

@@ -1,9 +1,9 @@
 //! Literals of text.
 
 ghost use Rattle.std.specs.Prelude.{◌≡◌, ◌≤◌, ℕ, List, IfOk, OnOk, Some};
-ghost use Rattle.tac_text.specs.Grammar.{IsLiteral};
+ghost use Rattle.tac_syntax.specs.Grammar.{IsLiteral};
 ghost use Rattle.tac_text.specs.Literals.{escape_meaning, unescape_start, unescape_step, unescaped};
-ghost use Rattle.tac_text.specs.Spelling.{literal};
+ghost use Rattle.text_lines.specs.CanonicalLines.{literal};
 
 use pact_record::{Bytes, NotText, OutOfMemory, Text};
 use std::alloc::Global;

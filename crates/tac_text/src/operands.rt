@@ -4,12 +4,12 @@ ghost use Rattle.std.specs.Prelude.{◌≡◌, ◌==◌, if◌then◌else◌, ge
 ghost use Rattle.tac_text.specs.Lines.{IsNumberWord, IsRecordWord, IsRegisterWord, IsSignedWord, IsTextWord, fixed_record, list_in, number_in, numbered_record, op1_in, op2_in, record_in, register_in, signed_in, word_in};
 ghost use Rattle.tac_text.specs.Literals.{unescaped};
 
-use crate::forms::{is_word, word_at};
+use crate::forms::word_at;
 use crate::literals::read_literal;
-use crate::numbers::{read_number, read_number_behind, read_signed};
 use pact_record::{Bytes, Op1, Op2, OutOfMemory, Text};
 use std::alloc::Global;
 use tac_syntax::{LoopList, Rec};
+use text_lines::{is_word, read_number, read_number_behind, read_signed};
 
 pub fn number_at(words: &[Bytes], n: usize) -> Option<u32>
     ensures { IsNumberWord (word_in words.now n) → result ≡ Some (number_in (word_in words.now n)) }

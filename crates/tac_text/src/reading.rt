@@ -3,7 +3,7 @@
 ghost use Rattle.std.specs.Prelude.{◌≡◌, ◌≤◌, ℕ, Some, IfOk};
 ghost use Rattle.tac_syntax.specs.Code.{Code, nesting};
 ghost use Rattle.tac_syntax.specs.Limits.{nesting_limit};
-ghost use Rattle.tac_text.specs.Grammar.{IsSpelled};
+ghost use Rattle.tac_syntax.specs.Grammar.{IsSpelled};
 ghost use Rattle.tac_text.specs.Spelling.{body_text, words_of};
 
 use crate::building::Builder;

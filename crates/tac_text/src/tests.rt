@@ -1,11 +1,11 @@
 use crate::lines::{BodyLine, read_line};
 use crate::literals::read_literal;
-use crate::numbers::read_signed;
 use crate::{Words, split_lines};
 use pact_record::{Op1, Op2, OutOfMemory};
 use std::alloc::Global;
 use std::test::Fail;
 use tac_syntax::{LoopList, Rec, Stmt};
+use text_lines::read_signed;
 
 // What the first line of a text says.
 fn read(alloc: Global, text: &str) -> Result<Option<BodyLine>, OutOfMemory> {

@@ -5,7 +5,8 @@ ghost use Rattle.std.specs.Fmt.{decimal};
 ghost use Rattle.tac_syntax.specs.Code.{load_int, load_text, load_null, move_value, get_field, get_key, apply_one, apply_two, new_record, copy_record, set_field, emit_record, test, turns, over, nesting};
 ghost use Rattle.tac_syntax.specs.Limits.{nesting_limit};
 ghost use Rattle.tac_syntax.specs.Trees.{first_line, only};
-ghost use Rattle.tac_text.specs.Spelling.{body_text, deepest, escaped, line_text, line_words, list_word, literal, op1_word, op2_word, record_word, simple_words};
+ghost use Rattle.tac_text.specs.Spelling.{body_text, deepest, line_words, list_word, op1_word, op2_word, record_word, simple_words};
+ghost use Rattle.text_lines.specs.CanonicalLines.{escaped, line_text, literal};
 
 use crate::words::Words;
 use pact_record::{Bytes, Op1, Op2, OutOfMemory, Text};
@@ -274,7 +275,7 @@ fn put_words(out: &mut Bytes, words: &[Bytes]) -> Result<(), OutOfMemory>
 }
 
 // Two spaces for each open block, the words with one space between, a line feed.
-fn put_line(out: &mut Bytes, depth: u32, words: &Words) -> Result<(), OutOfMemory>
+pub fn put_line(out: &mut Bytes, depth: u32, words: &Words) -> Result<(), OutOfMemory>
     ensures { OnOk result (out.new ≡ out.old ++ line_text (record { depth = depth; words = words.now })) }
 {
     put_indent(out, depth)?;
@@ -286,7 +287,7 @@ fn put_line(out: &mut Bytes, depth: u32, words: &Words) -> Result<(), OutOfMemor
 }
 
 // A line of one word.
-fn put_word(alloc: Global, out: &mut Bytes, depth: u32, word: &[u8]) -> Result<(), OutOfMemory>
+pub fn put_word(alloc: Global, out: &mut Bytes, depth: u32, word: &[u8]) -> Result<(), OutOfMemory>
     ensures { OnOk result (out.new ≡ out.old ++ line_text (record { depth = depth; words = word.now ∷ [] })) }
 {
     let mut words = Words::new(alloc);
@@ -322,7 +323,12 @@ fn write_stmt(alloc: Global, out: &mut Bytes, depth: u32, stmt: &Stmt) -> Result
 }
 
 #[cycle(write)]
-fn write_lines(alloc: Global, out: &mut Bytes, depth: u32, body: &Body) -> Result<(), OutOfMemory>
+pub fn write_lines(
+    alloc: Global,
+    out: &mut Bytes,
+    depth: u32,
+    body: &Body,
+) -> Result<(), OutOfMemory>
     requires { depth + nesting body.now ≤ deepest }
     ensures { OnOk result (out.new ≡ out.old ++ flat_map line_text (body_text depth body.now)) }
 {

@@ -1,7 +1,7 @@
 use Rattle.std.proofs.Common.{◌↔◌, ◌+◌, ◌*◌, drop}
 use Rattle.tac_syntax.specs.Coding.{tall}
 use Rattle.tac_syntax.specs.Trees.{code_of, only}
-use Rattle.tac_text.specs.Grammar.{IsSpelled}
+use Rattle.tac_syntax.specs.Grammar.{IsSpelled}
 use Rattle.tac_text.proofs.grammar.+spelled.Given as goal
 
 abbrev pub decreases-is_spelled : goal.decreases-is_spelled

@@ -1,7 +1,8 @@
 use Rattle.std.proofs.Common.{◌≡◌, ◌++◌, ◌+◌, ◌*◌, flat_map, take}
 use Rattle.tac_syntax.specs.Coding.{tall}
 use Rattle.tac_syntax.specs.Trees.{code_of, only}
-use Rattle.tac_text.specs.Spelling.{body_text, line_text}
+use Rattle.tac_text.specs.Spelling.{body_text}
+use Rattle.text_lines.specs.CanonicalLines.{line_text}
 use Rattle.tac_text.proofs.writing.+write.Given as goal
 
 abbrev pub decreases-write_lines : goal.decreases-write_lines

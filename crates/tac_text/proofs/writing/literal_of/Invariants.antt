@@ -1,5 +1,5 @@
 use Rattle.std.proofs.Common.{◌≡◌, ◌∷◌, flat_map, take}
-use Rattle.tac_text.specs.Spelling.{escaped}
+use Rattle.text_lines.specs.CanonicalLines.{escaped}
 use Rattle.tac_text.proofs.writing.literal_of.Given as goal
 
 abbrev pub invariant-loop-byte : goal.invariant-loop-byte

@@ -1,0 +1,6 @@
+use Rattle.std.proofs.Common.{◌≡◌, drop}
+use Rattle.tac_syntax.specs.Names.{all_bytes, is_name_byte}
+use Rattle.tac_syntax.proofs.names.are_name_bytes.Given as goal
+
+abbrev pub invariant-loop-byte : goal.invariant-loop-byte
+invariant-loop-byte l = all_bytes is_name_byte (drop l.byte-index l.bytes) ≡ all_bytes is_name_byte l.bytes

@@ -1,0 +1,298 @@
+-- The lines of a body, one after the other: a body's own lines may follow each other and make it, and lines that may follow each other are
+-- those of what they make.
+use Rattle.std.proofs.Common.{◌≡◌, ◌≤◌, ◌<◌, ◌+◌, ◌-◌, inl, inr, ℕ, suc, Bool, true, Option, Some, List, [], ◌∷◌, ◌++◌, length, refl, ap, sym, subst, ◌∙◌, append_assoc, append-nil, arith}
+use Rattle.tac_syntax.specs.Code.{Simple, Code, stop, plain, branch, again, each, Line, simple, test, turns, over, otherwise, close, joined, nesting}
+use Rattle.tac_syntax.specs.Grammar.{IsSpelled, IsSpelledLine}
+use Rattle.tac_syntax.specs.Limits.{nesting_limit}
+use Rattle.text_lines.specs.Runs.{Steps}
+use Rattle.text_lines.proofs.LineRuns.{Steps-append}
+use Rattle.tac_text.specs.declared.building.Block.{Block}
+use Rattle.tac_text.specs.declared.building.Block.TheVariants.{If, Else, Repeat, Each}
+use Rattle.tac_text.specs.Blocks.{SpellsBody}
+use Rattle.tac_text.specs.Building.{Build, build_start, built, IsBuilt}
+use Rattle.tac_text.specs.Places.{lists_in, MayInside, built_or, built_on, opening, before_block, FitsBody, FitsFirst, FitsBuild, BeginsBlock, Front}
+use Rattle.tac_text.proofs.Builds.{build, joined-stop, joined-joined, with_statement-fits}
+
+-- ---- a block that ends
+
+-- the statement that a block is with its last body
+abbrev pub ended : Block → Code → Code
+ended (If on before) body = branch on body stop stop
+ended (Else on first before) body = branch on first body stop
+ended (Repeat count before) body = again count body stop
+ended (Each name list before) body = each name list body stop
+
+built-close : (block : Block) (around : List Block) (body : Code) → nesting (ended block body) ≤ nesting_limit
+    → built (build (block ∷ around) body) close ≡ Some (build around (joined (before_block block) (ended block body)))
+built-close (If on before) around body h = with_statement-fits around before (branch on body stop stop) h
+built-close (Else on first before) around body h = with_statement-fits around before (branch on first body stop) h
+built-close (Repeat count before) around body h = with_statement-fits around before (again count body stop) h
+built-close (Each name list before) around body h = with_statement-fits around before (each name list body stop) h
+
+pub built_on-close : (block : Block) (around : List Block) (body : Code) → nesting (ended block body) ≤ nesting_limit
+    → built_on (build (block ∷ around) body) close ≡ build around (joined (before_block block) (ended block body))
+built_on-close block around body h = ap (built_or (build (block ∷ around) body)) (built-close block around body h)
+
+-- ---- the lines of a body may follow each other
+
+abbrev StepsTo : Build → List Line → Build → Type 0
+StepsTo b lines t = Steps MayInside built_on b lines t
+
+no_lines : (c : Code) → SpellsBody c [] → c ≡ stop
+no_lines stop h = refl
+no_lines (plain s next) h = absurd (let e = h.1 in cc)
+no_lines (branch on body other next) (first, second, rest, a, b, c, inl e) = absurd cc
+no_lines (branch on body other next) (first, second, rest, a, b, c, inr e) = absurd (let f = e.1 in cc)
+no_lines (again count body next) h = absurd (let e = h.4 in cc)
+no_lines (each name list body next) h = absurd (let e = h.4 in cc)
+
+-- a statement, and those behind it
+followed : (blocks : List Block) (body statement next : Code) (lines : List Line)
+    → StepsTo (build blocks (joined body statement)) lines (build blocks (joined (joined body statement) next))
+    → StepsTo (build blocks (joined body statement)) lines (build blocks (joined body (joined statement next)))
+followed blocks body statement next lines h =
+    subst (λ (c : Code). StepsTo (build blocks (joined body statement)) lines (build blocks c)) (joined-joined body statement next) h
+
+closed : (block : Block) (around : List Block) (body : Code) (rest : List Line) (t : Build) → nesting (ended block body) ≤ nesting_limit
+    → StepsTo (build around (joined (before_block block) (ended block body))) rest t → StepsTo (build (block ∷ around) body) (close ∷ rest) t
+closed block around body rest t h steps = ((tt, tt), subst (λ (x : Build). StepsTo x rest t) (sym (built_on-close block around body h)) steps)
+
+pub body_steps : (code : Code) (lines : List Line) (b : Build) → SpellsBody code lines → IsSpelled (lists_in b.blocks) code → length b.blocks + nesting code ≤ nesting_limit
+    → Steps MayInside built_on b lines (record { blocks = b.blocks; body = joined b.body code })
+body_steps stop lines b spelled fits deep = rw spelled (ap (build b.blocks) (sym (joined-stop b.body)))
+body_steps (plain s next) lines b (rest, e, spelled) fits deep =
+    let behind = body_steps next rest (build b.blocks (joined b.body (plain s stop))) spelled fits.1 deep in
+    rw e ((fits.0, tt), followed b.blocks b.body (plain s stop) next rest behind)
+body_steps (branch on body other next) lines b (first, second, rest, p, q, r, inl e) fits deep =
+    let one = body_steps body first (build (If on b.body ∷ b.blocks) stop) p fits.1 (omega (arith, deep)) in
+    let two = body_steps other second (build (Else on body b.body ∷ b.blocks) stop) q fits.2 (omega (arith, deep)) in
+    let behind = body_steps next rest (build b.blocks (joined b.body (branch on body other stop))) r fits.3 (omega (arith, deep)) in
+    let last = closed (Else on body b.body) b.blocks other rest _ (omega (arith, deep)) (followed b.blocks b.body (branch on body other stop) next rest behind) in
+    let parted = Steps-append MayInside built_on (build (Else on body b.body ∷ b.blocks) stop) (build (Else on body b.body ∷ b.blocks) other) _ second (close ∷ rest) two last in
+    let inside = Steps-append MayInside built_on (build (If on b.body ∷ b.blocks) stop) (build (If on b.body ∷ b.blocks) body) _ first (otherwise ∷ (second ++ close ∷ rest)) one ((refl, tt), parted) in
+    rw e (((omega (arith, deep), fits.0), tt), inside)
+body_steps (branch on body other next) lines b (first, second, rest, p, q, r, inr (none, e)) fits deep =
+    let empty : other ≡ stop = no_lines other (subst (SpellsBody other) none q) in
+    let one = body_steps body first (build (If on b.body ∷ b.blocks) stop) p fits.1 (omega (arith, deep)) in
+    let behind = body_steps next rest (build b.blocks (joined b.body (branch on body other stop))) r fits.3 (omega (arith, deep)) in
+    let all = followed b.blocks b.body (branch on body other stop) next rest behind in
+    let last = closed (If on b.body) b.blocks body rest (build b.blocks (joined b.body (branch on body other next))) (omega (arith, deep)) (subst (λ (c : Code). StepsTo (build b.blocks (joined b.body (branch on body c stop))) rest (build b.blocks (joined b.body (branch on body other next)))) empty all) in
+    let inside = Steps-append MayInside built_on (build (If on b.body ∷ b.blocks) stop) (build (If on b.body ∷ b.blocks) body) _ first (close ∷ rest) one last in
+    rw e (((omega (arith, deep), fits.0), tt), inside)
+body_steps (again count body next) lines b (first, rest, p, r, e) fits deep =
+    let turn = body_steps body first (build (Repeat count b.body ∷ b.blocks) stop) p fits.1 (omega (arith, deep)) in
+    let behind = body_steps next rest (build b.blocks (joined b.body (again count body stop))) r fits.2 (omega (arith, deep)) in
+    let last = closed (Repeat count b.body) b.blocks body rest _ (omega (arith, deep)) (followed b.blocks b.body (again count body stop) next rest behind) in
+    let inside = Steps-append MayInside built_on (build (Repeat count b.body ∷ b.blocks) stop) (build (Repeat count b.body ∷ b.blocks) body) _ first (close ∷ rest) turn last in
+    rw e (((omega (arith, deep), fits.0), tt), inside)
+body_steps (each name list body next) lines b (first, rest, p, r, e) fits deep =
+    let turn = body_steps body first (build (Each name list b.body ∷ b.blocks) stop) p fits.1 (omega (arith, deep)) in
+    let behind = body_steps next rest (build b.blocks (joined b.body (each name list body stop))) r fits.2 (omega (arith, deep)) in
+    let last = closed (Each name list b.body) b.blocks body rest _ (omega (arith, deep)) (followed b.blocks b.body (each name list body stop) next rest behind) in
+    let inside = Steps-append MayInside built_on (build (Each name list b.body ∷ b.blocks) stop) (build (Each name list b.body ∷ b.blocks) body) _ first (close ∷ rest) turn last in
+    rw e (((omega (arith, deep), fits.0), tt), inside)
+
+-- ---- lines that may follow each other are those of what they make
+
+pub SpellsBody-joined : (a b : Code) (x y : List Line) → SpellsBody a x → SpellsBody b y → SpellsBody (joined a b) (x ++ y)
+SpellsBody-joined stop b x y p q = rw p q
+SpellsBody-joined (plain s a) b x y (rest, e, p) q = (rest ++ y, rw e refl, SpellsBody-joined a b rest y p q)
+SpellsBody-joined (branch on body other a) b x y (first, second, rest, p, r, s, inl e) q =
+    let all : x ++ y ≡ test on ∷ (first ++ otherwise ∷ (second ++ close ∷ (rest ++ y))) =
+    rw (e, append_assoc first (otherwise ∷ (second ++ (close ∷ rest))) y, append_assoc second (close ∷ rest) y) refl in
+    (first, second, rest ++ y, p, r, SpellsBody-joined a b rest y s q, inl all)
+SpellsBody-joined (branch on body other a) b x y (first, second, rest, p, r, s, inr (none, e)) q =
+    let all : x ++ y ≡ test on ∷ (first ++ close ∷ (rest ++ y)) = rw (e, append_assoc first (close ∷ rest) y) refl in
+    (first, second, rest ++ y, p, r, SpellsBody-joined a b rest y s q, inr (none, all))
+SpellsBody-joined (again count body a) b x y (first, rest, p, s, e) q =
+    (first, rest ++ y, p, SpellsBody-joined a b rest y s q, rw (e, append_assoc first (close ∷ rest) y) refl)
+SpellsBody-joined (each name list body a) b x y (first, rest, p, s, e) q =
+    (first, rest ++ y, p, SpellsBody-joined a b rest y s q, rw (e, append_assoc first (close ∷ rest) y) refl)
+
+pub IsSpelled-joined : (lists : ℕ) (a b : Code) → IsSpelled lists a → IsSpelled lists b → IsSpelled lists (joined a b)
+IsSpelled-joined lists stop b p q = q
+IsSpelled-joined lists (plain s a) b p q = (p.0, IsSpelled-joined lists a b p.1 q)
+IsSpelled-joined lists (branch on body other a) b p q = (p.0, p.1, p.2, IsSpelled-joined lists a b p.3 q)
+IsSpelled-joined lists (again count body a) b p q = (p.0, p.1, IsSpelled-joined lists a b p.2 q)
+IsSpelled-joined lists (each name list body a) b p q = (p.0, p.1, IsSpelled-joined lists a b p.2 q)
+
+pub nesting-joined : (a b : Code) (n : ℕ) → nesting a ≤ n → nesting b ≤ n → nesting (joined a b) ≤ n
+nesting-joined stop b n p q = q
+nesting-joined (plain s a) b n p q = nesting-joined a b n p q
+nesting-joined (branch on body other a) b n p q = let h = nesting-joined a b n (omega (arith, p)) q in omega (arith, p, h)
+nesting-joined (again count body a) b n p q = let h = nesting-joined a b n (omega (arith, p)) q in omega (arith, p, h)
+nesting-joined (each name list body a) b n p q = let h = nesting-joined a b n (omega (arith, p)) q in omega (arith, p, h)
+
+FitsBody-joined : (blocks lists : ℕ) (a b : Code) → FitsBody blocks lists a → FitsBody blocks lists b → FitsBody blocks lists (joined a b)
+FitsBody-joined blocks lists a b p q =
+    let deep = nesting-joined a b (nesting_limit - blocks) (omega (arith, p.1)) (omega (arith, q.1)) in
+    (IsSpelled-joined lists a b p.0 q.0, omega (arith, p.1, deep))
+
+FitsBody-deeper : (blocks lists : ℕ) (body : Code) → FitsBody (suc blocks) lists body → FitsBody (blocks + 1) lists body
+FitsBody-deeper blocks lists body h = (h.0, omega (arith, h.1))
+
+-- a line behind those that were read
+behind : (outer inside lines more : List Line) → lines ≡ outer ++ inside → lines ++ more ≡ outer ++ (inside ++ more)
+behind outer inside lines more e = rw e (append_assoc outer inside more)
+
+-- ---- a block that opens
+
+Front-opened : (block : Block) (around : List Block) (lines : List Line) (l : Line) → BeginsBlock block (l ∷ []) → Front (build around (before_block block)) lines
+    → Front (build (block ∷ around) stop) (lines ++ l ∷ [])
+Front-opened block around lines l begins (outer, inside, p, q, e) =
+    (lines ++ l ∷ [], [], (outer, inside, l ∷ [], p, q, begins, behind outer inside lines (l ∷ []) e), refl, sym (append-nil (lines ++ l ∷ [])))
+
+FitsBuild-opened : (block : Block) (around : List Block) → FitsBuild (build around (before_block block)) → length around < nesting_limit → IsSpelledLine (lists_in around) (opening block) → FitsFirst around block
+    → FitsBuild (build (block ∷ around) stop)
+FitsBuild-opened block around fits room spelled first = ((fits.0, room, spelled, fits.1, first), (tt, omega (arith, room)))
+
+-- ---- a block that ends
+
+ended_spelled : (block : Block) (body : Code) (begun inside : List Line) → BeginsBlock block begun → SpellsBody body inside → SpellsBody (ended block body) (begun ++ (inside ++ close ∷ []))
+ended_spelled (If on before) body begun inside e p = rw e (inside, [], [], p, refl, refl, inr (refl, refl))
+ended_spelled (Else on first before) body begun inside (lines, q, e) p =
+    let all : begun ++ (inside ++ close ∷ []) ≡ test on ∷ (lines ++ otherwise ∷ (inside ++ close ∷ [])) = rw (e, append_assoc lines (otherwise ∷ []) (inside ++ close ∷ [])) refl in
+    (lines, inside, [], q, p, refl, inl all)
+ended_spelled (Repeat count before) body begun inside e p = rw e (inside, [], p, refl, refl)
+ended_spelled (Each name list before) body begun inside e p = rw e (inside, [], p, refl, refl)
+
+Front-ended : (block : Block) (around : List Block) (body : Code) (lines : List Line) → Front (build (block ∷ around) body) lines
+    → Front (build around (joined (before_block block) (ended block body))) (lines ++ close ∷ [])
+Front-ended block around body lines (fronts, inside, (outer, before, begun, p, q, r, e), sp, f) =
+    let all : lines ++ close ∷ [] ≡ outer ++ (before ++ (begun ++ (inside ++ close ∷ []))) =
+    behind fronts inside lines (close ∷ []) f ∙ behind outer (before ++ begun) fronts (inside ++ close ∷ []) e ∙ ap (λ (x : List Line). outer ++ x) (append_assoc before begun (inside ++ close ∷ [])) in
+    (outer, before ++ (begun ++ (inside ++ close ∷ [])), p, SpellsBody-joined (before_block block) (ended block body) before (begun ++ (inside ++ close ∷ [])) q (ended_spelled block body begun inside r sp), all)
+
+ended_fits : (block : Block) (around : List Block) (body : Code) → FitsBuild (build (block ∷ around) body) → FitsBody (length around) (lists_in around) (ended block body)
+ended_fits (If on before) around body ((outer, room, spelled, b, first), (fits, deep)) = ((spelled, fits, tt, tt), omega (arith, deep))
+ended_fits (Else on one before) around body ((outer, room, spelled, b, first), (fits, deep)) = ((spelled, first.0, fits, tt), omega (arith, deep, first.1))
+ended_fits (Repeat count before) around body ((outer, room, spelled, b, first), (fits, deep)) = ((spelled, fits, tt), omega (arith, deep))
+ended_fits (Each name list before) around body ((outer, room, spelled, b, first), (fits, deep)) = ((spelled, fits, tt), omega (arith, deep))
+
+ended_deep : (block : Block) (around : List Block) (body : Code) → FitsBuild (build (block ∷ around) body) → nesting (ended block body) ≤ nesting_limit
+ended_deep block around body fits = let h = ended_fits block around body fits in omega (arith, h.1)
+
+FitsBuild-ended : (block : Block) (around : List Block) (body : Code) → FitsBuild (build (block ∷ around) body) → FitsBuild (build around (joined (before_block block) (ended block body)))
+FitsBuild-ended block around body fits =
+    (fits.0.0, FitsBody-joined (length around) (lists_in around) (before_block block) (ended block body) fits.0.3 (ended_fits block around body fits))
+
+-- ---- one line
+
+-- what was read fits behind a line, too
+abbrev FitsOn : List Block → Code → Line → Type 0
+FitsOn blocks body l = FitsBuild (build blocks body) → MayInside (build blocks body) l → FitsBuild (built_on (build blocks body) l)
+
+part_fits : (blocks : List Block) (body : Code) → FitsOn blocks body otherwise
+part_fits [] body fits may = absurd (let e = may.0 in cc)
+part_fits (If on before ∷ around) body fits may =
+    ((fits.0.0, fits.0.1, fits.0.2, fits.0.3, FitsBody-deeper (length around) (lists_in around) body fits.1), (tt, omega (arith, fits.0.1)))
+part_fits (Else on first before ∷ around) body fits may = absurd (let e = may.0 in cc)
+part_fits (Repeat count before ∷ around) body fits may = absurd (let e = may.0 in cc)
+part_fits (Each name list before ∷ around) body fits may = absurd (let e = may.0 in cc)
+
+end_fits : (blocks : List Block) (body : Code) → FitsOn blocks body close
+end_fits [] body fits may = absurd may.1
+end_fits (block ∷ around) body fits may =
+    subst FitsBuild (sym (built_on-close block around body (ended_deep block around body fits))) (FitsBuild-ended block around body fits)
+
+line_fits : (blocks : List Block) (body : Code) (l : Line) → FitsOn blocks body l
+line_fits blocks body (simple s) fits may = (fits.0, FitsBody-joined (length blocks) (lists_in blocks) body (plain s stop) fits.1 ((may.0, tt), omega (arith, fits.1.1)))
+line_fits blocks body (test on) fits may = FitsBuild-opened (If on body) blocks fits may.0.0 may.0.1 tt
+line_fits blocks body (turns count) fits may = FitsBuild-opened (Repeat count body) blocks fits may.0.0 may.0.1 tt
+line_fits blocks body (over name list) fits may = FitsBuild-opened (Each name list body) blocks fits may.0.0 may.0.1 tt
+line_fits blocks body otherwise fits may = part_fits blocks body fits may
+line_fits blocks body close fits may = end_fits blocks body fits may
+
+pub fits_step : (b : Build) (l : Line) → FitsBuild b → MayInside b l → FitsBuild (built_on b l)
+fits_step b l fits may = line_fits b.blocks b.body l fits may
+
+-- and the lines with it are those of what they have come to
+abbrev FrontOn : List Block → Code → Line → Type 0
+FrontOn blocks body l =
+    (lines : List Line) → Front (build blocks body) lines → FitsBuild (build blocks body) → MayInside (build blocks body) l → Front (built_on (build blocks body) l) (lines ++ l ∷ [])
+
+statement_front : (blocks : List Block) (body : Code) (s : Simple) → FrontOn blocks body (simple s)
+statement_front blocks body s lines (outer, inside, p, q, e) fits may =
+    (outer, inside ++ simple s ∷ [], p, SpellsBody-joined body (plain s stop) inside (simple s ∷ []) q ([], refl, refl), behind outer inside lines (simple s ∷ []) e)
+
+part_front : (blocks : List Block) (body : Code) → FrontOn blocks body otherwise
+part_front [] body lines front fits may = absurd (let e = may.0 in cc)
+part_front (If on before ∷ around) body lines (fronts, inside, (outer, b, begun, p, q, r, e), sp, f) fits may =
+    let inner : begun ++ (inside ++ otherwise ∷ []) ≡ test on ∷ (inside ++ otherwise ∷ []) = rw r refl in
+    let all : lines ++ otherwise ∷ [] ≡ outer ++ (b ++ (test on ∷ (inside ++ otherwise ∷ []))) =
+    behind fronts inside lines (otherwise ∷ []) f
+    ∙ behind outer (b ++ begun) fronts (inside ++ otherwise ∷ []) e
+    ∙ ap (λ (x : List Line). outer ++ x) (append_assoc b begun (inside ++ otherwise ∷ []) ∙ ap (λ (x : List Line). b ++ x) inner) in
+    (lines ++ otherwise ∷ [], [], (outer, b, test on ∷ (inside ++ otherwise ∷ []), p, q, (inside, sp, refl), all), refl, sym (append-nil (lines ++ otherwise ∷ [])))
+part_front (Else on first before ∷ around) body lines front fits may = absurd (let e = may.0 in cc)
+part_front (Repeat count before ∷ around) body lines front fits may = absurd (let e = may.0 in cc)
+part_front (Each name list before ∷ around) body lines front fits may = absurd (let e = may.0 in cc)
+
+end_front : (blocks : List Block) (body : Code) → FrontOn blocks body close
+end_front [] body lines front fits may = absurd may.1
+end_front (block ∷ around) body lines front fits may =
+    subst (λ (b : Build). Front b (lines ++ close ∷ [])) (sym (built_on-close block around body (ended_deep block around body fits))) (Front-ended block around body lines front)
+
+line_front : (blocks : List Block) (body : Code) (l : Line) → FrontOn blocks body l
+line_front blocks body (simple s) lines front fits may = statement_front blocks body s lines front fits may
+line_front blocks body (test on) lines front fits may = Front-opened (If on body) blocks lines (test on) refl front
+line_front blocks body (turns count) lines front fits may = Front-opened (Repeat count body) blocks lines (turns count) refl front
+line_front blocks body (over name list) lines front fits may = Front-opened (Each name list body) blocks lines (over name list) refl front
+line_front blocks body otherwise lines front fits may = part_front blocks body lines front fits may
+line_front blocks body close lines front fits may = end_front blocks body lines front fits may
+
+-- a line that may follow is taken
+taken_part : (blocks : List Block) (body : Code) → MayInside (build blocks body) otherwise → built (build blocks body) otherwise ≡ Some (built_on (build blocks body) otherwise)
+taken_part [] body may = absurd (let e = may.0 in cc)
+taken_part (If on before ∷ around) body may = refl
+taken_part (Else on first before ∷ around) body may = absurd (let e = may.0 in cc)
+taken_part (Repeat count before ∷ around) body may = absurd (let e = may.0 in cc)
+taken_part (Each name list before ∷ around) body may = absurd (let e = may.0 in cc)
+
+taken_end : (blocks : List Block) (body : Code) → FitsBuild (build blocks body) → MayInside (build blocks body) close → built (build blocks body) close ≡ Some (built_on (build blocks body) close)
+taken_end [] body fits may = absurd may.1
+taken_end (block ∷ around) body fits may = let deep = ended_deep block around body fits in built-close block around body deep ∙ ap Some (sym (built_on-close block around body deep))
+
+taken_line : (blocks : List Block) (body : Code) (l : Line) → FitsBuild (build blocks body) → MayInside (build blocks body) l → built (build blocks body) l ≡ Some (built_on (build blocks body) l)
+taken_line blocks body (simple s) fits may = refl
+taken_line blocks body (test on) fits may = refl
+taken_line blocks body (turns count) fits may = refl
+taken_line blocks body (over name list) fits may = refl
+taken_line blocks body otherwise fits may = taken_part blocks body may
+taken_line blocks body close fits may = taken_end blocks body fits may
+
+pub built-inside : (b : Build) (l : Line) → FitsBuild b → MayInside b l → built b l ≡ Some (built_on b l)
+built-inside b l fits may = taken_line b.blocks b.body l fits may
+
+-- what a step on such a line comes to
+pub IsBuilt-inside : (b now : Build) (l : Line) (taken : Bool) → FitsBuild b → MayInside b l → IsBuilt (built b l) taken now → (taken ≡ true) × (now ≡ built_on b l)
+IsBuilt-inside b now l taken fits may h = subst (λ (due : Option Build). IsBuilt due taken now) (built-inside b l fits may) h
+
+-- ---- all lines
+
+pub front_start : Front build_start []
+front_start = ([], [], refl, refl, refl)
+
+pub fits_start : FitsBuild build_start
+fits_start = (tt, (tt, omega arith))
+
+pub front_step : (b : Build) (l : Line) (lines : List Line) → Front b lines → FitsBuild b → MayInside b l → Front (built_on b l) (lines ++ l ∷ []) × FitsBuild (built_on b l)
+front_step b l lines front fits may = (line_front b.blocks b.body l lines front fits may, fits_step b l fits may)
+
+whole : (blocks : List Block) (body : Code) (lines : List Line) → blocks ≡ [] → Front (build blocks body) lines → FitsBuild (build blocks body)
+    → SpellsBody body lines × IsSpelled 0 body × (nesting body ≤ nesting_limit)
+whole [] body lines e (outer, inside, p, q, f) fits = (subst (SpellsBody body) (sym (f ∙ ap (λ (x : List Line). x ++ inside) p)) q, fits.1.0, omega (arith, fits.1.1))
+whole (block ∷ around) body lines e front fits = absurd cc
+
+pub front_whole : (b : Build) (lines : List Line) → b.blocks ≡ [] → Front b lines → FitsBuild b → SpellsBody b.body lines × IsSpelled 0 b.body × (nesting b.body ≤ nesting_limit)
+front_whole b lines e front fits = whole b.blocks b.body lines e front fits
+
+-- so many `end` as there are open blocks
+ends : (blocks : List Block) (body : Code) → FitsBuild (build blocks body) → (more : List Line) × (c : Code) × Steps MayInside built_on (build blocks body) more (build [] c)
+ends [] body fits = ([], body, refl)
+ends (block ∷ around) body fits =
+    let rest = ends around (joined (before_block block) (ended block body)) (FitsBuild-ended block around body fits) in
+    (close ∷ rest.0, rest.1, closed block around body rest.0 (build [] rest.1) (ended_deep block around body fits) rest.2)
+
+pub closable : (b : Build) (lines : List Line) → Front b lines → FitsBuild b → (more : List Line) × (c : Code) × Steps MayInside built_on b more (record { blocks = []; body = c })
+closable b lines front fits = ends b.blocks b.body fits

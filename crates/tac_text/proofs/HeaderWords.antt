@@ -1,0 +1,148 @@
+-- The words of a header, which are those of no other, and words without a fault.
+use Rattle.std.proofs.Common.{◌≡◌, ◌≢◌, ◌≤◌, ◌<◌, ◌&&◌, nat_le, ℕ, Bool, true, false, if◌then◌else◌, List, [], ◌∷◌, map, length, Option, Some, None, codes, bytes_eq, decimal, refl, ap, sym, subst, ◌∙◌, arith}
+use Rattle.std.specs.Str.Parse.{digits_value}
+use Rattle.std.proofs.lemmas.Bool.{and_parts, leb-true}
+use Rattle.std.proofs.lemmas.Fmt.{decimal_is_IsNumeral}
+use Rattle.tac_syntax.specs.declared.functions.Kind.{Kind}
+use Rattle.tac_syntax.specs.declared.functions.Kind.TheVariants.{Map, Match, Cross, Reduce, CoGroup}
+use Rattle.tac_syntax.specs.Functions.{HasKeys, key_limit}
+use Rattle.tac_syntax.specs.Names.{all_bytes, is_small_letter, is_name_byte, is_name}
+use Rattle.text_lines.specs.declared.line_words.LineWord.{LineWord}
+use Rattle.text_lines.specs.declared.line_words.LineWord.TheVariants.{Plain as plain_word, Literal as literal_word}
+use Rattle.text_lines.proofs.DigitWords.{is_in_range-decimal}
+use Rattle.tac_text.specs.FunctionFaults.{function_name_fault, kind_named, key_slots, keys_fault, kind_fault, named_fault, is_part_or_end, header_fault}
+use Rattle.tac_text.specs.FunctionLines.{header, header_words, IsHeader}
+use Rattle.tac_text.specs.Spelling.{kind_word, key_words}
+use Rattle.tac_text.specs.StatementFaults.{number, first_fault}
+use Rattle.tac_text.proofs.FaultlessWords.{taken, none_left, number_word}
+use Rattle.tac_text.proofs.SlotWords.{by_cases, told_unless-none, or_else-none, same_word}
+
+-- ---- a header's words have no fault
+
+first_fault-keys : (kind : Kind) (keys : ℕ) → HasKeys kind keys → first_fault (key_slots kind) (map plain_word (key_words kind keys)) ≡ None
+first_fault-keys Map keys h = refl
+first_fault-keys Match keys h = refl
+first_fault-keys Cross keys h = refl
+first_fault-keys Reduce keys h = rw (is_in_range-decimal 1 key_limit keys h.0 h.1 (omega (arith, h.1))) refl
+first_fault-keys CoGroup keys h = rw (is_in_range-decimal 1 key_limit keys h.0 h.1 (omega (arith, h.1))) refl
+
+kind_named-kind_word : (kind : Kind) → kind_named (kind_word kind) ≡ Some kind
+kind_named-kind_word Map = refl
+kind_named-kind_word Match = refl
+kind_named-kind_word Cross = refl
+kind_named-kind_word Reduce = refl
+kind_named-kind_word CoGroup = refl
+
+pub header_fault-header_words : (name : List ℕ) (kind : Kind) (keys : ℕ) → IsHeader name kind keys → header_fault (header_words name kind keys) ≡ None
+header_fault-header_words name kind keys h = rw (h.0, kind_named-kind_word kind) (first_fault-keys kind keys h.1)
+
+-- ---- words without a fault are a header's
+
+-- the header whose words these are
+abbrev pub HeaderFor : List LineWord → Type 0
+HeaderFor words = (name : List ℕ) × (kind : Kind) × (keys : ℕ) × (words ≡ header_words name kind keys) × IsHeader name kind keys
+
+-- what stands behind a kind, with the number of keys
+abbrev KeysFor : Kind → List LineWord → Type 0
+KeysFor kind words = (keys : ℕ) × (words ≡ map plain_word (key_words kind keys)) × HasKeys kind keys
+
+some_keys : (words : List LineWord) → first_fault (number 1 key_limit ∷ []) words ≡ None → (keys : ℕ) × (words ≡ plain_word (decimal keys) ∷ []) × ((1 ≤ keys) × (keys ≤ key_limit))
+some_keys words h =
+    let a = taken (number 1 key_limit) [] words h in
+    let keys = number_word 1 key_limit a.first (omega arith) a.fits in
+    let none = none_left a.rest a.left in
+    (keys.n, a.parts ∙ (λ i. keys.spelled i ∷ none i), (keys.above, keys.below))
+
+keys_of_words : (kind : Kind) (words : List LineWord) → first_fault (key_slots kind) words ≡ None → KeysFor kind words
+keys_of_words Map words h = (0, none_left words h, refl)
+keys_of_words Match words h = (0, none_left words h, refl)
+keys_of_words Cross words h = (0, none_left words h, refl)
+keys_of_words Reduce words h = some_keys words h
+keys_of_words CoGroup words h = some_keys words h
+
+-- words behind the name
+abbrev KindFor : List LineWord → Type 0
+KindFor words = (kind : Kind) × (keys : ℕ) × (words ≡ plain_word (kind_word kind) ∷ map plain_word (key_words kind keys)) × HasKeys kind keys
+
+kind_found : (word : List ℕ) (words : List LineWord) (kind : Kind) → word ≡ kind_word kind → first_fault (key_slots kind) words ≡ None → KindFor (plain_word word ∷ words)
+kind_found word words kind e h = let keys = keys_of_words kind words h in (kind, keys.0, (λ i. plain_word (e i) ∷ keys.1 i), keys.2)
+
+by_kind : {C : Type 0} (f : Option Kind → Option ℕ) (b : Bool) (x y : Option Kind) → (b ≡ true → f x ≡ None → C) → (f y ≡ None → C) → f (if b then x else y) ≡ None → C
+by_kind f true x y g k h = g refl h
+by_kind f false x y g k h = k h
+
+kind_of_words : (word : List ℕ) (words : List LineWord) → keys_fault (kind_named word) words ≡ None → KindFor (plain_word word ∷ words)
+kind_of_words word words h =
+    let f : Option Kind → Option ℕ = λ k. keys_fault k words in
+    by_kind f (bytes_eq word (codes "map")) _ _ (λ e k. kind_found word words Map (same_word word _ e) k) (
+    by_kind f (bytes_eq word (codes "match")) _ _ (λ e k. kind_found word words Match (same_word word _ e) k) (
+    by_kind f (bytes_eq word (codes "cross")) _ _ (λ e k. kind_found word words Cross (same_word word _ e) k) (
+    by_kind f (bytes_eq word (codes "reduce")) _ _ (λ e k. kind_found word words Reduce (same_word word _ e) k) (
+    by_kind f (bytes_eq word (codes "cogroup")) _ _ (λ e k. kind_found word words CoGroup (same_word word _ e) k) (λ k. absurd cc))))) h
+
+behind_name : (words : List LineWord) → kind_fault words ≡ None → KindFor words
+behind_name [] h = absurd cc
+behind_name (plain_word word ∷ words) h = kind_of_words word words h
+behind_name (literal_word bytes ∷ words) h = absurd cc
+
+behind_function : (first : List ℕ) (words : List LineWord) → first ≡ codes "function" → named_fault words ≡ None → HeaderFor (plain_word first ∷ words)
+behind_function first [] e h = absurd cc
+behind_function first (plain_word name ∷ words) e h =
+    let parts = or_else-none (function_name_fault (plain_word name)) (kind_fault words) h in
+    let kind = behind_name words parts.1 in
+    (name, kind.0, kind.1, (λ i. plain_word (e i) ∷ plain_word name ∷ kind.2 i), (told_unless-none _ _ parts.0, kind.3))
+behind_function first (literal_word bytes ∷ words) e h = absurd (let p = or_else-none (function_name_fault (literal_word bytes)) (kind_fault words) h in let q = p.0 in cc)
+
+pub header_of_words : (words : List LineWord) → words ≢ [] → header_fault words ≡ None → HeaderFor words
+header_of_words [] some h = absurd (some refl)
+header_of_words (plain_word word ∷ words) some h = by_cases (bytes_eq word (codes "function")) _ _
+    (λ e k. behind_function word words (same_word word _ e) k) (λ _ k. by_cases (is_part_or_end word) _ _ (λ _ e. absurd cc) (λ _ e. absurd cc) k) h
+header_of_words (literal_word bytes ∷ words) some h = absurd cc
+
+-- ---- words are those of one header
+
+keys_value : (k m : ℕ) → k ≤ key_limit → m ≤ key_limit → decimal k ≡ decimal m → k ≡ m
+keys_value k m h l e = sym (decimal_is_IsNumeral k (omega (arith, h))).1 ∙ ap (digits_value 10) e ∙ (decimal_is_IsNumeral m (omega (arith, l))).1
+
+one_kind : (a b : Kind) → kind_word a ≡ kind_word b → a ≡ b
+one_kind a b e = let same : Some a ≡ Some b = sym (kind_named-kind_word a) ∙ ap kind_named e ∙ kind_named-kind_word b in cc
+
+one_keys : (kind : Kind) (k m : ℕ) → HasKeys kind k → HasKeys kind m → map plain_word (key_words kind k) ≡ map plain_word (key_words kind m) → k ≡ m
+one_keys Map k m h l e = h ∙ sym l
+one_keys Match k m h l e = h ∙ sym l
+one_keys Cross k m h l e = h ∙ sym l
+one_keys Reduce k m h l e = keys_value k m h.1 l.1 (let same : decimal k ≡ decimal m = cc in same)
+one_keys CoGroup k m h l e = keys_value k m h.1 l.1 (let same : decimal k ≡ decimal m = cc in same)
+
+-- two headers with the same words are one
+pub one_header : (a b : List ℕ) (j k : Kind) (m n : ℕ) → IsHeader a j m → IsHeader b k n → header_words a j m ≡ header_words b k n → header a j m ≡ header b k n
+one_header a b j k m n h l e =
+    let name : a ≡ b = cc in
+    let word : kind_word j ≡ kind_word k = cc in
+    let kind = one_kind j k word in
+    let rest : map plain_word (key_words j m) ≡ map plain_word (key_words k n) = cc in
+    let keys = one_keys k m n (subst (λ (x : Kind). HasKeys x m) kind h.1) l.1 (subst (λ (x : Kind). map plain_word (key_words x m) ≡ map plain_word (key_words k n)) kind rest) in
+    λ i. header (name i) (kind i) (keys i)
+
+some_words : (words : List LineWord) → 0 < length words → words ≢ []
+some_words words some e = let none = ap length e in absurd (omega (arith, some, none))
+
+pub header_found : (words : List LineWord) (told : Option ℕ) → 0 < length words → told ≡ header_fault words → told ≡ None → HeaderFor words
+header_found words told some e none = header_of_words words (some_words words some) (sym e ∙ none)
+
+-- the header that was found, where its parts were read
+pub header_read : (words : List LineWord) (told : Option ℕ) (name : List ℕ) (kind : Kind) (keys : ℕ) → 0 < length words → told ≡ header_fault words → told ≡ None
+    → ((n : List ℕ) (k : Kind) (m : ℕ) → IsHeader n k m → words ≡ header_words n k m → (name ≡ n) × (kind ≡ k) × (keys ≡ m)) → (words ≡ header_words name kind keys) × IsHeader name kind keys
+header_read words told name kind keys some e none read =
+    let found = header_found words told some e none in
+    let same = read found.0 found.1 found.2 found.4 found.3 in
+    rw (same.0, same.1, same.2) (found.3, found.4)
+
+-- ---- names
+
+short_bytes : (a b : Bool) (n : ℕ) → (a && b && nat_le n 31) ≡ true → n ≤ 31
+short_bytes a b n h = leb-true n 31 (and_parts (a && b) (nat_le n 31) h).1
+
+pub is_name-short : (name : List ℕ) → is_name name ≡ true → length name ≤ 32
+is_name-short [] h = absurd cc
+is_name-short (b ∷ name) h = let l = short_bytes (is_small_letter b) (all_bytes is_name_byte name) (length name) h in omega arith

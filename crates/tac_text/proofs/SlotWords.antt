@@ -1,0 +1,182 @@
+-- The words that fill slots.
+use Rattle.std.proofs.Common.{◌≡◌, ◌≤◌, ◌<◌, ◌^◌, ◌==◌, ◌&&◌, inl, inr, ℕ, zero, suc, nat_le, nat_lt, ◌-◌, ℤ, pos, negsuc, Bool, true, false, if◌then◌else◌, List, [], ◌∷◌, Option, Some, None, FitsSigned, w64, codes, bytes_eq, decimal, refl, ap, sym, ◌∙◌, arith}
+use Rattle.std.specs.Fmt.{signed_decimal}
+use Rattle.std.specs.Str.Parse.{digits_value}
+use Rattle.std.proofs.lemmas.Bool.{and_from, and_parts, eq-eqb, eqb-true, le-leb, lt-ltb, ltb-true, or_cases}
+use Rattle.std.proofs.lemmas.Fmt.{decimal_is_IsNumeral}
+use Rattle.std.proofs.lemmas.Slice.Eq.{bytes_eq-Decides}
+use Rattle.tac_syntax.specs.declared.statements.Rec.{Rec}
+use Rattle.tac_syntax.specs.declared.statements.Rec.TheVariants.{Reg, Loop, Input, Left, Right, Join, First}
+use Rattle.tac_syntax.specs.declared.statements.LoopList.{LoopList}
+use Rattle.tac_syntax.specs.declared.statements.LoopList.TheVariants.{Group, Left as LeftGroup, Right as RightGroup}
+use Rattle.tac_syntax.specs.Grammar.{IsNumber, IsLoopName, IsTurnCount, IsSpelledRecord}
+use Rattle.tac_text.specs.Spelling.{record_word, list_word}
+use Rattle.tac_text.specs.StatementFaults.{numbered_fault, register_fault, is_fixed_record, operand_fault, name_fault, is_list_word}
+use Rattle.text_lines.specs.Digits.{are_digits, is_in_form, is_in_range, is_number_word, is_signed_word, told_unless, or_else}
+use Rattle.text_lines.proofs.DigitWords.{are_digits-decimal, is_in_range-decimal, is_number_word-decimal, minus_no_digit, number_spelled}
+use Rattle.tac_text.proofs.OperandWords.{bytes_eq-decimal}
+
+-- ---- cases
+
+pub by_cases : {A C : Type 0} (b : Bool) (x y : A) {v : A} → (b ≡ true → x ≡ v → C) → (b ≡ false → y ≡ v → C) → (if b then x else y) ≡ v → C
+by_cases true x y f g h = f refl h
+by_cases false x y f g h = g refl h
+
+pub told_unless-none : (b : Bool) (what : ℕ) → told_unless b what ≡ None → b ≡ true
+told_unless-none true what h = refl
+told_unless-none false what h = absurd cc
+
+pub or_else-none : (a b : Option ℕ) → or_else a b ≡ None → (a ≡ None) × (b ≡ None)
+or_else-none None b h = (refl, h)
+or_else-none (Some what) b h = absurd cc
+
+pub same_word : (w v : List ℕ) → bytes_eq w v ≡ true → w ≡ v
+same_word w v h = (bytes_eq-Decides w v).0 h
+
+-- ---- what fills a slot has no fault
+
+pub number_fits : (n : ℕ) → IsNumber n → is_in_range 0 255 (decimal n) ≡ true
+number_fits n h = is_in_range-decimal 0 255 n (omega arith) h (omega (arith, h))
+
+pub register_fault-letter : (letter n : ℕ) → (letter == letter) ≡ true → IsNumber n → register_fault letter (letter ∷ decimal n) ≡ None
+register_fault-letter letter n same h =
+    rw (number_fits n h, same, are_digits-decimal n (omega (arith, h))) refl
+
+pub turns_fit : (n : ℕ) → IsTurnCount n → is_in_range 1 1000 (decimal n) ≡ true
+turns_fit n h = is_in_range-decimal 1 1000 n h.0 h.1 (omega (arith, h.1))
+
+pub operand_fault-record_word : (from : Rec) → IsSpelledRecord from → operand_fault (record_word from) ≡ None
+operand_fault-record_word (Reg k) h =
+    let other = bytes_eq-decimal k 105 (codes "ght") (omega (arith, h)) (inr (omega arith)) in
+    rw (other, number_fits k h, are_digits-decimal k (omega (arith, h))) refl
+operand_fault-record_word (Loop name) h =
+    rw (is_in_range-decimal 1 64 name h.0 h.1 (omega (arith, h.1)), are_digits-decimal name (omega (arith, h.1))) refl
+operand_fault-record_word Input h = refl
+operand_fault-record_word Left h = refl
+operand_fault-record_word Right h = refl
+operand_fault-record_word Join h = refl
+operand_fault-record_word First h = refl
+
+is_signed_word-digits : (w : List ℕ) → are_digits w ≡ true → is_number_word w ≡ true → nat_lt (digits_value 10 w) (2 ^ 63) ≡ true → is_signed_word w ≡ true
+is_signed_word-digits [] d h l = absurd cc
+is_signed_word-digits (b ∷ bytes) d h l = rw (minus_no_digit b bytes d) (and_from (is_number_word (b ∷ bytes)) _ h l)
+
+pub is_signed_word-signed_decimal : (z : ℤ) → FitsSigned w64 z → is_signed_word (signed_decimal z) ≡ true
+is_signed_word-signed_decimal (pos n) h =
+    let small : n < 2 ^ 64 = omega (arith, h) in
+    is_signed_word-digits (decimal n) (are_digits-decimal n small) (is_number_word-decimal n small)
+    (rw ((decimal_is_IsNumeral n small).1) (lt-ltb n (2 ^ 63) (omega (arith, h))))
+is_signed_word-signed_decimal (negsuc n) h = is_in_range-decimal 1 (2 ^ 63) (suc n) (omega arith) (omega (arith, h)) (omega (arith, h))
+
+pub is_list_word-list_word : (l : LoopList) → is_list_word (list_word l) ≡ true
+is_list_word-list_word Group = refl
+is_list_word-list_word LeftGroup = refl
+is_list_word-list_word RightGroup = refl
+
+pub name_fault-loop_name : (n : ℕ) → IsLoopName n → name_fault n (120 ∷ decimal n) ≡ None
+name_fault-loop_name n h =
+    let small : n < 2 ^ 64 = omega (arith, h.1) in
+    rw (is_in_range-decimal 1 64 n h.0 h.1 small, are_digits-decimal n small, (decimal_is_IsNumeral n small).1, eq-eqb n n refl) refl
+
+-- ---- what has no fault fills its slot
+
+-- a number behind a letter
+pub record Numbered (letter low high : ℕ) (word : List ℕ) : Type 0 where
+  pub number : ℕ
+  pub above : low ≤ number
+  pub below : number ≤ high
+  pub spelled : word ≡ letter ∷ decimal number
+
+pub numbered_spelled : (letter low high : ℕ) (word : List ℕ) → high < 2 ^ 64 → is_in_form letter word ≡ true → numbered_fault low high word ≡ None → Numbered letter low high word
+numbered_spelled letter low high [] small form h = absurd cc
+numbered_spelled letter low high (b ∷ bytes) small form h =
+    let same = eqb-true b letter (and_parts (b == letter) _ form).0 in
+    let n = number_spelled low high bytes small (told_unless-none _ _ h) in
+    record { number = n.number; above = n.above; below = n.below; spelled = λ i. same i ∷ n.spelled i }
+
+pub register_spelled : (letter : ℕ) (word : List ℕ) → register_fault letter word ≡ None → Numbered letter 0 255 word
+register_spelled letter word h = by_cases (is_in_form letter word) _ _
+    (λ form rest. numbered_spelled letter 0 255 word (omega arith) form rest) (λ _ e. absurd cc) h
+
+-- a word of the kind, with what it stands for
+pub record RecordSpelled (word : List ℕ) : Type 0 where
+  pub from : Rec
+  pub fits : IsSpelledRecord from
+  pub spelled : word ≡ record_word from
+
+fixed_spelled : (word : List ℕ) → is_fixed_record word ≡ true → RecordSpelled word
+fixed_spelled word h = elim (or_cases _ (bytes_eq word (codes "first")) h) [
+  | inr e ↦ record { from = First; fits = tt; spelled = same_word word _ e }
+  | inl h4 ↦ elim (or_cases _ (bytes_eq word (codes "join")) h4) [
+    | inr e ↦ record { from = Join; fits = tt; spelled = same_word word _ e }
+    | inl h3 ↦ elim (or_cases _ (bytes_eq word (codes "right")) h3) [
+      | inr e ↦ record { from = Right; fits = tt; spelled = same_word word _ e }
+      | inl h2 ↦ elim (or_cases (bytes_eq word (codes "in")) (bytes_eq word (codes "left")) h2) [
+        | inl e ↦ record { from = Input; fits = tt; spelled = same_word word _ e }
+        | inr e ↦ record { from = Left; fits = tt; spelled = same_word word _ e }
+      ]
+    ]
+  ]
+]
+
+pub operand_spelled : (word : List ℕ) → operand_fault word ≡ None → RecordSpelled word
+operand_spelled word h = by_cases (is_fixed_record word) _ _ (λ e _. fixed_spelled word e)
+    (λ _ next. by_cases (is_in_form 114 word) _ _
+    (λ form rest. let n = numbered_spelled 114 0 255 word (omega arith) form rest in record { from = Reg n.number; fits = n.below; spelled = n.spelled })
+    (λ _ last. by_cases (is_in_form 120 word) _ _
+    (λ form rest. let n = numbered_spelled 120 1 64 word (omega arith) form rest in record { from = Loop n.number; fits = (n.above, n.below); spelled = n.spelled })
+    (λ _ e. absurd cc) last) next) h
+
+pub record SignedSpelled (word : List ℕ) : Type 0 where
+  pub value : ℤ
+  pub fits : FitsSigned w64 value
+  pub spelled : word ≡ signed_decimal value
+
+minus_spelled : (word : List ℕ) (n : ℕ) → 1 ≤ n → n ≤ 2 ^ 63 → word ≡ 45 ∷ decimal n → SignedSpelled word
+minus_spelled word zero above below e = absurd (omega (arith, above))
+minus_spelled word (suc n) above below e = record { value = negsuc n; fits = omega (arith, below); spelled = e }
+
+bare_spelled : (word : List ℕ) → (is_number_word word && nat_lt (digits_value 10 word) (2 ^ 63)) ≡ true → SignedSpelled word
+bare_spelled word h =
+    let parts = and_parts (is_number_word word) _ h in
+    let below = ltb-true (digits_value 10 word) (2 ^ 63) parts.1 in
+    let lower = and_from (is_number_word word) _ parts.0 (le-leb 0 (digits_value 10 word) (omega arith)) in
+    let fits = and_from (is_number_word word && nat_le 0 (digits_value 10 word)) _ lower (le-leb (digits_value 10 word) (2 ^ 63 - 1) (omega (arith, below))) in
+    let n = number_spelled 0 (2 ^ 63 - 1) word (omega arith) fits in
+    record { value = pos n.number; fits = omega (arith, n.below); spelled = n.spelled }
+
+pub signed_spelled : (word : List ℕ) → is_signed_word word ≡ true → SignedSpelled word
+signed_spelled [] h = absurd cc
+signed_spelled (b ∷ bytes) h = by_cases (b == 45) _ _
+    (λ minus rest.
+    let sign = eqb-true b 45 minus in
+    let n = number_spelled 1 (2 ^ 63) bytes (omega arith) rest in
+    minus_spelled (b ∷ bytes) n.number n.above n.below (λ i. sign i ∷ n.spelled i))
+    (λ _ rest. bare_spelled (b ∷ bytes) rest) h
+
+pub record ListSpelled (word : List ℕ) : Type 0 where
+  pub list : LoopList
+  pub spelled : word ≡ list_word list
+
+pub list_spelled : (word : List ℕ) → is_list_word word ≡ true → ListSpelled word
+list_spelled word h = elim (or_cases _ (bytes_eq word (codes "right")) h) [
+  | inr e ↦ record { list = RightGroup; spelled = same_word word _ e }
+  | inl h1 ↦ elim (or_cases (bytes_eq word (codes "group")) (bytes_eq word (codes "left")) h1) [
+    | inl e ↦ record { list = Group; spelled = same_word word _ e }
+    | inr e ↦ record { list = LeftGroup; spelled = same_word word _ e }
+  ]
+]
+
+pub name_spelled : (name : ℕ) (word : List ℕ) → name_fault name word ≡ None → IsLoopName name × (word ≡ 120 ∷ decimal name)
+name_spelled name [] h = absurd cc
+name_spelled name (b ∷ bytes) h = by_cases (is_in_form 120 (b ∷ bytes)) _ _
+    (λ form rest. by_cases (is_in_range 1 64 bytes) _ _
+    (λ fits last.
+    let letter = eqb-true b 120 (and_parts (b == 120) _ form).0 in
+    let n = number_spelled 1 64 bytes (omega arith) fits in
+    let told = eqb-true (digits_value 10 bytes) name (told_unless-none _ _ last) in
+    let value = (decimal_is_IsNumeral n.number (omega (arith, n.below))).1 in
+    let same : n.number ≡ name = sym (ap (digits_value 10) n.spelled ∙ value) ∙ told in
+    ((omega (arith, n.above, same), omega (arith, n.below, same)), λ i. letter i ∷ (n.spelled ∙ ap decimal same) i))
+    (λ _ e. absurd cc) rest)
+    (λ _ e. absurd cc) h

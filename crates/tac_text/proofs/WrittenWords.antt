@@ -1,0 +1,282 @@
+-- The words of a function's lines are words that some line has, and no line feed stands in them.
+use Rattle.std.proofs.Common.{◌≡◌, ◌<◌, ◌^◌, ◌==◌, ◌&&◌, ◌||◌, ◌+◌, ◌*◌, ◌%◌, inl, inr, ℕ, suc, ℤ, pos, negsuc, Bool, true, false, nat_lt, nat_le, List, [], ◌∷◌, ◌++◌, map, flat_map, replicate, zero, length, IsUtf8, FitsSigned, w64, decimal, refl, ◌∙◌, arith}
+use Rattle.std.specs.Fmt.{signed_decimal}
+use Rattle.std.specs.List.{AllByRecursion}
+use Rattle.std.proofs.lemmas.Bool.{and_from, and_parts, eqb-true, leb-true, lt-ltb, ltb-true, ne_eqb, or_cases}
+use Rattle.std.proofs.lemmas.Fmt.{decimal_by_steps}
+use Rattle.std.proofs.lemmas.List.Folds.{list_any-append}
+use Rattle.std.proofs.lemmas.Str.{IsUtf8-nil}
+use Rattle.pact_record.specs.declared.operations.Op1.{Op1}
+use Rattle.pact_record.specs.declared.operations.Op1.TheVariants.{Not, IsNull, Len}
+use Rattle.pact_record.specs.declared.operations.Op2.{Op2}
+use Rattle.pact_record.specs.declared.operations.Op2.TheVariants.{Add, Sub, Mul, Div, Rem, AddW, Min, Max, Lt, Le, Eq, And, Or, Cat}
+use Rattle.tac_syntax.specs.declared.statements.Rec.{Rec}
+use Rattle.tac_syntax.specs.declared.statements.Rec.TheVariants.{Reg, Loop, Input, Left, Right, Join, First}
+use Rattle.tac_syntax.specs.declared.statements.LoopList.{LoopList}
+use Rattle.tac_syntax.specs.declared.statements.LoopList.TheVariants.{Group, Left as LeftGroup, Right as RightGroup}
+use Rattle.tac_syntax.specs.declared.functions.Kind.{Kind}
+use Rattle.tac_syntax.specs.declared.functions.Kind.TheVariants.{Map, Match, Cross, Reduce, CoGroup}
+use Rattle.tac_syntax.specs.Code.{load_int, load_text, load_null, move_value, get_field, get_key, apply_one, apply_two, new_record, copy_record, set_field, emit_record, Line, simple, test, turns, over, otherwise, close}
+use Rattle.tac_syntax.specs.Functions.{HasKeys}
+use Rattle.tac_syntax.specs.Grammar.{IsNumber, IsLoopName, IsLiteral, IsSpelledRecord, IsSpelledLine}
+use Rattle.tac_syntax.specs.Names.{all_bytes, is_small_letter, is_digit, is_name_byte, is_name}
+use Rattle.text_lines.specs.CanonicalLines.{IsLineWord, AreLineWords, canonical_line, escaped, spaced, word_text}
+use Rattle.text_lines.specs.LineGrammar.{ends_word, has_return}
+use Rattle.text_lines.specs.declared.line_words.LineWord.{LineWord}
+use Rattle.text_lines.specs.declared.line_words.LineWord.TheVariants.{Plain as plain_word, Literal as literal_word}
+use Rattle.text_lines.proofs.FirstLines.{has_feed}
+use Rattle.text_lines.proofs.Utf8Cuts.{IsUtf8-around_ascii}
+use Rattle.tac_text.specs.FunctionLines.{header_words, IsHeader}
+use Rattle.tac_text.specs.Spelling.{record_word, list_word, op1_word, op2_word, kind_word, key_words}
+use Rattle.tac_text.specs.StatementLines.{words_of_line}
+
+-- ---- words of letters, digits and signs
+
+-- above the number sign, and ASCII
+abbrev pub is_fine : ℕ → Bool
+is_fine b = nat_lt 35 b && nat_lt b 128
+
+abbrev pub are_fine : List ℕ → Bool
+are_fine bytes = all_bytes is_fine bytes
+
+-- not empty, and all its bytes are so
+abbrev pub is_fine_word : List ℕ → Bool
+is_fine_word [] = false
+is_fine_word (b ∷ bytes) = are_fine (b ∷ bytes)
+
+abbrev pub IsFine : LineWord → Type 0
+IsFine (plain_word bytes) = is_fine_word bytes ≡ true
+IsFine (literal_word bytes) = IsLiteral bytes
+
+abbrev pub AreFine : List LineWord → Type 0
+AreFine words = AllByRecursion IsFine words
+
+-- what is known of their bytes
+record FineBytes (bytes : List ℕ) : Type 0 where
+  unbroken : AllByRecursion (λ c. ends_word c ≡ false) bytes
+  utf8 : IsUtf8 bytes
+  no_return : has_return bytes ≡ false
+  no_feed : has_feed bytes ≡ false
+
+fine_bytes : (bytes : List ℕ) → are_fine bytes ≡ true → FineBytes bytes
+fine_bytes [] h = record { unbroken = tt; utf8 = IsUtf8-nil; no_return = refl; no_feed = refl }
+fine_bytes (b ∷ bytes) h =
+    let p = and_parts (is_fine b) (are_fine bytes) h in
+    let q = and_parts (nat_lt 35 b) (nat_lt b 128) p.0 in
+    let above = ltb-true 35 b q.0 in
+    let below = ltb-true b 128 q.1 in
+    let more = fine_bytes bytes p.1 in
+    record {
+      unbroken = (rw (ne_eqb b 32 (λ e. omega arith), ne_eqb b 9 (λ e. omega arith), ne_eqb b 35 (λ e. omega arith)) refl, more.unbroken);
+      utf8 = IsUtf8-around_ascii [] b bytes below IsUtf8-nil more.utf8;
+      no_return = rw (ne_eqb b 13 (λ e. omega arith), more.no_return) refl;
+      no_feed = rw (ne_eqb b 10 (λ e. omega arith), more.no_feed) refl;
+    }
+
+no_quote : (b : ℕ) (bytes : List ℕ) → are_fine (b ∷ bytes) ≡ true → (b == 34) ≡ false
+no_quote b bytes h =
+    let p = and_parts (is_fine b) (are_fine bytes) h in
+    let above = ltb-true 35 b (and_parts (nat_lt 35 b) (nat_lt b 128) p.0).0 in
+    ne_eqb b 34 (λ e. omega arith)
+
+IsLineWord-plain : (bytes : List ℕ) → is_fine_word bytes ≡ true → IsLineWord (plain_word bytes)
+IsLineWord-plain [] h = absurd cc
+IsLineWord-plain (b ∷ bytes) h =
+    let known = fine_bytes (b ∷ bytes) h in
+    ((no_quote b bytes h, known.unbroken), known.utf8, known.no_return)
+
+IsLineWord-fine : (word : LineWord) → IsFine word → IsLineWord word
+IsLineWord-fine (plain_word bytes) h = IsLineWord-plain bytes h
+IsLineWord-fine (literal_word bytes) h = h
+
+pub AreLineWords-fine : (words : List LineWord) → AreFine words → AreLineWords words
+AreLineWords-fine [] h = tt
+AreLineWords-fine (word ∷ words) h = (IsLineWord-fine word h.0, AreLineWords-fine words h.1)
+
+-- ---- parts of words
+
+all_bytes-append : (passes : ℕ → Bool) (x y : List ℕ) → all_bytes passes x ≡ true → all_bytes passes y ≡ true → all_bytes passes (x ++ y) ≡ true
+all_bytes-append passes [] y h k = k
+all_bytes-append passes (b ∷ x) y h k = let p = and_parts (passes b) (all_bytes passes x) h in and_from (passes b) _ p.0 (all_bytes-append passes x y p.1 k)
+
+is_fine_word-append : (x y : List ℕ) → is_fine_word x ≡ true → are_fine y ≡ true → is_fine_word (x ++ y) ≡ true
+is_fine_word-append [] y h k = absurd cc
+is_fine_word-append (b ∷ x) y h k = all_bytes-append is_fine (b ∷ x) y h k
+
+are_fine-word : (bytes : List ℕ) → is_fine_word bytes ≡ true → are_fine bytes ≡ true
+are_fine-word [] h = absurd cc
+are_fine-word (b ∷ bytes) h = h
+
+fine_between : (b : ℕ) → 35 < b → b < 128 → is_fine b ≡ true
+fine_between b h k = and_from (nat_lt 35 b) (nat_lt b 128) (lt-ltb 35 b h) (lt-ltb b 128 k)
+
+fine_digit : (n : ℕ) → n < 10 → is_fine_word ((48 + n) ∷ []) ≡ true
+fine_digit n h = rw (fine_between (48 + n) (omega arith) (omega (arith, h))) refl
+
+fine_decimal : (n : ℕ) → n < 2 ^ 64 → is_fine_word (decimal n) ≡ true
+fine_decimal = decimal_by_steps (λ _ ds. is_fine_word ds ≡ true) (λ n h. fine_digit n h)
+    (λ n ds h p. is_fine_word-append ds ((48 + n % 10) ∷ []) p (are_fine-word ((48 + n % 10) ∷ []) (fine_digit (n % 10) (omega arith))))
+
+-- a letter or a sign, and a number
+fine_numbered : (b n : ℕ) → is_fine b ≡ true → n < 2 ^ 64 → is_fine_word (b ∷ decimal n) ≡ true
+fine_numbered b n h k = and_from (is_fine b) (are_fine (decimal n)) h (are_fine-word (decimal n) (fine_decimal n k))
+
+fine_signed : (z : ℤ) → FitsSigned w64 z → is_fine_word (signed_decimal z) ≡ true
+fine_signed (pos n) h = fine_decimal n (omega (arith, h))
+fine_signed (negsuc n) h = fine_numbered 45 (suc n) refl (omega (arith, h))
+
+fine_name_byte : (b : ℕ) → is_name_byte b ≡ true → is_fine b ≡ true
+fine_name_byte b h = elim (or_cases (is_small_letter b || is_digit b) (b == 95) h) [
+  | inl others ↦ elim (or_cases (is_small_letter b) (is_digit b) others) [
+    | inl letter ↦
+        let p = and_parts (nat_le 97 b) (nat_le b 122) letter in
+        let low = leb-true 97 b p.0 in
+        let high = leb-true b 122 p.1 in
+        fine_between b (omega arith) (omega arith)
+    | inr digit ↦
+        let p = and_parts (nat_le 48 b) (nat_le b 57) digit in
+        let low = leb-true 48 b p.0 in
+        let high = leb-true b 57 p.1 in
+        fine_between b (omega arith) (omega arith)
+  ]
+  | inr underscore ↦ let e = eqb-true b 95 underscore in fine_between b (omega arith) (omega arith)
+]
+
+fine_name_bytes : (bytes : List ℕ) → all_bytes is_name_byte bytes ≡ true → are_fine bytes ≡ true
+fine_name_bytes [] h = refl
+fine_name_bytes (b ∷ bytes) h =
+    let p = and_parts (is_name_byte b) (all_bytes is_name_byte bytes) h in
+    and_from (is_fine b) (are_fine bytes) (fine_name_byte b p.0) (fine_name_bytes bytes p.1)
+
+small_letter-name_byte : (b : ℕ) → is_small_letter b ≡ true → is_name_byte b ≡ true
+small_letter-name_byte b h = rw h refl
+
+fine_name : (name : List ℕ) → is_name name ≡ true → is_fine_word name ≡ true
+fine_name [] h = absurd cc
+fine_name (b ∷ name) h =
+    let p = and_parts (is_small_letter b && all_bytes is_name_byte name) (nat_le (length name) 31) h in
+    let q = and_parts (is_small_letter b) (all_bytes is_name_byte name) p.0 in
+    and_from (is_fine b) (are_fine name) (fine_name_byte b (small_letter-name_byte b q.0)) (fine_name_bytes name q.1)
+
+-- ---- lines
+
+number_word : (n : ℕ) → IsNumber n → IsFine (plain_word (decimal n))
+number_word n h = fine_decimal n (omega (arith, h))
+
+value_word : (n : ℕ) → IsNumber n → IsFine (plain_word (118 ∷ decimal n))
+value_word n h = fine_numbered 118 n refl (omega (arith, h))
+
+register_word : (n : ℕ) → IsNumber n → IsFine (plain_word (114 ∷ decimal n))
+register_word n h = fine_numbered 114 n refl (omega (arith, h))
+
+name_word : (n : ℕ) → IsLoopName n → IsFine (plain_word (120 ∷ decimal n))
+name_word n h = fine_numbered 120 n refl (omega (arith, h.1))
+
+fine_record : (from : Rec) → IsSpelledRecord from → IsFine (plain_word (record_word from))
+fine_record (Reg k) h = register_word k h
+fine_record (Loop name) h = name_word name h
+fine_record Input h = refl
+fine_record Left h = refl
+fine_record Right h = refl
+fine_record Join h = refl
+fine_record First h = refl
+
+fine_list : (list : LoopList) → IsFine (plain_word (list_word list))
+fine_list Group = refl
+fine_list LeftGroup = refl
+fine_list RightGroup = refl
+
+fine_op1 : (op : Op1) → IsFine (plain_word (op1_word op))
+fine_op1 Not = refl
+fine_op1 IsNull = refl
+fine_op1 Len = refl
+
+fine_op2 : (op : Op2) → IsFine (plain_word (op2_word op))
+fine_op2 Add = refl
+fine_op2 Sub = refl
+fine_op2 Mul = refl
+fine_op2 Div = refl
+fine_op2 Rem = refl
+fine_op2 AddW = refl
+fine_op2 Min = refl
+fine_op2 Max = refl
+fine_op2 Lt = refl
+fine_op2 Le = refl
+fine_op2 Eq = refl
+fine_op2 And = refl
+fine_op2 Or = refl
+fine_op2 Cat = refl
+
+pub AreFine-words_of_line : (lists : ℕ) (l : Line) → IsSpelledLine lists l → AreFine (words_of_line l)
+AreFine-words_of_line lists (simple (load_int to value)) h = (value_word to h.0, (refl, (refl, (fine_signed value h.1, tt))))
+AreFine-words_of_line lists (simple (load_text to bytes)) h = (value_word to h.0, (refl, (refl, (h.1, tt))))
+AreFine-words_of_line lists (simple (load_null to)) h = (value_word to h, (refl, (refl, tt)))
+AreFine-words_of_line lists (simple (move_value to from)) h = (value_word to h.0, (refl, (refl, (value_word from h.1, tt))))
+AreFine-words_of_line lists (simple (get_field to from field)) h = (value_word to h.0, (refl, (refl, (fine_record from h.1, (number_word field h.2, tt)))))
+AreFine-words_of_line lists (simple (get_key to at)) h = (value_word to h.0, (refl, (refl, (number_word at h.1, tt))))
+AreFine-words_of_line lists (simple (apply_one to op a)) h = (value_word to h.0, (refl, (fine_op1 op, (value_word a h.1, tt))))
+AreFine-words_of_line lists (simple (apply_two to op a b)) h = (value_word to h.0, (refl, (fine_op2 op, (value_word a h.1, (value_word b h.2, tt)))))
+AreFine-words_of_line lists (simple (new_record to)) h = (register_word to h, (refl, (refl, tt)))
+AreFine-words_of_line lists (simple (copy_record to from)) h = (register_word to h.0, (refl, (refl, (fine_record from h.1, tt))))
+AreFine-words_of_line lists (simple (set_field to field value)) h = (refl, (register_word to h.0, (number_word field h.1, (value_word value h.2, tt))))
+AreFine-words_of_line lists (simple (emit_record from)) h = (refl, (register_word from h, tt))
+AreFine-words_of_line lists (test on) h = (refl, (value_word on h, tt))
+AreFine-words_of_line lists (turns count) h = (refl, (fine_decimal count (omega (arith, h.1)), tt))
+AreFine-words_of_line lists (over name list) h = (refl, (name_word name h.1, (refl, (fine_list list, tt))))
+AreFine-words_of_line lists otherwise h = (refl, tt)
+AreFine-words_of_line lists close h = (refl, tt)
+
+fine_kind : (kind : Kind) → IsFine (plain_word (kind_word kind))
+fine_kind Map = refl
+fine_kind Match = refl
+fine_kind Cross = refl
+fine_kind Reduce = refl
+fine_kind CoGroup = refl
+
+fine_keys : (kind : Kind) (keys : ℕ) → HasKeys kind keys → AreFine (map plain_word (key_words kind keys))
+fine_keys Map keys h = tt
+fine_keys Match keys h = tt
+fine_keys Cross keys h = tt
+fine_keys Reduce keys h = (fine_decimal keys (omega (arith, h.1)), tt)
+fine_keys CoGroup keys h = (fine_decimal keys (omega (arith, h.1)), tt)
+
+pub AreFine-header_words : (name : List ℕ) (kind : Kind) (keys : ℕ) → IsHeader name kind keys → AreFine (header_words name kind keys)
+AreFine-header_words name kind keys h = (refl, (fine_name name h.0, (fine_kind kind, fine_keys kind keys h.1)))
+
+-- ---- no line feeds
+
+has_feed-append : (x y : List ℕ) → has_feed x ≡ false → has_feed y ≡ false → has_feed (x ++ y) ≡ false
+has_feed-append x y h k = list_any-append (λ (b : ℕ). b == 10) x y ∙ rw (h, k) refl
+
+escape_without_feed : (b : ℕ) (backslash quote feed return tab : Bool)
+    → (b == 92) ≡ backslash → (b == 34) ≡ quote → (b == 10) ≡ feed → (b == 13) ≡ return → (b == 9) ≡ tab → has_feed (escaped b) ≡ false
+escape_without_feed b true quote feed return tab p q r s t = rw p refl
+escape_without_feed b false true feed return tab p q r s t = rw (p, q) refl
+escape_without_feed b false false true return tab p q r s t = rw (p, q, r) refl
+escape_without_feed b false false false true tab p q r s t = rw (p, q, r, s) refl
+escape_without_feed b false false false false true p q r s t = rw (p, q, r, s, t) refl
+escape_without_feed b false false false false false p q r s t = rw (p, q, r, s, t) (rw r refl)
+
+has_feed-escaped : (bytes : List ℕ) → has_feed (flat_map escaped bytes) ≡ false
+has_feed-escaped [] = refl
+has_feed-escaped (b ∷ bytes) =
+    has_feed-append (escaped b) (flat_map escaped bytes) (escape_without_feed b (b == 92) (b == 34) (b == 10) (b == 13) (b == 9) refl refl refl refl refl) (has_feed-escaped bytes)
+
+has_feed-word_text : (word : LineWord) → IsFine word → has_feed (word_text word) ≡ false
+has_feed-word_text (plain_word bytes) h = (fine_bytes bytes (are_fine-word bytes h)).no_feed
+has_feed-word_text (literal_word bytes) h = has_feed-append (flat_map escaped bytes) (34 ∷ []) (has_feed-escaped bytes) refl
+
+has_feed-more : (words : List LineWord) → AreFine words → has_feed (flat_map (λ v. 32 ∷ v) (map word_text words)) ≡ false
+has_feed-more [] h = refl
+has_feed-more (word ∷ words) h = has_feed-append (word_text word) (flat_map (λ v. 32 ∷ v) (map word_text words)) (has_feed-word_text word h.0) (has_feed-more words h.1)
+
+has_feed-spaced : (words : List LineWord) → AreFine words → has_feed (spaced (map word_text words)) ≡ false
+has_feed-spaced [] h = refl
+has_feed-spaced (word ∷ words) h = has_feed-append (word_text word) (flat_map (λ v. 32 ∷ v) (map word_text words)) (has_feed-word_text word h.0) (has_feed-more words h.1)
+
+has_feed-spaces : (n : ℕ) → has_feed (replicate n 32) ≡ false
+has_feed-spaces zero = refl
+has_feed-spaces (suc n) = has_feed-spaces n
+
+pub has_feed-canonical_line : (depth : ℕ) (words : List LineWord) → AreFine words → has_feed (canonical_line depth words) ≡ false
+has_feed-canonical_line depth words h = has_feed-append (replicate (2 * depth) 32) (spaced (map word_text words)) (has_feed-spaces (2 * depth)) (has_feed-spaced words h)

@@ -1,0 +1,59 @@
+-- A function as far as its lines were read, and what reading a line of it answers.
+use Rattle.std.specs.Prelude.{◌≡◌, ℕ, Bool, true, false, List, [], Option, Some, None, Result, Ok, Err, refl}
+use Rattle.std.specs.Borrow.{Bor}
+use Rattle.std.specs.Coded.{Coded, code_by, coded×, coded_list, coded_ℕ}
+use Rattle.tac_syntax.specs.Code.{Line, close}
+use Rattle.tac_syntax.specs.declared.functions.Function.{Function}
+use Rattle.tac_syntax.specs.declared.functions.Kind.{Kind}
+use Rattle.tac_syntax.specs.contracts.functions.Kind.{the_row}
+use Rattle.text_lines.specs.declared.line_words.LineWord.{LineWord}
+use Rattle.tac_text.specs.BuildCode.{coded_build}
+use Rattle.tac_text.specs.Building.{Build, build_start}
+use Rattle.tac_text.specs.declared.statement_reading.NotLine.{NotLine}
+use Rattle.tac_text.specs.declared.statement_reading.NotLine.TheVariants.{Fault, Memory}
+use Rattle.tac_text.specs.Places.{MayInside, built_on}
+use Rattle.tac_text.specs.StatementLines.{words_of_line}
+
+-- ---- a function as far as it was read
+
+-- what its header says, and what the lines behind it have come to
+pub record OpenData : Type 0 where
+  pub name : List ℕ
+  pub kind : Kind
+  pub keys : ℕ
+  pub build : Build
+
+abbrev pub with_build : OpenData → Build → OpenData
+with_build o build = record { name = o.name; kind = o.kind; keys = o.keys; build = build }
+
+abbrev pub begun : List ℕ → Kind → ℕ → OpenData
+begun name kind keys = record { name = name; kind = kind; keys = keys; build = build_start }
+
+-- what it is at its `end`
+abbrev pub function_of : OpenData → Function
+function_of o = record { name = o.name; kind = o.kind; keys = o.keys; body = o.build.body }
+
+-- how it is stored in the logic
+abbrev pub coded_open : Coded OpenData
+coded_open =
+    code_by (List ℕ × (Kind × (ℕ × Build))) (coded× (coded_list coded_ℕ) (coded× the_row.coded (coded× coded_ℕ coded_build)))
+    (λ o. (o.name, (o.kind, (o.keys, o.build)))) (λ p. record { name = p.0; kind = p.1.0; keys = p.1.1.0; build = p.1.1.1 }) (λ _. refl)
+
+-- ---- answers
+
+-- the parts of a header
+abbrev pub IsHeaderOf : Option (Bor (List ℕ) × Kind × ℕ) → List ℕ → Kind → ℕ → Type 0
+IsHeaderOf None name kind keys = ⊥
+IsHeaderOf (Some h) name kind keys = (h.0.now ≡ name) × (h.1 ≡ kind) × (h.2 ≡ keys)
+
+-- this header with no line behind it, or want of memory
+abbrev pub GivesHeader : Result OpenData NotLine → List ℕ → Kind → ℕ → Type 0
+GivesHeader (Ok o) name kind keys = o ≡ begun name kind keys
+GivesHeader (Err (Fault what)) name kind keys = ⊥
+GivesHeader (Err Memory) name kind keys = Unit {0}
+
+-- Whether these words were the function's own `end`: they are it where no block is open, and nothing changes. Else they are a line of the body,
+-- which was taken.
+abbrev pub TakesWords : Bool → List LineWord → OpenData → OpenData → Type 0
+TakesWords true words old now = (words ≡ words_of_line close) × (old.build.blocks ≡ []) × (now ≡ old)
+TakesWords false words old now = (l : Line) × (words ≡ words_of_line l) × MayInside old.build l × (now ≡ with_build old (built_on old.build l))

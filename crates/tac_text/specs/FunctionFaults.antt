@@ -1,0 +1,87 @@
+-- What is wrong with a line of a function's text: the first fault from the left.
+use Rattle.std.specs.Prelude.{ℕ, Bool, ◌||◌, if◌then◌else◌, Option, Some, None, List, [], ◌∷◌, codes, bytes_eq}
+use Rattle.tac_syntax.specs.declared.functions.Kind.{Kind}
+use Rattle.tac_syntax.specs.declared.functions.Kind.TheVariants.{Map, Match, Cross, Reduce, CoGroup}
+use Rattle.tac_syntax.specs.Functions.{key_limit}
+use Rattle.tac_syntax.specs.Names.{is_name}
+use Rattle.text_lines.specs.declared.line_words.LineWord.{LineWord}
+use Rattle.text_lines.specs.declared.line_words.LineWord.TheVariants.{Plain as plain_word, Literal as literal_word}
+use Rattle.text_lines.specs.Digits.{told_unless, or_else}
+use Rattle.tac_text.specs.StatementFaults.{Slot, number, first_fault, statement_fault}
+use Rattle.tac_text.specs.StatementLines.{LinePlace}
+
+-- before the header, inside the function, and behind its `end`
+pub data FunctionPlace : Type 0 where
+  header_due : FunctionPlace
+  inside_body : (place : LinePlace) → FunctionPlace
+  function_ended : FunctionPlace
+
+-- ---- headers
+
+-- fault 6 where a word is no name
+abbrev pub function_name_fault : LineWord → Option ℕ
+function_name_fault (plain_word word) = told_unless (is_name word) 6
+function_name_fault (literal_word bytes) = Some 6
+
+abbrev pub kind_named : List ℕ → Option Kind
+kind_named word =
+    if bytes_eq word (codes "map") then Some Map
+    else (if bytes_eq word (codes "match") then Some Match
+    else (if bytes_eq word (codes "cross") then Some Cross
+    else (if bytes_eq word (codes "reduce") then Some Reduce
+    else (if bytes_eq word (codes "cogroup") then Some CoGroup else None))))
+
+abbrev pub kind_of_word : LineWord → Option Kind
+kind_of_word (plain_word word) = kind_named word
+kind_of_word (literal_word bytes) = None
+
+-- what stands behind a kind: the number of keys for the kinds that have keys
+abbrev pub key_slots : Kind → List Slot
+key_slots Map = []
+key_slots Match = []
+key_slots Cross = []
+key_slots Reduce = number 1 key_limit ∷ []
+key_slots CoGroup = number 1 key_limit ∷ []
+
+-- fault 9 where a word is no kind
+abbrev pub keys_fault : Option Kind → List LineWord → Option ℕ
+keys_fault None words = Some 9
+keys_fault (Some kind) words = first_fault (key_slots kind) words
+
+-- the words behind the name
+abbrev pub kind_fault : List LineWord → Option ℕ
+kind_fault [] = Some 4
+kind_fault (word ∷ words) = keys_fault (kind_of_word word) words
+
+-- the words behind `function`
+abbrev pub named_fault : List LineWord → Option ℕ
+named_fault [] = Some 4
+named_fault (word ∷ words) = or_else (function_name_fault word) (kind_fault words)
+
+abbrev pub is_part_or_end : List ℕ → Bool
+is_part_or_end word = bytes_eq word (codes "else") || bytes_eq word (codes "end")
+
+-- Another word than `function` is fault 10 where it would part or end a block, and else fault 3.
+abbrev pub header_fault : List LineWord → Option ℕ
+header_fault [] = None
+header_fault (plain_word word ∷ words) =
+    if bytes_eq word (codes "function") then named_fault words else (if is_part_or_end word then Some 10 else Some 3)
+header_fault (literal_word bytes ∷ words) = Some 3
+
+-- ---- functions
+
+-- behind the `end` nothing is read
+abbrev pub ended_fault : List LineWord → Option ℕ
+ended_fault [] = None
+ended_fault (word ∷ words) = Some 3
+
+abbrev pub function_fault : FunctionPlace → List LineWord → Option ℕ
+function_fault header_due words = header_fault words
+function_fault (inside_body place) words = statement_fault place words
+function_fault function_ended words = ended_fault words
+
+-- what is told where the text ends
+abbrev pub function_missing : FunctionPlace → Option ℕ
+function_missing header_due = Some 10
+function_missing (inside_body place) = Some 10
+function_missing function_ended = None

@@ -1,0 +1,61 @@
+-- The text of a function: its header, the lines of its body, and `end`.
+use Rattle.std.specs.Prelude.{◌≡◌, ◌≤◌, ℕ, List, [], ◌∷◌, ◌++◌, map, length, drop, IsTrue}
+use Rattle.tac_syntax.specs.declared.functions.Kind.{Kind}
+use Rattle.tac_syntax.specs.declared.functions.Function.{Function}
+use Rattle.tac_syntax.specs.Code.{Line, close, nesting}
+use Rattle.tac_syntax.specs.Functions.{HasKeys, IsSpelledFunction}
+use Rattle.tac_syntax.specs.Limits.{nesting_limit}
+use Rattle.tac_syntax.specs.Names.{is_name}
+use Rattle.text_lines.specs.declared.line_words.LineWord.{LineWord}
+use Rattle.text_lines.specs.declared.line_words.LineWord.TheVariants.{Plain as plain_word}
+use Rattle.text_lines.specs.TextLines.{HasWords, Say, lines_of}
+use Rattle.tac_text.specs.Blocks.{SpellsBody}
+use Rattle.tac_text.specs.Spelling.{header_texts}
+use Rattle.tac_text.specs.StatementLines.{words_of_line}
+
+-- ---- lines
+
+-- a function's first line, or one behind it
+pub data FunctionLine : Type 0 where
+  header : (name : List ℕ) → (kind : Kind) → (keys : ℕ) → FunctionLine
+  inside : (line : Line) → FunctionLine
+
+abbrev pub header_words : List ℕ → Kind → ℕ → List LineWord
+header_words name kind keys = map plain_word (header_texts name kind keys)
+
+abbrev pub words_of_function_line : FunctionLine → List LineWord
+words_of_function_line (header name kind keys) = header_words name kind keys
+words_of_function_line (inside line) = words_of_line line
+
+abbrev pub IsHeader : List ℕ → Kind → ℕ → Type 0
+IsHeader name kind keys = IsTrue (is_name name) × HasKeys kind keys
+
+-- ---- texts
+
+-- the words of its lines: the header, the body, and the `end` of the function
+abbrev pub SpellsFunction : Function → List (List LineWord) → Type 0
+SpellsFunction f said =
+    (lines : List Line) × SpellsBody f.body lines × (said ≡ header_words f.name f.kind f.keys ∷ (map words_of_line lines ++ words_of_line close ∷ []))
+
+-- some text spells it
+abbrev pub IsWritable : Function → Type 0
+IsWritable f = IsSpelledFunction f × (nesting f.body ≤ nesting_limit)
+
+-- These lines are the function's text. Lines without words may stand anywhere, behind the `end` too.
+pub record FunctionText (f : Function) (text : List (List ℕ)) : Type 0 where
+  pub said : List (List LineWord)
+  pub says : Say text said
+  pub spelled : SpellsFunction f said
+  pub writable : IsWritable f
+
+abbrev pub EndsWithEnd : List (List ℕ) → Type 0
+EndsWithEnd text = (front : List (List ℕ)) × (last : List ℕ) × (text ≡ front ++ last ∷ []) × HasWords last (words_of_line close)
+
+-- In these bytes the function's text stands from one place up to another, the first behind the line of its `end`.
+abbrev pub FunctionAt : Function → List ℕ → ℕ → ℕ → Type 0
+FunctionAt f text at behind =
+    (front : List (List ℕ)) × (at ≤ behind) × (behind ≤ length text) × (lines_of (drop at text) ≡ front ++ lines_of (drop behind text)) × FunctionText f front × EndsWithEnd front
+
+-- the text of some function
+abbrev pub IsFunctionText : List (List ℕ) → Type 0
+IsFunctionText lines = (f : Function) × FunctionText f lines

@@ -1,0 +1,82 @@
+-- Reading a function: where its lines have led, and which may follow.
+use Rattle.std.specs.Prelude.{◌≡◌, Bool, true, false, ℕ, List, [], ◌∷◌, Option, Some, None}
+use Rattle.tac_syntax.specs.Code.{Line, simple, test, turns, over, otherwise, close}
+use Rattle.tac_syntax.specs.declared.functions.Function.{Function}
+use Rattle.text_lines.specs.declared.line_words.LineWord.{LineWord}
+use Rattle.text_lines.specs.FirstFaults.{HasFault}
+use Rattle.text_lines.specs.Runs.{Runs}
+use Rattle.text_lines.specs.TextLines.{HasWords}
+use Rattle.tac_text.specs.declared.building.Block.{Block}
+use Rattle.tac_text.specs.declared.statement_reading.NotLine.{NotLine}
+use Rattle.tac_text.specs.declared.statement_reading.NotLine.TheVariants.{Fault, Memory}
+use Rattle.tac_text.specs.FunctionAnswers.{OpenData, begun, function_of, with_build}
+use Rattle.tac_text.specs.FunctionFaults.{FunctionPlace, header_due, inside_body, function_ended, function_fault}
+use Rattle.tac_text.specs.FunctionLines.{FunctionLine, header, inside, words_of_function_line, IsHeader}
+use Rattle.tac_text.specs.Places.{built_on, place_of}
+use Rattle.tac_text.specs.StatementLines.{MayStand, words_of_line}
+
+-- before the header, behind some lines of the function, and behind its `end`
+pub data FunctionState : Type 0 where
+  waiting : FunctionState
+  reading : (begun : OpenData) → FunctionState
+  whole : (f : Function) → FunctionState
+
+abbrev pub MayFollow : FunctionState → FunctionLine → Type 0
+MayFollow waiting (header name kind keys) = IsHeader name kind keys
+MayFollow waiting (inside l) = ⊥
+MayFollow (reading o) (header name kind keys) = ⊥
+MayFollow (reading o) (inside l) = MayStand (place_of o.build) l
+MayFollow (whole f) l = ⊥
+
+-- an `end` where no block is open ends the function
+abbrev pub after_inside : Line → List Block → OpenData → FunctionState
+after_inside (simple s) blocks o = reading (with_build o (built_on o.build (simple s)))
+after_inside (test on) blocks o = reading (with_build o (built_on o.build (test on)))
+after_inside (turns count) blocks o = reading (with_build o (built_on o.build (turns count)))
+after_inside (over name list) blocks o = reading (with_build o (built_on o.build (over name list)))
+after_inside otherwise blocks o = reading (with_build o (built_on o.build otherwise))
+after_inside close [] o = whole (function_of o)
+after_inside close (block ∷ blocks) o = reading (with_build o (built_on o.build close))
+
+-- a line that may not follow leads nowhere
+abbrev pub after : FunctionState → FunctionLine → FunctionState
+after waiting (header name kind keys) = reading (begun name kind keys)
+after waiting (inside l) = waiting
+after (reading o) (header name kind keys) = reading o
+after (reading o) (inside l) = after_inside l o.build.blocks o
+after (whole f) l = whole f
+
+abbrev pub place_at : FunctionState → FunctionPlace
+place_at waiting = header_due
+place_at (reading o) = inside_body (place_of o.build)
+place_at (whole f) = function_ended
+
+-- these lines of a text lead from one state to another
+abbrev pub Leads : FunctionState → List (List ℕ) → FunctionState → Type 0
+Leads s lines t = Runs words_of_function_line MayFollow after s lines t
+
+-- ---- answers
+
+-- what the reader has at hand
+abbrev pub state_of : Option OpenData → FunctionState
+state_of None = waiting
+state_of (Some o) = reading o
+
+-- the function's own `end` leaves the reader as it was
+abbrev pub IsOwnEnd : List LineWord → Option OpenData → Option OpenData → Type 0
+IsOwnEnd words old now = (o : OpenData) × (old ≡ Some o) × (o.build.blocks ≡ []) × (words ≡ words_of_line close) × (now ≡ old)
+
+-- whether words of a line were the function's own `end`
+abbrev pub LeadsOn : Bool → List LineWord → Option OpenData → Option OpenData → Type 0
+LeadsOn true words old now = IsOwnEnd words old now
+LeadsOn false words old now = (l : FunctionLine) × (words ≡ words_of_function_line l) × MayFollow (state_of old) l × (state_of now ≡ after (state_of old) l)
+
+-- whether a line was it
+abbrev pub LeadsLine : Bool → List ℕ → Option OpenData → Option OpenData → Type 0
+LeadsLine true line old now = (words : List LineWord) × HasWords line words × IsOwnEnd words old now
+LeadsLine false line old now = Leads (state_of old) (line ∷ []) (state_of now)
+
+-- a fault that is told is the line's own
+abbrev pub HasLineCause : NotLine → List ℕ → Option OpenData → Type 0
+HasLineCause (Fault what) line old = HasFault (function_fault (place_at (state_of old))) line what
+HasLineCause Memory line old = Unit {0}

@@ -1,0 +1,108 @@
+-- Where a line of a body stands, and what the lines before it have come to.
+use Rattle.std.specs.Prelude.{◌≡◌, ◌≤◌, ◌<◌, ◌+◌, ℕ, Bool, true, false, Option, Some, None, List, [], ◌∷◌, ◌++◌, length}
+use Rattle.tac_syntax.specs.Code.{Code, Line, simple, test, turns, over, otherwise, close, nesting}
+use Rattle.tac_syntax.specs.Grammar.{IsSpelled, IsSpelledLine}
+use Rattle.tac_syntax.specs.Limits.{nesting_limit}
+use Rattle.tac_text.specs.declared.building.Block.{Block}
+use Rattle.tac_text.specs.declared.building.Block.TheVariants.{If, Else, Repeat, Each}
+use Rattle.tac_text.specs.Blocks.{SpellsBody}
+use Rattle.tac_text.specs.Building.{Build, built}
+use Rattle.tac_text.specs.StatementLines.{LinePlace, MayStand}
+
+-- ---- places
+
+-- how many of the open blocks are `each`
+abbrev pub lists_in : List Block → ℕ
+lists_in [] = 0
+lists_in (If on before ∷ blocks) = lists_in blocks
+lists_in (Else on first before ∷ blocks) = lists_in blocks
+lists_in (Repeat count before ∷ blocks) = lists_in blocks
+lists_in (Each name list before ∷ blocks) = lists_in blocks + 1
+
+-- `else` may follow where the innermost block is the first body of an `if`
+abbrev pub may_part : List Block → Bool
+may_part [] = false
+may_part (If on before ∷ blocks) = true
+may_part (Else on first before ∷ blocks) = false
+may_part (Repeat count before ∷ blocks) = false
+may_part (Each name list before ∷ blocks) = false
+
+abbrev pub place_of : Build → LinePlace
+place_of b = record { blocks = length b.blocks; lists = lists_in b.blocks; may_part = may_part b.blocks }
+
+-- An `end` where no block is open ends what the body belongs to, and is no line of the body.
+abbrev pub IsInside : Line → List Block → Type 0
+IsInside (simple s) blocks = Unit {0}
+IsInside (test on) blocks = Unit {0}
+IsInside (turns count) blocks = Unit {0}
+IsInside (over name list) blocks = Unit {0}
+IsInside otherwise blocks = Unit {0}
+IsInside close [] = ⊥
+IsInside close (block ∷ blocks) = Unit {0}
+
+-- a line that the body may go on with
+abbrev pub MayInside : Build → Line → Type 0
+MayInside b l = MayStand (place_of b) l × IsInside l b.blocks
+
+abbrev pub built_or : Build → Option Build → Build
+built_or b None = b
+built_or b (Some next) = next
+
+-- behind a line; a line that can't follow leads nowhere
+abbrev pub built_on : Build → Line → Build
+built_on b l = built_or b (built b l)
+
+-- ---- what was read
+
+-- the line that opened a block
+abbrev pub opening : Block → Line
+opening (If on before) = test on
+opening (Else on first before) = test on
+opening (Repeat count before) = turns count
+opening (Each name list before) = over name list
+
+-- what stands before a block in the body around it
+abbrev pub before_block : Block → Code
+before_block (If on before) = before
+before_block (Else on first before) = before
+before_block (Repeat count before) = before
+before_block (Each name list before) = before
+
+-- a body can be spelled inside so many blocks, so many of them `each`, and none of its blocks is too deep there
+abbrev pub FitsBody : (blocks lists : ℕ) → Code → Type 0
+FitsBody blocks lists body = IsSpelled lists body × (blocks + nesting body ≤ nesting_limit)
+
+-- the first body of an `if` whose second is open
+abbrev pub FitsFirst : List Block → Block → Type 0
+FitsFirst around (If on before) = Unit {0}
+FitsFirst around (Else on first before) = FitsBody (length around + 1) (lists_in around) first
+FitsFirst around (Repeat count before) = Unit {0}
+FitsFirst around (Each name list before) = Unit {0}
+
+-- each open block may stand where it does, and what was read before it and in it fits there
+abbrev pub FitsBlocks : List Block → Type 0
+FitsBlocks [] = Unit {0}
+FitsBlocks (block ∷ around) =
+    FitsBlocks around × (length around < nesting_limit) × IsSpelledLine (lists_in around) (opening block) × FitsBody (length around) (lists_in around) (before_block block) × FitsFirst around block
+
+-- so that what is built can always be ended
+abbrev pub FitsBuild : Build → Type 0
+FitsBuild b = FitsBlocks b.blocks × FitsBody (length b.blocks) (lists_in b.blocks) b.body
+
+-- The lines of a block that were read, without those of the body that is open: its first line, and for the second body of an `if` the lines of
+-- the first body and `else`.
+abbrev pub BeginsBlock : Block → List Line → Type 0
+BeginsBlock (If on before) lines = lines ≡ test on ∷ []
+BeginsBlock (Else on first before) lines = (inside : List Line) × SpellsBody first inside × (lines ≡ test on ∷ (inside ++ otherwise ∷ []))
+BeginsBlock (Repeat count before) lines = lines ≡ turns count ∷ []
+BeginsBlock (Each name list before) lines = lines ≡ over name list ∷ []
+
+-- the lines up to the innermost body: for each open block those before it, and those that begin it
+abbrev pub FrontOfBlocks : List Block → List Line → Type 0
+FrontOfBlocks [] lines = lines ≡ []
+FrontOfBlocks (block ∷ around) lines =
+    (outer before begun : List Line) × FrontOfBlocks around outer × SpellsBody (before_block block) before × BeginsBlock block begun × (lines ≡ outer ++ (before ++ begun))
+
+-- the lines that were read, for what they have come to
+abbrev pub Front : Build → List Line → Type 0
+Front b lines = (outer inside : List Line) × FrontOfBlocks b.blocks outer × SpellsBody b.body inside × (lines ≡ outer ++ inside)

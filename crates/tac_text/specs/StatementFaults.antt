@@ -1,0 +1,157 @@
+-- What is wrong with a line that should be a statement's: the first fault from the left.
+use Rattle.std.specs.Prelude.{ℕ, ◌+◌, ◌==◌, Bool, false, ◌||◌, if◌then◌else◌, nat_lt, Option, Some, None, List, [], ◌∷◌, codes, bytes_eq}
+use Rattle.std.specs.Str.Parse.{digits_value}
+use Rattle.tac_syntax.specs.Limits.{nesting_limit}
+use Rattle.text_lines.specs.declared.line_words.LineWord.{LineWord}
+use Rattle.text_lines.specs.declared.line_words.LineWord.TheVariants.{Plain as plain_word, Literal as literal_word}
+use Rattle.text_lines.specs.Digits.{is_in_form, is_in_range, is_signed_word, told_unless, or_else}
+use Rattle.tac_text.specs.StatementLines.{LinePlace}
+
+-- ---- slots
+
+-- what is wanted at a word's place
+pub data Slot : Type 0 where
+  fixed : (word : List ℕ) → Slot
+  register : (letter : ℕ) → Slot
+  operand : Slot
+  number : (low high : ℕ) → Slot
+  signed : Slot
+  text : Slot
+  loop : (name : ℕ) → Slot
+  list : Slot
+
+-- behind a letter
+abbrev pub numbered_fault : ℕ → ℕ → List ℕ → Option ℕ
+numbered_fault low high [] = Some 7
+numbered_fault low high (b ∷ bytes) = told_unless (is_in_range low high bytes) 7
+
+abbrev pub register_fault : ℕ → List ℕ → Option ℕ
+register_fault letter word = if is_in_form letter word then numbered_fault 0 255 word else Some 8
+
+-- a record of the kind, a record register or the name of a loop
+abbrev pub is_fixed_record : List ℕ → Bool
+is_fixed_record word = bytes_eq word (codes "in") || bytes_eq word (codes "left") || bytes_eq word (codes "right") || bytes_eq word (codes "join") || bytes_eq word (codes "first")
+
+abbrev pub operand_fault : List ℕ → Option ℕ
+operand_fault word =
+    if is_fixed_record word then None
+    else (if is_in_form 114 word then numbered_fault 0 255 word
+    else (if is_in_form 120 word then numbered_fault 1 64 word else Some 8))
+
+-- the name of its place: a name in form with another number is fault 11
+abbrev pub name_fault : ℕ → List ℕ → Option ℕ
+name_fault name [] = Some 8
+name_fault name (b ∷ bytes) =
+    if is_in_form 120 (b ∷ bytes) then (if is_in_range 1 64 bytes then told_unless (digits_value 10 bytes == name) 11 else Some 7) else Some 8
+
+abbrev pub is_list_word : List ℕ → Bool
+is_list_word word = bytes_eq word (codes "group") || bytes_eq word (codes "left") || bytes_eq word (codes "right")
+
+-- a literal stands only where a text is wanted; where a number is, it is no number
+abbrev pub slot_fault : Slot → LineWord → Option ℕ
+slot_fault (fixed w) (plain_word word) = told_unless (bytes_eq word w) 8
+slot_fault (fixed w) (literal_word bytes) = Some 8
+slot_fault (register letter) (plain_word word) = register_fault letter word
+slot_fault (register letter) (literal_word bytes) = Some 8
+slot_fault operand (plain_word word) = operand_fault word
+slot_fault operand (literal_word bytes) = Some 8
+slot_fault (number low high) (plain_word word) = told_unless (is_in_range low high word) 7
+slot_fault (number low high) (literal_word bytes) = Some 7
+slot_fault signed (plain_word word) = told_unless (is_signed_word word) 7
+slot_fault signed (literal_word bytes) = Some 7
+slot_fault text (plain_word word) = Some 8
+slot_fault text (literal_word bytes) = None
+slot_fault (loop name) (plain_word word) = name_fault name word
+slot_fault (loop name) (literal_word bytes) = Some 8
+slot_fault list (plain_word word) = told_unless (is_list_word word) 8
+slot_fault list (literal_word bytes) = Some 8
+
+-- from the left: a word that is needed and missing, or left over
+abbrev pub first_fault : List Slot → List LineWord → Option ℕ
+first_fault [] [] = None
+first_fault [] (word ∷ words) = Some 5
+first_fault (slot ∷ slots) [] = Some 4
+first_fault (slot ∷ slots) (word ∷ words) = or_else (slot_fault slot word) (first_fault slots words)
+
+-- ---- assignments
+
+abbrev pub is_op1 : List ℕ → Bool
+is_op1 word = bytes_eq word (codes "not") || bytes_eq word (codes "isnull") || bytes_eq word (codes "len")
+
+abbrev pub is_op2 : List ℕ → Bool
+is_op2 word =
+    bytes_eq word (codes "add") || bytes_eq word (codes "sub") || bytes_eq word (codes "mul") || bytes_eq word (codes "div") || bytes_eq word (codes "rem")
+    || bytes_eq word (codes "addw") || bytes_eq word (codes "min") || bytes_eq word (codes "max") || bytes_eq word (codes "lt") || bytes_eq word (codes "le")
+    || bytes_eq word (codes "eq") || bytes_eq word (codes "and") || bytes_eq word (codes "or") || bytes_eq word (codes "cat")
+
+-- what the word behind `=` wants: the letter of the target, and the words behind it
+pub record Wanted : Type 0 where
+  pub letter : ℕ
+  pub slots : List Slot
+
+abbrev pub to_value : List Slot → Option Wanted
+to_value slots = Some (record { letter = 118; slots = slots })
+
+abbrev pub to_record : List Slot → Option Wanted
+to_record slots = Some (record { letter = 114; slots = slots })
+
+abbrev pub wanted_by : List ℕ → Option Wanted
+wanted_by word =
+    if bytes_eq word (codes "int") then to_value (signed ∷ [])
+    else (if bytes_eq word (codes "text") then to_value (text ∷ [])
+    else (if bytes_eq word (codes "null") then to_value []
+    else (if bytes_eq word (codes "mov") then to_value (register 118 ∷ [])
+    else (if bytes_eq word (codes "get") then to_value (operand ∷ number 0 255 ∷ [])
+    else (if bytes_eq word (codes "key") then to_value (number 0 255 ∷ [])
+    else (if bytes_eq word (codes "new") then to_record []
+    else (if bytes_eq word (codes "copy") then to_record (operand ∷ [])
+    else (if is_op1 word then to_value (register 118 ∷ [])
+    else (if is_op2 word then to_value (register 118 ∷ register 118 ∷ []) else None)))))))))
+
+abbrev pub form_wanted : LineWord → Option Wanted
+form_wanted (plain_word word) = wanted_by word
+form_wanted (literal_word bytes) = None
+
+abbrev pub is_equals : LineWord → Bool
+is_equals (plain_word word) = bytes_eq word (codes "=")
+is_equals (literal_word bytes) = false
+
+-- the target by itself, where no form says which is wanted
+abbrev pub target_alone : List ℕ → Option ℕ
+target_alone word = numbered_fault 0 255 word
+
+abbrev pub form_fault : List ℕ → Option Wanted → List LineWord → Option ℕ
+form_fault target None words = or_else (target_alone target) (Some 9)
+form_fault target (Some w) words = or_else (register_fault w.letter target) (first_fault w.slots words)
+
+-- the words behind the target
+abbrev pub assignment_fault : List ℕ → List LineWord → Option ℕ
+assignment_fault target [] = or_else (target_alone target) (Some 4)
+assignment_fault target (equals ∷ []) = or_else (target_alone target) (if is_equals equals then Some 4 else Some 8)
+assignment_fault target (equals ∷ form ∷ words) = if is_equals equals then form_fault target (form_wanted form) words else or_else (target_alone target) (Some 8)
+
+-- ---- lines
+
+-- A block inside 64 others is told at its first word, before the line's other faults.
+abbrev pub block_fault : LinePlace → List Slot → List LineWord → Option ℕ
+block_fault p slots words = if nat_lt p.blocks nesting_limit then first_fault slots words else Some 10
+
+abbrev pub is_target : List ℕ → Bool
+is_target word = is_in_form 118 word || is_in_form 114 word
+
+abbrev pub word_fault : LinePlace → List ℕ → List LineWord → Option ℕ
+word_fault p word words =
+    if bytes_eq word (codes "set") then first_fault (register 114 ∷ number 0 255 ∷ register 118 ∷ []) words
+    else (if bytes_eq word (codes "emit") then first_fault (register 114 ∷ []) words
+    else (if bytes_eq word (codes "if") then block_fault p (register 118 ∷ []) words
+    else (if bytes_eq word (codes "repeat") then block_fault p (number 1 1000 ∷ []) words
+    else (if bytes_eq word (codes "each") then block_fault p (loop (p.lists + 1) ∷ fixed (codes "of") ∷ list ∷ []) words
+    else (if bytes_eq word (codes "else") then (if p.may_part then first_fault [] words else Some 10)
+    else (if bytes_eq word (codes "end") then first_fault [] words
+    else (if is_target word then assignment_fault word words else Some 3)))))))
+
+-- the fault of a line with words, and None where it has none
+abbrev pub statement_fault : LinePlace → List LineWord → Option ℕ
+statement_fault p [] = None
+statement_fault p (plain_word word ∷ words) = word_fault p word words
+statement_fault p (literal_word bytes ∷ words) = Some 3

@@ -1,0 +1,113 @@
+//! Functions, read from text.
+
+ghost use Rattle.std.specs.Prelude.{◌≡◌, ◌≤◌, ◌<◌, ℕ, [], Some, IfErr, IfOk, length, drop};
+ghost use Rattle.tac_syntax.specs.declared.functions.Function.{Function};
+ghost use Rattle.tac_syntax.specs.Functions.{IsSpelledFunction};
+ghost use Rattle.text_lines.specs.CanonicalLines.{AreLineWords};
+ghost use Rattle.text_lines.specs.TextLines.{lines_of};
+ghost use Rattle.tac_text.specs.FunctionAnswers.{function_of, OpenData};
+ghost use Rattle.tac_text.specs.FunctionFaults.{function_fault};
+ghost use Rattle.tac_text.specs.FunctionLines.{FunctionAt};
+ghost use Rattle.tac_text.specs.FunctionReading.{GivesFunction, IsFunctionFault, told_at};
+ghost use Rattle.tac_text.specs.FunctionStates.{HasLineCause, LeadsLine, LeadsOn, place_at, state_of};
+ghost use Rattle.tac_text.specs.StatementAnswers.{IsFaultOf};
+
+use crate::open_functions::{OpenFunction, read_header};
+use crate::statement_reading::NotLine;
+use std::alloc::Global;
+use tac_syntax::Function;
+use text_lines::{LineWord, NotWords, TextFault, line_at, read_words, trim_line};
+
+impl From<NotWords> for NotLine {
+    ghost use Rattle.tac_text.specs.FunctionReading.{not_line};
+
+    ghost from_gives = { λ words line. line ≡ not_line words };
+
+    fn from(words: NotWords) -> NotLine {
+        match words {
+            NotWords::Fault { what } => NotLine::Fault { what },
+            NotWords::Memory => NotLine::Memory,
+        }
+    }
+}
+
+// Takes the words of one line more, and tells whether they were the function's own `end`.
+fn take_words(
+    alloc: Global,
+    begun: &mut Option<OpenFunction>,
+    words: &[LineWord],
+) -> Result<bool, NotLine>
+    requires some { 0 < length words.now }
+    requires words { AreLineWords words.now }
+    ensures taken { IfOk result (λ ended. LeadsOn ended words.now begun.old begun.new) }
+    ensures fault { IfErr result (λ e. IsFaultOf e (function_fault (place_at (state_of begun.old)) words.now)) }
+{
+    match begun {
+        Some(open) => open.read_line(alloc, words),
+        None => {
+            *begun = Some(read_header(alloc, words)?);
+            Ok(false)
+        }
+    }
+}
+
+// Takes one line more, and tells whether it was the function's own `end`.
+fn take_line(alloc: Global, begun: &mut Option<OpenFunction>, line: &[u8]) -> Result<bool, NotLine>
+    ensures taken { IfOk result (λ ended. LeadsLine ended line.now begun.old begun.new) }
+    ensures fault { IfErr result (λ e. HasLineCause e line.now begun.old) }
+{
+    let words = read_words(alloc, trim_line(line))?;
+    if words.words().is_empty() {
+        return Ok(false);
+    }
+    take_words(alloc, begun, words.words())
+}
+
+// The function that is open, at its `end`.
+fn finished(begun: Option<OpenFunction>) -> Function
+    requires { (o : OpenData) × (begun ≡ Some o) × (o.build.blocks ≡ []) }
+    ensures { (o : OpenData) → begun ≡ Some o → result ≡ function_of o }
+{
+    match begun {
+        Some(open) => open.finish(),
+        None => unreachable!(),
+    }
+}
+
+fn fault_at(line: u64, why: NotLine) -> TextFault
+    ensures { result ≡ told_at line why }
+{
+    match why {
+        NotLine::Fault { what } => TextFault::At { line, what },
+        NotLine::Memory => TextFault::Memory,
+    }
+}
+
+/// The function whose text begins at a place, and the place behind the line of its `end`.
+pub fn read_function(alloc: Global, text: &[u8], at: usize) -> Result<(Function, usize), TextFault>
+    requires { at ≤ length text.now }
+    ensures function { IfOk result (λ r. FunctionAt r.0 text.now at r.1) }
+    ensures function_always { (f : Function) (behind : ℕ) → FunctionAt f text.now at behind → GivesFunction result f behind }
+    ensures fault { IfErr result (λ e. IsFunctionFault e (lines_of (drop at text.now))) }
+
+    // What is read can be written.
+    ensures writable { IfOk result (λ r. IsSpelledFunction r.0) }
+{
+    let mut begun = None;
+    let mut behind = at;
+    let mut number = 0;
+    while behind < text.len() {
+        let (line, next) = line_at(text, behind);
+        behind = next;
+        number += 1;
+        match take_line(alloc, &mut begun, line) {
+            Ok(false) => {}
+            Ok(true) => return Ok((finished(begun), behind)),
+            Err(why) => return Err(fault_at(number, why)),
+        }
+    }
+    Err(TextFault::At {
+        line: number.max(1),
+        what: 10,
+    })
+}

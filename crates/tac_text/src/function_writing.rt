@@ -1,0 +1,54 @@
+//! The canonical spelling of functions.
+
+ghost use Rattle.std.specs.Prelude.{◌≡◌, ◌++◌, ℕ, IfOk, List, length};
+ghost use Rattle.tac_syntax.specs.Functions.{IsSpelledFunction};
+ghost use Rattle.tac_text.specs.FunctionLines.{FunctionAt};
+ghost use Rattle.tac_text.specs.Spelling.{function_spelling, header_texts, kind_word};
+
+use crate::words::Words;
+use crate::writing::{put_line, put_word, write_lines};
+use pact_record::{Bytes, OutOfMemory};
+use std::alloc::Global;
+use tac_syntax::{Function, Kind};
+
+fn kind_name(kind: Kind) -> &'static [u8]
+    ensures { result.now ≡ kind_word kind }
+{
+    match kind {
+        Kind::Map => b"map",
+        Kind::Match => b"match",
+        Kind::Cross => b"cross",
+        Kind::Reduce => b"reduce",
+        Kind::CoGroup => b"cogroup",
+    }
+}
+
+fn header_words(alloc: Global, function: &Function) -> Result<Words, OutOfMemory>
+    ensures { IfOk result (λ words. words ≡ header_texts function.now.name function.now.kind function.now.keys) }
+{
+    let mut words = Words::new(alloc);
+    words.add(alloc, b"function")?;
+    words.add(alloc, function.name.bytes())?;
+    words.add(alloc, kind_name(function.kind))?;
+    match function.kind {
+        Kind::Reduce | Kind::CoGroup => words.add_number(alloc, b"", function.keys)?,
+        Kind::Map | Kind::Match | Kind::Cross => {}
+    }
+    Ok(words)
+}
+
+/// The text of a function.
+pub fn write_function(alloc: Global, function: &Function) -> Result<Bytes, OutOfMemory>
+    requires { IsSpelledFunction function.now }
+    ensures spelled { IfOk result (λ text. text ≡ function_spelling function.now) }
+    // whatever follows it
+    ensures read_again { IfOk result (λ text. (rest : List ℕ) → FunctionAt function.now (text ++ rest) 0 (length text)) }
+{
+    // it is at most 64, so depths can be counted
+    let _nesting = function.body.depth();
+    let mut out = Bytes::new(alloc);
+    put_line(&mut out, 0, &header_words(alloc, function)?)?;
+    write_lines(alloc, &mut out, 1, &function.body)?;
+    put_word(alloc, &mut out, 0, b"end")?;
+    Ok(out)
+}

@@ -1,0 +1,11 @@
+pub mod SpelledWords
+pub mod FoundWords
+pub mod LineFaults
+pub mod Utf8Cuts
+pub mod LiteralTexts
+pub mod WrittenLines
+pub mod ReadWords
+pub mod DigitWords
+pub mod LineRuns
+pub mod FirstLines
+pub mod LinePlaces

@@ -1,0 +1,78 @@
+-- The lines from a place of a text tell the place.
+use Rattle.std.proofs.Common.{◌≡◌, ◌≢◌, ◌≤◌, ◌<◌, ◌+◌, ◌==◌, inl, inr, ℕ, zero, suc, Bool, true, false, if◌then◌else◌, List, [], ◌∷◌, length, drop, refl, ap, sym, ◌∙◌, arith}
+use Rattle.std.proofs.lemmas.Bool.{cases_lt}
+use Rattle.std.proofs.lemmas.List.{drop_all, length-drop}
+use Rattle.text_lines.specs.TextLines.{with_front, lines_of}
+
+-- the bytes of lines, with a line feed behind each
+abbrev bytes_in : List (List ℕ) → ℕ
+bytes_in [] = 0
+bytes_in (line ∷ lines) = length line + 1 + bytes_in lines
+
+-- one where the last line goes without its line feed
+abbrev unended : List ℕ → ℕ
+unended [] = 0
+unended (b ∷ []) = if b == 10 then 0 else 1
+unended (b ∷ c ∷ bytes) = unended (c ∷ bytes)
+
+bytes_in-with_front : (b : ℕ) (lines : List (List ℕ)) → lines ≢ [] → bytes_in (with_front b lines) ≡ 1 + bytes_in lines
+bytes_in-with_front b [] some = absurd (some refl)
+bytes_in-with_front b (line ∷ lines) some = omega arith
+
+some_lines : (b : ℕ) (lines : List (List ℕ)) → with_front b lines ≢ []
+some_lines b [] e = cc
+some_lines b (line ∷ lines) e = cc
+
+lines_of-some : (b : ℕ) (bytes : List ℕ) (feed : Bool) → (b == 10) ≡ feed → lines_of (b ∷ bytes) ≢ []
+lines_of-some b bytes true p e = let f : ([] ∷ lines_of bytes) ≡ [] = rw p at e in cc
+lines_of-some b bytes false p e = some_lines b (lines_of bytes) (rw p at e)
+
+abbrev IsCounted : List ℕ → Type 0
+IsCounted bytes = bytes_in (lines_of bytes) ≡ length bytes + unended bytes
+
+one_byte : (b : ℕ) (feed : Bool) → (b == 10) ≡ feed → IsCounted (b ∷ [])
+one_byte b true p = rw p refl
+one_byte b false p = rw p refl
+
+one_more : (b c : ℕ) (bytes : List ℕ) (feed : Bool) → (b == 10) ≡ feed → IsCounted (c ∷ bytes) → IsCounted (b ∷ c ∷ bytes)
+one_more b c bytes true p rest = rw p (omega (arith, rest))
+one_more b c bytes false p rest =
+    let more = bytes_in-with_front b (lines_of (c ∷ bytes)) (lines_of-some c bytes (c == 10) refl) in
+    rw p (omega (arith, more, rest))
+
+bytes_in-lines_of : (bytes : List ℕ) → IsCounted bytes
+bytes_in-lines_of [] = refl
+bytes_in-lines_of (b ∷ []) = one_byte b (b == 10) refl
+bytes_in-lines_of (b ∷ c ∷ bytes) = one_more b c bytes (b == 10) refl (bytes_in-lines_of (c ∷ bytes))
+
+unended-drop : (text : List ℕ) (at : ℕ) → at < length text → unended (drop at text) ≡ unended text
+unended-drop text zero h = refl
+unended-drop [] (suc at) h = absurd (omega (arith, h))
+unended-drop (b ∷ []) (suc at) h = absurd (omega (arith, h))
+unended-drop (b ∷ c ∷ bytes) (suc at) h = unended-drop (c ∷ bytes) at (omega (arith, h))
+
+no_bytes : (bytes : List ℕ) → lines_of bytes ≡ [] → length bytes ≡ 0
+no_bytes [] e = refl
+no_bytes (b ∷ bytes) e = absurd (lines_of-some b bytes (b == 10) refl e)
+
+at_end : (text : List ℕ) (a b : ℕ) → b ≤ length text → length text ≤ a → lines_of (drop a text) ≡ lines_of (drop b text) → length text ≤ b
+at_end text a b h end e =
+    let none = no_bytes (drop b text) (sym e ∙ ap lines_of (drop_all a text end)) in
+    omega (arith, none, length-drop b text)
+
+before_end : (text : List ℕ) (a b : ℕ) → a < length text → b < length text → lines_of (drop a text) ≡ lines_of (drop b text) → a ≡ b
+before_end text a b h k e =
+    let bytes = ap bytes_in e in
+    let one = bytes_in-lines_of (drop a text) in
+    let other = bytes_in-lines_of (drop b text) in
+    omega (arith, bytes, one, other, unended-drop text a h, unended-drop text b k, length-drop a text, length-drop b text)
+
+-- the places of a text from which its lines are the same are one
+pub one_place : (text : List ℕ) (a b : ℕ) → a ≤ length text → b ≤ length text → lines_of (drop a text) ≡ lines_of (drop b text) → a ≡ b
+one_place text a b h k e = elim (cases_lt a (length text)) [
+  | inl a_before ↦ elim (cases_lt b (length text)) [
+    | inl b_before ↦ before_end text a b a_before b_before e
+    | inr b_end ↦ let a_end = at_end text b a h b_end (sym e) in absurd (omega arith)
+  ]
+  | inr a_end ↦ let b_end = at_end text a b k a_end e in omega arith
+]

@@ -1,0 +1,70 @@
+-- A literal is UTF-8 exactly where what it stands for is.
+use Rattle.std.proofs.Common.{◌≡◌, ◌<◌, ◌==◌, inl, inr, ℕ, Bool, true, false, List, [], ◌∷◌, ◌++◌, Some, None, IsUtf8, refl, ap, sym, subst, ◌∙◌, append_assoc, arith}
+use Rattle.std.proofs.lemmas.Bool.{eqb-true}
+use Rattle.std.proofs.lemmas.Str.{IsUtf8-nil}
+use Rattle.text_lines.specs.LineGrammar.{escaped_byte, SpellsByte, SpellsBytes}
+use Rattle.text_lines.proofs.Utf8Cuts.{IsUtf8-before_ascii, IsUtf8-behind_ascii, IsUtf8-around_ascii}
+
+-- ---- escapes
+
+-- two bytes that an escape joins
+record AreAscii (e b : ℕ) : Type 0 where
+  letter : e < 128
+  meant : b < 128
+
+ascii_of : (e b letter meant : ℕ) → letter < 128 → meant < 128 → escaped_byte letter ≡ Some meant → (e == letter) ≡ true → escaped_byte e ≡ Some b → AreAscii e b
+ascii_of e b letter meant small low is h means =
+    let same = eqb-true e letter h in
+    let found : Some meant ≡ Some b = sym is ∙ sym (ap escaped_byte same) ∙ means in
+    let byte : meant ≡ b = cc in
+    record { letter = omega arith; meant = omega arith }
+
+escaped_byte-ascii : (e b : ℕ) (backslash quote feed return tab : Bool)
+    → (e == 92) ≡ backslash → (e == 34) ≡ quote → (e == 110) ≡ feed → (e == 114) ≡ return → (e == 116) ≡ tab → escaped_byte e ≡ Some b → AreAscii e b
+escaped_byte-ascii e b true quote feed return tab p q r s t h = ascii_of e b 92 92 (omega arith) (omega arith) refl p h
+escaped_byte-ascii e b false true feed return tab p q r s t h = ascii_of e b 34 34 (omega arith) (omega arith) refl q h
+escaped_byte-ascii e b false false true return tab p q r s t h = ascii_of e b 110 10 (omega arith) (omega arith) refl r h
+escaped_byte-ascii e b false false false true tab p q r s t h = ascii_of e b 114 13 (omega arith) (omega arith) refl s h
+escaped_byte-ascii e b false false false false true p q r s t h = ascii_of e b 116 9 (omega arith) (omega arith) refl t h
+escaped_byte-ascii e b false false false false false p q r s t h =
+    let nothing : escaped_byte e ≡ None = rw (p, q, r, s, t) refl in
+    let none : None ≡ Some b = sym nothing ∙ h in
+    absurd cc
+
+are_ascii : (e b : ℕ) → escaped_byte e ≡ Some b → AreAscii e b
+are_ascii e b h = escaped_byte-ascii e b (e == 92) (e == 34) (e == 110) (e == 114) (e == 116) refl refl refl refl refl h
+
+-- ---- from the text to its meaning, and back
+
+-- one byte, where what follows it goes over behind whatever stands before
+meaning_of_byte : (front first rest : List ℕ) (b : ℕ) (bytes : List ℕ) → SpellsByte first b → ((before : List ℕ) → IsUtf8 (before ++ rest) → IsUtf8 (before ++ bytes))
+    → IsUtf8 (front ++ (first ++ rest)) → IsUtf8 (front ++ b ∷ bytes)
+meaning_of_byte front first rest b bytes (inl own) more h =
+    let moved = subst IsUtf8 (ap (λ (x : List ℕ). front ++ (x ++ rest)) own.0 ∙ sym (append_assoc front (b ∷ []) rest)) h in
+    subst IsUtf8 (append_assoc front (b ∷ []) bytes) (more (front ++ b ∷ []) moved)
+meaning_of_byte front first rest b bytes (inr escape) more h =
+    let ascii = are_ascii escape.0 b escape.2 in
+    let spelled : IsUtf8 (front ++ 92 ∷ escape.0 ∷ rest) = subst (λ (x : List ℕ). IsUtf8 (front ++ (x ++ rest))) escape.1 h in
+    let behind = IsUtf8-behind_ascii [] escape.0 rest ascii.letter (IsUtf8-behind_ascii front 92 (escape.0 ∷ rest) (omega arith) spelled) in
+    IsUtf8-around_ascii front b bytes ascii.meant (IsUtf8-before_ascii front 92 (escape.0 ∷ rest) (omega arith) spelled) (more [] behind)
+
+pub IsUtf8-meaning : (front text bytes : List ℕ) → SpellsBytes text bytes → IsUtf8 (front ++ text) → IsUtf8 (front ++ bytes)
+IsUtf8-meaning front text [] h utf8 = subst (λ (x : List ℕ). IsUtf8 (front ++ x)) h utf8
+IsUtf8-meaning front text (b ∷ bytes) h utf8 =
+    meaning_of_byte front h.0 h.1 b bytes h.3 (λ before all. IsUtf8-meaning before h.1 bytes h.4 all) (subst (λ (x : List ℕ). IsUtf8 (front ++ x)) h.2 utf8)
+
+spelling_of_byte : (front first rest : List ℕ) (b : ℕ) (bytes : List ℕ) → SpellsByte first b → ((before : List ℕ) → IsUtf8 (before ++ bytes) → IsUtf8 (before ++ rest))
+    → IsUtf8 (front ++ b ∷ bytes) → IsUtf8 (front ++ (first ++ rest))
+spelling_of_byte front first rest b bytes (inl own) more h =
+    let moved = more (front ++ b ∷ []) (subst IsUtf8 (sym (append_assoc front (b ∷ []) bytes)) h) in
+    subst IsUtf8 (append_assoc front (b ∷ []) rest ∙ ap (λ (x : List ℕ). front ++ (x ++ rest)) (sym own.0)) moved
+spelling_of_byte front first rest b bytes (inr escape) more h =
+    let ascii = are_ascii escape.0 b escape.2 in
+    let behind = IsUtf8-around_ascii [] escape.0 rest ascii.letter IsUtf8-nil (more [] (IsUtf8-behind_ascii front b bytes ascii.meant h)) in
+    let spelled = IsUtf8-around_ascii front 92 (escape.0 ∷ rest) (omega arith) (IsUtf8-before_ascii front b bytes ascii.meant h) behind in
+    subst (λ (x : List ℕ). IsUtf8 (front ++ (x ++ rest))) (sym escape.1) spelled
+
+pub IsUtf8-spelling : (front text bytes : List ℕ) → SpellsBytes text bytes → IsUtf8 (front ++ bytes) → IsUtf8 (front ++ text)
+IsUtf8-spelling front text [] h utf8 = subst (λ (x : List ℕ). IsUtf8 (front ++ x)) (sym h) utf8
+IsUtf8-spelling front text (b ∷ bytes) h utf8 =
+    subst (λ (x : List ℕ). IsUtf8 (front ++ x)) (sym h.2) (spelling_of_byte front h.0 h.1 b bytes h.3 (λ before all. IsUtf8-spelling before h.1 bytes h.4 all) utf8)

@@ -1,0 +1,145 @@
+-- A canonical line is read as the words that it was made of.
+use Rattle.std.proofs.Common.{◌≡◌, ◌==◌, ◌*◌, inl, inr, ℕ, zero, suc, Bool, true, false, List, [], ◌∷◌, ◌++◌, map, flat_map, replicate, IsUtf8, refl, ap, sym, subst, ◌∙◌, append_assoc, arith}
+use Rattle.std.proofs.lemmas.Bool.{eqb-true, or_parts}
+use Rattle.std.proofs.lemmas.List.Folds.{list_any-append}
+use Rattle.std.proofs.lemmas.Str.{IsUtf8-nil, IsUtf8-append}
+use Rattle.text_lines.specs.CanonicalLines.{word_text, canonical_line, IsLineWord, AreLineWords}
+use Rattle.text_lines.specs.LineGrammar.{LineWord, plain_word, literal_word, needs_escape, SpellsByte, SpellsBytes, SpellsWord, SpellsWords, IsGap, IsWordEnd, IsLine, has_return}
+use Rattle.text_lines.specs.CanonicalLines.{escaped, literal, line_text, spaced}
+use Rattle.text_lines.specs.TextLines.{HasWords, trimmed}
+use Rattle.text_lines.proofs.LiteralTexts.{IsUtf8-spelling}
+use Rattle.text_lines.proofs.Utf8Cuts.{IsUtf8-around_ascii}
+
+-- ---- literals
+
+-- a byte is spelled by its own escape or by itself
+spelled_byte : (b : ℕ) (backslash quote feed return tab : Bool)
+    → (b == 92) ≡ backslash → (b == 34) ≡ quote → (b == 10) ≡ feed → (b == 13) ≡ return → (b == 9) ≡ tab → SpellsByte (escaped b) b
+spelled_byte b true quote feed return tab p q r s t = let e = eqb-true b 92 p in rw e (inr (92, refl, refl))
+spelled_byte b false true feed return tab p q r s t = let e = eqb-true b 34 q in rw e (inr (34, refl, refl))
+spelled_byte b false false true return tab p q r s t = let e = eqb-true b 10 r in rw e (inr (110, refl, refl))
+spelled_byte b false false false true tab p q r s t = let e = eqb-true b 13 s in rw e (inr (114, refl, refl))
+spelled_byte b false false false false true p q r s t = let e = eqb-true b 9 t in rw e (inr (116, refl, refl))
+spelled_byte b false false false false false p q r s t =
+    let same : escaped b ≡ b ∷ [] = rw (p, q, r, s, t) refl in
+    let own : needs_escape b ≡ false = rw (p, q, s) refl in
+    inl (same, own)
+
+SpellsBytes-escaped : (bytes : List ℕ) → SpellsBytes (flat_map escaped bytes) bytes
+SpellsBytes-escaped [] = refl
+SpellsBytes-escaped (b ∷ bytes) =
+    (escaped b, flat_map escaped bytes, refl, spelled_byte b (b == 92) (b == 34) (b == 10) (b == 13) (b == 9) refl refl refl refl refl, SpellsBytes-escaped bytes)
+
+-- ---- no carriage return, and UTF-8
+
+-- bytes that no first fault stands in
+record IsClean (bytes : List ℕ) : Type 0 where
+  utf8 : IsUtf8 bytes
+  no_return : has_return bytes ≡ false
+
+has_return-append : (x y : List ℕ) → has_return x ≡ false → has_return y ≡ false → has_return (x ++ y) ≡ false
+has_return-append x y h k = list_any-append (λ (b : ℕ). b == 13) x y ∙ rw (h, k) refl
+
+IsClean-append : (x y : List ℕ) → IsClean x → IsClean y → IsClean (x ++ y)
+IsClean-append x y p q = record { utf8 = IsUtf8-append x y p.utf8 q.utf8; no_return = has_return-append x y p.no_return q.no_return }
+
+clean_escape : (b : ℕ) (backslash quote feed return tab : Bool)
+    → (b == 92) ≡ backslash → (b == 34) ≡ quote → (b == 10) ≡ feed → (b == 13) ≡ return → (b == 9) ≡ tab → has_return (escaped b) ≡ false
+clean_escape b true quote feed return tab p q r s t = rw p refl
+clean_escape b false true feed return tab p q r s t = rw (p, q) refl
+clean_escape b false false true return tab p q r s t = rw (p, q, r) refl
+clean_escape b false false false true tab p q r s t = rw (p, q, r, s) refl
+clean_escape b false false false false true p q r s t = rw (p, q, r, s, t) refl
+clean_escape b false false false false false p q r s t = rw (p, q, r, s, t) (rw s refl)
+
+has_return-escaped : (bytes : List ℕ) → has_return (flat_map escaped bytes) ≡ false
+has_return-escaped [] = refl
+has_return-escaped (b ∷ bytes) =
+    has_return-append (escaped b) (flat_map escaped bytes) (clean_escape b (b == 92) (b == 34) (b == 10) (b == 13) (b == 9) refl refl refl refl refl) (has_return-escaped bytes)
+
+IsClean-literal : (bytes : List ℕ) → IsUtf8 bytes → IsClean (literal bytes)
+IsClean-literal bytes h =
+    let inside = flat_map escaped bytes in
+    let utf8 = IsUtf8-spelling [] inside bytes (SpellsBytes-escaped bytes) h in
+    record {
+      utf8 = IsUtf8-around_ascii [] 34 (inside ++ 34 ∷ []) (omega arith) IsUtf8-nil (IsUtf8-around_ascii inside 34 [] (omega arith) utf8 IsUtf8-nil);
+      no_return = has_return-append inside (34 ∷ []) (has_return-escaped bytes) refl;
+    }
+
+IsClean-space : (bytes : List ℕ) → IsClean bytes → IsClean (32 ∷ bytes)
+IsClean-space bytes h = record { utf8 = IsUtf8-around_ascii [] 32 bytes (omega arith) IsUtf8-nil h.utf8; no_return = h.no_return }
+
+clean_nothing : IsClean []
+clean_nothing = record { utf8 = IsUtf8-nil; no_return = refl }
+
+IsClean-spaces : (n : ℕ) → IsClean (replicate n 32)
+IsClean-spaces zero = clean_nothing
+IsClean-spaces (suc n) = IsClean-space (replicate n 32) (IsClean-spaces n)
+
+IsClean-word_text : (word : LineWord) → IsLineWord word → IsClean (word_text word)
+IsClean-word_text (plain_word bytes) h = record { utf8 = h.1; no_return = h.2 }
+IsClean-word_text (literal_word bytes) h = IsClean-literal bytes h.1
+
+-- words behind others
+abbrev more_text : List LineWord → List ℕ
+more_text words = flat_map (λ v. 32 ∷ v) (map word_text words)
+
+IsClean-more_text : (words : List LineWord) → AreLineWords words → IsClean (more_text words)
+IsClean-more_text [] h = clean_nothing
+IsClean-more_text (word ∷ words) h =
+    IsClean-append (32 ∷ word_text word) (more_text words) (IsClean-space (word_text word) (IsClean-word_text word h.0)) (IsClean-more_text words h.1)
+
+IsClean-spaced : (words : List LineWord) → AreLineWords words → IsClean (spaced (map word_text words))
+IsClean-spaced [] h = clean_nothing
+IsClean-spaced (word ∷ words) h = IsClean-append (word_text word) (more_text words) (IsClean-word_text word h.0) (IsClean-more_text words h.1)
+
+-- ---- words
+
+SpellsWord-word_text : (word : LineWord) → IsLineWord word → SpellsWord (word_text word) word
+SpellsWord-word_text (plain_word bytes) h = (refl, h.0)
+SpellsWord-word_text (literal_word bytes) h = (flat_map escaped bytes, refl, SpellsBytes-escaped bytes, h.0)
+
+ends_at_more : (words : List LineWord) → IsWordEnd (more_text words)
+ends_at_more [] = tt
+ends_at_more (word ∷ words) = refl
+
+SpellsWords-more_text : (words : List LineWord) → AreLineWords words → SpellsWords (more_text words) words
+SpellsWords-more_text [] h = ([], [], refl, tt, tt)
+SpellsWords-more_text (word ∷ words) h =
+    (32 ∷ [], word_text word, more_text words, refl, (refl, tt), SpellsWord-word_text word h.0, ends_at_more words, SpellsWords-more_text words h.1)
+
+SpellsWords-spaced : (gap : List ℕ) (words : List LineWord) → IsGap gap → AreLineWords words → SpellsWords (gap ++ spaced (map word_text words)) words
+SpellsWords-spaced gap [] g h = (gap, [], refl, g, tt)
+SpellsWords-spaced gap (word ∷ words) g h =
+    (gap, word_text word, more_text words, refl, g, SpellsWord-word_text word h.0, ends_at_more words, SpellsWords-more_text words h.1)
+
+IsGap-spaces : (n : ℕ) → IsGap (replicate n 32)
+IsGap-spaces zero = tt
+IsGap-spaces (suc n) = (refl, IsGap-spaces n)
+
+-- ---- lines
+
+pub IsLine-canonical_line : (depth : ℕ) (words : List LineWord) → AreLineWords words → IsLine (canonical_line depth words) words
+IsLine-canonical_line depth words h =
+    let clean = IsClean-append (replicate (2 * depth) 32) (spaced (map word_text words)) (IsClean-spaces (2 * depth)) (IsClean-spaced words h) in
+    (clean.utf8, clean.no_return, SpellsWords-spaced (replicate (2 * depth) 32) words (IsGap-spaces (2 * depth)) h)
+
+pub IsLine-written : (line : List ℕ) (depth : ℕ) (words : List LineWord) → AreLineWords words → line ≡ canonical_line depth words → IsLine line words
+IsLine-written line depth words h e = subst (λ (x : List ℕ). IsLine x words) (sym e) (IsLine-canonical_line depth words h)
+
+-- what is written is that line and a line feed
+pub line_text-canonical_line : (depth : ℕ) (words : List LineWord) → line_text (record { depth = depth; words = map word_text words }) ≡ canonical_line depth words ++ 10 ∷ []
+line_text-canonical_line depth words = sym (append_assoc (replicate (2 * depth) 32) (spaced (map word_text words)) (10 ∷ []))
+
+-- ---- lines of a text
+
+trimmed-no_return : (line : List ℕ) → has_return line ≡ false → trimmed line ≡ line
+trimmed-no_return [] h = refl
+trimmed-no_return (b ∷ []) h = let p = or_parts (b == 13) false h in rw p.0 refl
+trimmed-no_return (b ∷ c ∷ line) h = let p = or_parts (b == 13) (has_return (c ∷ line)) h in ap (λ (x : List ℕ). b ∷ x) (trimmed-no_return (c ∷ line) p.1)
+
+-- a canonical line has its words in a text, too
+pub HasWords-canonical_line : (depth : ℕ) (words : List LineWord) → AreLineWords words → HasWords (canonical_line depth words) words
+HasWords-canonical_line depth words h =
+    let line = IsLine-canonical_line depth words h in
+    subst (λ (x : List ℕ). IsLine x words) (sym (trimmed-no_return (canonical_line depth words) line.1)) line

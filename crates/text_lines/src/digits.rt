@@ -1,0 +1,74 @@
+//! Numbers as words, whether a word is one.
+
+ghost use Rattle.std.specs.Prelude.{◌≡◌, ◌≤◌, ◌<◌, ◌^◌, true, Some, None};
+ghost use Rattle.std.specs.Str.Parse.{digits_value};
+ghost use Rattle.text_lines.specs.Digits.{are_digits, is_digit, is_in_form, is_in_range, is_number_word, is_signed_word};
+
+use std::str;
+
+fn is_digit(byte: u8) -> bool
+    ensures { result ≡ is_digit byte }
+{
+    b'0' <= byte && byte <= b'9'
+}
+
+fn are_digits(word: &[u8]) -> bool
+    ensures { result ≡ are_digits word.now }
+{
+    for byte in word {
+        if !is_digit(*byte) {
+            return false;
+        }
+    }
+    word.len() >= 1
+}
+
+// Decimal, without a zero in front.
+fn is_number_word(word: &[u8]) -> bool
+    ensures { result ≡ is_number_word word.now }
+{
+    are_digits(word) && (word.len() <= 1 || word[0] != b'0')
+}
+
+// None where the number doesn't fit.
+fn number_of(word: &[u8]) -> Option<u64>
+    ensures fits { are_digits word.now ≡ true → digits_value 10 word.now < 2 ^ 64 → result ≡ Some (digits_value 10 word.now) }
+    ensures large { are_digits word.now ≡ true → 2 ^ 64 ≤ digits_value 10 word.now → result ≡ None }
+{
+    match str::from_utf8(word) {
+        Ok(text) => text.parse::<u64>().ok(),
+        Err(_) => None,
+    }
+}
+
+pub fn is_in_range(low: u64, high: u64, word: &[u8]) -> bool
+    ensures { result ≡ is_in_range low high word.now }
+{
+    if !is_number_word(word) {
+        return false;
+    }
+    match number_of(word) {
+        Some(number) => low <= number && number <= high,
+        None => false,
+    }
+}
+
+// With or without a sign; there is no `-0`.
+pub fn is_signed_word(word: &[u8]) -> bool
+    ensures { result ≡ is_signed_word word.now }
+{
+    match word.split_first() {
+        Some((b'-', digits)) => is_in_range(1, 1 << 63, digits),
+        _ => is_in_range(0, (1 << 63) - 1, word),
+    }
+}
+
+/// Whether a word is a letter with one or more digits behind it.
+pub fn is_in_form(letter: u8, word: &[u8]) -> bool
+    ensures { result ≡ is_in_form letter word.now }
+{
+    match word.split_first() {
+        Some((first, digits)) => *first == letter && are_digits(digits),
+        None => false,
+    }
+}
