@@ -1,0 +1,63 @@
+-- What is known of each declaration of a draft.
+use Rattle.std.proofs.Common.{◌≡◌, ◌≤◌, ◌+◌, ◌++◌, ℕ, zero, suc, Some, None, List, [], ◌∷◌, length, slice_get, subst, sym, arith}
+use Rattle.std.specs.List.{AllByRecursion}
+use Rattle.pact_record.specs.Keys.{key_limit}
+use Rattle.tac_syntax.specs.Valid.{WithFields}
+use Rattle.pact_operators.specs.declared.declarations.OpKind.{OpKind}
+use Rattle.pact_operators.specs.declared.declarations.OpKind.TheVariants.{Source as SourceKind, Map, Reduce, Match, Cross, CoGroup}
+use Rattle.pact_operators.specs.declared.declarations.Decl.{Decl}
+use Rattle.pact_operators.specs.declared.declarations.Decl.TheVariants.{Source, Function as FunctionDecl, Op as OpDecl, Sink}
+use Rattle.pact_operators.specs.declared.program_rules.ProgramRule.{ProgramRule}
+use Rattle.pact_operators.specs.Declarations.{HasInputs, IsSpelledDecl}
+use Rattle.pact_operators.specs.Drafts.{AreDeclared, DraftData}
+use Rattle.pact_operators.specs.ProgramRules.{Breaks, NoneBreaks}
+use Rattle.pact_operators.specs.WrittenOps.{HasFewKeys}
+
+-- it doesn't break a rule that none breaks
+pub none-at : (rule : ProgramRule) (d : DraftData) (v : List WithFields) (front decls : List Decl) (m : ℕ) (decl : Decl) → NoneBreaks rule d v front decls → slice_get decls m ≡ Some decl
+    → (before : List Decl) × (¬ Breaks rule d v before decl)
+none-at rule d v front [] m decl h e = let bad : None ≡ Some decl = e in absurd cc
+none-at rule d v front (x ∷ decls) zero decl h e = let same : x ≡ decl = cc in (front, subst (λ (y : Decl). ¬ Breaks rule d v front y) same h.0)
+none-at rule d v front (x ∷ decls) (suc m) decl h e = none-at rule d v (front ++ x ∷ []) decls m decl h.1 e
+
+-- it is spelled, but for a function, which is declared elsewhere
+abbrev pub IsSpelledIn : Decl → Type 0
+IsSpelledIn (Source name file columns) = IsSpelledDecl (Source name file columns)
+IsSpelledIn (FunctionDecl number) = Unit {0}
+IsSpelledIn (OpDecl name kind function left right left_keys right_keys) = IsSpelledDecl (OpDecl name kind function left right left_keys right_keys)
+IsSpelledIn (Sink input fields) = IsSpelledDecl (Sink input fields)
+
+pub spelled : (n count : ℕ) (decls : List Decl) → AreDeclared n count decls → AllByRecursion IsSpelledIn decls
+spelled n count [] h = tt
+spelled n count (Source name file columns ∷ decls) h = (h.0, spelled n count decls h.1)
+spelled n count (FunctionDecl number ∷ decls) h = (tt, spelled (n + 1) count decls h.1)
+spelled n count (OpDecl name kind function left right left_keys right_keys ∷ decls) h = (h.0, spelled n count decls h.1)
+spelled n count (Sink input fields ∷ decls) h = (h.0, spelled n count decls h.1)
+
+pub all-at : {X : Type 0} (P : X → Type 0) (xs : List X) (m : ℕ) (x : X) → AllByRecursion P xs → slice_get xs m ≡ Some x → P x
+all-at P [] m x h e = let bad : None ≡ Some x = e in absurd cc
+all-at P (y ∷ xs) zero x h e = let same : y ≡ x = cc in subst P same h.0
+all-at P (y ∷ xs) (suc m) x h e = all-at P xs m x h.1 e
+
+-- ---- its lists of keys are short
+
+none_few : (keys : List ℕ) → keys ≡ [] → length keys ≤ key_limit
+none_few keys e = subst (λ (ks : List ℕ). length ks ≤ key_limit) (sym e) (omega arith)
+
+few-keys_of : (kind : OpKind) (right left_keys right_keys : List ℕ) → HasInputs kind right left_keys right_keys → (length left_keys ≤ key_limit) × (length right_keys ≤ key_limit)
+few-keys_of SourceKind right left_keys right_keys h = absurd h
+few-keys_of Map right left_keys right_keys h = (none_few left_keys h.1, none_few right_keys h.2)
+few-keys_of Reduce right left_keys right_keys h = (h.1.few, none_few right_keys h.2)
+few-keys_of Match right left_keys right_keys h = (h.1.few, h.2.few)
+few-keys_of Cross right left_keys right_keys h = (none_few left_keys h.1, none_few right_keys h.2)
+few-keys_of CoGroup right left_keys right_keys h = (h.1.few, h.2.few)
+
+few-keys_in : (decl : Decl) → IsSpelledIn decl → HasFewKeys decl
+few-keys_in (Source name file columns) h = tt
+few-keys_in (FunctionDecl number) h = tt
+few-keys_in (OpDecl name kind function left right left_keys right_keys) h = few-keys_of kind right left_keys right_keys h.3
+few-keys_in (Sink input fields) h = tt
+
+pub few-keys : (decls : List Decl) → AllByRecursion IsSpelledIn decls → AllByRecursion HasFewKeys decls
+few-keys [] h = tt
+few-keys (decl ∷ decls) h = (few-keys_in decl h.0, few-keys decls h.1)

@@ -1,0 +1,14 @@
+use Rattle.std.proofs.Common.{List, subst, ◌∙◌}
+use Rattle.std.proofs.lemmas.Result.{err_from_is_err_and}
+use Rattle.tac_syntax.specs.Valid.{WithFields}
+use Rattle.pact_operators.specs.Checks.{IsToldBy}
+use Rattle.pact_operators.proofs.Whole.{memory-alone}
+use Rattle.pact_operators.proofs.checking.check_program.Goals as goal
+
+pub returns-in_err-resolved-clause-complete : goal.returns-in_err-resolved-clause-complete
+returns-in_err-resolved-clause-complete c all =
+    let p = err_from_is_err_and c.from_residual.result c.from_residual.ensures.1 in
+    let told : IsToldBy c.args.draft.now c.args.functions c.in_err-resolved.field-0.0 =
+    subst (λ (v : List WithFields). IsToldBy c.args.draft.now v c.in_err-resolved.field-0.0) c.functions-2.ensures.list c.in_err-resolved.ensures.refused in
+    let memory = memory-alone c.args.draft.now c.args.functions c.in_err-resolved.field-0.0 told all in
+    rw p.1 (p.2 ∙ memory)

@@ -1,0 +1,44 @@
+//! What programs declare.
+
+use crate::numbers::Numbers;
+use pact_bag::Columns;
+use pact_record::Word;
+
+/// What a source or an operator does.
+#[derive(Clone, Copy, Debug, PartialEq, Eq)]
+pub enum OpKind {
+    Source,
+    Map,
+    Reduce,
+    Match,
+    Cross,
+    CoGroup,
+}
+
+/// One declaration of a program. What it refers to is given by its name, and may not be there.
+#[derive(Debug, Drop)]
+pub enum Decl {
+    Source {
+        name: Word,
+        file: Word,
+        columns: Columns,
+    },
+    /// The function with this number among the program's functions.
+    Function {
+        number: usize,
+    },
+    /// An operator. What its kind doesn't have is empty: its second input, its lists of keys.
+    Op {
+        name: Word,
+        kind: OpKind,
+        function: Word,
+        left: Word,
+        right: Word,
+        left_keys: Numbers,
+        right_keys: Numbers,
+    },
+    Sink {
+        input: Word,
+        fields: Numbers,
+    },
+}

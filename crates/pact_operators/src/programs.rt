@@ -1,0 +1,95 @@
+//! Programs whose names are resolved.
+
+ghost use Rattle.std.specs.Prelude.{◌≡◌};
+ghost use Rattle.pact_operators.specs.Programs.{IsProgram};
+
+use crate::operators::Op;
+use crate::plans::Plan;
+use crate::valid_lists::ValidList;
+use std::marker::Model;
+use tac_syntax::Valid;
+
+/// A program that keeps every rule. Its functions, and its sources and operators, are named by
+/// their places among them.
+#[derive(Debug, Drop)]
+pub struct Program {
+    fields: u32,
+    functions: ValidList,
+    ops: Vec<Op>,
+    plan: Plan,
+    sink: Vec<u32>,
+}
+
+impl Model for Program {
+    ghost use Rattle.pact_operators.specs.Programs.{IsProgram, ProgramData};
+    ghost use Rattle.pact_operators.specs.ProgramCode.{coded_program};
+
+    ghost Value = { ProgramData };
+
+    ghost coded = { coded_program };
+
+    ghost view = { λ p. record { fields = p.fields; functions = p.functions; ops = p.ops.items; plan = p.plan; sink = p.sink.items } };
+
+    ghost invariant = { λ p. IsProgram (record { fields = p.fields; functions = p.functions; ops = p.ops.items; plan = p.plan; sink = p.sink.items }) };
+}
+
+impl Program {
+    // A program of these parts.
+    pub(crate) fn of(
+        fields: u32,
+        functions: ValidList,
+        ops: Vec<Op>,
+        plan: Plan,
+        sink: Vec<u32>,
+    ) -> Program
+        requires { IsProgram (record { fields = fields; functions = functions; ops = ops.items; plan = plan; sink = sink.items }) }
+        ensures { result ≡ record { fields = fields; functions = functions; ops = ops.items; plan = plan; sink = sink.items } }
+    {
+        Program {
+            fields,
+            functions,
+            ops,
+            plan,
+            sink,
+        }
+    }
+
+    pub fn fields(&self) -> u32
+        ensures fields { result ≡ self.now.fields }
+        ensures keeps { IsProgram self.now }
+    {
+        self.fields
+    }
+
+    /// The functions in the order of their numbers.
+    pub fn functions(&self) -> &[Valid]
+        ensures functions { result.now ≡ self.now.functions }
+        ensures keeps { IsProgram self.now }
+    {
+        self.functions.functions()
+    }
+
+    /// The sources and operators in the order of their numbers.
+    pub fn ops(&self) -> &[Op]
+        ensures ops { result.now ≡ self.now.ops }
+        ensures keeps { IsProgram self.now }
+    {
+        &self.ops
+    }
+
+    /// The plan as written.
+    pub fn plan(&self) -> &Plan
+        ensures plan { result.now ≡ self.now.plan }
+        ensures keeps { IsProgram self.now }
+    {
+        &self.plan
+    }
+
+    /// The fields that the result keeps, in their order.
+    pub fn sink(&self) -> &[u32]
+        ensures sink { result.now ≡ self.now.sink }
+        ensures keeps { IsProgram self.now }
+    {
+        &self.sink
+    }
+}
