@@ -1,0 +1,89 @@
+-- The two lines that a program begins with, and their words.
+use Rattle.std.proofs.Common.{◌≡◌, ◌≢◌, ℕ, true, List, [], ◌∷◌, None, codes, decimal, refl, ap, sym, ◌∙◌, arith}
+use Rattle.text_lines.proofs.DigitWords.{is_in_range-decimal, number_spelled}
+use Rattle.text_lines.specs.CanonicalLines.{AreLineWords}
+use Rattle.text_lines.specs.declared.line_words.LineWord.{LineWord}
+use Rattle.text_lines.specs.declared.line_words.LineWord.TheVariants.{Plain as plain_word, Literal as literal_word}
+use Rattle.program_text.specs.DeclarationFaults.{nothing_left}
+use Rattle.program_text.specs.DeclarationReading.{number_in, plain_at}
+use Rattle.program_text.specs.FirstLines.{IsFieldCount, count_fault, count_word_fault, field_count_words, fields_fault, is_plain, one_fault, version_fault, version_words}
+use Rattle.program_text.proofs.ItemWords.{number_in-decimal}
+use Rattle.program_text.proofs.Tests.{by_cases, or_else-none, same_word, told_unless-none}
+use Rattle.tac_text.proofs.WrittenWords.{AreFine, AreLineWords-fine}
+use Rattle.program_text.proofs.WordBytes.{IsFine-text, is_word_text-decimal}
+
+plain_is : (text : List ℕ) (word : LineWord) → is_plain text word ≡ true → word ≡ plain_word text
+plain_is text (plain_word w) h = ap plain_word (same_word w text h)
+plain_is text (literal_word w) h = absurd cc
+
+-- ---- the version
+
+pub AreFine-version_words : AreFine version_words
+AreFine-version_words = (IsFine-text (codes "pact") refl, (IsFine-text (codes "1") refl, tt))
+
+pub AreVersionWords : AreLineWords version_words
+AreVersionWords = AreLineWords-fine version_words AreFine-version_words
+
+pub version_words-some : version_words ≢ []
+version_words-some = λ e. absurd cc
+
+pub version_faultless : version_fault version_words ≡ None
+version_faultless = refl
+
+one_left : (words : List LineWord) → one_fault words ≡ None → words ≡ plain_word (codes "1") ∷ []
+one_left [] h = absurd cc
+one_left (word ∷ []) h = let e = plain_is (codes "1") word (told_unless-none _ _ h) in λ i. e i ∷ []
+one_left (word ∷ other ∷ words) h = absurd cc
+
+pub version_declared : (words : List LineWord) → words ≢ [] → version_fault words ≡ None → words ≡ version_words
+version_declared [] some h = absurd (some refl)
+version_declared (word ∷ words) some h = by_cases (is_plain (codes "pact") word) _ _
+    (λ named rest. let e = plain_is (codes "pact") word named in let one = one_left words rest in λ i. e i ∷ one i) (λ _ e. absurd cc) h
+
+-- ---- the number of fields
+
+pub AreFine-field_count_words : (count : ℕ) → IsFieldCount count → AreFine (field_count_words count)
+AreFine-field_count_words count h = (IsFine-text (codes "fields") refl, (IsFine-text (decimal count) (is_word_text-decimal count (omega (arith, h.1))), tt))
+
+pub AreFieldCountWords : (count : ℕ) → IsFieldCount count → AreLineWords (field_count_words count)
+AreFieldCountWords count h = AreLineWords-fine (field_count_words count) (AreFine-field_count_words count h)
+
+pub field_count_words-some : (count : ℕ) → IsFieldCount count → field_count_words count ≢ []
+field_count_words-some count h = λ e. absurd cc
+
+-- what is read at the place of the number
+pub number_in-field_count_words : (count : ℕ) → IsFieldCount count → number_in (plain_at (field_count_words count) 1) ≡ count
+number_in-field_count_words count h = number_in-decimal count (omega (arith, h.1))
+
+pub field_count_words-unique : (m n : ℕ) → IsFieldCount m → IsFieldCount n → field_count_words m ≡ field_count_words n → m ≡ n
+field_count_words-unique m n h k e =
+    sym (number_in-field_count_words m h) ∙ ap (λ (words : List LineWord). number_in (plain_at words 1)) e ∙ number_in-field_count_words n k
+
+pub field_count_faultless : (count : ℕ) → IsFieldCount count → fields_fault (field_count_words count) ≡ None
+field_count_faultless count h = rw (is_in_range-decimal 1 64 count h.0 h.1 (omega (arith, h.1))) refl
+
+-- the word of a number in range
+count_spelled : (word : LineWord) → count_word_fault word ≡ None → (count : ℕ) × IsFieldCount count × (word ≡ plain_word (decimal count))
+count_spelled (plain_word w) h =
+    let s = number_spelled 1 64 w (omega arith) (told_unless-none _ _ h) in (s.number, (s.above, s.below), ap plain_word s.spelled)
+count_spelled (literal_word w) h = absurd cc
+
+none_left : (words : List LineWord) → nothing_left words ≡ None → words ≡ []
+none_left [] h = refl
+none_left (word ∷ words) h = absurd cc
+
+count_left : (words : List LineWord) → count_fault words ≡ None → (count : ℕ) × IsFieldCount count × (words ≡ plain_word (decimal count) ∷ [])
+count_left [] h = absurd cc
+count_left (word ∷ words) h =
+    let both = or_else-none (count_word_fault word) _ h in
+    let s = count_spelled word both.0 in
+    let none = none_left words both.1 in
+    (s.0, s.1, λ i. s.2 i ∷ none i)
+
+pub field_count_declared : (words : List LineWord) → words ≢ [] → fields_fault words ≡ None → (count : ℕ) × (words ≡ field_count_words count) × IsFieldCount count
+field_count_declared [] some h = absurd (some refl)
+field_count_declared (word ∷ words) some h = by_cases (is_plain (codes "fields") word) _ _
+    (λ named rest.
+    let e = plain_is (codes "fields") word named in
+    let s = count_left words rest in
+    (s.0, (λ i. e i ∷ s.2 i), s.1)) (λ _ e. absurd cc) h

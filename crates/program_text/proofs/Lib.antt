@@ -1,0 +1,12 @@
+pub mod Tests
+pub mod ItemWords
+pub mod ListWords
+pub mod WordBytes
+pub mod SpelledLines
+pub mod DeclarationLaws
+pub mod FirstLineLaws
+pub mod ProgramRuns
+pub mod ProgramReads
+pub mod ReadSteps
+pub mod ReadLoop
+pub mod WrittenPrograms

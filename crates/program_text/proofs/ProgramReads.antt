@@ -1,0 +1,268 @@
+-- The lines of a text lead a reader of programs on exactly where a program's text goes on.
+use Rattle.std.proofs.Common.{◌≡◌, ◌≢◌, ◌<◌, ◌≤◌, ◌==◌, inl, inr, ℕ, Bool, true, false, cond, if◌then◌else◌, bytes_eq, codes, List, [], ◌∷◌, ◌++◌, map, length, Option, Some, None, refl, ap, sym, subst, ◌∙◌, arith}
+use Rattle.std.proofs.lemmas.Slice.Eq.{bytes_eq-Decides}
+use Rattle.pact_operators.specs.declared.declarations.OpKind.{OpKind}
+use Rattle.pact_operators.specs.declared.declarations.OpKind.TheVariants.{Source as SourceKind, Map, Reduce, Match, Cross, CoGroup}
+use Rattle.pact_operators.specs.declared.declarations.Decl.{Decl}
+use Rattle.pact_operators.specs.declared.declarations.Decl.TheVariants.{Source, Function as FunctionDecl, Op, Sink}
+use Rattle.pact_operators.specs.Declarations.{IsSpelledDecl}
+use Rattle.pact_operators.specs.Drafts.{DraftData}
+use Rattle.tac_syntax.specs.declared.functions.Kind.{Kind}
+use Rattle.tac_text.specs.FunctionFaults.{header_fault}
+use Rattle.tac_text.specs.FunctionLines.{FunctionLine, header, header_words, IsHeader}
+use Rattle.tac_text.specs.Places.{lists_in, place_of}
+use Rattle.tac_text.specs.StatementFaults.{statement_fault}
+use Rattle.tac_text.specs.StatementLines.{words_of_line}
+use Rattle.tac_text.proofs.FaultlessWords.{line_of_words}
+use Rattle.tac_text.proofs.HeaderWords.{header_fault-header_words, header_of_words, one_header}
+use Rattle.tac_text.proofs.StatementWords.{IsSpelledLine-MayStand, statement_fault-words_of_line, words_of_line-some, words_of_one_line}
+use Rattle.tac_text.proofs.WrittenWords.{AreLineWords-fine, AreFine-header_words, AreFine-words_of_line}
+use Rattle.text_lines.specs.CanonicalLines.{AreLineWords, canonical_line}
+use Rattle.text_lines.specs.FirstFaults.{IsStart}
+use Rattle.text_lines.specs.Runs.{AreSayings, Runs, Steps, TellsFaults}
+use Rattle.text_lines.specs.declared.line_words.LineWord.{LineWord}
+use Rattle.text_lines.specs.declared.line_words.LineWord.TheVariants.{Plain as plain_word, Literal as literal_word}
+use Rattle.text_lines.proofs.LineRuns.{Reads, Runs-append, Runs-said, said_by_run}
+use Rattle.text_lines.proofs.WrittenLines.{HasWords-canonical_line}
+use Rattle.program_text.specs.DeclarationFaults.{declaration_fault}
+use Rattle.program_text.specs.DeclarationWords.{words_of_decl}
+use Rattle.program_text.specs.FirstLines.{IsFieldCount, field_count_words, version_words}
+use Rattle.program_text.specs.ProgramStates.{ProgramLine, version, field_count, declares, begins, inside, ProgramState, nothing_read, version_read, drafted, open_function, MaySay, program_place, said_on, words_of_program_line, RunsTo}
+use Rattle.program_text.specs.ProgramTexts.{IsProgramText, ProgramText, between_fault, program_fault}
+use Rattle.program_text.proofs.DeclarationLaws.{AreDeclarationWords, declared, faultless, words_of_decl-some, words_of_decl-unique}
+use Rattle.program_text.proofs.FirstLineLaws.{AreFieldCountWords, AreVersionWords, field_count_declared, field_count_faultless, field_count_words-some, field_count_words-unique, version_declared, version_faultless, version_words-some}
+use Rattle.program_text.proofs.ProgramRuns.{Leads, StateFront, can_end, lines_read, program_leads}
+
+-- ---- declarations, and the first lines of functions
+
+-- no other declaration begins as a function does
+abbrev OtherFirst : List LineWord → Type 0
+OtherFirst [] = ⊥
+OtherFirst (plain_word word ∷ words) = bytes_eq word (codes "function") ≡ false
+OtherFirst (literal_word bytes ∷ words) = ⊥
+
+op_first : (kind : OpKind) (name function left right left_keys right_keys : List ℕ) → IsSpelledDecl (Op name kind function left right left_keys right_keys)
+    → OtherFirst (words_of_decl (Op name kind function left right left_keys right_keys))
+op_first SourceKind name function left right left_keys right_keys h = absurd h.3
+op_first Map name function left right left_keys right_keys h = refl
+op_first Reduce name function left right left_keys right_keys h = refl
+op_first Match name function left right left_keys right_keys h = refl
+op_first Cross name function left right left_keys right_keys h = refl
+op_first CoGroup name function left right left_keys right_keys h = refl
+
+decl_first : (d : Decl) → IsSpelledDecl d → OtherFirst (words_of_decl d)
+decl_first (Source name file columns) h = refl
+decl_first (FunctionDecl number) h = absurd h
+decl_first (Op name kind function left right left_keys right_keys) h = op_first kind name function left right left_keys right_keys h
+decl_first (Sink input fields) h = refl
+
+between-other : (words : List LineWord) → OtherFirst words → between_fault words ≡ declaration_fault words
+between-other [] h = absurd h
+between-other (plain_word word ∷ words) h = rw h refl
+between-other (literal_word bytes ∷ words) h = absurd h
+
+between-header : (name : List ℕ) (kind : Kind) (keys : ℕ) → between_fault (header_words name kind keys) ≡ header_fault (header_words name kind keys)
+between-header name kind keys = refl
+
+not_both : (d : Decl) (name : List ℕ) (kind : Kind) (keys : ℕ) → IsSpelledDecl d → words_of_decl d ≡ header_words name kind keys → ⊥
+not_both d name kind keys h e =
+    let other : OtherFirst (header_words name kind keys) = subst OtherFirst e (decl_first d h) in
+    clash (bytes_eq (codes "function") (codes "function")) refl other
+  where
+    clash : (b : Bool) → b ≡ true → b ≡ false → ⊥
+    clash b p q = cc
+
+-- ---- what may be said has words of its own
+
+some_said : (s : ProgramState) (l : ProgramLine) → MaySay s l → words_of_program_line l ≢ []
+some_said nothing_read version h = version_words-some
+some_said nothing_read (field_count count) h = absurd h
+some_said nothing_read (declares decl) h = absurd h
+some_said nothing_read (begins name kind keys) h = absurd h
+some_said nothing_read (inside line) h = absurd h
+some_said version_read version h = absurd h
+some_said version_read (field_count count) h = field_count_words-some count h
+some_said version_read (declares decl) h = absurd h
+some_said version_read (begins name kind keys) h = absurd h
+some_said version_read (inside line) h = absurd h
+some_said (drafted d) version h = absurd h
+some_said (drafted d) (field_count count) h = absurd h
+some_said (drafted d) (declares decl) h = words_of_decl-some decl h
+some_said (drafted d) (begins name kind keys) h = λ e. absurd cc
+some_said (drafted d) (inside line) h = absurd h
+some_said (open_function d o) version h = absurd h
+some_said (open_function d o) (field_count count) h = absurd h
+some_said (open_function d o) (declares decl) h = absurd h
+some_said (open_function d o) (begins name kind keys) h = absurd h
+some_said (open_function d o) (inside line) h = words_of_line-some (lists_in o.build.blocks) line (IsSpelledLine-MayStand (place_of o.build) line h)
+
+header_parts : (a b : List ℕ) (j k : Kind) (m n : ℕ) → header a j m ≡ header b k n → begins a j m ≡ begins b k n
+header_parts a b j k m n e = ap (λ (l : FunctionLine). line_of l) e
+  where
+    line_of : FunctionLine → ProgramLine
+    line_of (header name kind keys) = begins name kind keys
+    line_of (FunctionLine.inside line) = version
+
+unique_first : (l m : ProgramLine) → MaySay nothing_read l → MaySay nothing_read m → l ≡ m
+unique_first version version h k = refl
+unique_first version (field_count count) h k = absurd k
+unique_first version (declares decl) h k = absurd k
+unique_first version (begins name kind keys) h k = absurd k
+unique_first version (inside line) h k = absurd k
+unique_first (field_count count) m h k = absurd h
+unique_first (declares decl) m h k = absurd h
+unique_first (begins name kind keys) m h k = absurd h
+unique_first (inside line) m h k = absurd h
+
+unique_said : (s : ProgramState) (l m : ProgramLine) → MaySay s l → MaySay s m → words_of_program_line l ≡ words_of_program_line m → l ≡ m
+unique_said nothing_read l m h k e = unique_first l m h k
+unique_said version_read (field_count i) (field_count j) h k e = ap field_count (field_count_words-unique i j h k e)
+unique_said version_read version m h k e = absurd h
+unique_said version_read (declares decl) m h k e = absurd h
+unique_said version_read (begins name kind keys) m h k e = absurd h
+unique_said version_read (inside line) m h k e = absurd h
+unique_said version_read (field_count i) version h k e = absurd k
+unique_said version_read (field_count i) (declares decl) h k e = absurd k
+unique_said version_read (field_count i) (begins name kind keys) h k e = absurd k
+unique_said version_read (field_count i) (inside line) h k e = absurd k
+unique_said (drafted d) (declares a) (declares b) h k e = ap declares (words_of_decl-unique a b h k e)
+unique_said (drafted d) (declares a) (begins name kind keys) h k e = absurd (not_both a name kind keys h e)
+unique_said (drafted d) (begins name kind keys) (declares b) h k e = absurd (not_both b name kind keys k (sym e))
+unique_said (drafted d) (begins a j m) (begins b i n) h k e = header_parts a b j i m n (one_header a b j i m n h k e)
+unique_said (drafted d) version m h k e = absurd h
+unique_said (drafted d) (field_count count) m h k e = absurd h
+unique_said (drafted d) (inside line) m h k e = absurd h
+unique_said (drafted d) (declares a) version h k e = absurd k
+unique_said (drafted d) (declares a) (field_count count) h k e = absurd k
+unique_said (drafted d) (declares a) (inside line) h k e = absurd k
+unique_said (drafted d) (begins a j m) version h k e = absurd k
+unique_said (drafted d) (begins a j m) (field_count count) h k e = absurd k
+unique_said (drafted d) (begins a j m) (inside line) h k e = absurd k
+unique_said (open_function d o) (inside l) (inside m) h k e = ap inside (words_of_one_line (place_of o.build) (place_of o.build) l m h k e)
+unique_said (open_function d o) version m h k e = absurd h
+unique_said (open_function d o) (field_count count) m h k e = absurd h
+unique_said (open_function d o) (declares decl) m h k e = absurd h
+unique_said (open_function d o) (begins name kind keys) m h k e = absurd h
+unique_said (open_function d o) (inside l) version h k e = absurd k
+unique_said (open_function d o) (inside l) (field_count count) h k e = absurd k
+unique_said (open_function d o) (inside l) (declares decl) h k e = absurd k
+unique_said (open_function d o) (inside l) (begins name kind keys) h k e = absurd k
+
+pub program_sayings : AreSayings words_of_program_line MaySay
+program_sayings = record { some = some_said; unique = unique_said }
+
+-- ---- and no fault
+
+fault_none : (s : ProgramState) → program_fault (program_place s) [] ≡ None
+fault_none nothing_read = refl
+fault_none version_read = refl
+fault_none (drafted d) = refl
+fault_none (open_function d o) = refl
+
+fault_sound : (s : ProgramState) (l : ProgramLine) → MaySay s l → program_fault (program_place s) (words_of_program_line l) ≡ None
+fault_sound nothing_read version h = version_faultless
+fault_sound nothing_read (field_count count) h = absurd h
+fault_sound nothing_read (declares decl) h = absurd h
+fault_sound nothing_read (begins name kind keys) h = absurd h
+fault_sound nothing_read (inside line) h = absurd h
+fault_sound version_read version h = absurd h
+fault_sound version_read (field_count count) h = field_count_faultless count h
+fault_sound version_read (declares decl) h = absurd h
+fault_sound version_read (begins name kind keys) h = absurd h
+fault_sound version_read (inside line) h = absurd h
+fault_sound (drafted d) version h = absurd h
+fault_sound (drafted d) (field_count count) h = absurd h
+fault_sound (drafted d) (declares decl) h = between-other (words_of_decl decl) (decl_first decl h) ∙ faultless decl h
+fault_sound (drafted d) (begins name kind keys) h = between-header name kind keys ∙ header_fault-header_words name kind keys h
+fault_sound (drafted d) (inside line) h = absurd h
+fault_sound (open_function d o) version h = absurd h
+fault_sound (open_function d o) (field_count count) h = absurd h
+fault_sound (open_function d o) (declares decl) h = absurd h
+fault_sound (open_function d o) (begins name kind keys) h = absurd h
+fault_sound (open_function d o) (inside line) h = statement_fault-words_of_line (place_of o.build) line h
+
+some_length : (words : List LineWord) → words ≢ [] → 0 < length words
+some_length [] some = absurd (some refl)
+some_length (word ∷ words) some = omega arith
+
+pub said_between : (d : DraftData) (ws : List LineWord) → ws ≢ [] → between_fault ws ≡ None → (l : ProgramLine) × (ws ≡ words_of_program_line l) × MaySay (drafted d) l
+said_between d [] some e = absurd (some refl)
+said_between d (literal_word bytes ∷ words) some e = let bad : Some 3 ≡ None = e in absurd cc
+said_between d (plain_word word ∷ words) some e = by_word (bytes_eq word (codes "function")) refl
+  where
+    by_word : (b : Bool) → bytes_eq word (codes "function") ≡ b → (l : ProgramLine) × (plain_word word ∷ words ≡ words_of_program_line l) × MaySay (drafted d) l
+    by_word true w =
+        let told : header_fault (plain_word word ∷ words) ≡ None = rw w (rw w at e) in
+        let h = header_of_words (plain_word word ∷ words) some told in (begins h.0 h.1 h.2, h.3, h.4)
+    by_word false w =
+        let told : declaration_fault (plain_word word ∷ words) ≡ None = rw w at e in
+        let h = declared (plain_word word ∷ words) some told in (declares h.0, h.1, h.2)
+
+fault_complete : (s : ProgramState) (ws : List LineWord) → ws ≢ [] → AreLineWords ws → program_fault (program_place s) ws ≡ None → (l : ProgramLine) × (ws ≡ words_of_program_line l) × MaySay s l
+fault_complete nothing_read ws some good e = (version, version_declared ws some e, tt)
+fault_complete version_read ws some good e = let h = field_count_declared ws some e in (field_count h.0, h.1, h.2)
+fault_complete (drafted d) ws some good e = said_between d ws some e
+fault_complete (open_function d o) ws some good e = let h = line_of_words (place_of o.build) ws (some_length ws some) good e in (inside h.0, h.1, h.2)
+
+pub program_faults : TellsFaults words_of_program_line MaySay (λ s. program_fault (program_place s))
+program_faults = record { none = fault_none; sound = fault_sound; complete = fault_complete }
+
+-- ---- what may be said can be written
+
+pub said_words : (s : ProgramState) (l : ProgramLine) → MaySay s l → AreLineWords (words_of_program_line l)
+said_words nothing_read version h = AreVersionWords
+said_words nothing_read (field_count count) h = absurd h
+said_words nothing_read (declares decl) h = absurd h
+said_words nothing_read (begins name kind keys) h = absurd h
+said_words nothing_read (inside line) h = absurd h
+said_words version_read version h = absurd h
+said_words version_read (field_count count) h = AreFieldCountWords count h
+said_words version_read (declares decl) h = absurd h
+said_words version_read (begins name kind keys) h = absurd h
+said_words version_read (inside line) h = absurd h
+said_words (drafted d) version h = absurd h
+said_words (drafted d) (field_count count) h = absurd h
+said_words (drafted d) (declares decl) h = AreDeclarationWords decl h
+said_words (drafted d) (begins name kind keys) h = AreLineWords-fine (header_words name kind keys) (AreFine-header_words name kind keys h)
+said_words (drafted d) (inside line) h = absurd h
+said_words (open_function d o) version h = absurd h
+said_words (open_function d o) (field_count count) h = absurd h
+said_words (open_function d o) (declares decl) h = absurd h
+said_words (open_function d o) (begins name kind keys) h = absurd h
+said_words (open_function d o) (inside line) h = AreLineWords-fine (words_of_line line) (AreFine-words_of_line (place_of o.build).lists line (IsSpelledLine-MayStand (place_of o.build) line h))
+
+written_lines : (s t : ProgramState) (ls : List ProgramLine) → Leads s ls t → (lines : List (List ℕ)) × RunsTo s lines t
+written_lines s t [] p = ([], p)
+written_lines s t (l ∷ ls) p =
+    let rest = written_lines (said_on s l) t ls p.1 in
+    let words = words_of_program_line l in
+    (canonical_line 0 words ∷ rest.0, inr (l, HasWords-canonical_line 0 words (said_words s l p.0), p.0, rest.1))
+
+-- ---- texts of programs
+
+pub RunsTo-ProgramText : (d : DraftData) (text : List (List ℕ)) → ProgramText d text → RunsTo nothing_read text (drafted d)
+RunsTo-ProgramText d text t =
+    let led = program_leads d t.said t.spelled t.writable in
+    Runs-said words_of_program_line MaySay said_on nothing_read (drafted d) text t.said led.0 t.says led.1 led.2
+
+pub ProgramText-RunsTo : (d : DraftData) (text : List (List ℕ)) → RunsTo nothing_read text (drafted d) → ProgramText d text
+ProgramText-RunsTo d text run =
+    let said = said_by_run words_of_program_line MaySay said_on program_sayings nothing_read (drafted d) text run in
+    let read : StateFront (drafted d) said.0 = lines_read nothing_read (drafted d) [] said.0 refl said.2 in
+    record {
+      said = map words_of_program_line said.0;
+      says = said.1;
+      spelled = (map words_of_program_line read.decls, ap (map words_of_program_line) read.all, read.spelled);
+      writable = read.writable;
+    }
+
+begins_whole : (front : List (List ℕ)) (s : ProgramState) → RunsTo nothing_read front s → IsStart IsProgramText front
+begins_whole front s run =
+    let said = said_by_run words_of_program_line MaySay said_on program_sayings nothing_read s front run in
+    let rest = can_end s said.0 (lines_read nothing_read s [] said.0 refl said.2) in
+    let more = written_lines s (drafted rest.1) rest.0 rest.2 in
+    let all = Runs-append words_of_program_line MaySay said_on nothing_read s (drafted rest.1) front more.0 run more.1 in
+    (more.0, (rest.1, ProgramText-RunsTo rest.1 (front ++ more.0) all))
+
+pub reads_programs : Reads IsProgramText words_of_program_line MaySay said_on nothing_read
+reads_programs = record { whole = λ text w. (drafted w.0, RunsTo-ProgramText w.0 text w.1); begins = begins_whole }

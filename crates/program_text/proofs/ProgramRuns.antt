@@ -1,0 +1,287 @@
+-- Each text of a program takes the reader to its draft, and what the reader has come to is what was read.
+use Rattle.std.proofs.Common.{◌≡◌, ◌≢◌, ◌≤◌, ◌+◌, ℕ, Bool, true, false, cond, inl, inr, List, [], ◌∷◌, ◌++◌, map, length, Option, Some, None, refl, ap, sym, subst, ◌∙◌, append_assoc, append-nil, arith, length-append}
+use Rattle.std.specs.List.{AllByRecursion}
+use Rattle.std.proofs.lemmas.List.{map-append}
+use Rattle.pact_bag.proofs.Widths.{AllByRecursion-last}
+use Rattle.pact_operators.specs.declared.declarations.Decl.{Decl}
+use Rattle.pact_operators.specs.declared.declarations.Decl.TheVariants.{Source, Function as FunctionDecl, Op, Sink}
+use Rattle.pact_operators.specs.Declarations.{IsSpelledDecl}
+use Rattle.pact_operators.specs.Drafts.{AreDeclared, DraftData, IsSpelledDraft}
+use Rattle.pact_operators.proofs.Declared.{IsSpelledDraft-decl, IsSpelledDraft-function}
+use Rattle.tac_syntax.specs.declared.functions.Function.{Function}
+use Rattle.tac_syntax.specs.declared.functions.Kind.{Kind}
+use Rattle.tac_syntax.specs.Code.{Code, Line, simple, test, turns, over, otherwise, close, nesting}
+use Rattle.tac_syntax.specs.Functions.{IsSpelledFunction}
+use Rattle.tac_syntax.specs.Limits.{nesting_limit}
+use Rattle.tac_text.specs.declared.building.Block.{Block}
+use Rattle.tac_text.specs.Blocks.{SpellsBody}
+use Rattle.tac_text.specs.Building.{Build, build_start}
+use Rattle.tac_text.specs.FunctionAnswers.{OpenData, begun, function_of, with_build}
+use Rattle.tac_text.specs.FunctionLines.{SpellsFunction, IsHeader, header_words}
+use Rattle.tac_text.specs.Places.{FitsBuild, Front, IsInside, MayInside, built_on, place_of}
+use Rattle.tac_text.specs.StatementLines.{MayStand, words_of_line}
+use Rattle.tac_text.proofs.BodySteps.{body_steps, closable, fits_start, front_start, front_step, front_whole}
+use Rattle.text_lines.specs.declared.line_words.LineWord.{LineWord}
+use Rattle.text_lines.specs.Runs.{Steps}
+use Rattle.text_lines.proofs.LineRuns.{Steps-append}
+use Rattle.program_text.specs.DeclarationWords.{words_of_decl}
+use Rattle.program_text.specs.FirstLines.{IsFieldCount, field_count_words, version_words}
+use Rattle.program_text.specs.ProgramStates.{ProgramLine, version, field_count, declares, begins, inside, ProgramState, nothing_read, version_read, drafted, open_function, MaySay, ends_function, said_inside, said_on, with_decl, with_function, words_of_program_line}
+use Rattle.program_text.specs.ProgramTexts.{IsWritableDraft, SpellsDecls, SpellsProgram}
+
+abbrev pub Leads : ProgramState → List ProgramLine → ProgramState → Type 0
+Leads s lines t = Steps MaySay said_on s lines t
+
+-- ---- the words of a program take the reader to it
+
+pub inside_stays : (line : Line) (blocks : List Block) → IsInside line blocks → ends_function line blocks ≡ false
+inside_stays (simple s) blocks h = refl
+inside_stays (test on) blocks h = refl
+inside_stays (turns count) blocks h = refl
+inside_stays (over name list) blocks h = refl
+inside_stays otherwise blocks h = refl
+inside_stays close [] h = absurd h
+inside_stays close (block ∷ blocks) h = refl
+
+inside_leads : (d : DraftData) (o : OpenData) (c : Build) (lines : List Line) → Steps MayInside built_on o.build lines c → Leads (open_function d o) (map inside lines) (open_function d (with_build o c))
+inside_leads d o c [] h = ap (λ (b : Build). open_function d (with_build o b)) h
+inside_leads d o c (line ∷ lines) h = (h.0.0, rw (inside_stays line o.build.blocks h.0.1) (inside_leads d (with_build o (built_on o.build line)) c lines h.1))
+
+-- the lines of a body, and the function's `end`
+ended_leads : (d : DraftData) (o : OpenData) (body : Code) (lines : List Line) → Steps MayInside built_on o.build lines (record { blocks = []; body = body })
+    → Leads (open_function d o) (map inside lines ++ inside close ∷ []) (drafted (with_function d (record { name = o.name; kind = o.kind; keys = o.keys; body = body })))
+ended_leads d o body lines h =
+    let full : Build = record { blocks = []; body = body } in
+    let last = drafted (with_function d (record { name = o.name; kind = o.kind; keys = o.keys; body = body })) in
+    Steps-append MaySay said_on (open_function d o) (open_function d (with_build o full)) last (map inside lines) (inside close ∷ []) (inside_leads d o full lines h) (tt, refl)
+
+function_leads : (d : DraftData) (f : Function) (lines : List Line) → SpellsBody f.body lines → IsSpelledFunction f → nesting f.body ≤ nesting_limit
+    → Leads (drafted d) (begins f.name f.kind f.keys ∷ (map inside lines ++ inside close ∷ [])) (drafted (with_function d f))
+function_leads d f lines h s n = ((s.name, s.keys), ended_leads d (begun f.name f.kind f.keys) f.body lines (body_steps f.body lines build_start h s.body (omega (arith, n))))
+
+map-inside : (lines : List Line) → map words_of_program_line (map inside lines) ≡ map words_of_line lines
+map-inside [] = refl
+map-inside (line ∷ lines) = ap (λ (x : List (List LineWord)). words_of_line line ∷ x) (map-inside lines)
+
+function_words : (f : Function) (lines : List Line) (first : List (List LineWord)) → first ≡ header_words f.name f.kind f.keys ∷ (map words_of_line lines ++ words_of_line close ∷ [])
+    → first ≡ map words_of_program_line (begins f.name f.kind f.keys ∷ (map inside lines ++ inside close ∷ []))
+function_words f lines first e =
+    e ∙ ap (λ (x : List (List LineWord)). header_words f.name f.kind f.keys ∷ x) (ap (λ (x : List (List LineWord)). x ++ words_of_line close ∷ []) (sym (map-inside lines)) ∙ sym (map-append words_of_program_line (map inside lines) (inside close ∷ [])))
+
+abbrev appended : DraftData → List Function → List Decl → DraftData
+appended d functions decls = record { fields = d.fields; functions = d.functions ++ functions; decls = d.decls ++ decls }
+
+with_decl-appended : (d : DraftData) (decl : Decl) (functions : List Function) (decls : List Decl) → appended (with_decl d decl) functions decls ≡ appended d functions (decl ∷ decls)
+with_decl-appended d decl functions decls = ap (λ (x : List Decl). record { fields = d.fields; functions = d.functions ++ functions; decls = x }) (append_assoc d.decls (decl ∷ []) decls)
+
+with_function-appended : (d : DraftData) (f : Function) (number : ℕ) (functions : List Function) (decls : List Decl) → number ≡ length d.functions
+    → appended (with_function d f) functions decls ≡ appended d (f ∷ functions) (FunctionDecl number ∷ decls)
+with_function-appended d f number functions decls e =
+    ap (λ (x : List Function). record { fields = d.fields; functions = x; decls = (d.decls ++ FunctionDecl (length d.functions) ∷ []) ++ decls }) (append_assoc d.functions (f ∷ []) functions)
+    ∙ ap (λ (x : List Decl). record { fields = d.fields; functions = d.functions ++ f ∷ functions; decls = x }) (append_assoc d.decls (FunctionDecl (length d.functions) ∷ []) decls)
+    ∙ ap (λ (n : ℕ). record { fields = d.fields; functions = d.functions ++ f ∷ functions; decls = d.decls ++ FunctionDecl n ∷ decls }) (sym e)
+
+pub record Led (d : DraftData) (said : List (List LineWord)) (t : DraftData) : Type 0 where
+  pub lines : List ProgramLine
+  pub words : said ≡ map words_of_program_line lines
+  pub leads : Leads (drafted d) lines (drafted t)
+
+led_by : (d : DraftData) (decl : Decl) (said rest : List (List LineWord)) (t u : DraftData) → said ≡ words_of_decl decl ∷ rest → IsSpelledDecl decl → Led (with_decl d decl) rest t → t ≡ u → Led d said u
+led_by d decl said rest t u e s h same = record {
+  lines = declares decl ∷ h.lines;
+  words = e ∙ ap (λ (x : List (List LineWord)). words_of_decl decl ∷ x) h.words;
+  leads = (s, subst (λ (x : DraftData). Leads (drafted (with_decl d decl)) h.lines (drafted x)) same h.leads);
+}
+
+decls_lead : (d : DraftData) (n count : ℕ) (functions : List Function) (decls : List Decl) (said : List (List LineWord)) → SpellsDecls functions decls said
+    → AllByRecursion IsSpelledFunction functions → AllByRecursion (λ f. nesting f.body ≤ nesting_limit) functions → AreDeclared n count decls → n ≡ length d.functions
+    → Led d said (appended d functions decls)
+decls_lead d n count functions [] said h w k a e =
+    record { lines = []; words = h.0; leads = ap drafted (same (append-nil d.functions) (append-nil d.decls) (sym h.1)) }
+  where
+    same : d.functions ++ [] ≡ d.functions → d.decls ++ [] ≡ d.decls → [] ≡ functions → d ≡ appended d functions []
+    same p q r =
+        ap (λ (x : List Function). record { fields = d.fields; functions = x; decls = d.decls }) (sym p)
+        ∙ ap (λ (x : List Decl). record { fields = d.fields; functions = d.functions ++ []; decls = x }) (sym q)
+        ∙ ap (λ (x : List Function). record { fields = d.fields; functions = d.functions ++ x; decls = d.decls ++ [] }) r
+decls_lead d n count functions (Source name file columns ∷ decls) said h w k a e =
+    led_by d (Source name file columns) said h.0 _ _ h.1 a.0 (decls_lead (with_decl d (Source name file columns)) n count functions decls h.0 h.2 w k a.1 e) (with_decl-appended d (Source name file columns) functions decls)
+decls_lead d n count [] (FunctionDecl number ∷ decls) said h w k a e = absurd h
+decls_lead d n count (f ∷ functions) (FunctionDecl number ∷ decls) said h w k a e =
+    let body = h.3 in
+    let first = function_leads d f body.0 body.1 w.0 k.0 in
+    let more = decls_lead (with_function d f) (n + 1) count functions decls h.1 h.4 w.1 k.1 a.1 (omega (arith, e, length-append d.functions (f ∷ []))) in
+    let lines = begins f.name f.kind f.keys ∷ (map inside body.0 ++ inside close ∷ []) in
+    let words = function_words f body.0 h.0 body.2 in
+    record {
+      lines = lines ++ more.lines;
+      words = h.2 ∙ ap (λ (x : List (List LineWord)). x ++ h.1) words ∙ ap (λ (x : List (List LineWord)). map words_of_program_line lines ++ x) more.words ∙ sym (map-append words_of_program_line lines more.lines);
+      leads = Steps-append MaySay said_on (drafted d) (drafted (with_function d f)) _ lines more.lines first
+          (subst (λ (x : DraftData). Leads (drafted (with_function d f)) more.lines (drafted x)) (with_function-appended d f number functions decls (a.0 ∙ e)) more.leads);
+    }
+decls_lead d n count functions (Op name kind function left right left_keys right_keys ∷ decls) said h w k a e =
+    led_by d (Op name kind function left right left_keys right_keys) said h.0 _ _ h.1 a.0
+    (decls_lead (with_decl d (Op name kind function left right left_keys right_keys)) n count functions decls h.0 h.2 w k a.1 e) (with_decl-appended d (Op name kind function left right left_keys right_keys) functions decls)
+decls_lead d n count functions (Sink input fields ∷ decls) said h w k a e =
+    led_by d (Sink input fields) said h.0 _ _ h.1 a.0 (decls_lead (with_decl d (Sink input fields)) n count functions decls h.0 h.2 w k a.1 e) (with_decl-appended d (Sink input fields) functions decls)
+
+-- the words of a program's text, from the first line on
+pub program_leads : (d : DraftData) (said : List (List LineWord)) → SpellsProgram d said → IsWritableDraft d → (lines : List ProgramLine) × (said ≡ map words_of_program_line lines) × Leads nothing_read lines (drafted d)
+program_leads d said h w =
+    let start : DraftData = record { fields = d.fields; functions = []; decls = [] } in
+    let led = decls_lead start 0 (length d.functions) d.functions d.decls h.0 h.2 w.spelled.functions w.nested w.spelled.declared refl in (
+      version ∷ field_count d.fields ∷ led.lines,
+      h.1 ∙ ap (λ (x : List (List LineWord)). version_words ∷ field_count_words d.fields ∷ x) led.words,
+      (tt, ((w.spelled.some_field, w.spelled.few_fields), led.leads)),
+    )
+
+-- ---- what the reader has come to
+
+pub record ReadSo (d : DraftData) (lines : List ProgramLine) : Type 0 where
+  pub decls : List ProgramLine
+  pub all : lines ≡ version ∷ field_count d.fields ∷ decls
+  pub spelled : SpellsDecls d.functions d.decls (map words_of_program_line decls)
+  pub writable : IsWritableDraft d
+
+pub record OpenSo (d : DraftData) (o : OpenData) (lines : List ProgramLine) : Type 0 where
+  pub outer : List ProgramLine
+  pub inner : List Line
+  pub all : lines ≡ outer ++ begins o.name o.kind o.keys ∷ map inside inner
+  pub read : ReadSo d outer
+  pub header : IsHeader o.name o.kind o.keys
+  pub front : Front o.build inner
+  pub fits : FitsBuild o.build
+
+abbrev pub StateFront : ProgramState → List ProgramLine → Type 0
+StateFront nothing_read lines = lines ≡ []
+StateFront version_read lines = lines ≡ version ∷ []
+StateFront (drafted d) lines = ReadSo d lines
+StateFront (open_function d o) lines = OpenSo d o lines
+
+SpellsDecls-append : (f g : List Function) (a b : List Decl) (x y : List (List LineWord)) → SpellsDecls f a x → SpellsDecls g b y → SpellsDecls (f ++ g) (a ++ b) (x ++ y)
+SpellsDecls-append f g [] b x y h k = rw (h.0, h.1) k
+SpellsDecls-append f g (Source name file columns ∷ a) b x y h k = (h.0 ++ y, ap (λ (z : List (List LineWord)). z ++ y) h.1, SpellsDecls-append f g a b h.0 y h.2 k)
+SpellsDecls-append [] g (FunctionDecl number ∷ a) b x y h k = absurd h
+SpellsDecls-append (e ∷ f) g (FunctionDecl number ∷ a) b x y h k =
+    (h.0, h.1 ++ y, ap (λ (z : List (List LineWord)). z ++ y) h.2 ∙ append_assoc h.0 h.1 y, h.3, SpellsDecls-append f g a b h.1 y h.4 k)
+SpellsDecls-append f g (Op name kind function left right left_keys right_keys ∷ a) b x y h k = (h.0 ++ y, ap (λ (z : List (List LineWord)). z ++ y) h.1, SpellsDecls-append f g a b h.0 y h.2 k)
+SpellsDecls-append f g (Sink input fields ∷ a) b x y h k = (h.0 ++ y, ap (λ (z : List (List LineWord)). z ++ y) h.1, SpellsDecls-append f g a b h.0 y h.2 k)
+
+SpellsDecls-one : (decl : Decl) → IsSpelledDecl decl → SpellsDecls [] (decl ∷ []) (words_of_decl decl ∷ [])
+SpellsDecls-one (Source name file columns) h = ([], refl, (refl, refl))
+SpellsDecls-one (FunctionDecl number) h = absurd h
+SpellsDecls-one (Op name kind function left right left_keys right_keys) h = ([], refl, (refl, refl))
+SpellsDecls-one (Sink input fields) h = ([], refl, (refl, refl))
+
+decl_read : (d : DraftData) (decl : Decl) (lines : List ProgramLine) → ReadSo d lines → IsSpelledDecl decl → ReadSo (with_decl d decl) (lines ++ declares decl ∷ [])
+decl_read d decl lines h s = record {
+  decls = h.decls ++ declares decl ∷ [];
+  all = ap (λ (x : List ProgramLine). x ++ declares decl ∷ []) h.all;
+  spelled = subst (λ (x : List (List LineWord)). SpellsDecls d.functions (d.decls ++ decl ∷ []) x) (sym (map-append words_of_program_line h.decls (declares decl ∷ [])))
+      (subst (λ (x : List Function). SpellsDecls x (d.decls ++ decl ∷ []) (map words_of_program_line h.decls ++ words_of_decl decl ∷ [])) (append-nil d.functions)
+      (SpellsDecls-append d.functions [] d.decls (decl ∷ []) (map words_of_program_line h.decls) (words_of_decl decl ∷ []) h.spelled (SpellsDecls-one decl s)));
+  writable = record { spelled = IsSpelledDraft-decl d decl true s h.writable.spelled; nested = h.writable.nested };
+}
+
+ended_read : (d : DraftData) (f : Function) (lines : List ProgramLine) (inner : List Line) → ReadSo d lines → IsHeader f.name f.kind f.keys → SpellsBody f.body inner → IsSpelledFunction f → nesting f.body ≤ nesting_limit
+    → ReadSo (with_function d f) (lines ++ begins f.name f.kind f.keys ∷ (map inside inner ++ inside close ∷ []))
+ended_read d f lines inner h k b s n =
+    let own = begins f.name f.kind f.keys ∷ (map inside inner ++ inside close ∷ []) in
+    let spelled : SpellsFunction f (map words_of_program_line own) = (inner, b, sym (function_words f inner _ refl)) in
+    let one : SpellsDecls (f ∷ []) (FunctionDecl (length d.functions) ∷ []) (map words_of_program_line own) = (map words_of_program_line own, [], sym (append-nil (map words_of_program_line own)), spelled, (refl, refl)) in
+    record {
+      decls = h.decls ++ own;
+      all = ap (λ (x : List ProgramLine). x ++ own) h.all;
+      spelled = subst (λ (x : List (List LineWord)). SpellsDecls (d.functions ++ f ∷ []) (d.decls ++ FunctionDecl (length d.functions) ∷ []) x) (sym (map-append words_of_program_line h.decls own))
+          (SpellsDecls-append d.functions (f ∷ []) d.decls (FunctionDecl (length d.functions) ∷ []) (map words_of_program_line h.decls) (map words_of_program_line own) h.spelled one);
+      writable = record {
+        spelled = IsSpelledDraft-function d f s h.writable.spelled;
+        nested = AllByRecursion-last (λ (g : Function). nesting g.body ≤ nesting_limit) d.functions f h.writable.nested n;
+      };
+    }
+
+inside_read : (d : DraftData) (o : OpenData) (lines : List ProgramLine) (line : Line) → OpenSo d o lines → MayInside o.build line
+    → OpenSo d (with_build o (built_on o.build line)) (lines ++ inside line ∷ [])
+inside_read d o lines line h may =
+    let next = front_step o.build line h.inner h.front h.fits may in
+    record {
+      outer = h.outer;
+      inner = h.inner ++ line ∷ [];
+      all = ap (λ (x : List ProgramLine). x ++ inside line ∷ []) h.all ∙ append_assoc h.outer (begins o.name o.kind o.keys ∷ map inside h.inner) (inside line ∷ [])
+          ∙ ap (λ (x : List ProgramLine). h.outer ++ begins o.name o.kind o.keys ∷ x) (sym (map-append inside h.inner (line ∷ [])));
+      read = h.read;
+      header = h.header;
+      front = next.0;
+      fits = next.1;
+    }
+
+-- ---- a line more
+
+data EndsOrNot (line : Line) (blocks : List Block) : Type 0 where
+  ends : ends_function line blocks ≡ true → line ≡ close → blocks ≡ [] → EndsOrNot line blocks
+  goes_on : ends_function line blocks ≡ false → IsInside line blocks → EndsOrNot line blocks
+
+ends_or_not : (line : Line) (blocks : List Block) → EndsOrNot line blocks
+ends_or_not (simple s) blocks = goes_on refl tt
+ends_or_not (test on) blocks = goes_on refl tt
+ends_or_not (turns count) blocks = goes_on refl tt
+ends_or_not (over name list) blocks = goes_on refl tt
+ends_or_not otherwise blocks = goes_on refl tt
+ends_or_not close [] = ends refl refl refl
+ends_or_not close (block ∷ blocks) = goes_on refl tt
+
+line_inside : (d : DraftData) (o : OpenData) (lines : List ProgramLine) (line : Line) → OpenSo d o lines → MayStand (place_of o.build) line
+    → EndsOrNot line o.build.blocks → StateFront (said_inside d o line) (lines ++ inside line ∷ [])
+line_inside d o lines line h may (ends e is_close none) =
+    let whole = front_whole o.build h.inner none h.front h.fits in
+    let s : IsSpelledFunction (function_of o) = record { name = h.header.0; keys = h.header.1; body = whole.1 } in
+    let read = ended_read d (function_of o) h.outer h.inner h.read h.header whole.0 s whole.2 in
+    let lines_are : h.outer ++ begins o.name o.kind o.keys ∷ (map inside h.inner ++ inside close ∷ []) ≡ lines ++ inside line ∷ [] =
+    sym (append_assoc h.outer (begins o.name o.kind o.keys ∷ map inside h.inner) (inside close ∷ [])) ∙ ap (λ (x : List ProgramLine). x ++ inside close ∷ []) (sym h.all) ∙ ap (λ (l : Line). lines ++ inside l ∷ []) (sym is_close) in
+    rw e (subst (ReadSo (with_function d (function_of o))) lines_are read)
+line_inside d o lines line h may (goes_on e i) = rw e (inside_read d o lines line h (may, i))
+
+pub line_read : (s : ProgramState) (l : ProgramLine) (lines : List ProgramLine) → StateFront s lines → MaySay s l → StateFront (said_on s l) (lines ++ l ∷ [])
+line_read nothing_read version lines h m = ap (λ (x : List ProgramLine). x ++ version ∷ []) h
+line_read nothing_read (field_count count) lines h m = absurd m
+line_read nothing_read (declares decl) lines h m = absurd m
+line_read nothing_read (begins name kind keys) lines h m = absurd m
+line_read nothing_read (inside line) lines h m = absurd m
+line_read version_read version lines h m = absurd m
+line_read version_read (field_count count) lines h m = record {
+  decls = [];
+  all = ap (λ (x : List ProgramLine). x ++ field_count count ∷ []) h;
+  spelled = (refl, refl);
+  writable = record { spelled = record { some_field = m.0; few_fields = m.1; functions = tt; declared = refl }; nested = tt };
+}
+line_read version_read (declares decl) lines h m = absurd m
+line_read version_read (begins name kind keys) lines h m = absurd m
+line_read version_read (inside line) lines h m = absurd m
+line_read (drafted d) version lines h m = absurd m
+line_read (drafted d) (field_count count) lines h m = absurd m
+line_read (drafted d) (declares decl) lines h m = decl_read d decl lines h m
+line_read (drafted d) (begins name kind keys) lines h m = record { outer = lines; inner = []; all = refl; read = h; header = m; front = front_start; fits = fits_start }
+line_read (drafted d) (inside line) lines h m = absurd m
+line_read (open_function d o) version lines h m = absurd m
+line_read (open_function d o) (field_count count) lines h m = absurd m
+line_read (open_function d o) (declares decl) lines h m = absurd m
+line_read (open_function d o) (begins name kind keys) lines h m = absurd m
+line_read (open_function d o) (inside line) lines h m = line_inside d o lines line h m (ends_or_not line o.build.blocks)
+
+pub lines_read : (s t : ProgramState) (lines more : List ProgramLine) → StateFront s lines → Leads s more t → StateFront t (lines ++ more)
+lines_read s t lines [] h e = subst (StateFront t) (sym (append-nil lines)) (subst (λ (x : ProgramState). StateFront x lines) e h)
+lines_read s t lines (l ∷ more) h m =
+    subst (StateFront t) (append_assoc lines (l ∷ []) more) (lines_read (said_on s l) t (lines ++ l ∷ []) more (line_read s l lines h m.0) m.1)
+
+-- ---- what was read can become whole
+
+pub can_end : (s : ProgramState) (lines : List ProgramLine) → StateFront s lines → (more : List ProgramLine) × (d : DraftData) × Leads s more (drafted d)
+can_end nothing_read lines h = (version ∷ field_count 1 ∷ [], record { fields = 1; functions = []; decls = [] }, (tt, ((omega arith, omega arith), refl)))
+can_end version_read lines h = (field_count 1 ∷ [], record { fields = 1; functions = []; decls = [] }, ((omega arith, omega arith), refl))
+can_end (drafted d) lines h = ([], d, refl)
+can_end (open_function d o) lines h =
+    let more = closable o.build h.inner h.front h.fits in (
+      map inside more.0 ++ inside close ∷ [],
+      with_function d (record { name = o.name; kind = o.kind; keys = o.keys; body = more.1 }),
+      ended_leads d o more.1 more.0 more.2,
+    )

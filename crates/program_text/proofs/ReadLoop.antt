@@ -1,0 +1,97 @@
+-- What the reader of programs has come to behind some lines.
+use Rattle.std.proofs.Common.{◌≡◌, ◌<◌, ◌≤◌, ◌+◌, inl, inr, max, ℕ, List, [], ◌∷◌, ◌++◌, length, Option, Some, None, Result, Ok, Err, IfOk, IfErr, refl, ap, sym, subst, ◌∙◌, append_assoc, append-nil, arith, length-append}
+use Rattle.std.proofs.lemmas.List.{nil_from_length}
+use Rattle.pact_operators.specs.Drafts.{DraftData}
+use Rattle.text_lines.specs.declared.lines.TextFault.{TextFault}
+use Rattle.text_lines.specs.declared.lines.TextFault.TheVariants as told
+use Rattle.text_lines.specs.FirstFaults.{HasFault, IsFirstFault}
+use Rattle.text_lines.specs.TextLines.{lines_of}
+use Rattle.text_lines.proofs.LineRuns.{EndsEarly-run, IsFaultyLine-run, Runs-append, Runs-unique}
+use Rattle.program_text.specs.declared.declaration_reading.NotDeclaration.{NotDeclaration}
+use Rattle.program_text.specs.declared.declaration_reading.NotDeclaration.TheVariants as decl
+use Rattle.program_text.specs.ProgramReading.{EndsWith, GivesDraft, IsLineFault, TellsFirstFault, at_line}
+use Rattle.program_text.specs.ProgramStates.{MaySay, ProgramState, RunsTo, drafted, nothing_read, version_read, open_function, program_place, said_on, words_of_program_line}
+use Rattle.program_text.specs.ProgramTexts.{IsProgramText, ProgramText, program_fault, program_missing}
+use Rattle.program_text.proofs.ProgramReads.{ProgramText-RunsTo, RunsTo-ProgramText, program_faults, program_sayings, reads_programs}
+
+-- so many lines of the text took it to this state, and the rest is left
+pub record Reached (text rest : List ℕ) (lines : ℕ) (s : ProgramState) : Type 0 where
+  pub front : List (List ℕ)
+  pub all : lines_of text ≡ front ++ lines_of rest
+  pub counted : lines ≡ length front
+  pub run : RunsTo nothing_read front s
+  pub few : lines + length rest ≤ length text
+
+pub reached_start : (text : List ℕ) → Reached text text 0 nothing_read
+reached_start text = record { front = []; all = refl; counted = refl; run = refl; few = omega arith }
+
+pub reached_on : (text rest behind line : List ℕ) (lines : ℕ) (s t : ProgramState) → Reached text rest lines s → lines_of rest ≡ line ∷ lines_of behind → length behind < length rest → RunsTo s (line ∷ []) t
+    → Reached text behind (lines + 1) t
+reached_on text rest behind line lines s t h e shorter run = record {
+  front = h.front ++ line ∷ [];
+  all = h.all ∙ ap (λ (x : List (List ℕ)). h.front ++ x) e ∙ sym (append_assoc h.front (line ∷ []) (lines_of behind));
+  counted = omega (arith, h.counted, length-append h.front (line ∷ []));
+  run = Runs-append words_of_program_line MaySay said_on nothing_read s t h.front (line ∷ []) h.run run;
+  few = omega (arith, h.few, shorter);
+}
+
+pub first_fault : (text rest behind line : List ℕ) (lines what : ℕ) (s : ProgramState) → Reached text rest lines s → lines_of rest ≡ line ∷ lines_of behind → HasFault (program_fault (program_place s)) line what
+    → IsFirstFault IsProgramText program_fault program_missing (lines_of text) (lines + 1) what
+first_fault text rest behind line lines what s h e fault =
+    inl (IsFaultyLine-run IsProgramText words_of_program_line MaySay said_on nothing_read program_place program_fault program_sayings program_faults reads_programs
+    (lines_of text) h.front (lines_of behind) line (lines + 1) what s h.run (h.all ∙ ap (λ (x : List (List ℕ)). h.front ++ x) e) (omega (arith, h.counted)) fault)
+
+pub told_fault : (text rest behind line : List ℕ) (lines : ℕ) (s : ProgramState) (e : NotDeclaration) (answer : TextFault) → Reached text rest lines s → lines_of rest ≡ line ∷ lines_of behind → IsLineFault s line e
+    → answer ≡ at_line (lines + 1) e → TellsFirstFault answer (lines_of text)
+told_fault text rest behind line lines s (decl.Fault what) answer h e fault is = rw is (first_fault text rest behind line lines what s h e fault)
+told_fault text rest behind line lines s decl.Memory answer h e fault is = rw is tt
+
+-- a text with a first fault is no program's
+pub faulty_is_none : (text : List (List ℕ)) (number what : ℕ) (d : DraftData) → IsFirstFault IsProgramText program_fault program_missing text number what → ProgramText d text → ⊥
+faulty_is_none text number what d (inl h) t = h.no_longer (h.later, (d, subst (ProgramText d) (h.lines ∙ sym (append_assoc h.front (h.line ∷ []) h.later)) t))
+faulty_is_none text number what d (inr h) t = h.not_whole (d, t)
+
+pub not_given : (text : List (List ℕ)) (e : TextFault) (d : DraftData) → TellsFirstFault e text → ProgramText d text → GivesDraft (Err e) d
+not_given text (told.At number what) d h t = absurd (faulty_is_none text number what d h t)
+not_given text told.Memory d h t = tt
+
+-- ---- the end
+
+whole_run : (text rest : List ℕ) (lines : ℕ) (s : ProgramState) → Reached text rest lines s → rest ≡ [] → RunsTo nothing_read (lines_of text) s
+whole_run text rest lines s h none =
+    subst (λ (x : List (List ℕ)). RunsTo nothing_read x s) (sym (h.all ∙ ap (λ (x : List ℕ). h.front ++ lines_of x) none ∙ append-nil h.front)) h.run
+
+drafted_is : (d e : DraftData) → drafted d ≡ drafted e → d ≡ e
+drafted_is d e h = cc
+
+pub same_draft : (d e : DraftData) (text : List (List ℕ)) → ProgramText d text → ProgramText e text → d ≡ e
+same_draft d e text t u =
+    drafted_is d e (Runs-unique words_of_program_line MaySay said_on program_sayings nothing_read (drafted d) (drafted e) text (RunsTo-ProgramText d text t) (RunsTo-ProgramText e text u))
+
+not_missing : (s : ProgramState) (what : ℕ) (d : DraftData) → s ≡ drafted d → program_missing (program_place s) ≡ Some what → ⊥
+not_missing s what d e m =
+    let none : program_missing (program_place (drafted d)) ≡ Some what = subst (λ (x : ProgramState). program_missing (program_place x) ≡ Some what) e m in
+    clash what none
+  where
+    clash : (what : ℕ) → None ≡ Some what → ⊥
+    clash what p = cc
+
+ends_early : (text rest : List ℕ) (lines number what : ℕ) (s : ProgramState) → Reached text rest lines s → rest ≡ [] → program_missing (program_place s) ≡ Some what → number ≡ max 1 lines
+    → IsFirstFault IsProgramText program_fault program_missing (lines_of text) number what
+ends_early text rest lines number what s h none missing numbered =
+    let run = whole_run text rest lines s h none in
+    let count : length (lines_of text) ≡ lines = ap length (h.all ∙ ap (λ (x : List ℕ). h.front ++ lines_of x) none ∙ append-nil h.front) ∙ sym h.counted in
+    inr (EndsEarly-run IsProgramText words_of_program_line MaySay said_on nothing_read program_place program_fault program_missing program_sayings program_faults reads_programs
+    (lines_of text) number what s run
+    (λ whole. not_missing s what whole.0 (Runs-unique words_of_program_line MaySay said_on program_sayings nothing_read s (drafted whole.0) (lines_of text) run (RunsTo-ProgramText whole.0 (lines_of text) whole.1)) missing)
+    (numbered ∙ ap (max 1) (sym count)) missing)
+
+pub read_so : (text rest : List ℕ) (lines : ℕ) (s : ProgramState) (r : Result DraftData TextFault) → Reached text rest lines s → rest ≡ [] → EndsWith s lines r
+    → IfOk r (λ d. ProgramText d (lines_of text)) × ((d : DraftData) → ProgramText d (lines_of text) → GivesDraft r d) × IfErr r (λ e. TellsFirstFault e (lines_of text))
+read_so text rest lines s (Ok d) h none e =
+    let t = ProgramText-RunsTo d (lines_of text) (subst (λ (x : ProgramState). RunsTo nothing_read (lines_of text) x) e (whole_run text rest lines s h none)) in
+    (t, λ other u. same_draft d other (lines_of text) t u, tt)
+read_so text rest lines s (Err (told.At number what)) h none e =
+    let fault = ends_early text rest lines number what s h none e.0 e.1 in
+    (tt, λ d t. faulty_is_none (lines_of text) number what d fault t, fault)
+read_so text rest lines s (Err told.Memory) h none e = absurd e

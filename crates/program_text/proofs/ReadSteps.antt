@@ -1,0 +1,52 @@
+-- One step of the reader of programs.
+use Rattle.std.proofs.Common.{◌≡◌, inl, inr, ℕ, Bool, true, false, Result, Ok, Err, IfOk, List, [], ◌∷◌, refl, ap, sym, subst, ◌∙◌}
+use Rattle.pact_operators.specs.Drafts.{DraftData}
+use Rattle.tac_syntax.specs.Code.{Line, close}
+use Rattle.tac_text.specs.declared.building.Block.{Block}
+use Rattle.tac_text.specs.FunctionAnswers.{OpenData, TakesWords, begun, function_of, with_build}
+use Rattle.tac_text.specs.Building.{Build, build_start}
+use Rattle.text_lines.specs.declared.line_words.LineWord.{LineWord}
+use Rattle.text_lines.specs.LineGrammar.{HasLineFault, IsLine}
+use Rattle.text_lines.specs.LineReading.{HasCause}
+use Rattle.text_lines.specs.declared.word_reading.NotWords.{NotWords}
+use Rattle.text_lines.specs.declared.word_reading.NotWords.TheVariants as words
+use Rattle.text_lines.specs.TextLines.{trimmed}
+use Rattle.program_text.specs.declared.declaration_reading.NotDeclaration.{NotDeclaration}
+use Rattle.program_text.specs.declared.program_reading.State.{State}
+use Rattle.program_text.specs.ProgramReading.{IsLineFault, LeadsOn, of_words, state_of}
+use Rattle.program_text.specs.ProgramStates.{ProgramLine, inside, ProgramState, drafted, open_function, RunsTo, ends_function, said_inside, with_function}
+use Rattle.program_text.proofs.ProgramRuns.{inside_stays}
+
+ends_so : (d : DraftData) (o : OpenData) (blocks : List Block) → o.build.blocks ≡ blocks → blocks ≡ [] → said_inside d o close ≡ drafted (with_function d (function_of o))
+ends_so d o blocks e none = rw (e, none) refl
+
+-- the function's own `end`
+pub ended_words : (d : DraftData) (old now : OpenData) (said : List LineWord) (ended : Bool) (r : Result State NotDeclaration) → ended ≡ true → TakesWords ended said old now
+    → IfOk r (λ t. state_of t ≡ drafted (with_function d (function_of now))) → IfOk r (λ t. LeadsOn (open_function d old) said (state_of t))
+ended_words d old now said ended (Err e) is taken h = tt
+ended_words d old now said ended (Ok t) is taken h =
+    let own : TakesWords true said old now = subst (λ (b : Bool). TakesWords b said old now) is taken in (
+      inside close,
+      own.0,
+      tt,
+      h ∙ ap (λ (o : OpenData). drafted (with_function d (function_of o))) own.2 ∙ sym (ends_so d old old.build.blocks refl own.1),
+    )
+
+-- a line of its body
+pub inner_words : (d : DraftData) (old now : OpenData) (said : List LineWord) (ended : Bool) → ended ≡ false → TakesWords ended said old now → LeadsOn (open_function d old) said (open_function d now)
+inner_words d old now said ended is taken =
+    let own : TakesWords false said old now = subst (λ (b : Bool). TakesWords b said old now) is taken in
+    (inside own.0, own.1, own.2.0, ap (open_function d) own.3 ∙ sym (rw (inside_stays own.0 old.build.blocks own.2.1) refl))
+
+-- a line, by its words
+pub silent_line : (s t : ProgramState) (line at : List ℕ) (said : List LineWord) → at ≡ trimmed line → IsLine at said → said ≡ [] → s ≡ t → RunsTo s (line ∷ []) t
+silent_line s t line at said e h none same = inl (subst (λ (ws : List LineWord). IsLine (trimmed line) ws) none (subst (λ (x : List ℕ). IsLine x said) e h), same)
+
+pub said_line : (s t : ProgramState) (line at : List ℕ) (said : List LineWord) → at ≡ trimmed line → IsLine at said → LeadsOn s said t → RunsTo s (line ∷ []) t
+said_line s t line at said e h led = inr (led.0, subst (λ (ws : List LineWord). IsLine (trimmed line) ws) led.1 (subst (λ (x : List ℕ). IsLine x said) e h), led.2, sym led.3)
+
+-- ---- faults
+
+pub words_fault : (s : ProgramState) (line at : List ℕ) (e : NotWords) (told : NotDeclaration) → told ≡ of_words e → HasCause e at → at ≡ trimmed line → IsLineFault s line told
+words_fault s line at (words.Fault what) told is cause same = rw is (inl (subst (λ (x : List ℕ). HasLineFault what x) same cause))
+words_fault s line at words.Memory told is cause same = rw is tt

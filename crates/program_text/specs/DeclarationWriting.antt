@@ -1,0 +1,33 @@
+-- The text of a declaration's line, part by part.
+use Rattle.std.specs.Prelude.{ℕ, if◌then◌else◌, List, [], ◌∷◌, map, flat_map, codes}
+use Rattle.pact_operators.specs.declared.declarations.OpKind.{OpKind}
+use Rattle.pact_operators.specs.declared.declarations.OpKind.TheVariants.{Source as SourceKind, Map, Reduce, Match, Cross, CoGroup}
+use Rattle.text_lines.specs.CanonicalLines.{word_text}
+use Rattle.text_lines.specs.declared.line_words.LineWord.{LineWord}
+use Rattle.text_lines.specs.declared.line_words.LineWord.TheVariants.{Plain as plain_word}
+use Rattle.program_text.specs.DeclarationReading.{has_right}
+use Rattle.program_text.specs.DeclarationWords.{key_pair_words, number_words}
+
+-- words behind others, each behind a space
+abbrev pub words_text : List LineWord → List ℕ
+words_text words = flat_map (λ v. 32 ∷ v) (map word_text words)
+
+-- the word that an operator's line begins with
+abbrev pub op_text : OpKind → List ℕ
+op_text SourceKind = codes "source"
+op_text Map = codes "map"
+op_text Reduce = codes "reduce"
+op_text Match = codes "match"
+op_text Cross = codes "cross"
+op_text CoGroup = codes "cogroup"
+
+abbrev pub right_words : OpKind → List ℕ → List LineWord
+right_words kind right = if has_right kind then plain_word right ∷ [] else []
+
+abbrev pub keys_words : OpKind → List ℕ → List ℕ → List LineWord
+keys_words SourceKind left_keys right_keys = []
+keys_words Map left_keys right_keys = []
+keys_words Reduce left_keys right_keys = plain_word (codes "by") ∷ number_words left_keys
+keys_words Match left_keys right_keys = plain_word (codes "by") ∷ key_pair_words left_keys right_keys
+keys_words Cross left_keys right_keys = []
+keys_words CoGroup left_keys right_keys = plain_word (codes "by") ∷ key_pair_words left_keys right_keys

@@ -1,0 +1,49 @@
+-- The two lines that a program begins with: their words, and what is wrong with others.
+use Rattle.std.specs.Prelude.{◌≤◌, ℕ, Bool, false, if◌then◌else◌, Option, Some, None, List, [], ◌∷◌, codes, bytes_eq}
+use Rattle.text_lines.specs.Digits.{is_in_range, told_unless, or_else}
+use Rattle.text_lines.specs.declared.line_words.LineWord.{LineWord}
+use Rattle.text_lines.specs.declared.line_words.LineWord.TheVariants.{Plain as plain_word, Literal as literal_word}
+use Rattle.program_text.specs.DeclarationFaults.{nothing_left}
+use Rattle.program_text.specs.DeclarationWords.{plain_words, number_word}
+
+-- a word as it stands in the line, and not a literal that stands for it
+abbrev pub is_plain : List ℕ → LineWord → Bool
+is_plain text (plain_word word) = bytes_eq word text
+is_plain text (literal_word bytes) = false
+
+-- ---- the version
+
+abbrev pub version_words : List LineWord
+version_words = plain_words (codes "pact" ∷ codes "1" ∷ [])
+
+abbrev pub one_fault : List LineWord → Option ℕ
+one_fault [] = Some 12
+one_fault (word ∷ []) = told_unless (is_plain (codes "1") word) 12
+one_fault (word ∷ other ∷ words) = Some 12
+
+-- any other words are no first line
+abbrev pub version_fault : List LineWord → Option ℕ
+version_fault [] = None
+version_fault (word ∷ words) = if is_plain (codes "pact") word then one_fault words else Some 12
+
+-- ---- the number of fields
+
+-- records have so many fields
+abbrev pub IsFieldCount : ℕ → Type 0
+IsFieldCount count = (1 ≤ count) × (count ≤ 64)
+
+abbrev pub field_count_words : ℕ → List LineWord
+field_count_words count = plain_word (codes "fields") ∷ number_word count ∷ []
+
+abbrev pub count_word_fault : LineWord → Option ℕ
+count_word_fault (plain_word word) = told_unless (is_in_range 1 64 word) 7
+count_word_fault (literal_word bytes) = Some 7
+
+abbrev pub count_fault : List LineWord → Option ℕ
+count_fault [] = Some 4
+count_fault (word ∷ words) = or_else (count_word_fault word) (nothing_left words)
+
+-- another first word is no second line
+abbrev pub fields_fault : List LineWord → Option ℕ
+fields_fault [] = None
+fields_fault (word ∷ words) = if is_plain (codes "fields") word then count_fault words else Some 12

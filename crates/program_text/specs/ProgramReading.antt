@@ -1,0 +1,68 @@
+-- What reading a program answers, line by line and as a whole.
+use Rattle.std.specs.Prelude.{◌≡◌, ℕ, Bool, false, max, List, [], ◌∷◌, Option, Some, None, Result, Ok, Err, codes, bytes_eq}
+use Rattle.pact_operators.specs.Drafts.{DraftData}
+use Rattle.tac_text.specs.declared.statement_reading.NotLine.{NotLine}
+use Rattle.tac_text.specs.declared.statement_reading.NotLine.TheVariants as line
+use Rattle.text_lines.specs.declared.lines.TextFault.{TextFault}
+use Rattle.text_lines.specs.declared.lines.TextFault.TheVariants as told
+use Rattle.text_lines.specs.declared.line_words.LineWord.{LineWord}
+use Rattle.text_lines.specs.declared.line_words.LineWord.TheVariants.{Plain as plain_word, Literal as literal_word}
+use Rattle.text_lines.specs.declared.word_reading.NotWords.{NotWords}
+use Rattle.text_lines.specs.declared.word_reading.NotWords.TheVariants as words
+use Rattle.text_lines.specs.FirstFaults.{HasFault, IsFirstFault}
+use Rattle.program_text.specs.declared.declaration_reading.NotDeclaration.{NotDeclaration}
+use Rattle.program_text.specs.declared.declaration_reading.NotDeclaration.TheVariants.{Fault, Memory}
+use Rattle.program_text.specs.declared.program_reading.State.{State}
+use Rattle.program_text.specs.declared.program_reading.State.TheVariants as state
+use Rattle.program_text.specs.ProgramStates.{ProgramLine, ProgramState, nothing_read, version_read, drafted, open_function, MaySay, program_place, said_on, words_of_program_line}
+use Rattle.program_text.specs.ProgramTexts.{IsProgramText, program_fault, program_missing}
+
+-- what the reader holds
+abbrev pub state_of : State → ProgramState
+state_of state.NothingRead = nothing_read
+state_of state.VersionRead = version_read
+state_of (state.Drafted draft) = drafted draft
+state_of (state.Open draft function) = open_function draft function
+
+abbrev pub of_line : NotLine → NotDeclaration
+of_line (line.Fault what) = Fault what
+of_line line.Memory = Memory
+
+abbrev pub of_words : NotWords → NotDeclaration
+of_words (words.Fault what) = Fault what
+of_words words.Memory = Memory
+
+abbrev pub at_line : ℕ → NotDeclaration → TextFault
+at_line number (Fault what) = told.At number what
+at_line number Memory = told.Memory
+
+abbrev pub begins_function : List LineWord → Bool
+begins_function [] = false
+begins_function (plain_word word ∷ words) = bytes_eq word (codes "function")
+begins_function (literal_word bytes ∷ words) = false
+
+-- the words are of a line that may be said there, and leads to this state
+abbrev pub LeadsOn : ProgramState → List LineWord → ProgramState → Type 0
+LeadsOn s words t = (l : ProgramLine) × (words ≡ words_of_program_line l) × MaySay s l × (t ≡ said_on s l)
+
+-- a fault that is told is the line's, and want of memory tells nothing
+abbrev pub IsLineFault : ProgramState → List ℕ → NotDeclaration → Type 0
+IsLineFault s line (Fault what) = HasFault (program_fault (program_place s)) line what
+IsLineFault s line Memory = Unit {0}
+
+-- what stands behind the last of so many lines
+abbrev pub EndsWith : ProgramState → ℕ → Result DraftData TextFault → Type 0
+EndsWith s lines (Ok d) = s ≡ drafted d
+EndsWith s lines (Err (told.At number what)) = (program_missing (program_place s) ≡ Some what) × (number ≡ max 1 lines)
+EndsWith s lines (Err told.Memory) = ⊥
+
+-- this draft, or want of memory
+abbrev pub GivesDraft : Result DraftData TextFault → DraftData → Type 0
+GivesDraft (Ok found) d = found ≡ d
+GivesDraft (Err (told.At number what)) d = ⊥
+GivesDraft (Err told.Memory) d = Unit {0}
+
+-- the first fault of the text, and want of memory tells nothing
+abbrev pub TellsFirstFault : TextFault → List (List ℕ) → Type 0
+TellsFirstFault (told.At number what) text = IsFirstFault IsProgramText program_fault program_missing text number what
+TellsFirstFault told.Memory text = Unit {0}

@@ -1,0 +1,87 @@
+-- Reading a program line by line.
+use Rattle.std.specs.Prelude.{ℕ, Bool, true, false, if◌then◌else◌, List, [], ◌∷◌, ◌++◌, length}
+use Rattle.pact_operators.specs.declared.declarations.Decl.{Decl}
+use Rattle.pact_operators.specs.declared.declarations.Decl.TheVariants.{Function as FunctionDecl}
+use Rattle.pact_operators.specs.Declarations.{IsSpelledDecl}
+use Rattle.pact_operators.specs.Drafts.{DraftData}
+use Rattle.tac_syntax.specs.declared.functions.Function.{Function}
+use Rattle.tac_syntax.specs.declared.functions.Kind.{Kind}
+use Rattle.tac_syntax.specs.Code.{Line, simple, test, turns, over, otherwise, close}
+use Rattle.tac_text.specs.declared.building.Block.{Block}
+use Rattle.tac_text.specs.FunctionAnswers.{OpenData, begun, function_of, with_build}
+use Rattle.tac_text.specs.FunctionLines.{header_words, IsHeader}
+use Rattle.tac_text.specs.Places.{place_of, built_on}
+use Rattle.tac_text.specs.StatementLines.{words_of_line, MayStand}
+use Rattle.text_lines.specs.Runs.{Runs}
+use Rattle.text_lines.specs.declared.line_words.LineWord.{LineWord}
+use Rattle.program_text.specs.DeclarationWords.{words_of_decl}
+use Rattle.program_text.specs.FirstLines.{version_words, field_count_words, IsFieldCount}
+use Rattle.program_text.specs.ProgramTexts.{ProgramPlace, version_due, fields_due, between, in_function}
+
+-- what a line of a program says
+pub data ProgramLine : Type 0 where
+  version : ProgramLine
+  field_count : (count : ℕ) → ProgramLine
+  declares : (decl : Decl) → ProgramLine
+  begins : (name : List ℕ) → (kind : Kind) → (keys : ℕ) → ProgramLine
+  inside : (line : Line) → ProgramLine
+
+abbrev pub words_of_program_line : ProgramLine → List LineWord
+words_of_program_line version = version_words
+words_of_program_line (field_count count) = field_count_words count
+words_of_program_line (declares decl) = words_of_decl decl
+words_of_program_line (begins name kind keys) = header_words name kind keys
+words_of_program_line (inside line) = words_of_line line
+
+-- what was read: nothing yet, the version, a draft so far, and besides it a function that is open
+pub data ProgramState : Type 0 where
+  nothing_read : ProgramState
+  version_read : ProgramState
+  drafted : (draft : DraftData) → ProgramState
+  open_function : (draft : DraftData) → (function : OpenData) → ProgramState
+
+abbrev pub program_place : ProgramState → ProgramPlace
+program_place nothing_read = version_due
+program_place version_read = fields_due
+program_place (drafted d) = between
+program_place (open_function d o) = in_function (place_of o.build)
+
+abbrev pub MaySay : ProgramState → ProgramLine → Type 0
+MaySay nothing_read version = Unit {0}
+MaySay version_read (field_count count) = IsFieldCount count
+MaySay (drafted d) (declares decl) = IsSpelledDecl decl
+MaySay (drafted d) (begins name kind keys) = IsHeader name kind keys
+MaySay (open_function d o) (inside line) = MayStand (place_of o.build) line
+MaySay state line = ⊥
+
+abbrev pub with_decl : DraftData → Decl → DraftData
+with_decl d decl = record { fields = d.fields; functions = d.functions; decls = d.decls ++ decl ∷ [] }
+
+abbrev pub with_function : DraftData → Function → DraftData
+with_function d f = record { fields = d.fields; functions = d.functions ++ f ∷ []; decls = d.decls ++ FunctionDecl (length d.functions) ∷ [] }
+
+-- an `end` where no block is open ends the function
+abbrev pub ends_function : Line → List Block → Bool
+ends_function (simple s) blocks = false
+ends_function (test on) blocks = false
+ends_function (turns count) blocks = false
+ends_function (over name list) blocks = false
+ends_function otherwise blocks = false
+ends_function close [] = true
+ends_function close (block ∷ blocks) = false
+
+abbrev pub said_inside : DraftData → OpenData → Line → ProgramState
+said_inside d o line = if ends_function line o.build.blocks then drafted (with_function d (function_of o)) else open_function d (with_build o (built_on o.build line))
+
+-- behind a line; one that can't be said there leads nowhere
+abbrev pub said_on : ProgramState → ProgramLine → ProgramState
+said_on nothing_read version = version_read
+said_on version_read (field_count count) = drafted (record { fields = count; functions = []; decls = [] })
+said_on (drafted d) (declares decl) = drafted (with_decl d decl)
+said_on (drafted d) (begins name kind keys) = open_function d (begun name kind keys)
+said_on (open_function d o) (inside line) = said_inside d o line
+said_on state line = state
+
+-- lines of a text take the reader from one state to another
+abbrev pub RunsTo : ProgramState → List (List ℕ) → ProgramState → Type 0
+RunsTo s text t = Runs words_of_program_line MaySay said_on s text t

@@ -1,0 +1,103 @@
+-- The text of a program, and what is wrong with a text that is none.
+use Rattle.std.specs.Prelude.{◌≡◌, ◌≤◌, ℕ, Option, Some, None, List, [], ◌∷◌, ◌++◌, flat_map, slice_get, codes, bytes_eq, if◌then◌else◌}
+use Rattle.std.specs.List.{AllByRecursion}
+use Rattle.pact_operators.specs.declared.declarations.Decl.{Decl}
+use Rattle.pact_operators.specs.declared.declarations.Decl.TheVariants.{Source, Function as FunctionDecl, Op, Sink}
+use Rattle.pact_operators.specs.Drafts.{DraftData, IsSpelledDraft}
+use Rattle.tac_syntax.specs.declared.functions.Function.{Function}
+use Rattle.tac_syntax.specs.Code.{nesting}
+use Rattle.tac_syntax.specs.Limits.{nesting_limit}
+use Rattle.tac_text.specs.FunctionFaults.{header_fault}
+use Rattle.tac_text.specs.FunctionLines.{SpellsFunction}
+use Rattle.tac_text.specs.Spelling.{function_spelling}
+use Rattle.tac_text.specs.StatementFaults.{statement_fault}
+use Rattle.tac_text.specs.StatementLines.{LinePlace}
+use Rattle.text_lines.specs.declared.line_words.LineWord.{LineWord}
+use Rattle.text_lines.specs.declared.line_words.LineWord.TheVariants.{Plain as plain_word, Literal as literal_word}
+use Rattle.text_lines.specs.CanonicalLines.{canonical_line}
+use Rattle.text_lines.specs.TextLines.{Say}
+use Rattle.program_text.specs.DeclarationFaults.{declaration_fault}
+use Rattle.program_text.specs.DeclarationWords.{words_of_decl}
+use Rattle.program_text.specs.FirstLines.{version_words, field_count_words, version_fault, fields_fault}
+
+-- ---- the grammar
+
+-- The words of declarations, one after the other: those of a function are its text, those of another are one line.
+abbrev pub SpellsDecls : List Function → List Decl → List (List LineWord) → Type 0
+SpellsDecls functions [] said = (said ≡ []) × (functions ≡ [])
+SpellsDecls functions (Source name file columns ∷ decls) said =
+    (rest : List (List LineWord)) × (said ≡ words_of_decl (Source name file columns) ∷ rest) × SpellsDecls functions decls rest
+SpellsDecls [] (FunctionDecl number ∷ decls) said = ⊥
+SpellsDecls (f ∷ functions) (FunctionDecl number ∷ decls) said =
+    (first rest : List (List LineWord)) × (said ≡ first ++ rest) × SpellsFunction f first × SpellsDecls functions decls rest
+SpellsDecls functions (Op name kind function left right left_keys right_keys ∷ decls) said =
+    (rest : List (List LineWord)) × (said ≡ words_of_decl (Op name kind function left right left_keys right_keys) ∷ rest) × SpellsDecls functions decls rest
+SpellsDecls functions (Sink input fields ∷ decls) said =
+    (rest : List (List LineWord)) × (said ≡ words_of_decl (Sink input fields) ∷ rest) × SpellsDecls functions decls rest
+
+-- the version, the number of fields, and the declarations
+abbrev pub SpellsProgram : DraftData → List (List LineWord) → Type 0
+SpellsProgram d said = (decls : List (List LineWord)) × (said ≡ version_words ∷ field_count_words d.fields ∷ decls) × SpellsDecls d.functions d.decls decls
+
+-- some text spells it
+pub record IsWritableDraft (d : DraftData) : Type 0 where
+  pub spelled : IsSpelledDraft d
+  pub nested : AllByRecursion (λ f. nesting f.body ≤ nesting_limit) d.functions
+
+-- these lines are the program's text; lines without words may stand anywhere
+pub record ProgramText (d : DraftData) (text : List (List ℕ)) : Type 0 where
+  pub said : List (List LineWord)
+  pub says : Say text said
+  pub spelled : SpellsProgram d said
+  pub writable : IsWritableDraft d
+
+-- the text of some program
+abbrev pub IsProgramText : List (List ℕ) → Type 0
+IsProgramText lines = (d : DraftData) × ProgramText d lines
+
+-- ---- faults
+
+-- where a line stands: it is the first or the second with words, it declares something, or it stands in a function
+pub data ProgramPlace : Type 0 where
+  version_due : ProgramPlace
+  fields_due : ProgramPlace
+  between : ProgramPlace
+  in_function : (place : LinePlace) → ProgramPlace
+
+-- a line that declares something, or begins a function
+abbrev pub between_fault : List LineWord → Option ℕ
+between_fault [] = None
+between_fault (plain_word word ∷ words) = if bytes_eq word (codes "function") then header_fault (plain_word word ∷ words) else declaration_fault (plain_word word ∷ words)
+between_fault (literal_word bytes ∷ words) = declaration_fault (literal_word bytes ∷ words)
+
+abbrev pub program_fault : ProgramPlace → List LineWord → Option ℕ
+program_fault version_due words = version_fault words
+program_fault fields_due words = fields_fault words
+program_fault between words = between_fault words
+program_fault (in_function place) words = statement_fault place words
+
+-- what is told where the text ends
+abbrev pub program_missing : ProgramPlace → Option ℕ
+program_missing version_due = Some 12
+program_missing fields_due = Some 12
+program_missing between = None
+program_missing (in_function place) = Some 10
+
+-- ---- the canonical spelling
+
+abbrev pub line_spelling : List LineWord → List ℕ
+line_spelling words = canonical_line 0 words ++ 10 ∷ []
+
+abbrev pub function_text : Option Function → List ℕ
+function_text None = []
+function_text (Some f) = function_spelling f
+
+abbrev pub decl_spelling : List Function → Decl → List ℕ
+decl_spelling functions (Source name file columns) = line_spelling (words_of_decl (Source name file columns))
+decl_spelling functions (FunctionDecl number) = function_text (slice_get functions number)
+decl_spelling functions (Op name kind function left right left_keys right_keys) = line_spelling (words_of_decl (Op name kind function left right left_keys right_keys))
+decl_spelling functions (Sink input fields) = line_spelling (words_of_decl (Sink input fields))
+
+-- in the order of the declarations
+abbrev pub program_spelling : DraftData → List ℕ
+program_spelling d = line_spelling version_words ++ (line_spelling (field_count_words d.fields) ++ flat_map (decl_spelling d.functions) d.decls)

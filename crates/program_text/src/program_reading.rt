@@ -1,0 +1,219 @@
+//! Programs, read from their text.
+
+ghost use Rattle.std.specs.Prelude.{◌≡◌, ◌<◌, ◌∷◌, [], true, false, length, IfErr, IfOk};
+ghost use Rattle.pact_operators.specs.Drafts.{DraftData};
+ghost use Rattle.program_text.specs.DeclarationAnswers.{IsFaultOf};
+ghost use Rattle.program_text.specs.ProgramReading as reading;
+ghost use Rattle.program_text.specs.ProgramReading.{EndsWith, GivesDraft, IsLineFault, LeadsOn, TellsFirstFault, begins_function, state_of};
+ghost use Rattle.program_text.specs.ProgramStates.{drafted, nothing_read, open_function, program_place, RunsTo, version_read, with_function};
+ghost use Rattle.program_text.specs.ProgramTexts.{ProgramText, program_fault};
+ghost use Rattle.program_text.specs.declared.declaration_reading.NotDeclaration.TheVariants.{Memory};
+ghost use Rattle.tac_text.specs.FunctionAnswers.{function_of};
+ghost use Rattle.text_lines.specs.TextLines.{lines_of};
+ghost use Rattle.text_lines.specs.CanonicalLines.{AreLineWords};
+
+use crate::declaration_reading::{NotDeclaration, read_declaration};
+use crate::first_lines::{read_field_count, read_version};
+use pact_operators::Draft;
+use pact_record::OutOfMemory;
+use std::alloc::Global;
+use tac_text::{NotLine, OpenFunction, read_header};
+use text_lines::{LineWord, NotWords, TextFault, first_line, is_word, read_words, trim_line};
+
+// What was read of a program.
+#[derive(Debug, Drop)]
+enum State {
+    NothingRead,
+    VersionRead,
+    Drafted(Draft),
+    // in the text of a function
+    Open(Draft, OpenFunction),
+}
+
+fn of_line(not: NotLine) -> NotDeclaration
+    ensures { result ≡ reading.of_line not }
+{
+    match not {
+        NotLine::Fault { what } => NotDeclaration::Fault { what },
+        NotLine::Memory => NotDeclaration::Memory,
+    }
+}
+
+fn of_words(not: NotWords) -> NotDeclaration
+    ensures { result ≡ reading.of_words not }
+{
+    match not {
+        NotWords::Fault { what } => NotDeclaration::Fault { what },
+        NotWords::Memory => NotDeclaration::Memory,
+    }
+}
+
+fn at_line(line: u64, not: NotDeclaration) -> TextFault
+    ensures { result ≡ reading.at_line line not }
+{
+    match not {
+        NotDeclaration::Fault { what } => TextFault::At { line, what },
+        NotDeclaration::Memory => TextFault::Memory,
+    }
+}
+
+// ---- one line's words
+
+fn first_words(words: &[LineWord]) -> Result<State, NotDeclaration>
+    requires { 0 < length words.now }
+    ensures leads { IfOk result (λ t. LeadsOn nothing_read words.now (state_of t)) }
+    ensures fault { IfErr result (λ e. IsFaultOf e (program_fault (program_place nothing_read) words.now)) }
+{
+    match read_version(words) {
+        Ok(()) => Ok(State::VersionRead),
+        Err(what) => Err(NotDeclaration::Fault { what }),
+    }
+}
+
+fn second_words(alloc: Global, words: &[LineWord]) -> Result<State, NotDeclaration>
+    requires { 0 < length words.now }
+    ensures leads { IfOk result (λ t. LeadsOn version_read words.now (state_of t)) }
+    ensures fault { IfErr result (λ e. IsFaultOf e (program_fault (program_place version_read) words.now)) }
+{
+    match read_field_count(words) {
+        Ok(fields) => Ok(State::Drafted(Draft::new(alloc, fields))),
+        Err(what) => Err(NotDeclaration::Fault { what }),
+    }
+}
+
+fn begins_function(words: &[LineWord]) -> bool
+    ensures { result ≡ begins_function words.now }
+{
+    match words.first() {
+        Some(LineWord::Plain(bytes)) => is_word(bytes.bytes(), b"function"),
+        _ => false,
+    }
+}
+
+fn open_words(alloc: Global, draft: Draft, words: &[LineWord]) -> Result<State, NotDeclaration>
+    requires some { 0 < length words.now }
+    requires begins { begins_function words.now ≡ true }
+    ensures leads { IfOk result (λ t. LeadsOn (drafted draft) words.now (state_of t)) }
+    ensures fault { IfErr result (λ e. IsFaultOf e (program_fault (program_place (drafted draft)) words.now)) }
+{
+    match read_header(alloc, words) {
+        Ok(function) => Ok(State::Open(draft, function)),
+        Err(not) => Err(of_line(not)),
+    }
+}
+
+fn decl_words(alloc: Global, mut draft: Draft, words: &[LineWord]) -> Result<State, NotDeclaration>
+    requires some { 0 < length words.now }
+    requires other { begins_function words.now ≡ false }
+    ensures leads { IfOk result (λ t. LeadsOn (drafted draft) words.now (state_of t)) }
+    ensures fault { IfErr result (λ e. IsFaultOf e (program_fault (program_place (drafted draft)) words.now)) }
+{
+    let decl = match read_declaration(alloc, words) {
+        Ok(decl) => decl,
+        Err(not) => return Err(not),
+    };
+    match draft.push(decl) {
+        Ok(()) => Ok(State::Drafted(draft)),
+        Err(_) => Err(NotDeclaration::Memory),
+    }
+}
+
+fn inside_words(
+    alloc: Global,
+    draft: Draft,
+    mut function: OpenFunction,
+    words: &[LineWord],
+) -> Result<State, NotDeclaration>
+    requires some { 0 < length words.now }
+    requires words { AreLineWords words.now }
+    ensures leads { IfOk result (λ t. LeadsOn (open_function draft function) words.now (state_of t)) }
+    ensures fault { IfErr result (λ e. IsFaultOf e (program_fault (program_place (open_function draft function)) words.now)) }
+{
+    match function.read_line(alloc, words) {
+        Ok(false) => Ok(State::Open(draft, function)),
+        Ok(true) => with_function(draft, function),
+        Err(not) => Err(of_line(not)),
+    }
+}
+
+// The draft with a function whose text has ended.
+fn with_function(mut draft: Draft, function: OpenFunction) -> Result<State, NotDeclaration>
+    requires { function.build.blocks ≡ [] }
+    ensures function { IfOk result (λ t. state_of t ≡ drafted (with_function draft (function_of function))) }
+    ensures memory { IfErr result (λ e. e ≡ Memory) }
+{
+    match draft.push_function(function.finish()) {
+        Ok(()) => Ok(State::Drafted(draft)),
+        Err(_) => Err(NotDeclaration::Memory),
+    }
+}
+
+fn next(alloc: Global, state: State, words: &[LineWord]) -> Result<State, NotDeclaration>
+    requires some { 0 < length words.now }
+    requires words { AreLineWords words.now }
+    ensures leads { IfOk result (λ t. LeadsOn (state_of state) words.now (state_of t)) }
+    ensures fault { IfErr result (λ e. IsFaultOf e (program_fault (program_place (state_of state)) words.now)) }
+{
+    match state {
+        State::NothingRead => first_words(words),
+        State::VersionRead => second_words(alloc, words),
+        State::Drafted(draft) => {
+            if begins_function(words) {
+                open_words(alloc, draft, words)
+            } else {
+                decl_words(alloc, draft, words)
+            }
+        }
+        State::Open(draft, function) => inside_words(alloc, draft, function, words),
+    }
+}
+
+// ---- lines
+
+fn read_line(alloc: Global, state: State, line: &[u8]) -> Result<State, NotDeclaration>
+    ensures leads { IfOk result (λ t. RunsTo (state_of state) (line.now ∷ []) (state_of t)) }
+    ensures fault { IfErr result (λ e. IsLineFault (state_of state) line.now e) }
+{
+    let words = match read_words(alloc, trim_line(line)) {
+        Ok(words) => words,
+        Err(not) => return Err(of_words(not)),
+    };
+    if words.words().is_empty() {
+        return Ok(state);
+    }
+    next(alloc, state, words.words())
+}
+
+// Where so many lines were read, which are all.
+fn ended(state: State, lines: u64) -> Result<Draft, TextFault>
+    ensures { EndsWith (state_of state) lines result }
+{
+    let line = lines.max(1);
+    match state {
+        State::Drafted(draft) => Ok(draft),
+        State::NothingRead | State::VersionRead => Err(TextFault::At { line, what: 12 }),
+        State::Open(..) => Err(TextFault::At { line, what: 10 }),
+    }
+}
+
+/// The draft that a program's text spells, or the first fault of the text: the number of its first faulty line, from
+/// 1, and what is wrong with it. Where the text ends too early, the last line is told.
+pub fn read_program(alloc: Global, text: &[u8]) -> Result<Draft, TextFault>
+    ensures draft { IfOk result (λ d. ProgramText d (lines_of text.now)) }
+    ensures draft_always { (d : DraftData) → ProgramText d (lines_of text.now) → GivesDraft result d }
+    ensures fault { IfErr result (λ e. TellsFirstFault e (lines_of text.now)) }
+{
+    let mut rest = text;
+    let mut lines: u64 = 0;
+    let mut state = State::NothingRead;
+    while rest.len() > 0 {
+        let (line, behind) = first_line(rest);
+        lines += 1;
+        state = match read_line(alloc, state, line) {
+            Ok(next) => next,
+            Err(not) => return Err(at_line(lines, not)),
+        };
+        rest = behind;
+    }
+    ended(state, lines)
+}
