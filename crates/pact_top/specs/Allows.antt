@@ -4,7 +4,10 @@ use Rattle.std.specs.Ordering.{is_eq}
 use Rattle.std.specs.List.Sorted.{IsPermutation}
 use Rattle.pact_record.specs.declared.values.Value.{Value}
 use Rattle.pact_record.specs.Record.{key_of, record_cmp}
-use Rattle.pact_top.specs.Plan.{PlanTree, leaf, over, both, OpKind, source_op, map_op, reduce_op, match_op, cross_op, cogroup_op, Ops}
+use Rattle.pact_operators.specs.declared.declarations.OpKind.{OpKind}
+use Rattle.pact_operators.specs.declared.declarations.OpKind.TheVariants.{Source, Map, Reduce, Match, Cross, CoGroup}
+use Rattle.pact_operators.specs.Plans.{PlanTree, leaf, over, both}
+use Rattle.pact_top.specs.Plan.{Ops}
 
 -- equal values, Null equal to Null
 abbrev pub is_same_key : List Value → List Value → Bool
@@ -43,26 +46,26 @@ CoGrouped f left_keys right_keys ls rs (k ∷ ks) out =
 
 -- what an operator of one input may give for a bag
 abbrev pub Gives : Ops → OpKind → ℕ → List (List Value) → List (List Value) → Type 0
-Gives o map_op n ls out = out ≡ flat_map (o.of_record n) ls
-Gives o reduce_op n ls out = Grouped (o.of_group n) (o.left_keys n) ls (distinct_keys (map (key_of (o.left_keys n)) ls)) out
-Gives o source_op n ls out = ⊥
-Gives o match_op n ls out = ⊥
-Gives o cross_op n ls out = ⊥
-Gives o cogroup_op n ls out = ⊥
+Gives o Map n ls out = out ≡ flat_map (o.of_record n) ls
+Gives o Reduce n ls out = Grouped (o.of_group n) (o.left_keys n) ls (distinct_keys (map (key_of (o.left_keys n)) ls)) out
+Gives o Source n ls out = ⊥
+Gives o Match n ls out = ⊥
+Gives o Cross n ls out = ⊥
+Gives o CoGroup n ls out = ⊥
 
 -- what an operator of two inputs may give for two bags
 abbrev pub GivesBoth : Ops → OpKind → ℕ → List (List Value) → List (List Value) → List (List Value) → Type 0
-GivesBoth o match_op n ls rs out = out ≡ crossed (matching (o.of_pair n) (o.left_keys n) (o.right_keys n)) ls rs
-GivesBoth o cross_op n ls rs out = out ≡ crossed (o.of_pair n) ls rs
-GivesBoth o cogroup_op n ls rs out =
+GivesBoth o Match n ls rs out = out ≡ crossed (matching (o.of_pair n) (o.left_keys n) (o.right_keys n)) ls rs
+GivesBoth o Cross n ls rs out = out ≡ crossed (o.of_pair n) ls rs
+GivesBoth o CoGroup n ls rs out =
     CoGrouped (o.of_groups n) (o.left_keys n) (o.right_keys n) ls rs (distinct_keys (map (key_of (o.left_keys n)) ls ++ map (key_of (o.right_keys n)) rs)) out
-GivesBoth o source_op n ls rs out = ⊥
-GivesBoth o map_op n ls rs out = ⊥
-GivesBoth o reduce_op n ls rs out = ⊥
+GivesBoth o Source n ls rs out = ⊥
+GivesBoth o Map n ls rs out = ⊥
+GivesBoth o Reduce n ls rs out = ⊥
 
 -- A bag is a list up to its order: what an operator gives for allowed bags of its inputs is allowed in every order.
 abbrev pub Allows : Ops → PlanTree → List (List Value) → Type 0
-Allows o (leaf n) bag = (o.kind n ≡ source_op) × IsPermutation (o.rows n) bag
+Allows o (leaf n) bag = (o.kind n ≡ Source) × IsPermutation (o.rows n) bag
 Allows o (over n t) bag = (ls : List (List Value)) × (out : List (List Value)) × Allows o t ls × Gives o (o.kind n) n ls out × IsPermutation out bag
 Allows o (both n t u) bag =
     (ls : List (List Value)) × (rs : List (List Value)) × (out : List (List Value)) × Allows o t ls × Allows o u rs × GivesBoth o (o.kind n) n ls rs out × IsPermutation out bag

@@ -1,11 +1,8 @@
-pub mod Program
-pub mod ProgramCode
-pub mod Reading
 pub mod Csv
 pub mod Lines
 pub mod Plan
 pub mod Allows
-pub mod FirstPlan
+pub mod ProgramOps
 pub mod Transfer
 pub mod Verdict
 pub mod Refusal

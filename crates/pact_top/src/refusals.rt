@@ -1,13 +1,13 @@
 //! Why a call gives no answer, and what is told of it.
 
-ghost use Rattle.std.specs.Prelude.{◌≡◌, OnOk, OnErr};
+ghost use Rattle.std.specs.Prelude.{◌≡◌, OnOk, OnErr, IfOk};
 ghost use Rattle.pact_outside.specs.Outside.{HasCause};
 ghost use Rattle.pact_top.specs.Transfer.{Gains, GainsFront, Tells};
 ghost use Rattle.pact_top.specs.Refusal.{status_of, refusal_line};
 ghost use Rattle.pact_top.specs.Verdict.{line_of};
 ghost use Rattle.pact_top.specs.declared.refusals.Refusal.TheVariants as refusals;
 
-use crate::transfer::{Stop, write_all};
+use crate::transfer::write_all;
 use pact_outside::{Failed, Sink};
 use pact_record::{Bytes, OutOfMemory};
 
@@ -18,7 +18,8 @@ pub enum Refusal {
     /// The file of this name can't be read.
     CannotRead(Bytes),
     CannotWrite,
-    NotFirstForm,
+    /// What the files say decides it: the exit status, and the whole line that tells why.
+    Decided { status: u8, line: Bytes },
 }
 
 impl From<OutOfMemory> for Refusal {
@@ -30,19 +31,6 @@ impl From<OutOfMemory> for Refusal {
 }
 
 impl Refusal {
-    ghost use Rattle.pact_top.specs.Refusal.{stopped};
-
-    /// Why the file of that name wasn't read.
-    pub fn of_stop(stop: Stop, name: Bytes) -> Refusal
-        ensures { result ≡ stopped stop name }
-    {
-        match stop {
-            Stop::Memory => Refusal::OutOfMemory,
-            Stop::Fault => Refusal::CannotRead(name),
-            Stop::Long => Refusal::NotFirstForm,
-        }
-    }
-
     pub fn status(&self) -> u8
         ensures { result ≡ status_of self.now }
     {
@@ -51,7 +39,7 @@ impl Refusal {
             Refusal::Usage => 2,
             Refusal::CannotRead(_) => 3,
             Refusal::CannotWrite => 4,
-            Refusal::NotFirstForm => 5,
+            Refusal::Decided { status, .. } => *status,
         }
     }
 }
@@ -92,6 +80,6 @@ pub fn tell<E: Sink>(err: &mut E, refusal: &Refusal)
         Refusal::Usage => tell_line(err, b"usage: pact COMMAND ARGUMENTS\n"),
         Refusal::CannotRead(name) => tell_unreadable(err, name.bytes()),
         Refusal::CannotWrite => tell_line(err, b"cannot write\n"),
-        Refusal::NotFirstForm => tell_line(err, b"not in the first form\n"),
+        Refusal::Decided { line, .. } => tell_line(err, line.bytes()),
     }
 }

@@ -141,7 +141,24 @@ map m say s
 sink m 2 0 1
 ";
 
-const PROGRAMS: [(&str, &str); 7] = [
+// Two Maps, one over the other, in a spelling that isn't the canonical one.
+const CHAIN: &str = "# every row four times
+pact 1
+
+fields\t4 # two more than there are
+source d d.csv int:0 int:1
+sink b 1
+map b two a
+map a two d
+function two map
+r0 = copy in
+emit r0 # once
+    emit r0
+end
+";
+
+const PROGRAMS: [(&str, &str); 8] = [
+    ("chain.pact", CHAIN),
     ("twice.pact", TWICE),
     ("sum.pact", SUM),
     ("swapped.pact", SWAPPED),
@@ -251,6 +268,14 @@ fn answers(rt: HostRuntime) -> Result<(), Fail> {
 }
 
 #[test]
+fn runs_maps_over_maps(rt: HostRuntime) -> Result<(), Fail> {
+    let rows = Some(("d.csv", "1,5\n2,-3\n"));
+    let chain = outcome_of(rt.alloc(), "run chain.pact", rows, 0, 0)?;
+    assert!(rt; chain.is(0, "-3\n-3\n-3\n-3\n5\n5\n5\n5\n", ""));
+    Ok(())
+}
+
+#[test]
 fn runs_branches_and_operations(rt: HostRuntime) -> Result<(), Fail> {
     let rows = Some(("s.csv", "1,5\n2,-3\n1,7\n"));
     let filtered = outcome_of(rt.alloc(), "run filter.pact", rows, 0, 0)?;
@@ -331,5 +356,33 @@ fn refuses(rt: HostRuntime) -> Result<(), Fail> {
         0,
     )?;
     assert!(rt; narrow.is(5, "", NOT_FIRST_FORM));
+    Ok(())
+}
+
+// Whether this is the status and the line of a program with this text.
+fn told(alloc: Global, text: &str, status: u8, line: &str) -> Result<bool, OutOfMemory> {
+    let outcome = outcome_of(alloc, "run p.pact", Some(("p.pact", text)), 0, 0)?;
+    Ok(outcome.is(status, "", line))
+}
+
+#[test]
+fn tells_faulty_texts(rt: HostRuntime) -> Result<(), Fail> {
+    assert!(rt; told(rt.alloc(), "", 5, "p.pact:1: text fault 12\n")?);
+    assert!(rt; told(rt.alloc(), "pact 9\n", 5, "p.pact:1: text fault 12\n")?);
+    let unknown = "pact 1\nfields 4\nfunction f map\nv0 = foo v1\nend\n";
+    assert!(rt; told(rt.alloc(), unknown, 5, "p.pact:4: text fault 9\n")?);
+    let open = "pact 1\nfields 4\nfunction f map\n\n";
+    assert!(rt; told(rt.alloc(), open, 5, "p.pact:4: text fault 10\n")?);
+    Ok(())
+}
+
+#[test]
+fn tells_broken_rules(rt: HostRuntime) -> Result<(), Fail> {
+    let wide = "pact 1\nfields 4\nfunction f map\nv0 = int 1\nset r0 4 v0\nend\n";
+    assert!(rt; told(rt.alloc(), wide, 6, "function f: V3 at statement 1\n")?);
+    assert!(rt; told(rt.alloc(), "pact 1\nfields 4\n", 6, "program: P9\n")?);
+    assert!(rt; told(rt.alloc(), "pact 1\nfields 4\nsink x 0\n", 6, "x: P1\n")?);
+    let column = "pact 1\nfields 2\nsource d d.csv int:2\nsink d 0\n";
+    assert!(rt; told(rt.alloc(), column, 6, "d: P10\n")?);
     Ok(())
 }

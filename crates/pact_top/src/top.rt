@@ -3,9 +3,9 @@
 ghost use Rattle.std.specs.Prelude.{◌≡◌, ◌≢◌, ◌≤◌, ◌↔◌, ◌⊎◌, false, ℕ, List, None, IfSome};
 ghost use Rattle.pact_record.specs.declared.values.Value.{Value as FieldValue};
 ghost use Rattle.pact_outside.specs.Outside.{Rose};
-ghost use Rattle.pact_top.specs.Program.{Program};
+ghost use Rattle.pact_operators.specs.Programs.{ProgramData};
 ghost use Rattle.pact_top.specs.Transfer.{Gains, GainsFront, Tells};
-ghost use Rattle.pact_top.specs.Verdict.{texts_of, command_of, IsVerdict, missing, not_first_form, runs, IsOpened, IsAnswer, line_of};
+ghost use Rattle.pact_top.specs.Verdict.{Verdict, texts_of, command_of, IsVerdict, StandsIn, missing, runs, IsOpened, IsAnswer, line_of, status_of_verdict, verdict_line};
 ghost use Rattle.pact_top.specs.Refusal.{IsNamed, status_of, refusal_line};
 
 use crate::answering::answer;
@@ -29,8 +29,9 @@ fn refuse<E: Sink>(err: &mut E, refusal: &Refusal) -> u8
 /// before all of the text is made. What goes wrong is told on `err` in one line.
 ///
 /// The statuses: 0 the text was written whole, 1 out of memory, 2 the words are no command, 3 a
-/// file can't be read, 4 `out` failed, 5 the program isn't in the first form, or a file is longer
-/// than its limit, or a row of the source is bad.
+/// file can't be read, 4 `out` failed, 5 the program's text is faulty, 6 a function or a declaration
+/// of it breaks a rule, 8 a file is longer than its limit. Until all operators can be run, status 5
+/// is also that of a program that isn't Maps over one source, and of a bad row of its source.
 pub fn pact_main<F: Feed, O: Sink, E: Sink>(
     alloc: Global,
     words: &[&str],
@@ -43,7 +44,7 @@ pub fn pact_main<F: Feed, O: Sink, E: Sink>(
     ensures answered_quietly { result ≡ 0 → E.taken err.new ≡ E.taken err.old }
 
     // Otherwise memory ran out, or a fault of the feed or of `out` rose.
-    ensures complete { IfSome (F.files feed.old) (λ files. (program : Program) (rows : List (List FieldValue)) → IsVerdict (texts_of words.now) files (runs program rows) → ¬ (Rose (F.faults feed.old) (F.faults feed.new)) → ¬ (Rose (O.faults out.old) (O.faults out.new)) → (result ≡ 0) ⊎ (result ≡ 1)) }
+    ensures complete { IfSome (F.files feed.old) (λ files. (program : ProgramData) (rows : List (List FieldValue)) → IsVerdict (texts_of words.now) files (runs program rows) → ¬ (Rose (F.faults feed.old) (F.faults feed.new)) → ¬ (Rose (O.faults out.old) (O.faults out.new)) → (result ≡ 0) ⊎ (result ≡ 1)) }
 
     ensures usage { (result ≡ 2) ↔ (command_of (texts_of words.now) ≡ None) }
 
@@ -58,13 +59,14 @@ pub fn pact_main<F: Feed, O: Sink, E: Sink>(
     ensures unwritten { result ≡ 4 → Rose (O.faults out.old) (O.faults out.new) }
     ensures unwritten_prefix { result ≡ 4 → IfSome (F.files feed.old) (λ files. (text : List ℕ) × IsAnswer (texts_of words.now) files text × GainsFront (O.taken out.old) (O.taken out.new) text) }
 
-    ensures refused { result ≡ 5 → IfSome (F.files feed.old) (λ files. IsVerdict (texts_of words.now) files not_first_form) }
-    ensures refused_always { IfSome (F.files feed.old) (λ files. IsVerdict (texts_of words.now) files not_first_form → (result ≡ 1) ⊎ (result ≡ 3) ⊎ (result ≡ 5)) }
+    // What the files decide: the program's text, its functions and declarations, the limits of files.
+    ensures refused { 5 ≤ result → (v : Verdict) × (status_of_verdict v ≡ result) × StandsIn (texts_of words.now) (F.files feed.old) v × Tells (E.taken err.old) (E.taken err.new) (E.faults err.old) (E.faults err.new) (verdict_line v) }
+    ensures refused_always { IfSome (F.files feed.old) (λ files. (v : Verdict) → IsVerdict (texts_of words.now) files v → 5 ≤ status_of_verdict v → (result ≡ 1) ⊎ (result ≡ 3) ⊎ (result ≡ status_of_verdict v)) }
 
     ensures nothing_written { result ≢ 0 → result ≢ 4 → O.taken out.new ≡ O.taken out.old }
     ensures output_untouched { result ≢ 0 → result ≢ 4 → O.faults out.new ≡ O.faults out.old }
-    ensures told { result ≢ 0 → Tells (E.taken err.old) (E.taken err.new) (E.faults err.old) (E.faults err.new) (line_of result (F.opened_name feed.new)) }
-    ensures no_other { result ≤ 5 }
+    ensures told { result ≢ 0 → result ≤ 4 → Tells (E.taken err.old) (E.taken err.new) (E.faults err.old) (E.faults err.new) (line_of result (F.opened_name feed.new)) }
+    ensures no_other { (result ≤ 6) ⊎ (result ≡ 8) }
 {
     match answer(alloc, words, feed) {
         Ok(text) => match write_all(out, text.bytes()) {

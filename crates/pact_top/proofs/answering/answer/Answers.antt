@@ -1,20 +1,35 @@
 use Rattle.std.proofs.Common.{◌≡◌, ℕ, List, Option, Some, subst, sym, ◌∙◌, ap}
+use Rattle.std.proofs.lemmas.Result.{err_from_is_err_and}
 use Rattle.pact_outside.specs.declared.files.NamedFile.{NamedFile}
-use Rattle.pact_top.specs.Lines.{AreLines}
-use Rattle.pact_top.specs.Verdict.{texts_of, command_of}
-use Rattle.pact_top.proofs.Answered.{RowsRead, answered}
+use Rattle.pact_top.specs.ProgramOps.{source_file}
+use Rattle.pact_top.specs.Refusal.{BytesDecide, FileRefused}
+use Rattle.pact_top.specs.Verdict.{command_of, source_limit, texts_of}
+use Rattle.pact_top.proofs.FileRefusals.{program_refused, refused_later, source_refused}
+use Rattle.pact_top.proofs.MapChains.{sink_within}
 use Rattle.pact_top.proofs.answering.answer.Goals as goal
 
-pub returns-clause-text : goal.returns-clause-text
-returns-clause-text g c =
-    let p = c.in_ok-program.program in
-    let rows = c.in_ok-rows.rows in
-    let bag = c.in_ok-bag.bag in
+pub returns-in_err-program-clause-refused : goal.returns-in_err-program-clause-refused
+returns-in_err-program-clause-refused g c =
+    let p = err_from_is_err_and c.from_residual.result c.from_residual.ensures.1 in
     let words = texts_of c.args.words.now in
-    let command : command_of words ≡ Some c.as_bytes.result.now =
-    sym c.in-Some.ensures ∙ ap Some (sym c.as_bytes.ensures.value) in
-    let read : RowsRead (g.F.Feed.files c.args.feed.now) p rows =
-    subst (λ (files : Option (List NamedFile)). RowsRead files p rows) c.load_program.ensures.files c.in_ok-rows.ensures.read in
-    let lines : AreLines p.sink bag c.in_ok-text.text =
-    subst (λ (s : List ℕ). AreLines s bag c.in_ok-text.text) c.sink.ensures c.in_ok-text.ensures in
-    answered words (g.F.Feed.files c.args.feed.now) c.as_bytes.result.now p rows bag c.in_ok-text.text command c.in_ok-program.ensures.read read c.in_ok-bag.ensures.allowed lines
+    let command : command_of words ≡ Some c.as_bytes.result.now = sym c.in-Some.ensures ∙ ap Some (sym c.as_bytes.ensures.value) in
+    rw (p.1, p.2) (program_refused words (g.F.Feed.files c.args.feed.now) c.as_bytes.result.now (g.F.Feed.faults c.args.feed.now) (g.F.Feed.faults c.load_program.new.feed)
+    (g.F.Feed.is_open c.load_program.new.feed) (g.F.Feed.opened_name c.load_program.new.feed) c.in_err-program.field-0.0 command c.in_err-program.ensures.refused)
+
+pub returns-in_err-rows-clause-refused : goal.returns-in_err-rows-clause-refused
+returns-in_err-rows-clause-refused g c =
+    let p = err_from_is_err_and c.from_residual-in_err-rows.result c.from_residual-in_err-rows.ensures.1 in
+    let words = texts_of c.args.words.now in
+    let q = c.in_ok-program.program in
+    let command : command_of words ≡ Some c.as_bytes.result.now = sym c.in-Some.ensures ∙ ap Some (sym c.as_bytes.ensures.value) in
+    let refused : FileRefused (g.F.Feed.files c.args.feed.now) (source_file q) source_limit (BytesDecide q) (g.F.Feed.faults c.load_program.new.feed) (g.F.Feed.faults c.load_rows.new.feed)
+    (g.F.Feed.is_open c.load_rows.new.feed) (g.F.Feed.opened_name c.load_rows.new.feed) c.in_err-rows.field-0.0 =
+    subst (λ (files : Option (List NamedFile)). FileRefused files (source_file q) source_limit (BytesDecide q) (g.F.Feed.faults c.load_program.new.feed) (g.F.Feed.faults c.load_rows.new.feed)
+    (g.F.Feed.is_open c.load_rows.new.feed) (g.F.Feed.opened_name c.load_rows.new.feed) c.in_err-rows.field-0.0) c.load_program.ensures.files c.in_err-rows.ensures.refused in
+    rw (p.1, p.2) (refused_later words (g.F.Feed.files c.args.feed.now) (g.F.Feed.faults c.args.feed.now) (g.F.Feed.faults c.load_program.new.feed) (g.F.Feed.faults c.load_rows.new.feed)
+    (g.F.Feed.is_open c.load_rows.new.feed) (g.F.Feed.opened_name c.load_rows.new.feed) c.in_err-rows.field-0.0 c.load_program.ensures.later
+    (source_refused words (g.F.Feed.files c.args.feed.now) c.as_bytes.result.now q (g.F.Feed.faults c.load_program.new.feed) (g.F.Feed.faults c.load_rows.new.feed)
+    (g.F.Feed.is_open c.load_rows.new.feed) (g.F.Feed.opened_name c.load_rows.new.feed) c.in_err-rows.field-0.0 command c.in_ok-program.ensures.read c.in_ok-program.ensures.chain c.in_ok-program.ensures.named refused))
+
+pub sorted_lines-requires-clause-within : goal.sorted_lines-requires-clause-within
+sorted_lines-requires-clause-within g c = rw c.sink.ensures.sink (sink_within c.in_ok-program.program.fields c.in_ok-program.program.sink c.in_ok-bag.bag c.sink.ensures.keeps.sink.below c.in_ok-bag.ensures.widths)

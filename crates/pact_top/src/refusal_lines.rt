@@ -1,0 +1,146 @@
+//! The lines that tell what the files decide.
+
+ghost use Rattle.std.specs.Prelude.{◌≡◌, ◌++◌, OnOk, IfOk, decimal};
+ghost use Rattle.pact_top.specs.Refusal.{DecidesTo};
+ghost use Rattle.pact_top.specs.Verdict.{bad_function, bad_program, bad_text, not_first_form, too_long, told_name, verdict_line};
+ghost use Rattle.pact_top.specs.Verdict as verdict;
+
+use crate::refusals::Refusal;
+use pact_record::{Bytes, OutOfMemory};
+use std::alloc::Global;
+
+fn push_number(alloc: Global, line: &mut Bytes, number: u64) -> Result<(), OutOfMemory>
+    ensures { OnOk result (line.new ≡ line.old ++ decimal number) }
+{
+    let digits = number.to_string(alloc)?;
+    line.extend_from_slice(digits.as_bytes())
+}
+
+fn long_line(alloc: Global, name: &[u8], limit: u64) -> Result<Bytes, OutOfMemory>
+    ensures { IfOk result (λ line. line ≡ verdict_line (too_long name.now limit)) }
+{
+    let mut line = Bytes::from_slice(alloc, name)?;
+    line.extend_from_slice(b" is longer than ")?;
+    push_number(alloc, &mut line, limit)?;
+    line.extend_from_slice(b" bytes\n")?;
+    Ok(line)
+}
+
+// Puts a number behind other bytes.
+fn push_numbered(
+    alloc: Global,
+    line: &mut Bytes,
+    front: &[u8],
+    number: u64,
+) -> Result<(), OutOfMemory>
+    ensures { OnOk result (line.new ≡ line.old ++ (front.now ++ decimal number)) }
+{
+    line.extend_from_slice(front)?;
+    push_number(alloc, line, number)
+}
+
+// What stands behind the name of a faulty text.
+fn fault_text(alloc: Global, number: u64, what: u32) -> Result<Bytes, OutOfMemory>
+    ensures { IfOk result (λ text. text ≡ verdict.fault_text number what) }
+{
+    let mut text = Bytes::new(alloc);
+    push_numbered(alloc, &mut text, b":", number)?;
+    push_numbered(alloc, &mut text, b": text fault ", u64::from(what))?;
+    text.extend_from_slice(b"\n")?;
+    Ok(text)
+}
+
+fn text_line(alloc: Global, name: &[u8], number: u64, what: u32) -> Result<Bytes, OutOfMemory>
+    ensures { IfOk result (λ line. line ≡ verdict_line (bad_text name.now number what)) }
+{
+    let mut line = Bytes::from_slice(alloc, name)?;
+    line.extend_from_slice(fault_text(alloc, number, what)?.bytes())?;
+    Ok(line)
+}
+
+// What stands behind the name of a function.
+fn break_text(alloc: Global, code: u32, at: u32) -> Result<Bytes, OutOfMemory>
+    ensures { IfOk result (λ text. text ≡ verdict.break_text code at) }
+{
+    let mut text = Bytes::new(alloc);
+    push_numbered(alloc, &mut text, b": V", u64::from(code))?;
+    push_numbered(alloc, &mut text, b" at statement ", u64::from(at))?;
+    text.extend_from_slice(b"\n")?;
+    Ok(text)
+}
+
+fn function_line(alloc: Global, name: &[u8], code: u32, at: u32) -> Result<Bytes, OutOfMemory>
+    ensures { IfOk result (λ line. line ≡ verdict_line (bad_function name.now code at)) }
+{
+    let mut line = Bytes::from_slice(alloc, b"function ")?;
+    line.extend_from_slice(name)?;
+    line.extend_from_slice(break_text(alloc, code, at)?.bytes())?;
+    Ok(line)
+}
+
+// A program without one sink has no declaration to name.
+fn name_or_program(name: &[u8]) -> &[u8]
+    ensures { result.now ≡ told_name name.now }
+{
+    if name.is_empty() { b"program" } else { name }
+}
+
+fn program_line(alloc: Global, name: &[u8], code: u32) -> Result<Bytes, OutOfMemory>
+    ensures { IfOk result (λ line. line ≡ verdict_line (bad_program name.now code)) }
+{
+    let mut line = Bytes::from_slice(alloc, name_or_program(name))?;
+    line.extend_from_slice(b": P")?;
+    push_number(alloc, &mut line, u64::from(code))?;
+    line.extend_from_slice(b"\n")?;
+    Ok(line)
+}
+
+/// The file of that name has more bytes than so many.
+pub fn too_long(alloc: Global, name: &[u8], limit: u64) -> Refusal
+    ensures { DecidesTo (too_long name.now limit) result }
+{
+    match long_line(alloc, name, limit) {
+        Ok(line) => Refusal::Decided { status: 8, line },
+        Err(OutOfMemory) => Refusal::OutOfMemory,
+    }
+}
+
+/// The text of that name is faulty at a line.
+pub fn bad_text(alloc: Global, name: &[u8], number: u64, what: u32) -> Refusal
+    ensures { DecidesTo (bad_text name.now number what) result }
+{
+    match text_line(alloc, name, number, what) {
+        Ok(line) => Refusal::Decided { status: 5, line },
+        Err(OutOfMemory) => Refusal::OutOfMemory,
+    }
+}
+
+/// The function of that name breaks a rule at a statement.
+pub fn bad_function(alloc: Global, name: &[u8], code: u32, at: u32) -> Refusal
+    ensures { DecidesTo (bad_function name.now code at) result }
+{
+    match function_line(alloc, name, code, at) {
+        Ok(line) => Refusal::Decided { status: 6, line },
+        Err(OutOfMemory) => Refusal::OutOfMemory,
+    }
+}
+
+/// The declaration of that name breaks a rule.
+pub fn bad_program(alloc: Global, name: &[u8], code: u32) -> Refusal
+    ensures { DecidesTo (bad_program name.now code) result }
+{
+    match program_line(alloc, name, code) {
+        Ok(line) => Refusal::Decided { status: 6, line },
+        Err(OutOfMemory) => Refusal::OutOfMemory,
+    }
+}
+
+/// The program isn't Maps over one source, or a row of the source is bad.
+pub fn not_first_form(alloc: Global) -> Refusal
+    ensures { DecidesTo not_first_form result }
+{
+    match Bytes::from_slice(alloc, b"not in the first form\n") {
+        Ok(line) => Refusal::Decided { status: 5, line },
+        Err(OutOfMemory) => Refusal::OutOfMemory,
+    }
+}
