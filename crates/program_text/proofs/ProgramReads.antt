@@ -1,6 +1,5 @@
 -- The lines of a text lead a reader of programs on exactly where a program's text goes on.
-use Rattle.std.proofs.Common.{◌≡◌, ◌≢◌, ◌<◌, ◌≤◌, ◌==◌, inl, inr, ℕ, Bool, true, false, cond, if◌then◌else◌, bytes_eq, codes, List, [], ◌∷◌, ◌++◌, map, length, Option, Some, None, refl, ap, sym, subst, ◌∙◌, arith}
-use Rattle.std.proofs.lemmas.Slice.Eq.{bytes_eq-Decides}
+use Rattle.std.proofs.Common.{◌≡◌, ◌≢◌, ◌<◌, inr, ℕ, Bool, true, false, bytes_eq, codes, List, [], ◌∷◌, ◌++◌, map, length, Some, None, refl, ap, sym, subst, ◌∙◌, arith}
 use Rattle.pact_operators.specs.declared.declarations.OpKind.{OpKind}
 use Rattle.pact_operators.specs.declared.declarations.OpKind.TheVariants.{Source as SourceKind, Map, Reduce, Match, Cross, CoGroup}
 use Rattle.pact_operators.specs.declared.declarations.Decl.{Decl}
@@ -9,9 +8,8 @@ use Rattle.pact_operators.specs.Declarations.{IsSpelledDecl}
 use Rattle.pact_operators.specs.Drafts.{DraftData}
 use Rattle.tac_syntax.specs.declared.functions.Kind.{Kind}
 use Rattle.tac_text.specs.FunctionFaults.{header_fault}
-use Rattle.tac_text.specs.FunctionLines.{FunctionLine, header, header_words, IsHeader}
+use Rattle.tac_text.specs.FunctionLines.{FunctionLine, header, header_words}
 use Rattle.tac_text.specs.Places.{lists_in, place_of}
-use Rattle.tac_text.specs.StatementFaults.{statement_fault}
 use Rattle.tac_text.specs.StatementLines.{words_of_line}
 use Rattle.tac_text.proofs.FaultlessWords.{line_of_words}
 use Rattle.tac_text.proofs.HeaderWords.{header_fault-header_words, header_of_words, one_header}
@@ -19,14 +17,13 @@ use Rattle.tac_text.proofs.StatementWords.{IsSpelledLine-MayStand, statement_fau
 use Rattle.tac_text.proofs.WrittenWords.{AreLineWords-fine, AreFine-header_words, AreFine-words_of_line}
 use Rattle.text_lines.specs.CanonicalLines.{AreLineWords, canonical_line}
 use Rattle.text_lines.specs.FirstFaults.{IsStart}
-use Rattle.text_lines.specs.Runs.{AreSayings, Runs, Steps, TellsFaults}
+use Rattle.text_lines.specs.Runs.{AreSayings, TellsFaults}
 use Rattle.text_lines.specs.declared.line_words.LineWord.{LineWord}
 use Rattle.text_lines.specs.declared.line_words.LineWord.TheVariants.{Plain as plain_word, Literal as literal_word}
 use Rattle.text_lines.proofs.LineRuns.{Reads, Runs-append, Runs-said, said_by_run}
 use Rattle.text_lines.proofs.WrittenLines.{HasWords-canonical_line}
 use Rattle.program_text.specs.DeclarationFaults.{declaration_fault}
 use Rattle.program_text.specs.DeclarationWords.{words_of_decl}
-use Rattle.program_text.specs.FirstLines.{IsFieldCount, field_count_words, version_words}
 use Rattle.program_text.specs.ProgramStates.{ProgramLine, version, field_count, declares, begins, inside, ProgramState, nothing_read, version_read, drafted, open_function, MaySay, program_place, said_on, words_of_program_line, RunsTo}
 use Rattle.program_text.specs.ProgramTexts.{IsProgramText, ProgramText, between_fault, program_fault}
 use Rattle.program_text.proofs.DeclarationLaws.{AreDeclarationWords, declared, faultless, words_of_decl-some, words_of_decl-unique}

@@ -1,15 +1,14 @@
 -- Each text of a program takes the reader to its draft, and what the reader has come to is what was read.
-use Rattle.std.proofs.Common.{◌≡◌, ◌≢◌, ◌≤◌, ◌+◌, ℕ, Bool, true, false, cond, inl, inr, List, [], ◌∷◌, ◌++◌, map, length, Option, Some, None, refl, ap, sym, subst, ◌∙◌, append_assoc, append-nil, arith, length-append}
+use Rattle.std.proofs.Common.{◌≡◌, ◌≤◌, ◌+◌, ℕ, true, false, List, [], ◌∷◌, ◌++◌, map, length, refl, ap, sym, subst, ◌∙◌, append_assoc, append-nil, arith, length-append}
 use Rattle.std.specs.List.{AllByRecursion}
 use Rattle.std.proofs.lemmas.List.{map-append}
 use Rattle.pact_bag.proofs.Widths.{AllByRecursion-last}
 use Rattle.pact_operators.specs.declared.declarations.Decl.{Decl}
 use Rattle.pact_operators.specs.declared.declarations.Decl.TheVariants.{Source, Function as FunctionDecl, Op, Sink}
 use Rattle.pact_operators.specs.Declarations.{IsSpelledDecl}
-use Rattle.pact_operators.specs.Drafts.{AreDeclared, DraftData, IsSpelledDraft}
+use Rattle.pact_operators.specs.Drafts.{AreDeclared, DraftData}
 use Rattle.pact_operators.proofs.Declared.{IsSpelledDraft-decl, IsSpelledDraft-function}
 use Rattle.tac_syntax.specs.declared.functions.Function.{Function}
-use Rattle.tac_syntax.specs.declared.functions.Kind.{Kind}
 use Rattle.tac_syntax.specs.Code.{Code, Line, simple, test, turns, over, otherwise, close, nesting}
 use Rattle.tac_syntax.specs.Functions.{IsSpelledFunction}
 use Rattle.tac_syntax.specs.Limits.{nesting_limit}
@@ -25,7 +24,7 @@ use Rattle.text_lines.specs.declared.line_words.LineWord.{LineWord}
 use Rattle.text_lines.specs.Runs.{Steps}
 use Rattle.text_lines.proofs.LineRuns.{Steps-append}
 use Rattle.program_text.specs.DeclarationWords.{words_of_decl}
-use Rattle.program_text.specs.FirstLines.{IsFieldCount, field_count_words, version_words}
+use Rattle.program_text.specs.FirstLines.{field_count_words, version_words}
 use Rattle.program_text.specs.ProgramStates.{ProgramLine, version, field_count, declares, begins, inside, ProgramState, nothing_read, version_read, drafted, open_function, MaySay, ends_function, said_inside, said_on, with_decl, with_function, words_of_program_line}
 use Rattle.program_text.specs.ProgramTexts.{IsWritableDraft, SpellsDecls, SpellsProgram}
 

@@ -1,6 +1,5 @@
 -- What the reader of programs has come to behind some lines.
-use Rattle.std.proofs.Common.{◌≡◌, ◌<◌, ◌≤◌, ◌+◌, inl, inr, max, ℕ, List, [], ◌∷◌, ◌++◌, length, Option, Some, None, Result, Ok, Err, IfOk, IfErr, refl, ap, sym, subst, ◌∙◌, append_assoc, append-nil, arith, length-append}
-use Rattle.std.proofs.lemmas.List.{nil_from_length}
+use Rattle.std.proofs.Common.{◌≡◌, ◌<◌, ◌≤◌, ◌+◌, inl, inr, max, ℕ, List, [], ◌∷◌, ◌++◌, length, Some, None, Result, Ok, Err, IfOk, IfErr, refl, ap, sym, subst, ◌∙◌, append_assoc, append-nil, arith, length-append}
 use Rattle.pact_operators.specs.Drafts.{DraftData}
 use Rattle.text_lines.specs.declared.lines.TextFault.{TextFault}
 use Rattle.text_lines.specs.declared.lines.TextFault.TheVariants as told
@@ -10,7 +9,7 @@ use Rattle.text_lines.proofs.LineRuns.{EndsEarly-run, IsFaultyLine-run, Runs-app
 use Rattle.program_text.specs.declared.declaration_reading.NotDeclaration.{NotDeclaration}
 use Rattle.program_text.specs.declared.declaration_reading.NotDeclaration.TheVariants as decl
 use Rattle.program_text.specs.ProgramReading.{EndsWith, GivesDraft, IsLineFault, TellsFirstFault, at_line}
-use Rattle.program_text.specs.ProgramStates.{MaySay, ProgramState, RunsTo, drafted, nothing_read, version_read, open_function, program_place, said_on, words_of_program_line}
+use Rattle.program_text.specs.ProgramStates.{MaySay, ProgramState, RunsTo, drafted, nothing_read, program_place, said_on, words_of_program_line}
 use Rattle.program_text.specs.ProgramTexts.{IsProgramText, ProgramText, program_fault, program_missing}
 use Rattle.program_text.proofs.ProgramReads.{ProgramText-RunsTo, RunsTo-ProgramText, program_faults, program_sayings, reads_programs}
 

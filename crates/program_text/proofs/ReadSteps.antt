@@ -1,10 +1,9 @@
 -- One step of the reader of programs.
 use Rattle.std.proofs.Common.{◌≡◌, inl, inr, ℕ, Bool, true, false, Result, Ok, Err, IfOk, List, [], ◌∷◌, refl, ap, sym, subst, ◌∙◌}
 use Rattle.pact_operators.specs.Drafts.{DraftData}
-use Rattle.tac_syntax.specs.Code.{Line, close}
+use Rattle.tac_syntax.specs.Code.{close}
 use Rattle.tac_text.specs.declared.building.Block.{Block}
-use Rattle.tac_text.specs.FunctionAnswers.{OpenData, TakesWords, begun, function_of, with_build}
-use Rattle.tac_text.specs.Building.{Build, build_start}
+use Rattle.tac_text.specs.FunctionAnswers.{OpenData, TakesWords, function_of}
 use Rattle.text_lines.specs.declared.line_words.LineWord.{LineWord}
 use Rattle.text_lines.specs.LineGrammar.{HasLineFault, IsLine}
 use Rattle.text_lines.specs.LineReading.{HasCause}
@@ -14,7 +13,7 @@ use Rattle.text_lines.specs.TextLines.{trimmed}
 use Rattle.program_text.specs.declared.declaration_reading.NotDeclaration.{NotDeclaration}
 use Rattle.program_text.specs.declared.program_reading.State.{State}
 use Rattle.program_text.specs.ProgramReading.{IsLineFault, LeadsOn, of_words, state_of}
-use Rattle.program_text.specs.ProgramStates.{ProgramLine, inside, ProgramState, drafted, open_function, RunsTo, ends_function, said_inside, with_function}
+use Rattle.program_text.specs.ProgramStates.{inside, ProgramState, drafted, open_function, RunsTo, said_inside, with_function}
 use Rattle.program_text.proofs.ProgramRuns.{inside_stays}
 
 ends_so : (d : DraftData) (o : OpenData) (blocks : List Block) → o.build.blocks ≡ blocks → blocks ≡ [] → said_inside d o close ≡ drafted (with_function d (function_of o))

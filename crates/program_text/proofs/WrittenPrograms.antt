@@ -1,9 +1,8 @@
 -- The canonical spelling of a program is a text of it.
-use Rattle.std.proofs.Common.{◌≡◌, ◌≢◌, ◌≤◌, ◌<◌, ◌+◌, inl, inr, ℕ, zero, suc, List, [], ◌∷◌, ◌++◌, flat_map, map, length, drop, slice_get, Option, Some, None, refl, ap, sym, subst, ◌∙◌, append_assoc, append-nil, arith}
+use Rattle.std.proofs.Common.{◌≡◌, ◌≢◌, ◌≤◌, ◌<◌, ◌+◌, inl, inr, ℕ, zero, suc, List, [], ◌∷◌, ◌++◌, flat_map, length, drop, slice_get, Option, Some, None, refl, ap, sym, subst, ◌∙◌, append_assoc, append-nil, arith}
 use Rattle.std.specs.List.{AllByRecursion}
 use Rattle.std.proofs.Math.Seq.{drop-append_seam}
 use Rattle.std.proofs.lemmas.List.{drop_all}
-use Rattle.pact_operators.specs.declared.declarations.OpKind.{OpKind}
 use Rattle.pact_operators.specs.declared.declarations.Decl.{Decl}
 use Rattle.pact_operators.specs.declared.declarations.Decl.TheVariants.{Source, Function as FunctionDecl, Op, Sink}
 use Rattle.pact_operators.specs.Declarations.{IsSpelledDecl}
@@ -18,7 +17,7 @@ use Rattle.tac_text.proofs.WrittenFunctions.{FunctionAt-written}
 use Rattle.tac_text.proofs.WrittenWords.{AreFine, AreLineWords-fine, has_feed-canonical_line}
 use Rattle.text_lines.specs.CanonicalLines.{canonical_line}
 use Rattle.text_lines.specs.declared.line_words.LineWord.{LineWord}
-use Rattle.text_lines.specs.TextLines.{HasWords, Say, lines_of}
+use Rattle.text_lines.specs.TextLines.{Say, lines_of}
 use Rattle.text_lines.proofs.FirstLines.{lines_of-feed}
 use Rattle.text_lines.proofs.WrittenLines.{HasWords-canonical_line}
 use Rattle.program_text.specs.DeclarationWords.{words_of_decl}

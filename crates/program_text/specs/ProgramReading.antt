@@ -1,5 +1,5 @@
 -- What reading a program answers, line by line and as a whole.
-use Rattle.std.specs.Prelude.{◌≡◌, ℕ, Bool, false, max, List, [], ◌∷◌, Option, Some, None, Result, Ok, Err, codes, bytes_eq}
+use Rattle.std.specs.Prelude.{◌≡◌, ℕ, Bool, false, max, List, [], ◌∷◌, Some, Result, Ok, Err, codes, bytes_eq}
 use Rattle.pact_operators.specs.Drafts.{DraftData}
 use Rattle.tac_text.specs.declared.statement_reading.NotLine.{NotLine}
 use Rattle.tac_text.specs.declared.statement_reading.NotLine.TheVariants as line

@@ -1,5 +1,5 @@
 -- What can be written of a program.
-use Rattle.std.specs.Prelude.{◌≡◌, ℕ, List, Some, slice_get}
+use Rattle.std.specs.Prelude.{◌≡◌, List, Some, slice_get}
 use Rattle.pact_operators.specs.declared.declarations.Decl.{Decl}
 use Rattle.pact_operators.specs.declared.declarations.Decl.TheVariants.{Source, Function as FunctionDecl, Op, Sink}
 use Rattle.pact_operators.specs.Declarations.{IsSpelledDecl}

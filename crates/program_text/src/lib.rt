@@ -23,6 +23,10 @@ pub use program_writing::write_program;
 #[cfg(test)]
 mod declaration_tests;
 #[cfg(test)]
+mod example_tests;
+#[cfg(test)]
+mod fault_tests;
+#[cfg(test)]
 mod first_line_tests;
 #[cfg(test)]
 mod program_tests;

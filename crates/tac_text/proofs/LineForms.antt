@@ -1,5 +1,5 @@
 -- A line is told from its words.
-use Rattle.std.proofs.Common.{◌≡◌, ◌<◌, ◌^◌, inr, ℕ, List, [], ◌∷◌, Option, decimal, refl, ap, ap₂, sym, subst, subst₂, ◌∙◌, arith}
+use Rattle.std.proofs.Common.{◌≡◌, ◌<◌, ◌^◌, inr, ℕ, List, [], ◌∷◌, map, decimal, refl, ap, sym, subst, ◌∙◌, arith}
 use Rattle.pact_record.specs.declared.operations.Op1.{Op1}
 use Rattle.pact_record.specs.declared.operations.Op1.TheVariants.{Not, IsNull, Len}
 use Rattle.pact_record.specs.declared.operations.Op2.{Op2}
@@ -7,15 +7,23 @@ use Rattle.pact_record.specs.declared.operations.Op2.TheVariants.{Add, Sub, Mul,
 use Rattle.tac_syntax.specs.declared.statements.Rec.{Rec}
 use Rattle.tac_syntax.specs.declared.statements.Rec.TheVariants.{Reg, Loop, Input, Left, Right, Join, First}
 use Rattle.tac_syntax.specs.Code.{load_int, load_text, load_null, move_value, get_field, get_key, apply_one, apply_two, new_record, copy_record, set_field, emit_record, Line, simple, test, turns, over, otherwise, close}
-use Rattle.tac_text.specs.declared.forms.Form.{Form}
-use Rattle.tac_text.specs.declared.forms.Form.TheVariants.{One, Two, Repeat}
+use Rattle.tac_text.specs.declared.statement_forms.Form.{Form}
+use Rattle.tac_text.specs.declared.statement_forms.Form.TheVariants.{One, Two, Repeat}
 use Rattle.tac_syntax.specs.Grammar.{IsNumber, IsSpelledRecord, IsSpelledLine}
+use Rattle.text_lines.specs.declared.line_words.LineWord.{LineWord}
+use Rattle.text_lines.specs.declared.line_words.LineWord.TheVariants.{Plain as plain_word, Literal as literal_word}
 use Rattle.tac_text.specs.Lines.{IsNumberWord, IsRecordWord, IsRegisterWord, HasOperands, assigned_form, form_in, line_in, line_with, number_in}
-use Rattle.tac_text.specs.declared.lines.BodyLine.{BodyLine}
-use Rattle.tac_text.specs.Said.{Says}
-use Rattle.tac_text.specs.Spelling.{record_word, op1_word, op2_word, line_words}
-use Rattle.tac_text.proofs.Escapes.{unescaped-literal}
+use Rattle.tac_text.specs.Spelling.{record_word, op1_word, op2_word}
+use Rattle.tac_text.specs.StatementLines.{words_of_line}
 use Rattle.tac_text.proofs.OperandWords.{number_in-decimal, signed_in-signed_decimal, bytes_eq-decimal, list_in-list_word, op1_in-op1_word, op2_in-op2_word, record_in-record_word}
+
+-- the bytes of a word: a literal's are those that it stands for
+abbrev pub word_bytes : LineWord → List ℕ
+word_bytes (plain_word bytes) = bytes
+word_bytes (literal_word bytes) = bytes
+
+abbrev pub line_texts : Line → List (List ℕ)
+line_texts l = map word_bytes (words_of_line l)
 
 -- ---- the forms that the words don't tell by computing
 
@@ -40,7 +48,7 @@ assigned_form-op2_word And = refl
 assigned_form-op2_word Or = refl
 assigned_form-op2_word Cat = refl
 
-form_in-turns : (count : ℕ) → count < 2 ^ 64 → form_in (line_words (turns count)) ≡ Repeat
+form_in-turns : (count : ℕ) → count < 2 ^ 64 → form_in (line_texts (turns count)) ≡ Repeat
 form_in-turns count h = let e = bytes_eq-decimal count 61 [] h (inr (omega arith)) in rw e refl
 
 -- ---- the operands
@@ -67,72 +75,63 @@ IsRecordWord-record_word Join h = λ e. absurd cc
 IsRecordWord-record_word First h = λ e. absurd cc
 
 abbrev HasLineOperands : Line → Form → Type 0
-HasLineOperands l form = HasOperands form (line_words l)
+HasLineOperands l form = HasOperands form (line_texts l)
 
-pub HasOperands-line_words : (lists : ℕ) (l : Line) → IsSpelledLine lists l → HasOperands (form_in (line_words l)) (line_words l)
-HasOperands-line_words lists (simple (load_int to value)) h = (register_word 118 to h.0, record { number = value; small = h.1; spelled = refl })
-HasOperands-line_words lists (simple (load_text to bytes)) h = (register_word 118 to h.0, record { bytes = bytes; fits = h.1; spelled = refl })
-HasOperands-line_words lists (simple (load_null to)) h = register_word 118 to h
-HasOperands-line_words lists (simple (move_value to from)) h = (register_word 118 to h.0, register_word 118 from h.1)
-HasOperands-line_words lists (simple (get_field to from field)) h = (register_word 118 to h.0, IsRecordWord-record_word from h.1, number_word field h.2)
-HasOperands-line_words lists (simple (get_key to at)) h = (register_word 118 to h.0, number_word at h.1)
-HasOperands-line_words lists (simple (apply_one to op a)) h =
+pub HasOperands-line_texts : (lists : ℕ) (l : Line) → IsSpelledLine lists l → HasOperands (form_in (line_texts l)) (line_texts l)
+HasOperands-line_texts lists (simple (load_int to value)) h = (register_word 118 to h.0, record { number = value; small = h.1; spelled = refl })
+HasOperands-line_texts lists (simple (load_text to bytes)) h = (register_word 118 to h.0, h.1)
+HasOperands-line_texts lists (simple (load_null to)) h = register_word 118 to h
+HasOperands-line_texts lists (simple (move_value to from)) h = (register_word 118 to h.0, register_word 118 from h.1)
+HasOperands-line_texts lists (simple (get_field to from field)) h = (register_word 118 to h.0, IsRecordWord-record_word from h.1, number_word field h.2)
+HasOperands-line_texts lists (simple (get_key to at)) h = (register_word 118 to h.0, number_word at h.1)
+HasOperands-line_texts lists (simple (apply_one to op a)) h =
     subst (HasLineOperands (simple (apply_one to op a))) (sym (assigned_form-op1_word op)) (register_word 118 to h.0, register_word 118 a h.1)
-HasOperands-line_words lists (simple (apply_two to op a b)) h =
+HasOperands-line_texts lists (simple (apply_two to op a b)) h =
     subst (HasLineOperands (simple (apply_two to op a b))) (sym (assigned_form-op2_word op)) (register_word 118 to h.0, register_word 118 a h.1, register_word 118 b h.2)
-HasOperands-line_words lists (simple (new_record to)) h = register_word 114 to h
-HasOperands-line_words lists (simple (copy_record to from)) h = (register_word 114 to h.0, IsRecordWord-record_word from h.1)
-HasOperands-line_words lists (simple (set_field to field value)) h = (register_word 114 to h.0, number_word field h.1, register_word 118 value h.2)
-HasOperands-line_words lists (simple (emit_record from)) h = register_word 114 from h
-HasOperands-line_words lists (test on) h = register_word 118 on h
-HasOperands-line_words lists (turns count) h = subst (HasLineOperands (turns count)) (sym (form_in-turns count (omega (arith, h.1)))) (IsNumberWord-decimal count (omega (arith, h.1)))
-HasOperands-line_words lists (over name list) h = IsRegisterWord-letter 120 name (omega (arith, h.1.1))
-HasOperands-line_words lists otherwise h = tt
-HasOperands-line_words lists close h = tt
+HasOperands-line_texts lists (simple (new_record to)) h = register_word 114 to h
+HasOperands-line_texts lists (simple (copy_record to from)) h = (register_word 114 to h.0, IsRecordWord-record_word from h.1)
+HasOperands-line_texts lists (simple (set_field to field value)) h = (register_word 114 to h.0, number_word field h.1, register_word 118 value h.2)
+HasOperands-line_texts lists (simple (emit_record from)) h = register_word 114 from h
+HasOperands-line_texts lists (test on) h = register_word 118 on h
+HasOperands-line_texts lists (turns count) h = subst (HasLineOperands (turns count)) (sym (form_in-turns count (omega (arith, h.1)))) (IsNumberWord-decimal count (omega (arith, h.1)))
+HasOperands-line_texts lists (over name list) h = IsRegisterWord-letter 120 name (omega (arith, h.1.1))
+HasOperands-line_texts lists otherwise h = tt
+HasOperands-line_texts lists close h = tt
 
 -- ---- the line
 
 number_back : (n : ℕ) → IsNumber n → number_in (decimal n) ≡ n
 number_back n h = number_in-decimal n (omega (arith, h))
 
-pub line_in-line_words : (lists : ℕ) (l : Line) → IsSpelledLine lists l → line_in (line_words l) ≡ l
-line_in-line_words lists (simple (load_int to value)) h =
+pub line_in-line_texts : (lists : ℕ) (l : Line) → IsSpelledLine lists l → line_in (line_texts l) ≡ l
+line_in-line_texts lists (simple (load_int to value)) h =
     let x = number_back to h.0 in let y = signed_in-signed_decimal value h.1 in λ i. simple (load_int (x i) (y i))
-line_in-line_words lists (simple (load_text to bytes)) h =
-    let x = number_back to h.0 in let y = unescaped-literal bytes in λ i. simple (load_text (x i) (y i))
-line_in-line_words lists (simple (load_null to)) h = let x = number_back to h in λ i. simple (load_null (x i))
-line_in-line_words lists (simple (move_value to from)) h =
+line_in-line_texts lists (simple (load_text to bytes)) h =
+    let x = number_back to h.0 in λ i. simple (load_text (x i) bytes)
+line_in-line_texts lists (simple (load_null to)) h = let x = number_back to h in λ i. simple (load_null (x i))
+line_in-line_texts lists (simple (move_value to from)) h =
     let x = number_back to h.0 in let y = number_back from h.1 in λ i. simple (move_value (x i) (y i))
-line_in-line_words lists (simple (get_field to from field)) h =
+line_in-line_texts lists (simple (get_field to from field)) h =
     let x = number_back to h.0 in let y = record_in-record_word from h.1 in let z = number_back field h.2 in λ i. simple (get_field (x i) (y i) (z i))
-line_in-line_words lists (simple (get_key to at)) h =
+line_in-line_texts lists (simple (get_key to at)) h =
     let x = number_back to h.0 in let y = number_back at h.1 in λ i. simple (get_key (x i) (y i))
-line_in-line_words lists (simple (apply_one to op a)) h =
+line_in-line_texts lists (simple (apply_one to op a)) h =
     let x = number_back to h.0 in let y = op1_in-op1_word op in let z = number_back a h.1 in
-    ap (λ (form : Form). line_with form (line_words (simple (apply_one to op a)))) (assigned_form-op1_word op) ∙ (λ i. simple (apply_one (x i) (y i) (z i)))
-line_in-line_words lists (simple (apply_two to op a b)) h =
+    ap (λ (form : Form). line_with form (line_texts (simple (apply_one to op a)))) (assigned_form-op1_word op) ∙ (λ i. simple (apply_one (x i) (y i) (z i)))
+line_in-line_texts lists (simple (apply_two to op a b)) h =
     let x = number_back to h.0 in let y = op2_in-op2_word op in let z = number_back a h.1 in let u = number_back b h.2 in
-    ap (λ (form : Form). line_with form (line_words (simple (apply_two to op a b)))) (assigned_form-op2_word op) ∙ (λ i. simple (apply_two (x i) (y i) (z i) (u i)))
-line_in-line_words lists (simple (new_record to)) h = let x = number_back to h in λ i. simple (new_record (x i))
-line_in-line_words lists (simple (copy_record to from)) h =
+    ap (λ (form : Form). line_with form (line_texts (simple (apply_two to op a b)))) (assigned_form-op2_word op) ∙ (λ i. simple (apply_two (x i) (y i) (z i) (u i)))
+line_in-line_texts lists (simple (new_record to)) h = let x = number_back to h in λ i. simple (new_record (x i))
+line_in-line_texts lists (simple (copy_record to from)) h =
     let x = number_back to h.0 in let y = record_in-record_word from h.1 in λ i. simple (copy_record (x i) (y i))
-line_in-line_words lists (simple (set_field to field value)) h =
+line_in-line_texts lists (simple (set_field to field value)) h =
     let x = number_back to h.0 in let y = number_back field h.1 in let z = number_back value h.2 in λ i. simple (set_field (x i) (y i) (z i))
-line_in-line_words lists (simple (emit_record from)) h = let x = number_back from h in λ i. simple (emit_record (x i))
-line_in-line_words lists (test on) h = let x = number_back on h in λ i. test (x i)
-line_in-line_words lists (turns count) h =
+line_in-line_texts lists (simple (emit_record from)) h = let x = number_back from h in λ i. simple (emit_record (x i))
+line_in-line_texts lists (test on) h = let x = number_back on h in λ i. test (x i)
+line_in-line_texts lists (turns count) h =
     let small : count < 2 ^ 64 = omega (arith, h.1) in
-    ap (λ (form : Form). line_with form (line_words (turns count))) (form_in-turns count small) ∙ ap turns (number_in-decimal count small)
-line_in-line_words lists (over name list) h =
+    ap (λ (form : Form). line_with form (line_texts (turns count))) (form_in-turns count small) ∙ ap turns (number_in-decimal count small)
+line_in-line_texts lists (over name list) h =
     let x = number_in-decimal name (omega (arith, h.1.1)) in let y = list_in-list_word list in λ i. over (x i) (y i)
-line_in-line_words lists otherwise h = refl
-line_in-line_words lists close h = refl
-
--- what was read of a line's words says that line
-pub Says-line_words : (found : Option BodyLine) (form : Form) (words : List (List ℕ)) (lists : ℕ) (l : Line) → form ≡ form_in words → IsSpelledLine lists l → words ≡ line_words l
-    → (HasOperands form words → Says found (line_with form words)) → Says found l
-Says-line_words found form words lists l f h e read =
-    let told : form ≡ form_in (line_words l) = f ∙ ap form_in e in
-    let has : HasOperands form words = subst₂ HasOperands (sym told) (sym e) (HasOperands-line_words lists l h) in
-    let same : line_with form words ≡ l = ap₂ line_with told e ∙ line_in-line_words lists l h in
-    subst (Says found) same (read has)
+line_in-line_texts lists otherwise h = refl
+line_in-line_texts lists close h = refl

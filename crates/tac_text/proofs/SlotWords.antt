@@ -2,7 +2,7 @@
 use Rattle.std.proofs.Common.{◌≡◌, ◌≤◌, ◌<◌, ◌^◌, ◌==◌, ◌&&◌, inl, inr, ℕ, zero, suc, nat_le, nat_lt, ◌-◌, ℤ, pos, negsuc, Bool, true, false, if◌then◌else◌, List, [], ◌∷◌, Option, Some, None, FitsSigned, w64, codes, bytes_eq, decimal, refl, ap, sym, ◌∙◌, arith}
 use Rattle.std.specs.Fmt.{signed_decimal}
 use Rattle.std.specs.Str.Parse.{digits_value}
-use Rattle.std.proofs.lemmas.Bool.{and_from, and_parts, eq-eqb, eqb-true, le-leb, lt-ltb, ltb-true, or_cases}
+use Rattle.std.proofs.lemmas.Bool.{and_from, and_parts, eq-eqb, eqb-true, le-leb, ltb-true, or_cases}
 use Rattle.std.proofs.lemmas.Fmt.{decimal_is_IsNumeral}
 use Rattle.std.proofs.lemmas.Slice.Eq.{bytes_eq-Decides}
 use Rattle.tac_syntax.specs.declared.statements.Rec.{Rec}
@@ -12,8 +12,8 @@ use Rattle.tac_syntax.specs.declared.statements.LoopList.TheVariants.{Group, Lef
 use Rattle.tac_syntax.specs.Grammar.{IsNumber, IsLoopName, IsTurnCount, IsSpelledRecord}
 use Rattle.tac_text.specs.Spelling.{record_word, list_word}
 use Rattle.tac_text.specs.StatementFaults.{numbered_fault, register_fault, is_fixed_record, operand_fault, name_fault, is_list_word}
-use Rattle.text_lines.specs.Digits.{are_digits, is_in_form, is_in_range, is_number_word, is_signed_word, told_unless, or_else}
-use Rattle.text_lines.proofs.DigitWords.{are_digits-decimal, is_in_range-decimal, is_number_word-decimal, minus_no_digit, number_spelled}
+use Rattle.text_lines.specs.Digits.{is_in_form, is_in_range, is_number_word, is_signed_word, told_unless, or_else}
+use Rattle.text_lines.proofs.DigitWords.{are_digits-decimal, is_in_range-decimal, number_spelled}
 use Rattle.tac_text.proofs.OperandWords.{bytes_eq-decimal}
 
 -- ---- cases
@@ -56,17 +56,6 @@ operand_fault-record_word Left h = refl
 operand_fault-record_word Right h = refl
 operand_fault-record_word Join h = refl
 operand_fault-record_word First h = refl
-
-is_signed_word-digits : (w : List ℕ) → are_digits w ≡ true → is_number_word w ≡ true → nat_lt (digits_value 10 w) (2 ^ 63) ≡ true → is_signed_word w ≡ true
-is_signed_word-digits [] d h l = absurd cc
-is_signed_word-digits (b ∷ bytes) d h l = rw (minus_no_digit b bytes d) (and_from (is_number_word (b ∷ bytes)) _ h l)
-
-pub is_signed_word-signed_decimal : (z : ℤ) → FitsSigned w64 z → is_signed_word (signed_decimal z) ≡ true
-is_signed_word-signed_decimal (pos n) h =
-    let small : n < 2 ^ 64 = omega (arith, h) in
-    is_signed_word-digits (decimal n) (are_digits-decimal n small) (is_number_word-decimal n small)
-    (rw ((decimal_is_IsNumeral n small).1) (lt-ltb n (2 ^ 63) (omega (arith, h))))
-is_signed_word-signed_decimal (negsuc n) h = is_in_range-decimal 1 (2 ^ 63) (suc n) (omega arith) (omega (arith, h)) (omega (arith, h))
 
 pub is_list_word-list_word : (l : LoopList) → is_list_word (list_word l) ≡ true
 is_list_word-list_word Group = refl

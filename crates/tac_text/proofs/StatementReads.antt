@@ -1,25 +1,24 @@
 -- What is read of a line's words says that line.
 use Rattle.std.proofs.Common.{◌≡◌, ◌^◌, ◌<◌, ℕ, List, Option, refl, ap, sym, subst, ◌∙◌, arith}
 use Rattle.tac_syntax.specs.Code.{load_int, load_text, load_null, move_value, get_field, get_key, apply_one, apply_two, new_record, copy_record, set_field, emit_record, Line, simple, test, turns, over, otherwise, close}
-use Rattle.tac_text.specs.declared.forms.Form.{Form}
-use Rattle.tac_text.specs.declared.forms.Form.TheVariants.{Text}
+use Rattle.tac_text.specs.declared.statement_forms.Form.{Form}
+use Rattle.tac_text.specs.declared.statement_forms.Form.TheVariants.{Text}
 use Rattle.tac_text.specs.declared.lines.BodyLine.{BodyLine}
 use Rattle.tac_syntax.specs.Grammar.{IsSpelledLine}
 use Rattle.text_lines.specs.declared.line_words.LineWord.{LineWord}
 use Rattle.tac_text.specs.Lines.{HasOperands, form_in, line_in, line_with}
 use Rattle.tac_text.specs.Said.{Says}
-use Rattle.tac_text.specs.Spelling.{line_words}
 use Rattle.tac_text.specs.StatementForms.{HasPlainOperands, HasTextOperands, IsPlainLine, plain_texts, text_line}
 use Rattle.tac_text.specs.StatementLines.{LinePlace, MayStand, words_of_line}
-use Rattle.tac_text.proofs.LineForms.{HasOperands-line_words, line_in-line_words}
+use Rattle.tac_text.proofs.LineForms.{HasOperands-line_texts, line_in-line_texts, line_texts}
 use Rattle.tac_text.proofs.OperandWords.{number_in-decimal}
 
 -- the words of a line without a literal
-Says-plain : (found : Option BodyLine) (lists : ℕ) (l : Line) → IsSpelledLine lists l → IsPlainLine l → plain_texts (words_of_line l) ≡ line_words l
+Says-plain : (found : Option BodyLine) (lists : ℕ) (l : Line) → IsSpelledLine lists l → IsPlainLine l → plain_texts (words_of_line l) ≡ line_texts l
     → (HasPlainOperands (form_in (plain_texts (words_of_line l))) (words_of_line l) → Says found (line_in (plain_texts (words_of_line l)))) → Says found l
 Says-plain found lists l h plain e read =
-    let has = subst (λ (texts : List (List ℕ)). HasOperands (form_in texts) texts) (sym e) (HasOperands-line_words lists l h) in
-    let same : line_in (plain_texts (words_of_line l)) ≡ l = ap line_in e ∙ line_in-line_words lists l h in
+    let has = subst (λ (texts : List (List ℕ)). HasOperands (form_in texts) texts) (sym e) (HasOperands-line_texts lists l h) in
+    let same : line_in (plain_texts (words_of_line l)) ≡ l = ap line_in e ∙ line_in-line_texts lists l h in
     subst (Says found) same (read (has, subst IsPlainLine (sym same) plain))
 
 abbrev ReadsText : Option BodyLine → List LineWord → Type 0

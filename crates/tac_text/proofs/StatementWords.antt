@@ -14,10 +14,10 @@ use Rattle.tac_text.specs.Lines.{line_in}
 use Rattle.tac_text.specs.Spelling.{op1_word, op2_word, line_words, value_register, record_register}
 use Rattle.tac_text.specs.StatementLines.{LinePlace, MayStand, words_of_line}
 use Rattle.tac_text.specs.StatementFaults.{register, is_target, to_value, wanted_by, name_fault, register_fault, statement_fault}
-use Rattle.text_lines.proofs.DigitWords.{are_digits-decimal}
-use Rattle.tac_text.proofs.LineForms.{line_in-line_words}
+use Rattle.text_lines.proofs.DigitWords.{are_digits-decimal, is_signed_word-signed_decimal}
+use Rattle.tac_text.proofs.LineForms.{line_in-line_texts, word_bytes}
 use Rattle.tac_text.proofs.OperandWords.{bytes_eq-decimal}
-use Rattle.tac_text.proofs.SlotWords.{register_fault-letter, number_fits, turns_fit, operand_fault-record_word, is_signed_word-signed_decimal, is_list_word-list_word, name_fault-loop_name}
+use Rattle.tac_text.proofs.SlotWords.{register_fault-letter, number_fits, turns_fit, operand_fault-record_word, is_list_word-list_word, name_fault-loop_name}
 
 -- ---- what may stand has no fault
 
@@ -110,10 +110,10 @@ IsSpelledLine-MayStand p close h = tt
 
 -- the line that words are for
 abbrev pub line_of : List LineWord → Line
-line_of words = line_in (map word_text words)
+line_of words = line_in (map word_bytes words)
 
 pub line_of-words_of_line : (p : LinePlace) (l : Line) → MayStand p l → line_of (words_of_line l) ≡ l
-line_of-words_of_line p l h = ap line_in (map-word_text l) ∙ line_in-line_words p.lists l (IsSpelledLine-MayStand p l h)
+line_of-words_of_line p l h = line_in-line_texts p.lists l (IsSpelledLine-MayStand p l h)
 
 pub words_of_one_line : (p q : LinePlace) (l m : Line) → MayStand p l → MayStand q m → words_of_line l ≡ words_of_line m → l ≡ m
 words_of_one_line p q l m h k e = sym (line_of-words_of_line p l h) ∙ ap line_of e ∙ line_of-words_of_line q m k
@@ -121,6 +121,6 @@ words_of_one_line p q l m h k e = sym (line_of-words_of_line p l h) ∙ ap line_
 -- each line has words
 pub words_of_line-some : (lists : ℕ) (l : Line) → IsSpelledLine lists l → words_of_line l ≢ []
 words_of_line-some lists l h e =
-    let same : l ≡ line_of [] = sym (line_in-line_words lists l h) ∙ ap line_in (sym (map-word_text l)) ∙ ap line_of e in
+    let same : l ≡ line_of [] = sym (line_in-line_texts lists l h) ∙ ap line_of e in
     let none : words_of_line (line_of []) ≡ [] = subst (λ (m : Line). words_of_line m ≡ []) same e in
     cc

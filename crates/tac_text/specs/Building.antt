@@ -44,15 +44,6 @@ built b (over name list) = opened b (Each name list b.body)
 built b otherwise = parted b.blocks b.body
 built b close = closed b.blocks b.body
 
-abbrev pub and_built : Option Build → Line → Option Build
-and_built None l = None
-and_built (Some b) l = built b l
-
--- what lines make, one after the other
-abbrev pub built_all : Option Build → List Line → Option Build
-built_all b [] = b
-built_all b (l ∷ ls) = built_all (and_built b l) ls
-
 -- where every block was ended, the body is whole
 abbrev pub whole_body : List Block → Code → Option Code
 whole_body [] body = Some body

@@ -1,6 +1,4 @@
 pub mod Spelling
-pub mod Splits
-pub mod Literals
 pub mod Lines
 pub mod Said
 pub mod Building

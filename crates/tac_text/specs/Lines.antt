@@ -1,4 +1,4 @@
--- The line that words are for.
+-- The line that words are for, each given by its bytes: a literal's are those that it stands for.
 use Rattle.std.specs.Prelude.{◌≡◌, ◌<◌, ◌^◌, ◌==◌, ℕ, ℤ, pos, neg_ℤ, if◌then◌else◌, Option, Some, None, unwrap_or, List, [], ◌∷◌, length, drop, get_or, nat_lt, codes, bytes_eq, decimal, FitsSigned}
 use Rattle.std.specs.Fmt.{signed_decimal}
 use Rattle.std.specs.Str.Parse.{digits_value}
@@ -12,11 +12,9 @@ use Rattle.tac_syntax.specs.declared.statements.Rec.TheVariants.{Reg, Loop, Inpu
 use Rattle.tac_syntax.specs.declared.statements.LoopList.{LoopList}
 use Rattle.tac_syntax.specs.declared.statements.LoopList.TheVariants.{Group, Left as LeftGroup, Right as RightGroup}
 use Rattle.tac_syntax.specs.Code.{load_int, load_text, load_null, move_value, get_field, get_key, apply_one, apply_two, new_record, copy_record, set_field, emit_record, Line, simple, test, turns, over, otherwise, close}
-use Rattle.tac_text.specs.declared.forms.Form.{Form}
-use Rattle.tac_text.specs.declared.forms.Form.TheVariants.{Int, Text, Null, Mov, Get, Key, One, Two, New, Copy, Set, Emit, If, Repeat, Each, Else, End}
+use Rattle.tac_text.specs.declared.statement_forms.Form.{Form}
+use Rattle.tac_text.specs.declared.statement_forms.Form.TheVariants.{Int, Text, Null, Mov, Get, Key, One, Two, New, Copy, Set, Emit, If, Repeat, Each, Else, End}
 use Rattle.tac_syntax.specs.Grammar.{IsLiteral}
-use Rattle.tac_text.specs.Literals.{unescaped}
-use Rattle.text_lines.specs.CanonicalLines.{literal}
 
 -- a word by its place, empty where there is none
 abbrev pub word_in : List (List ℕ) → ℕ → List ℕ
@@ -105,7 +103,7 @@ op2_in word =
 
 abbrev pub line_with : Form → List (List ℕ) → Line
 line_with Int words = simple (load_int (register_in (word_in words 0)) (signed_in (word_in words 3)))
-line_with Text words = simple (load_text (register_in (word_in words 0)) (unescaped (word_in words 3)))
+line_with Text words = simple (load_text (register_in (word_in words 0)) (word_in words 3))
 line_with Null words = simple (load_null (register_in (word_in words 0)))
 line_with Mov words = simple (move_value (register_in (word_in words 0)) (register_in (word_in words 3)))
 line_with Get words = simple (get_field (register_in (word_in words 0)) (record_in (word_in words 3)) (number_in (word_in words 4)))
@@ -144,17 +142,12 @@ pub record IsRegisterWord (word : List ℕ) : Type 0 where
   pub small : number < 2 ^ 32
   pub spelled : word ≡ letter ∷ decimal number
 
-pub record IsTextWord (word : List ℕ) : Type 0 where
-  pub bytes : List ℕ
-  pub fits : IsLiteral bytes
-  pub spelled : word ≡ literal bytes
-
 abbrev pub IsRecordWord : List ℕ → Type 0
 IsRecordWord word = fixed_record word ≡ None → IsRegisterWord word
 
 abbrev pub HasOperands : Form → List (List ℕ) → Type 0
 HasOperands Int words = IsRegisterWord (word_in words 0) × IsSignedWord (word_in words 3)
-HasOperands Text words = IsRegisterWord (word_in words 0) × IsTextWord (word_in words 3)
+HasOperands Text words = IsRegisterWord (word_in words 0) × IsLiteral (word_in words 3)
 HasOperands Null words = IsRegisterWord (word_in words 0)
 HasOperands Mov words = IsRegisterWord (word_in words 0) × IsRegisterWord (word_in words 3)
 HasOperands Get words = IsRegisterWord (word_in words 0) × IsRecordWord (word_in words 3) × IsNumberWord (word_in words 4)

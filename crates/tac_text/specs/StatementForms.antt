@@ -1,7 +1,7 @@
 -- The line that words of a statement are for, by their form.
 use Rattle.std.specs.Prelude.{ℕ, List, [], map}
 use Rattle.tac_syntax.specs.Code.{Simple, load_int, load_text, load_null, move_value, get_field, get_key, apply_one, apply_two, new_record, copy_record, set_field, emit_record, Line, simple, test, turns, over, otherwise, close}
-use Rattle.tac_text.specs.declared.forms.Form.{Form}
+use Rattle.tac_text.specs.declared.statement_forms.Form.{Form}
 use Rattle.tac_syntax.specs.Grammar.{IsLiteral}
 use Rattle.tac_text.specs.Lines.{HasOperands, IsRegisterWord, line_with, register_in, word_in}
 use Rattle.text_lines.specs.declared.line_words.LineWord.{LineWord}

@@ -4,8 +4,29 @@ ghost use Rattle.std.specs.Prelude.{◌≡◌};
 ghost use Rattle.tac_text.specs.Lines.{assigned_form, form_in, other_form, word_in};
 ghost use Rattle.tac_text.specs.StatementForms.{literal_texts, plain_texts};
 
-use crate::forms::Form;
 use text_lines::{LineWord, is_word};
+
+/// What a line says besides its operands.
+#[derive(Clone, Copy, Debug, PartialEq, Eq)]
+pub enum Form {
+    Int,
+    Text,
+    Null,
+    Mov,
+    Get,
+    Key,
+    One,
+    Two,
+    New,
+    Copy,
+    Set,
+    Emit,
+    If,
+    Repeat,
+    Each,
+    Else,
+    End,
+}
 
 /// A plain word by its place, empty where there is none.
 pub fn plain_at(words: &[LineWord], n: usize) -> &[u8]

@@ -3,7 +3,7 @@
 ghost use Rattle.std.specs.Prelude.{◌≡◌, ◌<◌, ℕ, None, Some, IfErr, IfOk, length};
 ghost use Rattle.tac_syntax.specs.Code.{Line};
 ghost use Rattle.text_lines.specs.CanonicalLines.{AreLineWords};
-ghost use Rattle.tac_text.specs.declared.forms.Form.TheVariants.{Int, Text, Null, Mov, Get, Key, One, Two, New, Copy, Set, Emit, If, Repeat, Each};
+ghost use Rattle.tac_text.specs.declared.statement_forms.Form.TheVariants.{Int, Text, Null, Mov, Get, Key, One, Two, New, Copy, Set, Emit, If, Repeat, Each};
 ghost use Rattle.tac_text.specs.Lines.{line_with};
 ghost use Rattle.tac_text.specs.Said.{said, Says};
 ghost use Rattle.tac_text.specs.StatementFaults.{statement_fault};
@@ -11,10 +11,9 @@ ghost use Rattle.tac_text.specs.StatementForms.{HasPlainOperands, HasTextOperand
 ghost use Rattle.tac_text.specs.StatementAnswers.{GivesLine, IsFaultOf, TellsLineFault, TellsNoFault};
 ghost use Rattle.tac_text.specs.StatementLines.{LinePlace, MayStand, words_of_line};
 
-use crate::forms::Form;
 use crate::lines::BodyLine;
 use crate::statement_faults::{Place, statement_fault};
-use crate::statement_forms::form_of;
+use crate::statement_forms::{Form, form_of};
 use crate::statement_operands::{
     list_at, number_at, op1_at, op2_at, record_at, register_at, signed_at, text_at,
 };

@@ -219,13 +219,28 @@ fn constants(rt: HostRuntime) -> Result<(), Fail> {
     assert!(rt;
         matches!(&least, BodyLine::Plain(Stmt::Int { to: 255, value }) if *value == i64::MIN)
     );
+    let most = read(rt.alloc(), b"v31 = int 9223372036854775807")?;
+    assert!(rt;
+        matches!(&most, BodyLine::Plain(Stmt::Int { to: 31, value }) if *value == i64::MAX)
+    );
     let zero = read(rt.alloc(), b"v0 = int 0")?;
     assert!(rt; matches!(&zero, BodyLine::Plain(Stmt::Int { to: 0, value: 0 })));
     let null = read(rt.alloc(), b"v1 = null")?;
     assert!(rt; matches!(&null, BodyLine::Plain(Stmt::Null { to: 1 })));
-    let text = read(rt.alloc(), b"v2 = text \"a \\\"b\"")?;
+    Ok(())
+}
+
+#[test]
+fn texts(rt: HostRuntime) -> Result<(), Fail> {
+    let line = "  v2 = text \" a # b  \\\\ \\\" \\n \\r \\t \u{e9}\u{20ac}\u{1f600}\\\\\"";
+    let text = read(rt.alloc(), line.as_bytes())?;
+    let wanted = " a # b  \\ \" \n \r \t \u{e9}\u{20ac}\u{1f600}\\";
     assert!(rt;
-        matches!(&text, BodyLine::Plain(Stmt::Text { to: 2, value }) if value.bytes() == b"a \"b".as_slice())
+        matches!(&text, BodyLine::Plain(Stmt::Text { to: 2, value }) if value.bytes() == wanted.as_bytes())
+    );
+    let empty = read(rt.alloc(), b"v0 = text \"\"")?;
+    assert!(rt;
+        matches!(&empty, BodyLine::Plain(Stmt::Text { to: 0, value }) if value.bytes().is_empty())
     );
     Ok(())
 }
@@ -281,6 +296,32 @@ fn values_that_are_got(rt: HostRuntime) -> Result<(), Fail> {
             })
         )
     );
+    Ok(())
+}
+
+// Whether a `get` whose record is this word reads this record.
+fn reads(alloc: Global, line: &[u8], wanted: Rec) -> Result<bool, NotLine> {
+    match read(alloc, line)? {
+        BodyLine::Plain(
+            Stmt::Get {
+                to: 3,
+                from,
+                field: 63,
+            },
+        ) => Ok(from == wanted),
+        _ => Ok(false),
+    }
+}
+
+#[test]
+fn records_that_are_read(rt: HostRuntime) -> Result<(), Fail> {
+    assert!(rt; reads(rt.alloc(), b"v3 = get in 63", Rec::Input)?);
+    assert!(rt; reads(rt.alloc(), b"v3 = get left 63", Rec::Left)?);
+    assert!(rt; reads(rt.alloc(), b"v3 = get right 63", Rec::Right)?);
+    assert!(rt; reads(rt.alloc(), b"v3 = get join 63", Rec::Join)?);
+    assert!(rt; reads(rt.alloc(), b"v3 = get first 63", Rec::First)?);
+    assert!(rt; reads(rt.alloc(), b"v3 = get r7 63", Rec::Reg(7))?);
+    assert!(rt; reads(rt.alloc(), b"v3 = get x64 63", Rec::Loop(64))?);
     Ok(())
 }
 

@@ -3,7 +3,6 @@
 ghost use Rattle.std.specs.Prelude.{◌≡◌, ◌≤◌, ◌+◌, ◌*◌, ◌++◌, ◌∷◌, [], OnOk, IfOk, replicate, flat_map, codes};
 ghost use Rattle.std.specs.Fmt.{decimal};
 ghost use Rattle.tac_syntax.specs.Code.{load_int, load_text, load_null, move_value, get_field, get_key, apply_one, apply_two, new_record, copy_record, set_field, emit_record, test, turns, over, nesting};
-ghost use Rattle.tac_syntax.specs.Limits.{nesting_limit};
 ghost use Rattle.tac_syntax.specs.Trees.{first_line, only};
 ghost use Rattle.tac_text.specs.Spelling.{body_text, deepest, line_words, list_word, op1_word, op2_word, record_word, simple_words};
 ghost use Rattle.text_lines.specs.CanonicalLines.{escaped, line_text, literal};
@@ -336,26 +335,4 @@ pub fn write_lines(
         write_stmt(alloc, out, depth, stmt)?;
     }
     Ok(())
-}
-
-/// The text of a line: two spaces for each open block, its words with one space between, a line
-/// feed.
-pub fn write_line(alloc: Global, depth: u32, words: &Words) -> Result<Bytes, OutOfMemory>
-    ensures { IfOk result (λ text. text ≡ line_text (record { depth = depth; words = words.now })) }
-{
-    let mut out = Bytes::new(alloc);
-    put_line(&mut out, depth, words)?;
-    Ok(out)
-}
-
-/// The text of a body that stands inside so many blocks, at most 64.
-pub fn write_body(alloc: Global, depth: u32, body: &Body) -> Result<Bytes, OutOfMemory>
-    requires { depth ≤ nesting_limit }
-    ensures { IfOk result (λ text. text ≡ flat_map line_text (body_text depth body.now)) }
-{
-    // it is at most 64, so depths can be counted
-    let _nesting = body.depth();
-    let mut out = Bytes::new(alloc);
-    write_lines(alloc, &mut out, depth, body)?;
-    Ok(out)
 }

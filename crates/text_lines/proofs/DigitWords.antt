@@ -1,13 +1,14 @@
 -- Words of digits, and the numbers that they spell.
-use Rattle.std.proofs.Common.{◌≡◌, ◌≤◌, ◌<◌, ◌^◌, ◌==◌, ◌&&◌, ◌||◌, ℕ, zero, suc, Bool, true, false, not, nat_le, List, ◌∷◌, length, get_or, IsUtf8, decimal, refl, sym, arith}
+use Rattle.std.proofs.Common.{◌≡◌, ◌≤◌, ◌<◌, ◌^◌, ◌==◌, ◌&&◌, ◌||◌, ℕ, zero, suc, ℤ, pos, negsuc, Bool, true, false, not, nat_le, nat_lt, List, [], ◌∷◌, length, get_or, IsUtf8, FitsSigned, decimal, refl, sym, arith, w64}
+use Rattle.std.specs.Fmt.{signed_decimal}
 use Rattle.std.specs.List.{list_any}
 use Rattle.std.specs.Str.Parse.{AllDigits, digits_value}
-use Rattle.std.proofs.lemmas.Bool.{and_parts, le-leb, leb-true, not-true, or_left}
+use Rattle.std.proofs.lemmas.Bool.{and_from, and_parts, le-leb, lt-ltb, leb-true, not-true, or_left}
 use Rattle.std.proofs.lemmas.Bool.Decides.{nat_tests}
 use Rattle.std.proofs.lemmas.Fmt.{IsAscii-from_digits, decimal-digits_value, decimal_is_IsNumeral, first_decimal, length-decimal-le}
 use Rattle.std.proofs.lemmas.Str.{IsUtf8-from_ascii}
 use Rattle.std.proofs.lemmas.Str.Parse.{IsDigitsTest, IsNumeralModel, numerals_by_value}
-use Rattle.text_lines.specs.Digits.{is_digit, are_digits, is_number_word, is_in_range}
+use Rattle.text_lines.specs.Digits.{is_digit, are_digits, is_number_word, is_in_range, is_signed_word}
 
 -- no byte is another than a digit
 abbrev pub HasNoOther : List ℕ → Type 0
@@ -72,6 +73,21 @@ pub is_in_range-decimal : (low high n : ℕ) → low ≤ n → n ≤ high → n 
 is_in_range-decimal low high n above below small =
     let v = (decimal_is_IsNumeral n small).1 in
     rw (are_digits-decimal n small, first_or_short n small, v, le-leb low n above, le-leb n high below) refl
+
+-- ---- numbers with a sign
+
+is_signed_word-digits : (w : List ℕ) → are_digits w ≡ true → is_number_word w ≡ true → nat_lt (digits_value 10 w) (2 ^ 63) ≡ true → is_signed_word w ≡ true
+is_signed_word-digits [] d h l = absurd cc
+is_signed_word-digits (b ∷ bytes) d h l = rw (minus_no_digit b bytes d) (and_from (is_number_word (b ∷ bytes)) _ h l)
+
+pub is_signed_word-signed_decimal : (z : ℤ) → FitsSigned w64 z → is_signed_word (signed_decimal z) ≡ true
+is_signed_word-signed_decimal (pos n) h =
+    let small : n < 2 ^ 64 = omega (arith, h) in
+    is_signed_word-digits (decimal n) (are_digits-decimal n small) (is_number_word-decimal n small)
+    (rw ((decimal_is_IsNumeral n small).1) (lt-ltb n (2 ^ 63) (omega (arith, h))))
+is_signed_word-signed_decimal (negsuc n) h = is_in_range-decimal 1 (2 ^ 63) (suc n) (omega arith) (omega (arith, h)) (omega (arith, h))
+
+-- ---- what a test of a word tells
 
 -- a number in range is spelled so
 pub record NumberSpelled (low high : ℕ) (word : List ℕ) : Type 0 where

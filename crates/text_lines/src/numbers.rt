@@ -1,13 +1,20 @@
 //! Numbers in words.
 
-ghost use Rattle.std.specs.Prelude.{◌≡◌, ◌<◌, ◌^◌, ◌++◌, ℕ, ℤ, List, length, decimal, FitsSigned, Some};
+ghost use Rattle.std.specs.Prelude.{◌≡◌, ◌<◌, ◌^◌, ◌++◌, ℕ, ℤ, List, drop, false, length, decimal, FitsSigned, None, Some};
 ghost use Rattle.std.specs.Fmt.{signed_decimal};
+ghost use Rattle.text_lines.specs.Digits.{is_in_range, is_signed_word};
 ghost use mir.Syntax.{w64};
+
+use crate::digits::{is_in_range, is_signed_word};
 
 /// The number that a word spells in digits.
 pub fn read_number(word: &[u8]) -> Option<u32>
-    ensures { (n : ℕ) → n < 2 ^ 32 → word.now ≡ decimal n → result ≡ Some n }
+    ensures number { (n : ℕ) → n < 2 ^ 32 → word.now ≡ decimal n → result ≡ Some n }
+    ensures other { is_in_range 0 4294967295 word.now ≡ false → result ≡ None }
 {
+    if !is_in_range(0, (1 << 32) - 1, word) {
+        return None;
+    }
     match str::from_utf8(word) {
         Ok(text) => text.parse::<u32>().ok(),
         Err(_) => None,
@@ -16,8 +23,9 @@ pub fn read_number(word: &[u8]) -> Option<u32>
 
 /// The number behind the first bytes of a word, so many as `skipped`.
 pub fn read_number_behind(skipped: usize, word: &[u8]) -> Option<u32>
-    ensures { (front : List ℕ) (n : ℕ) → length front ≡ skipped → n < 2 ^ 32 → word.now ≡ front ++ decimal n
+    ensures number { (front : List ℕ) (n : ℕ) → length front ≡ skipped → n < 2 ^ 32 → word.now ≡ front ++ decimal n
         → result ≡ Some n }
+    ensures other { is_in_range 0 4294967295 (drop skipped word.now) ≡ false → result ≡ None }
 {
     if word.len() < skipped {
         return None;
@@ -27,8 +35,12 @@ pub fn read_number_behind(skipped: usize, word: &[u8]) -> Option<u32>
 
 /// The number that a word spells in digits, with a minus sign before those of a number below 0.
 pub fn read_signed(word: &[u8]) -> Option<i64>
-    ensures { (z : ℤ) → FitsSigned w64 z → word.now ≡ signed_decimal z → result ≡ Some z }
+    ensures number { (z : ℤ) → FitsSigned w64 z → word.now ≡ signed_decimal z → result ≡ Some z }
+    ensures other { is_signed_word word.now ≡ false → result ≡ None }
 {
+    if !is_signed_word(word) {
+        return None;
+    }
     match str::from_utf8(word) {
         Ok(text) => text.parse::<i64>().ok(),
         Err(_) => None,

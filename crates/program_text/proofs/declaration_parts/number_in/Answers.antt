@@ -14,7 +14,7 @@ number_found word found value h read is =
     is ∙ ap (λ (o : Option ℕ). unwrap_or o 0) some ∙ sym (ap number_in s.spelled ∙ number_in-decimal s.number s.fits)
 
 value_is : (c : goal.After-unwrap_or) → c.unwrap_or.result ≡ number_in c.args.word.now
-value_is c = number_found c.args.word.now c.read_number.result c.unwrap_or.result (sym c.is_number.ensures ∙ c.if-not-is_number.false) c.read_number.ensures c.unwrap_or.ensures
+value_is c = number_found c.args.word.now c.read_number.result c.unwrap_or.result (sym c.is_number.ensures ∙ c.if-not-is_number.false) c.read_number.ensures.number c.unwrap_or.ensures
 
 pub returns-clause-is : goal.returns-clause-is
 returns-clause-is c = value_is c
