@@ -9,7 +9,8 @@ use Rattle.pact_operators.specs.declared.declarations.OpKind.{OpKind}
 use Rattle.pact_operators.specs.declared.declarations.OpKind.TheVariants.{Source, Map, Reduce, Match, Cross, CoGroup}
 use Rattle.pact_operators.specs.declared.operators.Op.{Op}
 use Rattle.pact_operators.specs.Plans.{PlanTree, leaf, over, both}
-use Rattle.pact_operators.specs.Programs.{HasAttribute, IsColumnField, Owns, OwnsBy, body_of, fields_of, source_fields}
+use Rattle.pact_bag.specs.SourceRows.{IsColumnField}
+use Rattle.pact_operators.specs.Programs.{HasAttribute, Owns, OwnsBy, body_of, fields_of, source_fields}
 use Rattle.pact_operators.proofs.Shown.{AllByRecursion-left, AllByRecursion-right}
 
 -- the functions are valid, with this number of fields

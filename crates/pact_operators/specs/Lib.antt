@@ -9,6 +9,9 @@ pub mod Plans
 pub mod Resolved
 pub mod Programs
 pub mod ProgramCode
+pub mod PlanOps
+pub mod Allowed
+pub mod Inputs
 pub mod ProgramRules
 pub mod RuleTests
 pub mod NodeRows

@@ -7,6 +7,7 @@ use Rattle.tac_syntax.specs.Bounded.{Names}
 use Rattle.tac_syntax.specs.Code.{Code, stop}
 use Rattle.tac_syntax.specs.Valid.{WithFields, IsValid}
 use Rattle.pact_bag.specs.declared.columns.Column.{Column}
+use Rattle.pact_bag.specs.SourceRows.{IsColumnField}
 use Rattle.pact_operators.specs.declared.declarations.OpKind.{OpKind}
 use Rattle.pact_operators.specs.declared.declarations.OpKind.TheVariants.{Source, Map, Reduce, Match, Cross, CoGroup}
 use Rattle.pact_operators.specs.declared.operators.Op.{Op}
@@ -60,10 +61,6 @@ abbrev pub body_of : List WithFields → ℕ → Code
 body_of [] n = stop
 body_of (v ∷ valids) zero = v.function.body
 body_of (v ∷ valids) (suc n) = body_of valids n
-
-abbrev pub IsColumnField : ℕ → List Column → Type 0
-IsColumnField k [] = ⊥
-IsColumnField k (c ∷ columns) = (k ≡ c.field) ⊎ IsColumnField k columns
 
 -- a source's own are its columns, an operator's those that its function names in a `set`
 abbrev pub OwnsBy : OpKind → List WithFields → Op → ℕ → Type 0

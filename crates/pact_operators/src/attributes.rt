@@ -2,11 +2,12 @@
 
 ghost use Rattle.std.specs.Prelude.{◌≡◌, ◌<◌, ◌↔◌, ℕ, true, IsTrue};
 ghost use Rattle.std.specs.List.{AllByRecursion};
+ghost use Rattle.pact_bag.specs.SourceRows.{IsColumnField};
 ghost use Rattle.pact_record.specs.declared.records.TheConstants.{MAX_FIELDS};
 ghost use Rattle.pact_record.specs.FieldSets.{has_field};
 ghost use Rattle.pact_operators.specs.Plans.{has, subtree_of};
 ghost use Rattle.tac_syntax.specs.Bounded.{Names};
-ghost use Rattle.pact_operators.specs.Programs.{HasAttribute, IsColumnField, IsPlanOf, Owns, OwnsBy, body_of, fields_of, source_fields};
+ghost use Rattle.pact_operators.specs.Programs.{HasAttribute, Owns, OwnsBy, body_of, fields_of, source_fields};
 
 use crate::declarations::OpKind;
 use crate::operators::Op;
@@ -77,8 +78,7 @@ pub(crate) fn attributes_of(functions: &[Valid], ops: &[Op], plan: &Plan) -> Fie
 /// The attributes of what the operator or source puts out: the columns of the sources and the named
 /// fields of the functions in the plan below it.
 pub fn attrs(program: &Program, plan: &Plan, at: u32) -> Fields
-    requires of { IsPlanOf program.now.functions program.now.ops plan.now }
-    requires there { has at plan.now ≡ true }
+    requires { has at plan.now ≡ true }
     ensures { (k : ℕ) → IsTrue (has_field result k) ↔ HasAttribute program.now.functions program.now.ops (subtree_of at plan.now) k }
 {
     attributes_of(program.functions(), program.ops(), &plan.subtree(at))

@@ -1,12 +1,13 @@
 ghost use Rattle.std.specs.Prelude.{IsTrue};
 ghost use Rattle.tac_syntax.specs.Names.{is_name};
+ghost use Rattle.pact_operators.specs.Declarations.{IsKeyList};
 
 use crate::OpKind;
 use crate::test_drafts::TestDraft;
 use pact_record::OutOfMemory;
 use std::alloc::Global;
 use std::test::Fail;
-use tac_syntax::Kind;
+use tac_syntax::{Kind, is_name};
 
 // A draft with a function of each kind, which has a source.
 fn start(alloc: Global) -> Result<TestDraft, OutOfMemory> {
@@ -240,5 +241,141 @@ fn the_key_of_the_other_side_is_absent(rt: HostRuntime) -> Result<(), Fail> {
         .source(alloc, b"e", 1)?
         .op(alloc, OpKind::Match, b"j", b"match", b"d", b"e", &[1], &[0])?;
     assert!(rt; sides.sink(alloc, b"j", 0)?.is_told(alloc, 5, "j"));
+    Ok(())
+}
+
+// With a Match of what has these names.
+fn matched(
+    draft: TestDraft,
+    alloc: Global,
+    left: &[u8],
+    right: &[u8],
+) -> Result<TestDraft, OutOfMemory>
+    requires left { IsTrue (is_name left.now) }
+    requires right { IsTrue (is_name right.now) }
+{
+    let draft = draft.function(alloc, b"match", Kind::Match, 7)?;
+    draft.op(
+        alloc,
+        OpKind::Match,
+        b"j",
+        b"match",
+        left,
+        right,
+        &[0],
+        &[1],
+    )
+}
+
+// With a CoGroup of what has these names, whose function has one key, and its sink.
+fn grouped(
+    draft: TestDraft,
+    alloc: Global,
+    left: &[u8],
+    right: &[u8],
+    left_keys: &[u32],
+    right_keys: &[u32],
+) -> Result<TestDraft, OutOfMemory>
+    requires left { IsTrue (is_name left.now) }
+    requires right { IsTrue (is_name right.now) }
+    requires left_keys { IsKeyList left_keys.now }
+    requires right_keys { IsKeyList right_keys.now }
+{
+    draft
+        .function(alloc, b"cogroup", Kind::CoGroup, 7)?
+        .op(
+            alloc,
+            OpKind::CoGroup,
+            b"c",
+            b"cogroup",
+            left,
+            right,
+            left_keys,
+            right_keys,
+        )?
+        .sink(alloc, b"c", 0)
+}
+
+// Whether a CoGroup of two sources with the fields 0 and 1 is refused with this code.
+fn is_grouping_told(
+    alloc: Global,
+    left_keys: &[u32],
+    right_keys: &[u32],
+    code: u32,
+) -> Result<bool, OutOfMemory>
+    requires left_keys { IsKeyList left_keys.now }
+    requires right_keys { IsKeyList right_keys.now }
+{
+    let sources = start(alloc)?.source(alloc, b"e", 1)?;
+    let draft = grouped(sources, alloc, b"d", b"e", left_keys, right_keys)?;
+    Ok(draft.is_told(alloc, code, "c"))
+}
+
+#[test]
+fn a_cogroup_has_as_many_keys_as_its_function(rt: HostRuntime) -> Result<(), Fail> {
+    let alloc = rt.alloc();
+    assert!(rt; is_grouping_told(alloc, &[0, 0], &[1], 4)?);
+    assert!(rt; is_grouping_told(alloc, &[0], &[1, 1], 4)?);
+    // the lists are of one length, which isn't the function's
+    assert!(rt; is_grouping_told(alloc, &[0, 0], &[1, 1], 4)?);
+    Ok(())
+}
+
+#[test]
+fn a_key_of_a_cogroup_is_of_its_side(rt: HostRuntime) -> Result<(), Fail> {
+    let alloc = rt.alloc();
+    assert!(rt; is_grouping_told(alloc, &[1], &[1], 5)?);
+    assert!(rt; is_grouping_told(alloc, &[0], &[0], 5)?);
+    // what its own function sets is of neither side
+    assert!(rt; is_grouping_told(alloc, &[7], &[1], 5)?);
+    Ok(())
+}
+
+#[test]
+fn sides_of_a_match_or_cogroup_that_share(rt: HostRuntime) -> Result<(), Fail> {
+    let alloc = rt.alloc();
+    // both sides have field 4 beside their keys
+    let joined = matched(two_maps(alloc)?, alloc, b"m", b"n")?;
+    assert!(rt; joined.sink(alloc, b"j", 0)?.is_told(alloc, 6, "j"));
+    let both = grouped(two_maps(alloc)?, alloc, b"m", b"n", &[0], &[1])?;
+    assert!(rt; both.is_told(alloc, 6, "c"));
+    Ok(())
+}
+
+// With so many functions `a0` to `a7`, `b0` and so on.
+fn functions(draft: TestDraft, alloc: Global, count: u8) -> Result<TestDraft, OutOfMemory> {
+    let mut draft = draft;
+    for n in 0..count {
+        let name = [b'a' + n / 8 % 26, b'0' + n % 8];
+        if is_name(&name) {
+            draft = draft.function(alloc, &name, Kind::Map, 4)?;
+        }
+    }
+    Ok(draft)
+}
+
+#[test]
+fn functions_are_at_most_64(rt: HostRuntime) -> Result<(), Fail> {
+    let alloc = rt.alloc();
+    let most = functions(TestDraft::new(alloc).source(alloc, b"d", 0)?, alloc, 64)?;
+    assert!(rt; most.sink(alloc, b"d", 0)?.check(alloc).is_ok());
+    let more = functions(TestDraft::new(alloc).source(alloc, b"d", 0)?, alloc, 65)?;
+    assert!(rt; more.sink(alloc, b"d", 0)?.is_told(alloc, 8, "i0"));
+    Ok(())
+}
+
+#[test]
+fn rules_are_told_in_their_order(rt: HostRuntime) -> Result<(), Fail> {
+    let alloc = rt.alloc();
+    // P7 stands before P3: nothing reads the second source
+    let unread = start(alloc)?.op(alloc, OpKind::Map, b"m", b"reduce", b"d", b"", &[], &[])?;
+    let unread = unread.sink(alloc, b"m", 0)?.source(alloc, b"e", 1)?;
+    assert!(rt; unread.is_told(alloc, 7, "e"));
+    // P3 stands before P4: a function for Crosses has no keys
+    let keyed = start(alloc)?.op(alloc, OpKind::Reduce, b"r", b"cross", b"d", b"", &[0], &[])?;
+    assert!(rt; keyed.sink(alloc, b"r", 0)?.is_told(alloc, 3, "r"));
+    // P10 stands before P5
+    let absent = start(alloc)?.op(alloc, OpKind::Reduce, b"r", b"reduce", b"d", b"", &[7], &[])?;
+    assert!(rt; absent.sink(alloc, b"r", 8)?.is_told(alloc, 10, "r"));
     Ok(())
 }

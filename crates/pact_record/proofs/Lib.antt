@@ -1,3 +1,5 @@
 pub mod SameBefore
+pub mod JoinedRecords
+pub mod KeyOrder
 pub mod Lists
 pub mod Members

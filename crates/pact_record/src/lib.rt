@@ -10,6 +10,7 @@ pub mod bytes;
 pub mod field_sets;
 pub mod keys;
 pub mod operations;
+mod pairs;
 pub mod records;
 pub mod texts;
 pub mod values;
@@ -29,5 +30,7 @@ pub use words::{MAX_WORD, Word};
 mod field_tests;
 #[cfg(test)]
 mod operations_tests;
+#[cfg(test)]
+mod pair_tests;
 #[cfg(test)]
 mod tests;

@@ -57,6 +57,12 @@ impl Record {
         &self.values[field as usize]
     }
 
+    pub fn values(&self) -> &[Value]
+        ensures { result.now ≡ self.now }
+    {
+        &self.values
+    }
+
     pub fn set(&mut self, field: u32, value: Value)
         requires { field < length self.old }
         ensures { self.new ≡ slice_set self.old field value }

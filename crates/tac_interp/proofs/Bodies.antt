@@ -10,7 +10,7 @@ use Rattle.tac_syntax.specs.Call.{Store, bind}
 use Rattle.tac_syntax.specs.Exec.{times, for_each, exec}
 use Rattle.tac_syntax.proofs.Bodies.{code_of-drop, placed-onto}
 use Rattle.tac_syntax.specs.Places.{placed, in_if, in_repeat, in_each}
-use Rattle.tac_interp.specs.CallInputs.{AreWide}
+use Rattle.pact_bag.specs.Widths.{AreWide}
 use Rattle.tac_interp.specs.InRange.{IsInRange}
 use Rattle.tac_interp.specs.Ready.{FitsStore, IsReady, IsReadyIn, CanStart}
 use Rattle.tac_interp.proofs.Ranges.{first_part, second_part}

@@ -16,7 +16,8 @@ use Rattle.tac_syntax.specs.Call.{CallInput, of_record, of_pair, of_group, of_gr
 use Rattle.tac_syntax.specs.Exec.{exec}
 use Rattle.tac_syntax.specs.Places.{Place, Placed, placed, at_place, in_if, in_repeat, in_each}
 use Rattle.tac_syntax.specs.Bounded.{SomeHasValue, InputHasValue, NamesField, Names, IsBounded, AreBounded}
-use Rattle.tac_interp.specs.CallInputs.{IsOfRecord, IsOfPair, IsOfGroup, AreWide, HasWidth}
+use Rattle.pact_bag.specs.Widths.{AreWide}
+use Rattle.tac_interp.specs.CallInputs.{IsOfRecord, IsOfPair, IsOfGroup, HasWidth}
 use Rattle.tac_interp.specs.InRange.{IsInRange, AreInRange}
 use Rattle.tac_interp.specs.Ready.{Fits, FitsStore, HasRecord}
 use Rattle.tac_interp.proofs.Fitting.{CanAct-fits, next_name-over, Fits-bind, Fits-out_of_each}

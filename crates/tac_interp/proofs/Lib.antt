@@ -5,3 +5,4 @@ pub mod Fitting
 pub mod Bodies
 pub mod Bounds
 pub mod Starts
+pub mod InputRecords

@@ -1,11 +1,9 @@
 -- The statements of a valid function are in range, and so are those of each of its bodies.
-use Rattle.std.proofs.Common.{◌≡◌, ◌+◌, ℕ, Bool, true, false, if◌then◌else◌, Option, Some, None, List, [], ◌∷◌, ◌++◌, refl, append_assoc, append-nil}
+use Rattle.std.proofs.Common.{◌≡◌, ◌+◌, ℕ, Bool, true, false, if◌then◌else◌, Option, Some, None, List, [], ◌∷◌, ◌++◌, refl}
 use Rattle.std.specs.List.{AllByRecursion}
 use Rattle.tac_syntax.specs.declared.functions.Function.{Function}
 use Rattle.tac_syntax.specs.declared.rules.Rule.TheVariants.{Registers, Operands, Fields, KeyPositions}
-use Rattle.tac_syntax.specs.Code.{Code, stop}
-use Rattle.tac_syntax.specs.Trees.{Statement, one_line, choice, turning, going_through, onto}
-use Rattle.tac_syntax.specs.Places.{Place, Placed, placed, top_place}
+use Rattle.tac_syntax.specs.Places.{Placed, placed, top_place}
 use Rattle.tac_syntax.specs.Rules.{breaks_registers, breaks_operands, breaks_fields, breaks_key_positions}
 use Rattle.tac_syntax.specs.Valid.{IsValid, first_break_from}
 use Rattle.tac_interp.specs.InRange.{IsInRange, AreInRange}

@@ -1,13 +1,10 @@
 -- What a call of a function of each kind is for.
-use Rattle.std.specs.Prelude.{◌≡◌, ◌≤◌, ◌<◌, ℕ, List, [], length}
-use Rattle.std.specs.List.{AllByRecursion}
+use Rattle.std.specs.Prelude.{◌≡◌, ◌≤◌, ◌<◌, ℕ, List, length}
+use Rattle.pact_bag.specs.Widths.{AreWide}
 use Rattle.pact_record.specs.declared.values.Value.{Value}
 use Rattle.tac_syntax.specs.declared.functions.Kind.{Kind}
 use Rattle.tac_syntax.specs.declared.functions.Kind.TheVariants.{Map, Match, Cross, Reduce, CoGroup}
-use Rattle.tac_syntax.specs.declared.statements.Rec.{Rec}
-use Rattle.tac_syntax.specs.declared.statements.Rec.TheVariants.{Reg, Loop, Input, Left, Right, Join, First}
-use Rattle.pact_record.specs.Record.{joined_record}
-use Rattle.tac_syntax.specs.Call.{CallInput, of_record, of_pair, of_group, of_groups, input_record, left_record, right_record, first_record}
+use Rattle.tac_syntax.specs.Call.{CallInput, of_record, of_pair, of_group, of_groups}
 
 -- a call for one record, for two, for a group, or for a group of either side
 abbrev pub IsOfRecord : CallInput → Type 0
@@ -49,32 +46,9 @@ HasKeys keys (of_pair left right) = Unit {0}
 HasKeys keys (of_group key group) = keys ≤ length key
 HasKeys keys (of_groups key left right) = keys ≤ length key
 
-abbrev pub AreWide : ℕ → List (List Value) → Type 0
-AreWide fields rows = AllByRecursion (λ row. length row ≡ fields) rows
-
 -- each record of an input has so many fields, and a group of a Reduce has a first record
 abbrev pub HasWidth : ℕ → CallInput → Type 0
 HasWidth fields (of_record row) = length row ≡ fields
 HasWidth fields (of_pair left right) = (length left ≡ fields) × (length right ≡ fields)
 HasWidth fields (of_group key group) = (0 < length group) × AreWide fields group
 HasWidth fields (of_groups key left right) = AreWide fields left × AreWide fields right
-
--- an input has the record that a statement names
-abbrev pub OffersRecord : CallInput → Rec → Type 0
-OffersRecord input (Reg k) = ⊥
-OffersRecord input (Loop name) = ⊥
-OffersRecord input Input = IsOfRecord input
-OffersRecord input Left = IsOfPair input
-OffersRecord input Right = IsOfPair input
-OffersRecord input Join = IsOfPair input
-OffersRecord input First = IsOfGroup input
-
--- that record
-abbrev pub record_of : CallInput → Rec → List Value
-record_of input (Reg k) = []
-record_of input (Loop name) = []
-record_of input Input = input_record input
-record_of input Left = left_record input
-record_of input Right = right_record input
-record_of input Join = joined_record (left_record input) (right_record input)
-record_of input First = first_record input

@@ -2,14 +2,18 @@
 use Rattle.std.specs.Prelude.{◌≡◌, ◌≤◌, length, map}
 use Rattle.pact_record.specs.declared.records.TheConstants.{MAX_FIELDS}
 use Rattle.tac_syntax.specs.Limits.{value_registers, record_registers}
-use Rattle.tac_syntax.specs.Call.{CallInput, of_record, Store}
+use Rattle.tac_syntax.specs.Call.{CallInput, of_record, of_pair, of_group, of_groups, Store}
 use Rattle.tac_interp.specs.declared.inputs.Input.{Input}
-use Rattle.tac_interp.specs.declared.inputs.Input.TheVariants.{Record}
+use Rattle.tac_interp.specs.declared.inputs.Input.TheVariants.{Record, Pair, Group, Groups}
 use Rattle.tac_interp.specs.declared.machines.Machine.TheInside.{Inside}
-use Rattle.tac_interp.specs.CallInputs.{AreWide, HasWidth}
+use Rattle.pact_bag.specs.Widths.{AreWide}
+use Rattle.tac_interp.specs.CallInputs.{HasWidth}
 
 abbrev pub input_of : Input → CallInput
 input_of (Record row) = of_record row.now
+input_of (Pair left right) = of_pair left.now right.now
+input_of (Group key group) = of_group key.now group.now
+input_of (Groups key left right) = of_groups key.now left.now right.now
 
 abbrev pub store_of : Inside → Store
 store_of m = record { fields = m.fields; input = input_of m.input; values = m.values.items; records = m.records.items; loops = map (λ r. r.now) m.loops.items; emitted = m.emitted }

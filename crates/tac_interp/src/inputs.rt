@@ -1,38 +1,84 @@
 //! What a function is called for.
 
-ghost use Rattle.std.specs.Prelude.{◌≡◌, length};
-ghost use Rattle.tac_syntax.specs.Call.{key_values, rows_of};
-ghost use Rattle.tac_interp.specs.CallInputs.{OffersRecord, record_of};
+ghost use Rattle.std.specs.Prelude.{◌≡◌, ◌<◌, length};
+ghost use Rattle.tac_syntax.specs.declared.statements.LoopList.TheVariants.{Group};
+ghost use Rattle.tac_syntax.specs.Call.{first_record, input_record, key_values, left_record, right_record, rows_of};
+ghost use Rattle.tac_interp.specs.CallInputs.{IsOfGroup, IsOfPair, IsOfRecord};
 ghost use Rattle.tac_interp.specs.Machine.{input_of};
 
 use pact_record::{Record, Value};
-use tac_syntax::{LoopList, Rec};
+use tac_syntax::LoopList;
 
 /// What a call is for, by the function's kind.
 #[derive(Drop)]
 pub(crate) enum Input<'a> {
     /// The record of a Map.
     Record(&'a Record),
+    /// The two records of a Match or a Cross.
+    Pair(&'a Record, &'a Record),
+    /// The key values of a Reduce and the records that have them.
+    Group {
+        key: &'a [Value],
+        group: &'a [Record],
+    },
+    /// The key values of a CoGroup and the records of either side that have them.
+    Groups {
+        key: &'a [Value],
+        left: &'a [Record],
+        right: &'a [Record],
+    },
 }
 
 impl<'a> Input<'a> {
-    /// The record that a statement names.
-    pub(crate) fn named(&self, from: Rec) -> &'a Record
-        requires { OffersRecord (input_of self.now) from }
-        ensures { result.now ≡ record_of (input_of self.now) from }
+    pub(crate) fn record(&self) -> &'a Record
+        requires { IsOfRecord (input_of self.now) }
+        ensures { result.now ≡ input_record (input_of self.now) }
     {
-        match (self, from) {
-            (Input::Record(row), Rec::Input) => row,
-            (Input::Record(_), _) => unreachable!(),
+        match self {
+            Input::Record(row) => row,
+            Input::Pair(..) | Input::Group { .. } | Input::Groups { .. } => unreachable!(),
         }
     }
 
-    /// The key values of a group.
+    pub(crate) fn left(&self) -> &'a Record
+        requires { IsOfPair (input_of self.now) }
+        ensures { result.now ≡ left_record (input_of self.now) }
+    {
+        match self {
+            Input::Pair(left, _) => left,
+            Input::Record(_) | Input::Group { .. } | Input::Groups { .. } => unreachable!(),
+        }
+    }
+
+    pub(crate) fn right(&self) -> &'a Record
+        requires { IsOfPair (input_of self.now) }
+        ensures { result.now ≡ right_record (input_of self.now) }
+    {
+        match self {
+            Input::Pair(_, right) => right,
+            Input::Record(_) | Input::Group { .. } | Input::Groups { .. } => unreachable!(),
+        }
+    }
+
+    /// The first record of a group.
+    pub(crate) fn first(&self) -> &'a Record
+        requires group { IsOfGroup (input_of self.now) }
+        requires some { 0 < length (rows_of (input_of self.now) Group) }
+        ensures { result.now ≡ first_record (input_of self.now) }
+    {
+        match self {
+            Input::Group { group, .. } => &group[0],
+            Input::Record(_) | Input::Pair(..) | Input::Groups { .. } => unreachable!(),
+        }
+    }
+
+    /// The key values of a group, or of the groups of either side.
     pub(crate) fn key(&self) -> &'a [Value]
         ensures { result.now ≡ key_values (input_of self.now) }
     {
         match self {
-            Input::Record(_) => &[],
+            Input::Record(_) | Input::Pair(..) => &[],
+            Input::Group { key, .. } | Input::Groups { key, .. } => key,
         }
     }
 
@@ -41,7 +87,16 @@ impl<'a> Input<'a> {
         ensures { result.now ≡ rows_of (input_of self.now) list }
     {
         match self {
-            Input::Record(_) => &[],
+            Input::Record(_) | Input::Pair(..) => &[],
+            Input::Group { group, .. } => match list {
+                LoopList::Group => group,
+                LoopList::Left | LoopList::Right => &[],
+            },
+            Input::Groups { left, right, .. } => match list {
+                LoopList::Group => &[],
+                LoopList::Left => left,
+                LoopList::Right => right,
+            },
         }
     }
 }

@@ -1,7 +1,8 @@
 //! Runs a function of three-address code.
 //!
 //! A call is run on a `Machine`: the registers, the records bound to loops, and what was emitted
-//! so far. `call_map` is a call for one record.
+//! so far. `call_map` is a call for one record, `call_pair` for two, `call_group` for the records of a
+//! group, and `call_cogroup` for the groups of either side.
 #![tactic(auto)]
 
 mod calls;
@@ -9,4 +10,7 @@ mod inputs;
 mod machines;
 mod runs;
 
-pub use calls::call_map;
+pub use calls::{call_cogroup, call_group, call_map, call_pair};
+
+#[cfg(test)]
+mod tests;

@@ -1,14 +1,17 @@
 //! The registers of a call, and what each statement of one line does to them.
 
-ghost use Rattle.std.specs.Prelude.{◌≡◌, ◌≤◌, ◌<◌, length, OnOk, IfOk};
+ghost use Rattle.std.specs.Prelude.{◌≡◌, ◌≤◌, ◌<◌, length, OnOk, IfOk, IfSome, MatchOption};
 ghost use Rattle.std.specs.List.{AllByRecursion};
 ghost use Rattle.pact_record.specs.declared.records.TheConstants.{MAX_FIELDS};
+ghost use Rattle.pact_record.specs.Record.{at_field};
 ghost use Rattle.pact_record.specs.Value as values;
+ghost use Rattle.tac_syntax.specs.declared.statements.Rec.TheVariants.{Join};
 ghost use Rattle.tac_syntax.specs.Limits.{value_registers};
 ghost use Rattle.tac_syntax.specs.Code as code;
 ghost use Rattle.tac_syntax.specs.Call.{Store, value_in, named_record, rows_of, after, start_store};
 ghost use Rattle.tac_syntax.specs.Call as call;
-ghost use Rattle.tac_interp.specs.CallInputs.{HasWidth, AreWide};
+ghost use Rattle.pact_bag.specs.Widths.{AreWide};
+ghost use Rattle.tac_interp.specs.CallInputs.{HasWidth};
 ghost use Rattle.tac_interp.specs.Ready.{HasRecord, CanAct};
 ghost use Rattle.tac_interp.specs.Machine.{input_of};
 
@@ -71,16 +74,47 @@ impl<'a> Machine<'a> {
         })
     }
 
-    /// The record that a statement reads.
-    fn named(&self, from: Rec) -> &Record
+    // The record that a statement reads, where it is one: the join of two records isn't.
+    fn named(&self, from: Rec) -> Option<&Record>
         requires { HasRecord self.now from }
-        ensures record { result.now ≡ named_record self.now from }
-        ensures width { length result.now ≡ self.now.fields }
+        ensures record { MatchOption result (from ≡ Join) (λ row. row.now ≡ named_record self.now from) }
+        ensures width { IfSome result (λ row. length row.now ≡ self.now.fields) }
     {
         match from {
-            Rec::Reg(k) => &self.records[k as usize],
-            Rec::Loop(name) => self.loops[name as usize - 1],
-            Rec::Input | Rec::Left | Rec::Right | Rec::Join | Rec::First => self.input.named(from),
+            Rec::Reg(k) => Some(&self.records[k as usize]),
+            Rec::Loop(name) => Some(self.loops[name as usize - 1]),
+            Rec::Input => Some(self.input.record()),
+            Rec::Left => Some(self.input.left()),
+            Rec::Right => Some(self.input.right()),
+            Rec::First => Some(self.input.first()),
+            Rec::Join => None,
+        }
+    }
+
+    // A field of the record that a statement reads.
+    fn field_of(&self, from: Rec, field: u32) -> &Value
+        requires there { HasRecord self.now from }
+        requires field { field < self.now.fields }
+        ensures { result.now ≡ at_field (named_record self.now from) field }
+    {
+        match self.named(from) {
+            Some(row) => row.get(field),
+            None => {
+                let left = self.input.left().get(field);
+                left.or(self.input.right().get(field))
+            }
+        }
+    }
+
+    // A copy of the record that a statement reads.
+    fn copy_of(&self, alloc: Global, from: Rec) -> Result<Record, OutOfMemory>
+        requires { HasRecord self.now from }
+        ensures record { IfOk result (λ row. row ≡ named_record self.now from) }
+        ensures width { IfOk result (λ row. length row ≡ self.now.fields) }
+    {
+        match self.named(from) {
+            Some(row) => row.copy(alloc),
+            None => Record::join(alloc, self.input.left(), self.input.right()),
         }
     }
 
@@ -162,7 +196,7 @@ impl<'a> Machine<'a> {
         requires { CanAct (code.get_field to from field) self.old }
         ensures { OnOk result (self.new ≡ after (code.get_field to from field) self.old) }
     {
-        let value = self.named(from).get(field).copy(alloc)?;
+        let value = self.field_of(from, field).copy(alloc)?;
         self.values[to as usize] = value;
         Ok(())
     }
@@ -223,7 +257,7 @@ impl<'a> Machine<'a> {
         requires { CanAct (code.copy_record to from) self.old }
         ensures { OnOk result (self.new ≡ after (code.copy_record to from) self.old) }
     {
-        let row = self.named(from).copy(alloc)?;
+        let row = self.copy_of(alloc, from)?;
         self.records[to as usize] = row;
         Ok(())
     }

@@ -1,6 +1,6 @@
 use Rattle.std.proofs.Common.{◌↔◌, ◌⊎◌, ℕ, IsTrue, drop}
 use Rattle.pact_record.specs.FieldSets.{has_field}
-use Rattle.pact_operators.specs.Programs.{IsColumnField}
+use Rattle.pact_bag.specs.SourceRows.{IsColumnField}
 use Rattle.pact_operators.proofs.attributes.column_fields.Given as goal
 
 abbrev pub invariant-loop-column : goal.invariant-loop-column

@@ -2,7 +2,7 @@ use Rattle.std.proofs.Common.{◌-◌, ◌++◌, ◌∷◌, [], List, map, ap, s
 use Rattle.pact_record.specs.declared.values.Value.{Value}
 use Rattle.tac_syntax.specs.Call.{Store}
 use Rattle.tac_syntax.specs.Call as call
-use Rattle.tac_interp.specs.CallInputs.{AreWide}
+use Rattle.pact_bag.specs.Widths.{AreWide}
 use Rattle.tac_interp.specs.Machine.{store_of}
 use Rattle.tac_interp.proofs.Loops.{map_now-bound, AreWide-bound}
 use Rattle.tac_interp.proofs.machines.Machine.bind.Goals as goal

@@ -1,0 +1,6 @@
+use Rattle.std.proofs.Common.{◌≡◌, drop}
+use Rattle.pact_record.specs.Record.{key_of, record_cmp}
+use Rattle.pact_record.proofs.records.Record.has_key.Given as goal
+
+abbrev pub invariant-loop-n : goal.invariant-loop-n
+invariant-loop-n l = record_cmp (key_of l.keys l.self) l.key ≡ record_cmp (drop l.n (key_of l.keys l.self)) (drop l.n l.key)
