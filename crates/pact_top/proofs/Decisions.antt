@@ -1,5 +1,5 @@
 -- From one verdict to those that may stand.
-use Rattle.std.proofs.Common.{◌≡◌, ◌≤◌, ◌<◌, ◌+◌, ◌++◌, ℕ, List, [], ◌∷◌, map, drop, length, get_or, Result, Ok, Err, IfOk, refl, sym, subst, ◌∙◌, ap, append_assoc, append-nil}
+use Rattle.std.proofs.Common.{◌≡◌, ◌<◌, ◌+◌, ◌++◌, ℕ, List, [], ◌∷◌, map, drop, length, get_or, Result, Ok, Err, IfOk, refl, sym, subst, ◌∙◌, ap, append_assoc, append-nil}
 use Rattle.std.specs.List.{AllByRecursion}
 use Rattle.pact_bag.proofs.Widths.{AllByRecursion-last}
 use Rattle.std.proofs.lemmas.List.{at_drop_more, map-append}

@@ -1,14 +1,11 @@
 pub mod Decisions
 pub mod Exclusive
 pub mod FileRefusals
-pub mod MapChains
 pub mod NumberedTwice
-pub mod Numerals
 pub mod Pieces
 pub mod Progress
-pub mod Records
-pub mod Rows
 pub mod SamePrograms
+pub mod Sources
 pub mod SourceNames
 pub mod Told
 pub mod WrittenParts

@@ -1,16 +1,14 @@
 -- What a draft declares is one program, and a draft that is refused is none.
-use Rattle.std.proofs.Common.{◌≡◌, ◌≢◌, ◌≤◌, ◌<◌, ◌⊎◌, ◌++◌, inl, inr, ℕ, zero, suc, List, [], ◌∷◌, map, length, slice_get, Option, Some, None, Bool, true, false, subst, refl, ap, sym, ◌∙◌, append_assoc, append-nil, arith}
+use Rattle.std.proofs.Common.{◌≡◌, ◌++◌, inl, inr, ℕ, List, [], ◌∷◌, map, slice_get, Option, Some, Bool, true, false, subst, refl, ap, sym, ◌∙◌, append_assoc, append-nil}
 use Rattle.std.specs.List.{AllByRecursion}
 use Rattle.tac_syntax.specs.declared.functions.Function.{Function}
-use Rattle.tac_syntax.specs.Valid.{IsRefusal, IsValid, WithFields}
+use Rattle.tac_syntax.specs.Valid.{IsValid, WithFields}
 use Rattle.pact_operators.specs.declared.declarations.Decl.{Decl}
-use Rattle.pact_operators.specs.declared.operators.Op.{Op}
 use Rattle.pact_operators.specs.declared.program_rules.ProgramRule.{ProgramRule}
-use Rattle.pact_operators.specs.declared.program_rules.ProgramRule.TheVariants.{NoSingleSink}
 use Rattle.pact_operators.specs.Drafts.{DraftData}
 use Rattle.pact_operators.specs.Plans.{PlanTree, leaf, over, both, root_of}
 use Rattle.pact_operators.specs.Programs.{AreValidated, Follows, IsProgramOf, IsWrittenPlan, ProgramData}
-use Rattle.pact_operators.specs.ProgramRules.{Breaks, FirstBreak, IsBrokenAt, IsRefused, Keeps, NoneBreaks}
+use Rattle.pact_operators.specs.ProgramRules.{Breaks, IsBrokenAt, IsRefused, Keeps, NoneBreaks}
 use Rattle.pact_operators.specs.Resolved.{Inputs, no_input, one_input, two_inputs, inputs_of, node_names}
 use Rattle.tac_validate.proofs.Refusals.{refusal_excludes_validity}
 use Rattle.pact_top.specs.Verdict.{FirstInvalid}

@@ -1,13 +1,13 @@
 -- What is told where there is no answer, and what that says of the verdict.
-use Rattle.std.proofs.Common.{◌≡◌, ◌≤◌, ◌⊎◌, inl, inr, ℕ, List, Bool, Option, Some, None, IfSome, refl, ap, sym, ◌∙◌, subst, arith}
-use Rattle.pact_record.specs.declared.values.Value.{Value}
+use Rattle.std.proofs.Common.{◌≡◌, ◌≤◌, ◌⊎◌, inl, inr, ℕ, List, Bool, Option, Some, None, IfSome, refl, ap, sym, ◌∙◌, arith}
+use Rattle.pact_operators.specs.Allowed.{Bag}
 use Rattle.pact_outside.specs.declared.files.NamedFile.{NamedFile}
 use Rattle.pact_outside.specs.Outside.{Rose}
 use Rattle.pact_operators.specs.Programs.{ProgramData}
 use Rattle.pact_top.specs.declared.refusals.Refusal.{Refusal}
 use Rattle.pact_top.specs.declared.refusals.Refusal.TheVariants.{OutOfMemory, Usage, CannotRead, CannotWrite, Decided}
 use Rattle.pact_top.specs.Refusal.{AnswerRefused, status_of, refusal_line}
-use Rattle.pact_top.specs.Verdict.{IsAnswer, IsOpened, IsVerdict, StandsIn, Verdict, line_of, missing, runs, usage, status_of_verdict, verdict_line}
+use Rattle.pact_top.specs.Verdict.{IsAnswer, IsVerdict, Verdict, line_of, missing, runs, usage, status_of_verdict}
 use Rattle.pact_top.proofs.Exclusive.{same_status}
 
 -- ---- lines
@@ -29,14 +29,14 @@ decided_status words fs v w status e h k = e ∙ same_status words fs v w h k
 -- where a program with its rows stands, the refusal is want of memory or a fault of the feed
 pub refused_where_runs : (words : List (List ℕ)) (files : Option (List NamedFile)) (before now : ℕ) (is_open : Bool) (opened : List ℕ) (r : Refusal) (Other : Type 0)
     → AnswerRefused words files before now is_open opened r
-    → IfSome files (λ fs. (p : ProgramData) (rows : List (List Value)) → IsVerdict words fs (runs p rows) → ¬ (Rose before now) → Other → (status_of r ≡ 0) ⊎ (status_of r ≡ 1))
+    → IfSome files (λ fs. (p : ProgramData) (inputs : List Bag) → IsVerdict words fs (runs p inputs) → ¬ (Rose before now) → Other → (status_of r ≡ 0) ⊎ (status_of r ≡ 1))
 refused_where_runs words None before now is_open opened r Other h = tt
-refused_where_runs words (Some fs) before now is_open opened OutOfMemory Other h = λ p rows v n o. inr refl
-refused_where_runs words (Some fs) before now is_open opened Usage Other h = λ p rows v n o. let bad = same_status words fs usage (runs p rows) h v in absurd (omega (arith, bad))
-refused_where_runs words (Some fs) before now is_open opened (CannotRead told) Other h = λ p rows v n o. absurd (n h.0.rose)
+refused_where_runs words (Some fs) before now is_open opened OutOfMemory Other h = λ p inputs v n o. inr refl
+refused_where_runs words (Some fs) before now is_open opened Usage Other h = λ p inputs v n o. let bad = same_status words fs usage (runs p inputs) h v in absurd (omega (arith, bad))
+refused_where_runs words (Some fs) before now is_open opened (CannotRead told) Other h = λ p inputs v n o. absurd (n h.0.rose)
 refused_where_runs words (Some fs) before now is_open opened CannotWrite Other h = absurd h
-refused_where_runs words (Some fs) before now is_open opened (Decided status line) Other h = λ p rows v n o.
-    inl (decided_status words fs h.0 (runs p rows) status h.1.status_is h.2 v)
+refused_where_runs words (Some fs) before now is_open opened (Decided status line) Other h = λ p inputs v n o.
+    inl (decided_status words fs h.0 (runs p inputs) status h.1.status_is h.2 v)
 
 pub refused_where_missing : (words : List (List ℕ)) (files : Option (List NamedFile)) (before now : ℕ) (is_open : Bool) (opened : List ℕ) (r : Refusal)
     → AnswerRefused words files before now is_open opened r
@@ -64,9 +64,9 @@ refused_where_decided words (Some fs) before now is_open opened (Decided status 
 pub answered_not_missing : (words : List (List ℕ)) (files : Option (List NamedFile)) (text : List ℕ) (Goal : Type 0) → IfSome files (λ fs. IsAnswer words fs text)
     → IfSome files (λ fs. (name : List ℕ) → IsVerdict words fs (missing name) → Goal)
 answered_not_missing words None text Goal a = tt
-answered_not_missing words (Some fs) text Goal a = λ name v. let bad = same_status words fs (runs a.program a.rows) (missing name) a.verdict v in absurd (omega (arith, bad))
+answered_not_missing words (Some fs) text Goal a = λ name v. let bad = same_status words fs (runs a.program a.inputs) (missing name) a.verdict v in absurd (omega (arith, bad))
 
 pub answered_not_refused : (words : List (List ℕ)) (files : Option (List NamedFile)) (text : List ℕ) (Goal : Verdict → Type 0) → IfSome files (λ fs. IsAnswer words fs text)
     → IfSome files (λ fs. (v : Verdict) → IsVerdict words fs v → 5 ≤ status_of_verdict v → Goal v)
 answered_not_refused words None text Goal a = tt
-answered_not_refused words (Some fs) text Goal a = λ v k l. let bad = same_status words fs (runs a.program a.rows) v a.verdict k in absurd (omega (arith, l, bad))
+answered_not_refused words (Some fs) text Goal a = λ v k l. let bad = same_status words fs (runs a.program a.inputs) v a.verdict k in absurd (omega (arith, l, bad))

@@ -1,7 +1,8 @@
 -- The status and the line of a refusal, and what each refusal says of the words and the files.
-use Rattle.std.specs.Prelude.{◌≡◌, ◌≤◌, ◌<◌, ℕ, Bool, true, false, List, Option, Some, None, IfSome, [], ◌⊎◌, IsTrue, length}
+use Rattle.std.specs.Prelude.{◌≡◌, ◌≤◌, ◌<◌, ℕ, Bool, false, List, Option, Some, None, IfSome, [], ◌⊎◌, IsTrue, length}
 use Rattle.pact_outside.specs.declared.files.NamedFile.{NamedFile}
 use Rattle.pact_outside.specs.Outside.{Rose, file_named}
+use Rattle.pact_operators.specs.declared.operators.Op.{Op}
 use Rattle.pact_operators.specs.Drafts.{DraftData}
 use Rattle.pact_operators.specs.Programs.{ProgramData}
 use Rattle.pact_operators.specs.ProgramRules.{IsRefused}
@@ -14,9 +15,11 @@ use Rattle.tac_syntax.specs.Names.{is_file_name}
 use Rattle.tac_syntax.specs.Valid.{WithFields}
 use Rattle.text_lines.specs.FirstFaults.{IsFirstFault}
 use Rattle.text_lines.specs.TextLines.{lines_of}
-use Rattle.pact_top.specs.Csv.{NoCsvRows}
-use Rattle.pact_top.specs.ProgramOps.{is_map_chain, source_columns}
-use Rattle.pact_top.specs.Verdict.{FirstInvalid, HasBadFunction, HasBadProgram, HasProgram, IsOpened, StandsIn, Verdict, usage, missing, too_long, bad_text, bad_function, bad_program, not_first_form, runs, command_of, line_of, status_of_verdict, verdict_line}
+use Rattle.csv_source.specs.CsvRows.{HasBadRow}
+use Rattle.csv_source.specs.declared.reading.BadRow.{BadRow}
+use Rattle.csv_source.specs.declared.reading.BadRow.TheVariants as bads
+use Rattle.pact_operators.specs.declared.declarations.OpKind.TheVariants.{Source}
+use Rattle.pact_top.specs.Verdict.{FailsAt, FirstInvalid, HasBadFunction, HasBadProgram, IsNext, IsOpened, StandsIn, Verdict, usage, missing, too_long, bad_text, bad_function, bad_program, bad_row, runs, command_of, line_of, status_of_verdict, verdict_line}
 use Rattle.pact_top.specs.declared.refusals.Refusal.{Refusal}
 use Rattle.pact_top.specs.declared.refusals.Refusal.TheVariants.{OutOfMemory, Usage, CannotRead, CannotWrite, Decided}
 
@@ -83,16 +86,26 @@ TextDecides name text (too_long other limit) = ⊥
 TextDecides name text (bad_text other line what) = (other ≡ name) × IsFirstFault IsProgramText program_fault program_missing (lines_of text) line what
 TextDecides name text (bad_function function code at) = HasBadFunction text function code at
 TextDecides name text (bad_program declared code) = HasBadProgram text declared code
-TextDecides name text not_first_form = (p : ProgramData) × HasProgram text p × (is_map_chain p.ops p.plan ≡ false)
-TextDecides name text (runs p rows) = ⊥
+TextDecides name text (bad_row source row column why) = ⊥
+TextDecides name text (runs p inputs) = ⊥
 
 -- a file decides nothing besides its length
 abbrev pub NothingDecided : List ℕ → Verdict → Type 0
 NothingDecided bytes v = ⊥
 
--- what the bytes of its source decide
-abbrev pub BytesDecide : ProgramData → List ℕ → Verdict → Type 0
-BytesDecide p bytes v = (v ≡ not_first_form) × NoCsvRows p.fields (source_columns p) bytes
+-- what the bytes of a source decide
+abbrev pub BytesDecide : ℕ → Op → List ℕ → Verdict → Type 0
+BytesDecide fields source bytes v =
+    (row : ℕ) × (column : ℕ) × (why : ℕ) × (v ≡ bad_row source.name row column why) × HasBadRow fields source.columns bytes row column why
+
+-- what is told of bytes that have no rows
+abbrev pub RowRefused : List ℕ → BadRow → Refusal → Type 0
+RowRefused name (bads.At row column why) r = DecidesTo (bad_row name row column why) r
+RowRefused name bads.Memory r = r ≡ OutOfMemory
+
+-- a source's file has a name that a program may give it
+abbrev pub HasFileName : Op → Type 0
+HasFileName op = op.kind ≡ Source → IsTrue (is_file_name op.file)
 
 -- ---- files
 
@@ -113,6 +126,16 @@ FileRefused files name limit Decides before now is_open opened (Decided status l
     (v : Verdict) × Tells v status line
     × IfSome files (λ fs. (bytes : List ℕ) × (file_named fs name ≡ Some bytes)
     × (((v ≡ too_long name limit) × (limit < length bytes)) ⊎ ((length bytes ≤ limit) × Decides bytes v)))
+
+-- Why the rows of a program's sources weren't all read.
+abbrev pub SourcesRefused : ProgramData → Option (List NamedFile) → ℕ → ℕ → Bool → List ℕ → Refusal → Type 0
+SourcesRefused p files before now is_open opened OutOfMemory = Unit {0}
+SourcesRefused p files before now is_open opened Usage = ⊥
+SourcesRefused p files before now is_open opened (CannotRead told) =
+    HasFailed before now is_open opened told × IfSome files (λ fs. (source : Op) × IsNext fs p source × (opened ≡ source.file)) × IsTrue (is_file_name opened)
+SourcesRefused p files before now is_open opened CannotWrite = ⊥
+SourcesRefused p files before now is_open opened (Decided status line) =
+    (v : Verdict) × Tells v status line × IfSome files (λ fs. (source : Op) × IsNext fs p source × FailsAt fs p.fields source v)
 
 -- the program's file, or one that a program may name
 abbrev pub IsNamed : List (List ℕ) → List ℕ → Type 0

@@ -1,27 +1,28 @@
 //! From the command line's words and the files to the text that is to be written.
 
-ghost use Rattle.std.specs.Prelude.{◌≡◌, ◌≤◌, ◌<◌, ◌^◌, ℕ, List, true, length, Some, None, Err, IfOk, IfErr, IfSome, IsTrue};
+ghost use Rattle.std.specs.Prelude.{◌≡◌, ◌≤◌, ◌<◌, ◌^◌, ◌++◌, ◌∷◌, [], ℕ, List, length, Some, None, Err, IfOk, IfErr, IfSome, OnOk};
 ghost use Rattle.std.specs.List.{AllByRecursion};
+ghost use Rattle.csv_source.specs.CsvRows.{CsvRows};
+ghost use Rattle.pact_bag.specs.SourceRows.{AreSourceRows};
+ghost use Rattle.pact_operators.specs.Inputs.{AreInputsOf};
+ghost use Rattle.pact_operators.specs.PlanOps.{is_source_kind, sources_of};
 ghost use Rattle.pact_outside.specs.Outside.{file_named};
-ghost use Rattle.tac_syntax.specs.Names.{is_file_name};
-ghost use Rattle.pact_top.specs.Csv.{CsvRows};
-ghost use Rattle.pact_top.specs.ProgramOps.{is_map_chain, source_columns, source_file};
-ghost use Rattle.pact_top.specs.Verdict.{HasProgram, IsAnswer, command_of, program_limit, source_limit, texts_of};
-ghost use Rattle.pact_top.specs.Refusal.{AnswerRefused, BytesDecide, DecidedBy, FileRefused, NothingDecided, TextDecides};
+ghost use Rattle.pact_top.specs.Verdict.{HasProgram, HasSourceRows, IsAnswer, ReadSources, command_of, program_limit, source_limit, texts_of};
+ghost use Rattle.pact_top.specs.Refusal.{AnswerRefused, BytesDecide, DecidedBy, FileRefused, HasFileName, NothingDecided, RowRefused, SourcesRefused, TextDecides};
 
-use crate::chains::{run_chain, source_of};
-use crate::csv_rows::read_rows;
 use crate::lines::sorted_lines;
 use crate::loading::{PROGRAM_LIMIT, SOURCE_LIMIT, read_file};
 use crate::programs::program_of;
-use crate::refusal_lines::{not_first_form, too_long};
+use crate::refusal_lines::{bad_row, too_long};
 use crate::refusals::Refusal;
 use crate::transfer::Stop;
 use crate::words::command;
-use pact_bag::{Column, Rows};
-use pact_operators::Program;
+use csv_source::{BadRow, read_source};
+use pact_bag::{Inputs, Rows};
+use pact_operators::{Op, OpKind, Program};
 use pact_outside::Feed;
-use pact_record::Bytes;
+use pact_record::{Bytes, MAX_FIELDS, OutOfMemory};
+use slow_eval::evaluate;
 use std::alloc::Global;
 
 fn load_text<F: Feed>(
@@ -46,10 +47,9 @@ fn load_text<F: Feed>(
     }
 }
 
-fn load_program<F: Feed>(alloc: Global, feed: &mut F, name: &[u8]) -> Result<Program, Refusal>
+pub fn load_program<F: Feed>(alloc: Global, feed: &mut F, name: &[u8]) -> Result<Program, Refusal>
     ensures read { IfOk result (λ p. IfSome (F.files feed.old) (λ files. (text : List ℕ) × (file_named files name.now ≡ Some text) × (length text ≤ program_limit) × HasProgram text p)) }
-    ensures chain { IfOk result (λ p. is_map_chain p.ops p.plan ≡ true) }
-    ensures named { IfOk result (λ p. IsTrue (is_file_name (source_file p))) }
+    ensures named { IfOk result (λ p. AllByRecursion HasFileName p.ops) }
     ensures refused { IfErr result (FileRefused (F.files feed.old) name.now program_limit (TextDecides name.now) (F.faults feed.old) (F.faults feed.new) (F.is_open feed.new) (F.opened_name feed.new)) }
     ensures later { F.faults feed.old ≤ F.faults feed.new }
     ensures files { F.files feed.new ≡ F.files feed.old }
@@ -58,29 +58,83 @@ fn load_program<F: Feed>(alloc: Global, feed: &mut F, name: &[u8]) -> Result<Pro
     program_of(alloc, name, text.bytes())
 }
 
-// The rows of a chain's source, or why its bytes have none.
-fn rows_in(alloc: Global, program: &Program, bytes: &[u8]) -> Result<Rows, Refusal>
-    ensures rows { IfOk result (λ rows. CsvRows program.now.fields (source_columns program.now) bytes.now rows) }
-    ensures widths { IfOk result (λ rows. AllByRecursion (λ row. length row ≡ program.now.fields) rows) }
-    ensures refused { IfErr result (DecidedBy (BytesDecide program.now bytes.now)) }
+// The rows of a source, or why its bytes have none.
+fn rows_in(alloc: Global, fields: u32, source: &Op, bytes: &[u8]) -> Result<Rows, Refusal>
+    requires fields { fields ≤ MAX_FIELDS }
+    requires columns { AllByRecursion (λ column. column.field < fields) source.now.columns }
+    ensures rows { IfOk result (CsvRows fields source.now.columns bytes.now) }
+    ensures source_rows { IfOk result (AreSourceRows fields source.now.columns) }
+    ensures refused { IfErr result (DecidedBy (BytesDecide fields source.now bytes.now)) }
 {
-    let columns = source_of(program).columns.columns();
-    match read_rows(alloc, bytes, columns, program.fields())? {
-        Some(rows) => Ok(rows),
-        None => Err(not_first_form(alloc)),
+    match read_source(alloc, bytes, &source.columns, fields) {
+        Ok(rows) => Ok(rows),
+        Err(bad) => Err(row_refused(alloc, source.name.bytes(), bad)),
     }
 }
 
-fn load_rows<F: Feed>(alloc: Global, feed: &mut F, program: &Program) -> Result<Rows, Refusal>
-    ensures read { IfOk result (λ rows. IfSome (F.files feed.old) (λ files. (bytes : List ℕ) × (file_named files (source_file program.now) ≡ Some bytes) × (length bytes ≤ source_limit) × CsvRows program.now.fields (source_columns program.now) bytes rows)) }
-    ensures widths { IfOk result (λ rows. AllByRecursion (λ row. length row ≡ program.now.fields) rows) }
-    ensures refused { IfErr result (FileRefused (F.files feed.old) (source_file program.now) source_limit (BytesDecide program.now) (F.faults feed.old) (F.faults feed.new) (F.is_open feed.new) (F.opened_name feed.new)) }
+fn row_refused(alloc: Global, name: &[u8], bad: BadRow) -> Refusal
+    ensures { RowRefused name.now bad result }
+{
+    match bad {
+        BadRow::At { row, column, why } => bad_row(alloc, name, row, column, why),
+        BadRow::Memory => Refusal::OutOfMemory,
+    }
+}
+
+fn load_rows<F: Feed>(
+    alloc: Global,
+    feed: &mut F,
+    fields: u32,
+    source: &Op,
+) -> Result<Rows, Refusal>
+    requires fields { fields ≤ MAX_FIELDS }
+    requires columns { AllByRecursion (λ column. column.field < fields) source.now.columns }
+    ensures read { IfOk result (λ rows. IfSome (F.files feed.old) (λ files. HasSourceRows files fields source.now rows)) }
+    ensures source_rows { IfOk result (AreSourceRows fields source.now.columns) }
+    ensures refused { IfErr result (FileRefused (F.files feed.old) source.now.file source_limit (BytesDecide fields source.now) (F.faults feed.old) (F.faults feed.new) (F.is_open feed.new) (F.opened_name feed.new)) }
     ensures later { F.faults feed.old ≤ F.faults feed.new }
     ensures files { F.files feed.new ≡ F.files feed.old }
 {
-    let name = source_of(program).file.bytes();
-    let bytes = load_text(alloc, feed, name, SOURCE_LIMIT)?;
-    rows_in(alloc, program, bytes.bytes())
+    let bytes = load_text(alloc, feed, source.file.bytes(), SOURCE_LIMIT)?;
+    rows_in(alloc, fields, source, bytes.bytes())
+}
+
+// The rows of each source, one source after the other.
+pub fn load_inputs<F: Feed>(
+    alloc: Global,
+    feed: &mut F,
+    program: &Program,
+) -> Result<Inputs, Refusal>
+    requires { AllByRecursion HasFileName program.now.ops }
+    ensures read { IfOk result (λ inputs. IfSome (F.files feed.old) (λ files. ReadSources files program.now.fields (sources_of program.now.ops) inputs)) }
+    ensures inputs { IfOk result (AreInputsOf program.now) }
+    ensures refused { IfErr result (SourcesRefused program.now (F.files feed.old) (F.faults feed.old) (F.faults feed.new) (F.is_open feed.new) (F.opened_name feed.new)) }
+    ensures later { F.faults feed.old ≤ F.faults feed.new }
+    ensures files { F.files feed.new ≡ F.files feed.old }
+{
+    let fields = program.fields();
+    let mut inputs = Inputs::new(alloc);
+    for op in program.ops() {
+        if is_source(op.kind) {
+            let rows = load_rows(alloc, feed, fields, op)?;
+            push_rows(&mut inputs, rows)?;
+        }
+    }
+    Ok(inputs)
+}
+
+fn is_source(kind: OpKind) -> bool
+    ensures { result ≡ is_source_kind kind }
+{
+    matches!(kind, OpKind::Source)
+}
+
+// Its clause is what a refused push leaves out: only memory refuses it.
+fn push_rows(inputs: &mut Inputs, rows: Rows) -> Result<(), OutOfMemory>
+    ensures { OnOk result (inputs.new ≡ inputs.old ++ rows ∷ []) }
+{
+    inputs.push(rows)?;
+    Ok(())
 }
 
 /// The text that the words ask for, or the first refusal that stands.
@@ -95,8 +149,8 @@ pub fn answer<F: Feed>(alloc: Global, words: &[&str], feed: &mut F) -> Result<By
         return Err(Refusal::Usage);
     };
     let program = load_program(alloc, feed, name.as_bytes())?;
-    let rows = load_rows(alloc, feed, &program)?;
-    let bag = run_chain(alloc, &program, program.plan(), &rows)?;
-    let text = sorted_lines(alloc, &bag, program.sink())?;
+    let inputs = load_inputs(alloc, feed, &program)?;
+    let outcome = evaluate(alloc, &program, program.plan(), &inputs)?;
+    let text = sorted_lines(alloc, &outcome.rows, program.sink())?;
     Ok(text)
 }

@@ -1,22 +1,19 @@
 //! From a program's text to the program.
 
-ghost use Rattle.std.specs.Prelude.{◌≡◌, ◌≤◌, ◌++◌, ◌∷◌, [], ℕ, true, IfErr, IfOk, OnOk};
+ghost use Rattle.std.specs.Prelude.{◌≡◌, ◌≤◌, ◌++◌, ◌∷◌, [], ℕ, IfErr, IfOk, OnOk};
 ghost use Rattle.pact_operators.specs.Drafts.{field_limit};
 ghost use Rattle.pact_operators.specs.declared.program_rules.ProgramRule.{ProgramRule as RuleData};
-ghost use Rattle.pact_operators.specs.Programs.{AreValidated, HasArity, IsProgramOf};
+ghost use Rattle.pact_operators.specs.Programs.{AreValidated, IsProgramOf};
 ghost use Rattle.pact_operators.specs.ProgramRules.{IsRefused, Keeps};
-ghost use Rattle.pact_top.specs.ProgramOps.{is_map, is_map_at, is_map_chain};
 ghost use Rattle.pact_top.specs.Refusal.{DecidedBy, IsBadFunctionOf, IsBadProgramOf, ProgramRefused, TextDecides, TextRefused};
 ghost use Rattle.pact_top.specs.Verdict.{HasProgram, bad_function};
 ghost use Rattle.program_text.specs.ProgramTexts.{ProgramText};
 ghost use Rattle.tac_syntax.specs.Valid.{IsRefusal, IsValid};
 ghost use Rattle.text_lines.specs.TextLines.{lines_of};
 
-use crate::refusal_lines::{bad_function, bad_program, bad_text, not_first_form};
+use crate::refusal_lines::{bad_function, bad_program, bad_text};
 use crate::refusals::Refusal;
-use pact_operators::{
-    Draft, NotProgram, Op, OpKind, Parts, Plan, Program, ValidList, check_program, functions_of,
-};
+use pact_operators::{Draft, NotProgram, Program, ValidList, check_program, functions_of};
 use pact_record::OutOfMemory;
 use program_text::read_program;
 use std::alloc::Global;
@@ -104,53 +101,12 @@ fn checked(alloc: Global, draft: &Draft, valids: ValidList) -> Result<Program, R
     }
 }
 
-fn is_map(kind: OpKind) -> bool
-    ensures { result ≡ is_map kind }
-{
-    matches!(kind, OpKind::Map)
-}
-
-fn is_map_at(ops: &[Op], at: u32) -> bool
-    ensures { result ≡ is_map_at ops.now at }
-{
-    match ops.get(at as usize) {
-        Some(op) => is_map(op.kind),
-        None => false,
-    }
-}
-
-// Whether a plan is Maps over one source.
-fn is_map_chain(ops: &[Op], plan: &Plan) -> bool
-    ensures { result ≡ is_map_chain ops.now plan.now }
-{
-    match plan.parts() {
-        Parts::Alone { .. } => true,
-        Parts::OverOne { at, input } => is_map_at(ops, at) && is_map_chain(ops, &input),
-        Parts::OverTwo { .. } => false,
-    }
-}
-
-fn any_program(alloc: Global, name: &[u8], text: &[u8]) -> Result<Program, Refusal>
+/// The program that a text spells. The name is for what is told of another text.
+pub fn program_of(alloc: Global, name: &[u8], text: &[u8]) -> Result<Program, Refusal>
     ensures program { IfOk result (HasProgram text.now) }
     ensures refused { IfErr result (DecidedBy (TextDecides name.now text.now)) }
 {
     let draft = read_draft(alloc, name, text)?;
     let valids = valid_functions(alloc, &draft)?;
     checked(alloc, &draft, valids)
-}
-
-/// The program that a text spells, where it is Maps over one source. The name is for what is told
-/// of another text.
-pub fn program_of(alloc: Global, name: &[u8], text: &[u8]) -> Result<Program, Refusal>
-    ensures program { IfOk result (HasProgram text.now) }
-    ensures arity { IfOk result (λ p. HasArity p.ops p.plan) }
-    ensures chain { IfOk result (λ p. is_map_chain p.ops p.plan ≡ true) }
-    ensures refused { IfErr result (DecidedBy (TextDecides name.now text.now)) }
-{
-    let program = any_program(alloc, name, text)?;
-    if is_map_chain(program.ops(), program.plan()) {
-        Ok(program)
-    } else {
-        Err(not_first_form(alloc))
-    }
 }

@@ -2,7 +2,7 @@
 
 ghost use Rattle.std.specs.Prelude.{◌≡◌, ◌++◌, OnOk, IfOk, decimal};
 ghost use Rattle.pact_top.specs.Refusal.{DecidesTo};
-ghost use Rattle.pact_top.specs.Verdict.{bad_function, bad_program, bad_text, not_first_form, too_long, told_name, verdict_line};
+ghost use Rattle.pact_top.specs.Verdict.{bad_function, bad_program, bad_row, bad_text, too_long, told_name, verdict_line};
 ghost use Rattle.pact_top.specs.Verdict as verdict;
 
 use crate::refusals::Refusal;
@@ -95,6 +95,33 @@ fn program_line(alloc: Global, name: &[u8], code: u32) -> Result<Bytes, OutOfMem
     Ok(line)
 }
 
+// What stands behind the name of a source with a bad row.
+fn row_text(alloc: Global, row: u64, column: u32, why: u32) -> Result<Bytes, OutOfMemory>
+    ensures { IfOk result (λ text. text ≡ verdict.row_text row column why) }
+{
+    let mut text = Bytes::new(alloc);
+    push_numbered(alloc, &mut text, b": row ", row)?;
+    push_numbered(alloc, &mut text, b" column ", u64::from(column))?;
+    push_numbered(alloc, &mut text, b": why ", u64::from(why))?;
+    text.extend_from_slice(b"\n")?;
+    Ok(text)
+}
+
+fn source_line(
+    alloc: Global,
+    name: &[u8],
+    row: u64,
+    column: u32,
+    why: u32,
+) -> Result<Bytes, OutOfMemory>
+    ensures { IfOk result (λ line. line ≡ verdict_line (bad_row name.now row column why)) }
+{
+    let mut line = Bytes::from_slice(alloc, b"source ")?;
+    line.extend_from_slice(name)?;
+    line.extend_from_slice(row_text(alloc, row, column, why)?.bytes())?;
+    Ok(line)
+}
+
 /// The file of that name has more bytes than so many.
 pub fn too_long(alloc: Global, name: &[u8], limit: u64) -> Refusal
     ensures { DecidesTo (too_long name.now limit) result }
@@ -135,12 +162,12 @@ pub fn bad_program(alloc: Global, name: &[u8], code: u32) -> Refusal
     }
 }
 
-/// The program isn't Maps over one source, or a row of the source is bad.
-pub fn not_first_form(alloc: Global) -> Refusal
-    ensures { DecidesTo not_first_form result }
+/// A row of the source of that name is bad.
+pub fn bad_row(alloc: Global, name: &[u8], row: u64, column: u32, why: u32) -> Refusal
+    ensures { DecidesTo (bad_row name.now row column why) result }
 {
-    match Bytes::from_slice(alloc, b"not in the first form\n") {
-        Ok(line) => Refusal::Decided { status: 5, line },
+    match source_line(alloc, name, row, column, why) {
+        Ok(line) => Refusal::Decided { status: 7, line },
         Err(OutOfMemory) => Refusal::OutOfMemory,
     }
 }

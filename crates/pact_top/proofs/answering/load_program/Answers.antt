@@ -5,7 +5,7 @@ use Rattle.pact_top.proofs.SourceNames.{result_named}
 use Rattle.pact_top.proofs.answering.load_program.Goals as goal
 
 pub returns-clause-named : goal.returns-clause-named
-returns-clause-named g c = result_named c.program_of.result c.bytes.result.now c.program_of.ensures.program c.program_of.ensures.arity
+returns-clause-named g c = result_named c.program_of.result c.bytes.result.now c.program_of.ensures.program
 
 pub returns-clause-refused : goal.returns-clause-refused
 returns-clause-refused g c =

@@ -1,0 +1,9 @@
+//! Writes rows as CSV text, with csv's default writer.
+#![tactic(auto)]
+
+mod writing;
+
+pub use writing::write_rows;
+
+#[cfg(test)]
+mod tests;

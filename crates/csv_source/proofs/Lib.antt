@@ -1,0 +1,4 @@
+mod Records
+pub mod Numerals
+pub mod RowParts
+mod Answered

@@ -1,0 +1,2 @@
+pub mod CsvRows
+pub mod Refused

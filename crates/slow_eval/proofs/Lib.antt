@@ -1,0 +1,5 @@
+pub mod KeyGroups
+pub mod Items
+pub mod Called
+pub mod PlanCounts
+pub mod SourceRows

@@ -1,0 +1,62 @@
+-- The rows of a source, by its number.
+use Rattle.std.proofs.Common.{◌≡◌, ◌<◌, ℕ, zero, suc, Bool, true, false, cond, List, [], ◌∷◌, length, take, refl, ap, ◌∙◌, arith}
+use Rattle.std.specs.List.{AllByRecursion}
+use Rattle.pact_bag.specs.SourceRows.{AreSourceRows}
+use Rattle.pact_bag.specs.declared.columns.Column.{Column}
+use Rattle.pact_operators.specs.declared.declarations.OpKind.{OpKind}
+use Rattle.pact_operators.specs.declared.declarations.OpKind.TheVariants.{Source, Map, Reduce, Match, Cross, CoGroup}
+use Rattle.pact_operators.specs.declared.operators.Op.{Op}
+use Rattle.pact_operators.specs.Inputs.{HaveRows}
+use Rattle.pact_operators.specs.PlanOps.{is_source_kind, kind_at, kind_in, source_place, sources_of}
+use Rattle.pact_operators.specs.Programs.{Takes, takes}
+use Rattle.pact_record.specs.declared.values.Value.{Value}
+use Rattle.pact_bag.specs.Widths.{AreWide}
+
+takes_none : (kind : OpKind) → takes kind ≡ 0 → kind ≡ Source
+takes_none Source h = refl
+takes_none Map h = absurd (omega (arith, h))
+takes_none Reduce h = absurd (omega (arith, h))
+takes_none Match h = absurd (omega (arith, h))
+takes_none Cross h = absurd (omega (arith, h))
+takes_none CoGroup h = absurd (omega (arith, h))
+
+pub is_source : (ops : List Op) (n : ℕ) → Takes ops n 0 → kind_at ops n ≡ Source
+is_source ops n t = ap kind_in t.1 ∙ takes_none t.0.kind t.2
+
+-- ---- the place of a source
+
+fewer : (b : Bool) (op : Op) (xs ys : List Op) → length xs < length ys → length (cond b (op ∷ xs) xs) < length (cond b (op ∷ ys) ys)
+fewer true op xs ys h = omega arith
+fewer false op xs ys h = h
+
+first_kept : (b : Bool) (op : Op) (ys : List Op) → b ≡ true → 0 < length (cond b (op ∷ ys) ys)
+first_kept true op ys h = omega arith
+first_kept false op ys h = cc
+
+place_among_sources : (ops : List Op) (n : ℕ) → n < length ops → kind_at ops n ≡ Source → source_place ops n < length (sources_of ops)
+place_among_sources [] n h k = absurd (omega arith)
+place_among_sources (op ∷ ops) zero h k = first_kept (is_source_kind op.kind) op (sources_of ops) (ap is_source_kind k)
+place_among_sources (op ∷ ops) (suc n) h k = fewer (is_source_kind op.kind) op (sources_of (take n ops)) (sources_of ops) (place_among_sources ops n (omega arith) k)
+
+length-inputs : (fields : ℕ) (sources : List Op) (inputs : List (List (List Value))) → HaveRows fields sources inputs → length inputs ≡ length sources
+length-inputs fields [] [] h = refl
+length-inputs fields [] (rows ∷ inputs) h = absurd h
+length-inputs fields (source ∷ sources) [] h = absurd h
+length-inputs fields (source ∷ sources) (rows ∷ inputs) h = ap suc (length-inputs fields sources inputs h.1)
+
+pub place_below : (fields : ℕ) (ops : List Op) (inputs : List (List (List Value))) (n : ℕ) → HaveRows fields (sources_of ops) inputs → n < length ops → kind_at ops n ≡ Source → source_place ops n < length inputs
+place_below fields ops inputs n h below k =
+    let place = place_among_sources ops n below k in
+    omega (arith, place, length-inputs fields (sources_of ops) inputs h)
+
+-- ---- its rows
+
+row_widths : (fields : ℕ) (columns : List Column) (rows : List (List Value)) → AreSourceRows fields columns rows → AreWide fields rows
+row_widths fields columns [] h = tt
+row_widths fields columns (row ∷ rows) h = (h.0.width, row_widths fields columns rows h.1)
+
+pub input_widths : (fields : ℕ) (sources : List Op) (inputs : List (List (List Value))) → HaveRows fields sources inputs → AllByRecursion (AreWide fields) inputs
+input_widths fields [] [] h = tt
+input_widths fields [] (rows ∷ inputs) h = absurd h
+input_widths fields (source ∷ sources) [] h = absurd h
+input_widths fields (source ∷ sources) (rows ∷ inputs) h = (row_widths fields source.columns rows h.0, input_widths fields sources inputs h.1)

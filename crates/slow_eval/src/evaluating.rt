@@ -1,0 +1,136 @@
+//! From the rows of the sources to the rows of a plan's root.
+
+ghost use Rattle.std.specs.Prelude.{◌≡◌, ◌≤◌, ℕ, List, length, slice_get, IfOk, OnOk};
+ghost use Rattle.pact_record.specs.declared.values.Value.{Value as FieldValue};
+ghost use Rattle.pact_operators.specs.Allowed.{Allows, Counted, Gives, GivesBoth};
+ghost use Rattle.pact_operators.specs.Distinct.{IsAbsent};
+ghost use Rattle.pact_operators.specs.Inputs.{AreInputsOf};
+ghost use Rattle.pact_operators.specs.PlanOps.{kind_at, plan_ops, source_place};
+ghost use Rattle.pact_operators.specs.Plans.{nodes};
+ghost use Rattle.pact_operators.specs.Programs.{HasArity, IsPlanOf, Takes};
+ghost use Rattle.pact_bag.specs.Widths.{AreWide};
+
+use crate::grouping::{cogroup_rows, reduce_rows};
+use crate::pairing::{cross_rows, map_rows, match_rows};
+use pact_bag::{Counts, Inputs, Outcome, Rows};
+use pact_operators::{Op, OpKind, Parts, Plan, Program};
+use pact_record::OutOfMemory;
+use std::alloc::Global;
+
+// The place of a source among the sources.
+fn source_place(ops: &[Op], at: u32) -> usize
+    requires { at ≤ length ops.now }
+    ensures { result ≡ source_place ops.now at }
+{
+    let mut place = 0;
+    for op in &ops[..at as usize] {
+        if op.kind == OpKind::Source {
+            place += 1;
+        }
+    }
+    place
+}
+
+// What an operator of one input gives.
+fn over_one(alloc: Global, program: &Program, at: u32, rows: &Rows) -> Result<Rows, OutOfMemory>
+    requires takes { Takes program.now.ops at 1 }
+    requires widths { AreWide program.now.fields rows.now }
+    ensures given { IfOk result (λ out. (inputs : List (List (List FieldValue))) → Gives (plan_ops program.now inputs) (kind_at program.now.ops at) at rows.now out) }
+    ensures widths { IfOk result (AreWide program.now.fields) }
+{
+    let _kept = program.fields();
+    let op = &program.ops()[at as usize];
+    let f = &program.functions()[op.function as usize];
+    match op.kind {
+        OpKind::Map => map_rows(alloc, f, rows),
+        OpKind::Reduce => reduce_rows(alloc, f, &op.left_keys, rows),
+        OpKind::Source | OpKind::Match | OpKind::Cross | OpKind::CoGroup => unreachable!(),
+    }
+}
+
+// What an operator of two inputs gives.
+fn over_two(
+    alloc: Global,
+    program: &Program,
+    at: u32,
+    lefts: &Rows,
+    rights: &Rows,
+) -> Result<Rows, OutOfMemory>
+    requires takes { Takes program.now.ops at 2 }
+    requires left_widths { AreWide program.now.fields lefts.now }
+    requires right_widths { AreWide program.now.fields rights.now }
+    ensures given { IfOk result (λ out. (inputs : List (List (List FieldValue))) → GivesBoth (plan_ops program.now inputs) (kind_at program.now.ops at) at lefts.now rights.now out) }
+    ensures widths { IfOk result (AreWide program.now.fields) }
+{
+    let _kept = program.fields();
+    let op = &program.ops()[at as usize];
+    let f = &program.functions()[op.function as usize];
+    let (left_keys, right_keys) = (&op.left_keys, &op.right_keys);
+    match op.kind {
+        OpKind::Match => match_rows(alloc, f, left_keys, right_keys, lefts, rights),
+        OpKind::Cross => cross_rows(alloc, f, lefts, rights),
+        OpKind::CoGroup => cogroup_rows(alloc, f, left_keys, right_keys, lefts, rights),
+        OpKind::Source | OpKind::Map | OpKind::Reduce => unreachable!(),
+    }
+}
+
+// Counts only the plan's own numbers.
+fn evaluate_into(
+    alloc: Global,
+    program: &Program,
+    plan: &Plan,
+    inputs: &Inputs,
+    counts: &mut Counts,
+) -> Result<Rows, OutOfMemory>
+    requires arity { HasArity program.now.ops plan.now }
+    requires inputs { AreInputsOf program.now inputs.now }
+    requires counts { length counts.old ≡ length program.now.ops }
+    ensures counted { IfOk result (λ rows. Counted (plan_ops program.now inputs.now) plan.now rows counts.new) }
+    ensures others { OnOk result ((n : ℕ) → IsAbsent n (nodes plan.now) → slice_get counts.new n ≡ slice_get counts.old n) }
+    ensures counts { length counts.new ≡ length program.now.ops }
+    ensures widths { IfOk result (AreWide program.now.fields) }
+{
+    match plan.parts() {
+        Parts::Alone { at } => {
+            let place = source_place(program.ops(), at);
+            let rows = inputs.at(place).copy(alloc)?;
+            counts.set(at as usize, rows.len() as u64);
+            Ok(rows)
+        }
+        Parts::OverOne { at, input } => {
+            let below = evaluate_into(alloc, program, &input, inputs, counts)?;
+            let rows = over_one(alloc, program, at, &below)?;
+            counts.set(at as usize, rows.len() as u64);
+            Ok(rows)
+        }
+        Parts::OverTwo { at, left, right } => {
+            let lefts = evaluate_into(alloc, program, &left, inputs, counts)?;
+            let rights = evaluate_into(alloc, program, &right, inputs, counts)?;
+            let rows = over_two(alloc, program, at, &lefts, &rights)?;
+            counts.set(at as usize, rows.len() as u64);
+            Ok(rows)
+        }
+    }
+}
+
+/// The root's rows in one evaluation of a plan, and how many rows each source and operator gave in it.
+///
+/// Every pair of a Match is looked at, and for each key of a Reduce or a CoGroup every row, so the time
+/// grows with rows times rows and with rows times keys. Want of memory is the only error.
+pub fn evaluate(
+    alloc: Global,
+    program: &Program,
+    plan: &Plan,
+    inputs: &Inputs,
+) -> Result<Outcome, OutOfMemory>
+    requires plan { IsPlanOf program.now.functions program.now.ops plan.now }
+    requires inputs { AreInputsOf program.now inputs.now }
+    ensures counted { IfOk result (λ o. Counted (plan_ops program.now inputs.now) plan.now o.rows o.counts) }
+    ensures allowed { IfOk result (λ o. Allows (plan_ops program.now inputs.now) plan.now o.rows) }
+    ensures counts { IfOk result (λ o. length o.counts ≡ length program.now.ops) }
+    ensures widths { IfOk result (λ o. AreWide program.now.fields o.rows) }
+{
+    let mut counts = Counts::zeros(alloc, program.ops().len())?;
+    let rows = evaluate_into(alloc, program, plan, inputs, &mut counts)?;
+    Ok(Outcome { rows, counts })
+}

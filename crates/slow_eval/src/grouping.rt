@@ -1,0 +1,210 @@
+//! One call for each group of records with equal keys.
+
+ghost use Rattle.std.specs.Prelude.{◌≡◌, ◌<◌, ◌++◌, length, map, IfOk};
+ghost use Rattle.std.specs.List.{AllByRecursion, list_any};
+ghost use Rattle.pact_record.specs.Record.{key_of};
+ghost use Rattle.tac_syntax.specs.declared.functions.Kind.TheVariants.{CoGroup, Reduce};
+ghost use Rattle.tac_syntax.specs.Call.{Out, of_group, of_groups};
+ghost use Rattle.pact_bag.specs.Groups.{distinct_keys, group_of_key, is_same_key};
+ghost use Rattle.pact_operators.specs.Allowed.{CoGrouped, Grouped, keys_in, keys_in_either};
+ghost use Rattle.slow_eval.specs.Keyed.{HasEitherGroup, HasGroup};
+ghost use Rattle.pact_bag.specs.Widths.{AreBelow, AreWide};
+
+use pact_bag::Rows;
+use pact_record::{Keys, OutOfMemory, Record};
+use std::alloc::Global;
+use tac_interp::{call_cogroup, call_group};
+use tac_syntax::Valid;
+
+// The key values of each record, behind others.
+fn append_keys(alloc: Global, keys: &Keys, rows: &Rows, found: Rows) -> Result<Rows, OutOfMemory>
+    requires below { AllByRecursion (λ row. AreBelow (length row) keys.now) rows.now }
+    requires widths { AreWide (length keys.now) found }
+    ensures keys { IfOk result (λ all. all ≡ found ++ map (key_of keys.now) rows.now) }
+    ensures widths { IfOk result (AreWide (length keys.now)) }
+{
+    let mut all = found;
+    for row in rows.rows() {
+        all.push(row.key(alloc, keys)?)?;
+    }
+    Ok(all)
+}
+
+fn is_among(key: &Record, keys: &[Record]) -> bool
+    ensures { result ≡ list_any (λ other. is_same_key other key.now) keys.now }
+{
+    for other in keys {
+        if other == key {
+            return true;
+        }
+    }
+    false
+}
+
+// Each of the key values once.
+fn distinct(alloc: Global, width: u32, keys: &Rows) -> Result<Rows, OutOfMemory>
+    requires { AreWide width keys.now }
+    ensures keys { IfOk result (λ found. found ≡ distinct_keys keys.now) }
+    ensures widths { IfOk result (AreWide width) }
+{
+    let mut found = Rows::new(alloc);
+    for key in keys.rows() {
+        if !is_among(key, found.rows()) {
+            found.push(key.copy(alloc)?)?;
+        }
+    }
+    Ok(found)
+}
+
+// The records that have these key values.
+fn group_of(
+    alloc: Global,
+    fields: u32,
+    keys: &Keys,
+    rows: &Rows,
+    key: &Record,
+) -> Result<Rows, OutOfMemory>
+    requires length { length key.now ≡ length keys.now }
+    requires below { AreBelow fields keys.now }
+    requires widths { AreWide fields rows.now }
+    ensures group { IfOk result (λ group. group ≡ group_of_key keys.now rows.now key.now) }
+    ensures widths { IfOk result (AreWide fields) }
+{
+    let mut group = Rows::new(alloc);
+    for row in rows.rows() {
+        if row.has_key(keys, key) {
+            group.push(row.copy(alloc)?)?;
+        }
+    }
+    Ok(group)
+}
+
+// The key values that occur in some records.
+fn keys_in(alloc: Global, keys: &Keys, rows: &Rows) -> Result<Rows, OutOfMemory>
+    requires { AllByRecursion (λ row. AreBelow (length row) keys.now) rows.now }
+    ensures keys { IfOk result (λ found. found ≡ keys_in keys.now rows.now) }
+    ensures widths { IfOk result (AreWide (length keys.now)) }
+    ensures groups { IfOk result (AllByRecursion (HasGroup keys.now rows.now)) }
+{
+    let all = append_keys(alloc, keys, rows, Rows::new(alloc))?;
+    distinct(alloc, keys.len(), &all)
+}
+
+// The key values that occur in some records, or in others.
+fn keys_in_either(
+    alloc: Global,
+    left_keys: &Keys,
+    right_keys: &Keys,
+    lefts: &Rows,
+    rights: &Rows,
+) -> Result<Rows, OutOfMemory>
+    requires same { length right_keys.now ≡ length left_keys.now }
+    requires left_below { AllByRecursion (λ row. AreBelow (length row) left_keys.now) lefts.now }
+    requires right_below { AllByRecursion (λ row. AreBelow (length row) right_keys.now) rights.now }
+    ensures keys { IfOk result (λ found. found ≡ keys_in_either left_keys.now right_keys.now lefts.now rights.now) }
+    ensures widths { IfOk result (AreWide (length left_keys.now)) }
+    ensures groups { IfOk result (AllByRecursion (HasEitherGroup left_keys.now right_keys.now lefts.now rights.now)) }
+{
+    let all = append_keys(alloc, left_keys, lefts, Rows::new(alloc))?;
+    let all = append_keys(alloc, right_keys, rights, all)?;
+    distinct(alloc, left_keys.len(), &all)
+}
+
+// The call for the records that have these key values.
+fn call_for_key(
+    alloc: Global,
+    f: &Valid,
+    keys: &Keys,
+    rows: &Rows,
+    key: &Record,
+) -> Result<Rows, OutOfMemory>
+    requires kind { f.now.function.kind ≡ Reduce }
+    requires keys { length keys.now ≡ f.now.function.keys }
+    requires below { AreBelow f.now.fields keys.now }
+    requires widths { AreWide f.now.fields rows.now }
+    requires length { length key.now ≡ length keys.now }
+    requires group { HasGroup keys.now rows.now key.now }
+    ensures given { IfOk result (λ out. out ≡ Out f.now.fields f.now.function.body (of_group key.now (group_of_key keys.now rows.now key.now))) }
+    ensures widths { IfOk result (AreWide f.now.fields) }
+{
+    let group = group_of(alloc, f.fields(), keys, rows, key)?;
+    call_group(alloc, f, keys, &group)
+}
+
+/// What a Reduce gives, with each group in the order of its records.
+pub(crate) fn reduce_rows(
+    alloc: Global,
+    f: &Valid,
+    keys: &Keys,
+    rows: &Rows,
+) -> Result<Rows, OutOfMemory>
+    requires kind { f.now.function.kind ≡ Reduce }
+    requires keys { length keys.now ≡ f.now.function.keys }
+    requires below { AreBelow f.now.fields keys.now }
+    requires widths { AreWide f.now.fields rows.now }
+    ensures given { IfOk result (Grouped (λ key group. Out f.now.fields f.now.function.body (of_group key group)) keys.now rows.now (keys_in keys.now rows.now)) }
+    ensures widths { IfOk result (AreWide f.now.fields) }
+{
+    let found = keys_in(alloc, keys, rows)?;
+    let mut out = Rows::new(alloc);
+    for key in found.rows() {
+        let mut emitted = call_for_key(alloc, f, keys, rows, key)?;
+        out.append(&mut emitted)?;
+    }
+    Ok(out)
+}
+
+// The call for the records of either side that have these key values.
+fn call_for_either(
+    alloc: Global,
+    f: &Valid,
+    left_keys: &Keys,
+    right_keys: &Keys,
+    lefts: &Rows,
+    rights: &Rows,
+    key: &Record,
+) -> Result<Rows, OutOfMemory>
+    requires kind { f.now.function.kind ≡ CoGroup }
+    requires left_keys { length left_keys.now ≡ f.now.function.keys }
+    requires right_keys { length right_keys.now ≡ f.now.function.keys }
+    requires left_below { AreBelow f.now.fields left_keys.now }
+    requires right_below { AreBelow f.now.fields right_keys.now }
+    requires left_widths { AreWide f.now.fields lefts.now }
+    requires right_widths { AreWide f.now.fields rights.now }
+    requires length { length key.now ≡ length left_keys.now }
+    requires group { HasEitherGroup left_keys.now right_keys.now lefts.now rights.now key.now }
+    ensures given { IfOk result (λ out. out ≡ Out f.now.fields f.now.function.body (of_groups key.now (group_of_key left_keys.now lefts.now key.now) (group_of_key right_keys.now rights.now key.now))) }
+    ensures widths { IfOk result (AreWide f.now.fields) }
+{
+    let left = group_of(alloc, f.fields(), left_keys, lefts, key)?;
+    let right = group_of(alloc, f.fields(), right_keys, rights, key)?;
+    call_cogroup(alloc, f, left_keys, right_keys, &left, &right)
+}
+
+/// What a CoGroup gives, with each group in the order of its records.
+pub(crate) fn cogroup_rows(
+    alloc: Global,
+    f: &Valid,
+    left_keys: &Keys,
+    right_keys: &Keys,
+    lefts: &Rows,
+    rights: &Rows,
+) -> Result<Rows, OutOfMemory>
+    requires kind { f.now.function.kind ≡ CoGroup }
+    requires left_keys { length left_keys.now ≡ f.now.function.keys }
+    requires right_keys { length right_keys.now ≡ f.now.function.keys }
+    requires left_below { AreBelow f.now.fields left_keys.now }
+    requires right_below { AreBelow f.now.fields right_keys.now }
+    requires left_widths { AreWide f.now.fields lefts.now }
+    requires right_widths { AreWide f.now.fields rights.now }
+    ensures given { IfOk result (CoGrouped (λ key left right. Out f.now.fields f.now.function.body (of_groups key left right)) left_keys.now right_keys.now lefts.now rights.now (keys_in_either left_keys.now right_keys.now lefts.now rights.now)) }
+    ensures widths { IfOk result (AreWide f.now.fields) }
+{
+    let found = keys_in_either(alloc, left_keys, right_keys, lefts, rights)?;
+    let mut out = Rows::new(alloc);
+    for key in found.rows() {
+        let mut emitted = call_for_either(alloc, f, left_keys, right_keys, lefts, rights, key)?;
+        out.append(&mut emitted)?;
+    }
+    Ok(out)
+}
