@@ -131,6 +131,22 @@ fn is_told(alloc: Global, text: &[u8], is_text: bool, at: (u64, u32, u32)) -> bo
     }
 }
 
+// The csv crate's definition decides what other readers tell apart.
+#[test]
+fn rows_that_readers_dispute(rt: HostRuntime) -> Result<(), Fail> {
+    let alloc = rt.alloc();
+    // a lone CR ends a row
+    assert!(rt; are_two_rows(alloc, b"1,2\r3,4\r"));
+    assert!(rt; are_two_rows(alloc, b"1,2\r\r3,4\n"));
+    // what follows a closing quote belongs to the field, and so does a quote that doesn't open it
+    assert!(rt; is_text_row(alloc, b"\"a\"b,1\n", b"ab"));
+    assert!(rt; is_text_row(alloc, b"a\"b\"c,1\n", b"a\"b\"c"));
+    // a quote that isn't closed runs to the end of the text
+    assert!(rt; is_row(alloc, b"1,\"2", Some(1), Some(2)));
+    assert!(rt; is_told(alloc, b"\"a,1\nb,2\n", true, (1, 0, 1)));
+    Ok(())
+}
+
 #[test]
 fn rows_of_another_width(rt: HostRuntime) -> Result<(), Fail> {
     let alloc = rt.alloc();

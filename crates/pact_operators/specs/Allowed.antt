@@ -1,5 +1,5 @@
 -- The bags that a plan allows, and counts of the same evaluation.
-use Rattle.std.specs.Prelude.{◌≡◌, ◌-◌, ◌^◌, ℕ, Bool, cond, List, [], ◌∷◌, ◌++◌, flat_map, length, map, min, slice_get, Some}
+use Rattle.std.specs.Prelude.{◌≡◌, ◌-◌, ◌^◌, ℕ, cond, List, [], ◌∷◌, ◌++◌, flat_map, length, map, min, slice_get, Some}
 use Rattle.std.specs.List.Sorted.{IsPermutation}
 use Rattle.pact_bag.specs.Groups.{distinct_keys, do_match, group_of_key}
 use Rattle.pact_record.specs.declared.values.Value.{Value}

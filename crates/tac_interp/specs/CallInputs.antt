@@ -1,7 +1,6 @@
 -- What a call of a function of each kind is for.
-use Rattle.std.specs.Prelude.{◌≡◌, ◌≤◌, ◌<◌, ℕ, List, length}
+use Rattle.std.specs.Prelude.{◌≡◌, ◌≤◌, ◌<◌, ℕ, length}
 use Rattle.pact_bag.specs.Widths.{AreWide}
-use Rattle.pact_record.specs.declared.values.Value.{Value}
 use Rattle.tac_syntax.specs.declared.functions.Kind.{Kind}
 use Rattle.tac_syntax.specs.declared.functions.Kind.TheVariants.{Map, Match, Cross, Reduce, CoGroup}
 use Rattle.tac_syntax.specs.Call.{CallInput, of_record, of_pair, of_group, of_groups}

@@ -1,9 +1,9 @@
 -- What going through a body finds, one statement after the other.
-use Rattle.std.proofs.Common.{◌≡◌, ◌+◌, ◌*◌, ℕ, Bool, true, false, if◌then◌else◌, List, [], ◌∷◌, ◌++◌, length, Option, Some, None, Result, Ok, Err, min, refl, ap, sym, ◌∙◌, arith, length-append, append-nil, append_assoc}
+use Rattle.std.proofs.Common.{◌≡◌, ◌+◌, ◌*◌, ℕ, Bool, true, false, if◌then◌else◌, List, [], ◌∷◌, ◌++◌, length, Option, Some, None, Result, Ok, Err, min, refl, ap, sym, ◌∙◌, arith, length-append, append-nil}
 use Rattle.tac_syntax.specs.declared.rules.Rule.{Rule}
 use Rattle.tac_syntax.proofs.Bodies.{placed-onto}
 use Rattle.tac_syntax.specs.Code.{Code, stop, plain, branch, again, each, count_of, Line, simple, test, turns, over}
-use Rattle.tac_syntax.specs.Trees.{Statement, one_line, choice, turning, going_through, onto}
+use Rattle.tac_syntax.specs.Trees.{Statement, onto}
 use Rattle.tac_syntax.specs.Places.{Place, Placed, at_place, placed, in_if, in_repeat, in_each}
 use Rattle.tac_syntax.specs.Rules.{breaks}
 use Rattle.tac_syntax.specs.Valid.{first_break_from}
