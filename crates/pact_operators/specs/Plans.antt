@@ -3,7 +3,7 @@ use Rattle.std.specs.Prelude.{◌<◌, ◌==◌, ◌||◌, ℕ, Bool, if◌then�
 use Rattle.std.specs.List.{AllByRecursion}
 use Rattle.pact_operators.specs.Distinct.{AreDifferent}
 
--- An operator or source is named by its number: its place, from 0, among those of the program text.
+-- Numbers stand for operators and sources: the text's first has 0, and so on, both kinds counted together.
 pub data PlanTree : Type 0 where
   leaf : (at : ℕ) → PlanTree
   over : (at : ℕ) → (input : PlanTree) → PlanTree

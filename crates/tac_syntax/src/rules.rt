@@ -6,19 +6,20 @@ ghost use Rattle.tac_syntax.specs.Rules.{code_of_rule};
 /// A rule of valid functions, named for what breaks it.
 #[derive(Clone, Copy, Debug, PartialEq, Eq)]
 pub enum Rule {
-    /// V1: a value register above 31 or a record register above 7.
+    /// V1: a register that there isn't: values have `v0` to `v31`, records `r0` to `r7`.
     Registers,
-    /// V2: a statement or an operand that the kind or the place doesn't have.
+    /// V2: a statement, record, list or loop's name that isn't there for this kind of function, or at
+    /// this place.
     Operands,
-    /// V3: a field number of F or more.
+    /// V3: a field that records don't have.
     Fields,
-    /// V4: a key position of the function's number of keys or more.
+    /// V4: a key that the function doesn't have.
     KeyPositions,
-    /// V5: an `if` inside 8 others.
+    /// V5: an `if` that eight `if` stand around.
     NestedIfs,
-    /// V6: a loop, `each` or `repeat`, inside 3 others.
+    /// V6: a `repeat` or `each` that three of them stand around.
     NestedLoops,
-    /// V7: a statement whose number is 1,000 or more.
+    /// V7: a statement behind the first 1,000.
     Statements,
     /// V8: a `repeat` of no turn, or one whose turns times those of the `repeat` around it are
     /// above 100,000.
