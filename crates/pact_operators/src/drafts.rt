@@ -1,13 +1,14 @@
 //! Programs as their text has them.
 
-ghost use Rattle.std.specs.Prelude.{◌≡◌, ◌≤◌, ◌++◌, ◌∷◌, [], length, OnOk, OnErr, IfErr};
+ghost use Rattle.std.specs.Prelude.{◌≡◌, ◌≤◌, ◌++◌, ◌∷◌, [], length, OnOk, OnErr};
 ghost use Rattle.tac_syntax.specs.Functions.{IsSpelledFunction};
 ghost use Rattle.pact_operators.specs.declared.declarations.Decl.TheVariants.{Function as FunctionDecl};
 ghost use Rattle.pact_operators.specs.Declarations.{IsSpelledDecl};
 ghost use Rattle.pact_operators.specs.Drafts.{field_limit, IsSpelledDraft};
 
 use crate::declarations::Decl;
-use std::alloc::{AllocFailed, Global};
+use pact_record::OutOfMemory;
+use std::alloc::Global;
 use std::marker::Model;
 use tac_syntax::Function;
 
@@ -47,29 +48,26 @@ impl Draft {
     }
 
     /// Puts a declaration behind the others that isn't one of a function.
-    pub fn push(&mut self, decl: Decl) -> Result<(), AllocFailed<Decl>>
+    pub fn push(&mut self, decl: Decl) -> Result<(), OutOfMemory>
         requires { IsSpelledDecl decl }
         ensures ok { let d = self.old in
             OnOk result (self.new ≡ record { fields = d.fields; functions = d.functions; decls = d.decls ++ decl ∷ [] }) }
         ensures err { OnErr result (self.new ≡ self.old) }
-        ensures handed_back { IfErr result (λ e. e.value ≡ decl) }
     {
-        self.decls.push(decl)
+        self.decls.push(decl)?;
+        Ok(())
     }
 
     /// Puts a function behind the others, and its declaration behind the others.
-    pub fn push_function(&mut self, function: Function) -> Result<(), AllocFailed<Function>>
+    pub fn push_function(&mut self, function: Function) -> Result<(), OutOfMemory>
         requires { IsSpelledFunction function }
         ensures ok { let d = self.old in
             let decl = FunctionDecl (length d.functions) in
             OnOk result (self.new ≡ record { fields = d.fields; functions = d.functions ++ function ∷ []; decls = d.decls ++ decl ∷ [] }) }
         ensures err { OnErr result (self.new ≡ self.old) }
-        ensures handed_back { IfErr result (λ e. e.value ≡ function) }
     {
         let number = self.functions.len();
-        if self.decls.reserve(1).is_err() {
-            return Err(AllocFailed { value: function });
-        }
+        self.decls.reserve(1)?;
         self.functions.push(function)?;
         // there is room for it
         let _ = self.decls.push(Decl::Function { number });

@@ -5,8 +5,8 @@ use Rattle.pact_operators.specs.Drafts.{DraftData, IsSpelledDraft}
 use Rattle.pact_operators.proofs.Declared.{IsSpelledDraft-decl}
 use Rattle.pact_operators.proofs.drafts.Draft.push.Goals as goal
 
-pub invariant_of-self : goal.invariant_of-self
-invariant_of-self c =
+pub invariant_of-self-2 : goal.invariant_of-self-2
+invariant_of-self-2 c =
     let d : DraftData = record { fields = c.self.inside.fields; functions = c.self.inside.functions.items; decls = c.self.inside.decls.items } in
     let spelled = IsSpelledDraft-decl d c.args.decl (is_ok c.push.result) c.requires c.self.invariant in
     subst (λ (decls : List Decl). IsSpelledDraft (record { fields = d.fields; functions = d.functions; decls = decls })) (sym c.push.ensures.items) spelled
