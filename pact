@@ -1,15 +1,37 @@
 #!/usr/bin/env bash
-# Runs pact with the words given, in the caller's folder. Where the program isn't built yet, or is
-# older than its sources, it is built first: the toolchain's `rt` proves each crate and links it.
+# Runs pact with the words given, in the caller's folder. Where the program isn't built yet, or was built of
+# other sources, it is built first: the toolchain's `rt` proves each crate and links it.
 set -u
 root=$(dirname "$(readlink -f "${BASH_SOURCE[0]}")")
-program=$root/crates/pact_program/out/pact_program
+out=$root/crates/pact_program/out
+program=$out/pact_program
+# Made before a build, so that a source edited while it runs is newer than it.
+marker=$out/sources.marker
 
+# Whether the program was built of the sources that are there. The times of changes are compared, which no copy
+# keeps; a folder has changed where something in it was made, deleted or renamed.
 is_current() {
-    [ -x "$program" ] || return 1
-    local newer
-    newer=$(find "$root/crates.txt" "$root"/crates/*/src "$root"/crates/*/specs "$root"/crates/*/proofs -type f -newer "$program" -print -quit) || return 1
-    [ -z "$newer" ]
+    [ -x "$program" ] && [ -f "$program.stamp" ] && [ -f "$marker" ] || return 1
+    local changed
+    changed=$(find "$root/crates.txt" "$root/crates" "$root"/crates/* -maxdepth 0 -cnewer "$marker" -print -quit) || return 1
+    [ -z "$changed" ] || return 1
+    changed=$(find "$root"/crates/*/src "$root"/crates/*/specs "$root"/crates/*/proofs -cnewer "$marker" -print -quit 2>/dev/null)
+    [ -z "$changed" ]
+}
+
+# Of the toolchain's lines, tells which crate is being proved, and how many may come behind it.
+tell_crates() {
+    local line name left
+    left=$(grep -cE '^[a-z0-9_]+.*:' "$root/crates.txt")
+    while IFS= read -r line; do
+        case $line in
+        'rt: chose --jobs '*' for '*)
+            name=${line##* for }
+            left=$((left - 1))
+            echo "pact: proving $name; at most $left crates are left behind it" >&2
+            ;;
+        esac
+    done
 }
 
 build() {
@@ -17,22 +39,38 @@ build() {
         echo "pact: the toolchain's command rt isn't on the PATH, so pact can't be built" >&2
         return 1
     fi
-    local log=$root/crates/pact_program/out/build.log
-    mkdir -p "${log%/*}"
+    local log=$out/build.log folder
     # What an older build left may not pass for what this one makes.
-    rm -f "$program" "$program.stamp"
+    rm -f "$program" "$program.stamp" "$marker"
+    # The build makes these folders; made here, they are older than the marker.
+    for folder in "$root"/crates/*/; do
+        mkdir -p "$folder/out"
+    done
+    touch "$marker.new"
     echo "pact: building; every proof is checked first, which takes some minutes (log: $log)" >&2
     # rt runs what it built; with no words that does nothing but tell the usage.
-    (cd "$root/crates/pact_program" && rt run) </dev/null >"$log" 2>&1
+    (cd "$root/crates/pact_program" && rt run) </dev/null 2>&1 | tee "$log" | tell_crates
     # The stamp is written last, of a program that was proved and linked.
     if ! [ -x "$program" ] || ! [ -f "$program.stamp" ]; then
         tail -n 20 "$log" >&2
         echo 'pact: the build failed' >&2
         return 1
     fi
+    mv "$marker.new" "$marker"
     echo 'pact: built' >&2
 }
 
+# One launcher builds at a time, and one that has waited finds the program built.
+build_alone() {
+    mkdir -p "$out"
+    exec 9>"$out/build.lock"
+    ! command -v flock >/dev/null || flock 9
+    is_current || build
+    local built=$?
+    exec 9>&-
+    return "$built"
+}
+
 # 127 is the shell's status for a command that isn't there; the statuses of pact are its own.
-is_current || build || exit 127
+is_current || build_alone || exit 127
 exec "$program" "$@"

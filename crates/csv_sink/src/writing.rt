@@ -1,13 +1,18 @@
 //! Rows as lines of text.
 
-ghost use Rattle.std.specs.Prelude.{◌≡◌, map, IfOk};
-ghost use Rattle.csv.specs.Records.{fields_of};
+ghost use Rattle.std.specs.Prelude.{◌≡◌, ◌<◌, ◌++◌, ◌∷◌, [], ℕ, List, Option, map, IfOk, OnOk};
+ghost use Rattle.std.specs.Io.KnownBytes.{Appends};
+ghost use Rattle.csv.specs.Writing.{default_writer, fields_written, row_text, text_written};
+ghost use Rattle.pact_record.specs.declared.records.TheConstants.{MAX_FIELDS};
 ghost use Rattle.csv_sink.specs.CsvText.{csv_text, value_text};
+ghost use Rattle.csv_sink.specs.RowsWritten.{HasTexts, IsBetweenRows};
 
-use csv::{ByteRecord, WriterBuilder};
+use csv::{Writer, WriterBuilder};
+use itoa::Buffer;
 use pact_bag::Rows;
 use pact_record::{Bytes, OutOfMemory, Record, Value};
 use std::alloc::Global;
+use std::io::Write;
 
 /// The CSV text of rows, one after the other, in their order. A field is empty where the value is
 /// Null, or a text without bytes. Want of memory is the only error.
@@ -16,27 +21,46 @@ pub fn write_rows(alloc: Global, rows: &Rows) -> Result<Bytes, OutOfMemory>
 {
     let mut writer = WriterBuilder::new().from_writer(Vec::new(alloc));
     for row in rows.rows() {
-        let texts = texts_of(alloc, row)?;
-        // rows have one width, so that the writer has no other reason than memory
-        writer.write_byte_record(&texts).map_err(|_| OutOfMemory)?;
+        write_row(&mut writer, row)?;
     }
     let text = writer.into_inner().map_err(|_| OutOfMemory)?;
     Ok(Bytes::from_vec(text))
 }
 
-fn texts_of(alloc: Global, row: &Record) -> Result<ByteRecord, OutOfMemory>
-    ensures { IfOk result (λ texts. fields_of texts ≡ map value_text row.now) }
+// Rows have one width, so that a writer to memory has no other reason than want of memory.
+fn write_row<W: Write + Drop>(writer: &mut Writer<W>, row: &Record) -> Result<(), OutOfMemory>
+    requires { IsBetweenRows writer.old }
+    ensures text { OnOk result (Appends (text_written W.contents writer.old) (text_written W.contents writer.new) (row_text default_writer (map value_text row.now))) }
+    ensures between { OnOk result (IsBetweenRows writer.new) }
 {
-    let mut texts = ByteRecord::new(alloc);
     for field in 0..row.len() {
-        match row.get(field) {
-            Value::Null => texts.push_field(b"")?,
-            Value::Text(text) => texts.push_field(text.bytes())?,
-            Value::Int(number) => {
-                let text = format!(in alloc; "{number}")?;
-                texts.push_field(text.as_bytes())?;
-            }
-        }
+        write_value(writer, row.get(field))?;
     }
-    Ok(texts)
+    let Ok(()) = writer.end_record() else {
+        return Err(OutOfMemory);
+    };
+    Ok(())
+}
+
+// Writes one more field of the current row.
+fn write_value<W: Write + Drop>(writer: &mut Writer<W>, value: &Value) -> Result<(), OutOfMemory>
+    requires { fields_written writer.old < MAX_FIELDS }
+    ensures { OnOk result ((before : Option (List ℕ)) (texts : List (List ℕ)) → HasTexts W.contents before texts writer.old → HasTexts W.contents before (texts ++ value_text value.now ∷ []) writer.new) }
+{
+    let mut digits = Buffer::new();
+    let Ok(()) = writer.write_field(text_of(value, &mut digits)) else {
+        return Err(OutOfMemory);
+    };
+    Ok(())
+}
+
+// The text of a value, that of a number in the buffer.
+fn text_of<'a>(value: &'a Value, digits: &'a mut Buffer) -> &'a [u8]
+    ensures { result.now ≡ value_text value.now }
+{
+    match value {
+        Value::Null => b"",
+        Value::Text(text) => text.bytes(),
+        Value::Int(number) => digits.format(*number).as_bytes(),
+    }
 }

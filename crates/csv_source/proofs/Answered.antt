@@ -1,9 +1,9 @@
 -- What is answered for a record and for all of them, from the answer for a field and for a record.
-use Rattle.std.proofs.Common.{◌≡◌, ◌<◌, ◌+◌, ℕ, List, [], inr, length, take, get_or, replicate, sym, subst}
+use Rattle.std.proofs.Common.{◌≡◌, ◌<◌, ◌+◌, ◌++◌, ◌∷◌, ℕ, List, [], inr, length, take, get_or, replicate, sym, subst}
 use Rattle.pact_bag.specs.declared.columns.Column.{Column}
 use Rattle.pact_record.specs.declared.values.Value.{Value}
 use Rattle.pact_record.specs.declared.values.Value.TheVariants.{Null}
-use Rattle.csv_source.specs.CsvRows.{AreRows, CsvRows, FillsColumns, column_number, records_of}
+use Rattle.csv_source.specs.CsvRows.{AreRows, CsvRows, FillsColumns, FirstBadRow, column_number, records_of}
 use Rattle.csv_source.specs.Refused.{IsMemory, RowRefused, RowRefusedAt, RowsRefused, SourceRefused, ValueRefused, ValueRefusedAt}
 use Rattle.csv_source.specs.declared.fields.NotValue.{NotValue}
 use Rattle.csv_source.specs.declared.fields.NotValue.TheVariants as values
@@ -20,11 +20,12 @@ row_refused fields k column columns texts filled c (values.Fault why) result h l
     subst (RowRefused columns texts) (sym r) (inr (e, first_fault 1 k columns texts (replicate fields Null) filled c column why h l e m f))
 row_refused fields k column columns texts filled c values.Memory result h l e m f r = subst (RowRefused columns texts) (sym r) tt
 
-pub rows_refused : (fields k row : ℕ) (columns : List Column) (records : List (List (List ℕ))) (held : List (List Value)) (not : NotRow) (result : BadRow)
-    → AreRows fields columns (take k records) held → k < length records → row ≡ 1 + k → RowRefused columns (get_or records k []) not → RowRefusedAt not row result → RowsRefused fields columns records result
-rows_refused fields k row columns records held (rows.Fault column why) result h l e f r =
-    subst (RowsRefused fields columns records) (sym r) (first_bad_row fields columns 1 k records held row column why h l e f)
-rows_refused fields k row columns records held rows.Memory result h l e f r = subst (RowsRefused fields columns records) (sym r) tt
+pub rows_refused : (fields row : ℕ) (columns : List Column) (records read left : List (List (List ℕ))) (texts : List (List ℕ)) (held : List (List Value)) (not : NotRow) (result : BadRow)
+    → AreRows fields columns read held → records ≡ read ++ texts ∷ left → row ≡ 1 + length read → RowRefused columns texts not → RowRefusedAt not row result → RowsRefused fields columns records result
+rows_refused fields row columns records read left texts held (rows.Fault column why) result h all e f r =
+    subst (RowsRefused fields columns records) (sym r)
+    (subst (λ l. FirstBadRow fields columns 1 l row column why) (sym all) (first_bad_row fields columns 1 read left texts held row column why h e f))
+rows_refused fields row columns records read left texts held rows.Memory result h all e f r = subst (RowsRefused fields columns records) (sym r) tt
 
 -- where there are rows, memory alone is a reason
 pub memory_alone : (fields : ℕ) (columns : List Column) (bytes : List ℕ) (held : List (List Value)) (bad : BadRow) → CsvRows fields columns bytes held → SourceRefused fields columns bytes bad → IsMemory bad

@@ -2,3 +2,4 @@ mod Records
 pub mod Numerals
 pub mod RowParts
 mod Answered
+mod ReadSoFar

@@ -48,13 +48,13 @@ first_fault n zero (d ∷ cs) (t ∷ ts) row filled c number why h l e m f = inl
 first_fault n (suc k) (d ∷ cs) (t ∷ ts) row filled c number why h l e m f =
     inr (h.0, h.1, first_fault (n + 1) k cs ts (slice_set row d.field h.0) filled c number why h.2 (omega arith) (omega (arith, e)) (m ∙ ap column_number (let z : n + suc k ≡ (n + 1) + k = omega arith in z)) f)
 
-pub first_bad_row : (fields : ℕ) (columns : List Column) (n k : ℕ) (records : List (List (List ℕ))) (rows : List (List Value)) (row column why : ℕ) → AreRows fields columns (take k records) rows → k < length records
-    → row ≡ n + k → RowFault columns (get_or records k []) column why → FirstBadRow fields columns n records row column why
-first_bad_row fields columns n k [] rows row column why h l e f = absurd (omega arith)
-first_bad_row fields columns n zero (ts ∷ tss) rows row column why h l e f = inl (e ∙ (let z : n + 0 ≡ n = omega arith in z), f)
-first_bad_row fields columns n (suc k) (ts ∷ tss) [] row column why h l e f = absurd h
-first_bad_row fields columns n (suc k) (ts ∷ tss) (r ∷ rs) row column why h l e f =
-    inr (r, h.0, first_bad_row fields columns (n + 1) k tss rs row column why h.1 (omega arith) (e ∙ (let z : n + suc k ≡ (n + 1) + k = omega arith in z)) f)
+-- a bad record right behind rows
+pub first_bad_row : (fields : ℕ) (columns : List Column) (n : ℕ) (read left : List (List (List ℕ))) (texts : List (List ℕ)) (rows : List (List Value)) (row column why : ℕ) → AreRows fields columns read rows
+    → row ≡ n + length read → RowFault columns texts column why → FirstBadRow fields columns n (read ++ texts ∷ left) row column why
+first_bad_row fields columns n [] left texts rows row column why h e f = inl (e ∙ (let z : n + 0 ≡ n = omega arith in z), f)
+first_bad_row fields columns n (ts ∷ tss) left texts [] row column why h e f = absurd h
+first_bad_row fields columns n (ts ∷ tss) left texts (r ∷ rs) row column why h e f =
+    inr (r, h.0, first_bad_row fields columns (n + 1) tss left texts rs row column why h.1 (e ∙ (let z : n + suc (length tss) ≡ (n + 1) + length tss = omega arith in z)) f)
 
 -- ---- what is bad is no row
 

@@ -20,9 +20,8 @@ IsNumber bytes z = ParsesSigned {E = Unit {0}} w64 10 bytes (Ok z)
 abbrev pub FieldValue : Bool → List ℕ → Value → Type 0
 FieldValue text bytes Null = bytes ≡ []
 FieldValue false bytes (Int z) = IsNumber bytes z
-FieldValue true bytes (Int z) = ⊥
-FieldValue false bytes (Text t) = ⊥
 FieldValue true bytes (Text t) = (t ≡ bytes) × (bytes ≢ []) × IsUtf8 bytes × (length bytes ≤ text_limit)
+FieldValue text bytes v = ⊥
 
 -- why a field has no value: 3 where it isn't UTF-8; else 2 where it is no number, or 4 where the text is too long
 abbrev pub FieldFault : Bool → List ℕ → ℕ → Type 0
@@ -35,9 +34,8 @@ FieldFault true bytes why = ((why ≡ 3) × (IsUtf8 bytes → ⊥)) ⊎ ((why �
 -- a record's texts go to the columns' fields, from the left, and there are as many as columns
 abbrev pub FillsColumns : List Column → List (List ℕ) → List Value → List Value → Type 0
 FillsColumns [] [] row filled = filled ≡ row
-FillsColumns [] (t ∷ ts) row filled = ⊥
-FillsColumns (c ∷ cs) [] row filled = ⊥
 FillsColumns (c ∷ cs) (t ∷ ts) row filled = (v : Value) × FieldValue c.text t v × FillsColumns cs ts (slice_set row c.field v) filled
+FillsColumns columns texts row filled = ⊥
 
 -- every other field is Null
 abbrev pub IsRow : ℕ → List Column → List (List ℕ) → List Value → Type 0
@@ -49,10 +47,9 @@ column_number n = min n (2 ^ 32 - 1)
 
 -- the first field from the left that has no value, where the columns are numbered from n
 abbrev pub FirstFieldFault : ℕ → List Column → List (List ℕ) → ℕ → ℕ → Type 0
-FirstFieldFault n [] texts column why = ⊥
-FirstFieldFault n (c ∷ cs) [] column why = ⊥
 FirstFieldFault n (c ∷ cs) (t ∷ ts) column why =
     ((column ≡ column_number n) × FieldFault c.text t why) ⊎ ((v : Value) × FieldValue c.text t v × FirstFieldFault (n + 1) cs ts column why)
+FirstFieldFault n columns texts column why = ⊥
 
 -- a record's first fault: its width is told in column 0, and before every field
 abbrev pub RowFault : List Column → List (List ℕ) → ℕ → ℕ → Type 0
@@ -63,15 +60,14 @@ RowFault columns texts column why =
 
 abbrev pub AreRows : ℕ → List Column → List (List (List ℕ)) → List (List Value) → Type 0
 AreRows fields columns [] [] = Unit {0}
-AreRows fields columns [] (r ∷ rs) = ⊥
-AreRows fields columns (ts ∷ tss) [] = ⊥
 AreRows fields columns (ts ∷ tss) (r ∷ rs) = IsRow fields columns ts r × AreRows fields columns tss rs
+AreRows fields columns records rows = ⊥
 
 -- the first record that is no row, where they are numbered from n
 abbrev pub FirstBadRow : ℕ → List Column → ℕ → List (List (List ℕ)) → ℕ → ℕ → ℕ → Type 0
-FirstBadRow fields columns n [] row column why = ⊥
 FirstBadRow fields columns n (ts ∷ tss) row column why =
     ((row ≡ n) × RowFault columns ts column why) ⊎ ((r : List Value) × IsRow fields columns ts r × FirstBadRow fields columns (n + 1) tss row column why)
+FirstBadRow fields columns n [] row column why = ⊥
 
 abbrev pub records_of : List ℕ → List (List (List ℕ))
 records_of bytes = records default_config (strip_bom bytes)

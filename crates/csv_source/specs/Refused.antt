@@ -35,5 +35,5 @@ abbrev pub SourceRefused : ℕ → List Column → List ℕ → BadRow → Type 
 SourceRefused fields columns bytes bad = RowsRefused fields columns (records_of bytes) bad
 
 abbrev pub IsMemory : BadRow → Type 0
-IsMemory (bads.At row column why) = ⊥
 IsMemory bads.Memory = Unit {0}
+IsMemory bad = ⊥

@@ -1,22 +1,22 @@
 //! Rows from text.
 
-ghost use Rattle.std.specs.Prelude.{◌≡◌, ◌≤◌, ◌<◌, ◌+◌, ℕ, List, length, map, IfErr, IfOk};
+ghost use Rattle.std.specs.Prelude.{◌≡◌, ◌≤◌, ◌<◌, ◌+◌, ℕ, List, Some, length, IfErr, IfOk};
 ghost use Rattle.std.specs.List.{AllByRecursion};
-ghost use Rattle.csv.specs.Reading.{AreRecords, default_config, strip_bom};
 ghost use Rattle.csv.specs.Records.{fields_of};
-ghost use Rattle.csv.specs.declared.parser.State.TheVariants as st;
 ghost use Rattle.pact_bag.specs.SourceRows.{AreSourceRows};
 ghost use Rattle.pact_record.specs.declared.values.Value.{Value as FieldsValue};
-ghost use Rattle.csv_source.specs.CsvRows.{AreRows, CsvRows, HasBadRow, IsRow, column_number};
-ghost use Rattle.csv_source.specs.Refused.{IsMemory, RowRefused, RowRefusedAt, RowsRefused, SourceRefused, ValueRefusedAt};
+ghost use Rattle.csv_source.specs.CsvRows.{CsvRows, HasBadRow, IsRow, column_number, records_of};
+ghost use Rattle.csv_source.specs.RecordsLeft.{Gives, HasLeft};
+ghost use Rattle.csv_source.specs.Refused.{IsMemory, RowRefused, RowRefusedAt, SourceRefused, ValueRefusedAt};
 ghost use Rattle.csv_source.specs.declared.reading.BadRow.TheVariants as bads;
 ghost use Rattle.csv_source.specs.declared.reading.NotRow.TheVariants as nots;
 
 use crate::fields::{NotValue, value_at};
-use csv::{ByteRecord, ReaderBuilder};
+use csv::{ByteRecord, Reader, ReaderBuilder};
 use pact_bag::{Column, Columns, NoRoom, Rows};
 use pact_record::{MAX_FIELDS, OutOfMemory, Record};
 use std::alloc::Global;
+use std::io::Read;
 
 /// Why the rows of a text weren't read.
 #[derive(Debug, Drop)]
@@ -62,22 +62,26 @@ impl From<OutOfMemory> for NotRow {
     }
 }
 
-// An error of the reader other than memory's does not arise over a slice.
-fn read_records(alloc: Global, text: &[u8]) -> Result<Vec<ByteRecord>, OutOfMemory>
-    ensures { IfOk result (λ records. AreRecords default_config st.StartRecord (strip_bom text.now) (map fields_of records.items)) }
+// A reader of a text without a header row. It takes rows of every width, since the width is tested
+// below, where the row can be told.
+fn reader_of(alloc: Global, text: &[u8]) -> Reader<&[u8]>
+    ensures { HasLeft (λ slice. Some slice.now) result (records_of text.now) }
 {
-    let reader = ReaderBuilder::new()
+    ReaderBuilder::new()
         .has_headers(false)
         .flexible(true)
-        .from_reader(alloc, text);
-    let mut records = Vec::new(alloc);
-    for record in reader.into_byte_records() {
-        match record {
-            Ok(record) => records.push(record)?,
-            Err(_) => return Err(OutOfMemory),
-        }
-    }
-    Ok(records)
+        .from_reader(alloc, text)
+}
+
+// Whether there is a next record, which takes the place of the one in `texts`. Where the text is in
+// memory, the reader has no error but want of memory.
+fn next_record<R: Read>(reader: &mut Reader<R>, texts: &mut ByteRecord) -> Result<bool, OutOfMemory>
+    ensures { IfOk result (λ found. (left : List (List (List ℕ))) → HasLeft R.remaining reader.old left → Gives R.remaining left found (fields_of texts.new) reader.new) }
+{
+    let Ok(found) = reader.read_byte_record(texts) else {
+        return Err(OutOfMemory);
+    };
+    Ok(found)
 }
 
 // The number of a column, from 1; the last number stands for all that are greater.
@@ -130,26 +134,26 @@ fn at_row(not: NotRow, row: u64) -> BadRow
     }
 }
 
-fn rows_of(
-    alloc: Global,
-    records: &[ByteRecord],
-    columns: &[Column],
-    fields: u32,
-) -> Result<Rows, BadRow>
+fn rows_of(alloc: Global, text: &[u8], columns: &[Column], fields: u32) -> Result<Rows, BadRow>
     requires fields { fields ≤ MAX_FIELDS }
     requires columns { AllByRecursion (λ column. column.field < fields) columns.now }
-    ensures rows { IfOk result (AreRows fields columns.now (map fields_of records.now)) }
-    ensures widths { IfOk result (AllByRecursion (λ row. length row ≡ fields)) }
-    ensures refused { IfErr result (RowsRefused fields columns.now (map fields_of records.now)) }
+    ensures rows { IfOk result (CsvRows fields columns.now text.now) }
+    ensures refused { IfErr result (SourceRefused fields columns.now text.now) }
 {
+    let mut reader = reader_of(alloc, text);
+    let mut texts = ByteRecord::new(alloc);
     let mut rows = Rows::new(alloc);
-    for (at, texts) in records.iter().enumerate() {
-        match row_of(alloc, texts, columns, fields) {
+    for at in 0..u64::MAX {
+        if !next_record(&mut reader, &mut texts)? {
+            return Ok(rows);
+        }
+        match row_of(alloc, &texts, columns, fields) {
             Ok(row) => rows.push(row)?,
-            Err(not) => return Err(at_row(not, at as u64 + 1)),
+            Err(not) => return Err(at_row(not, at + 1)),
         }
     }
-    Ok(rows)
+    // no text in memory has so many rows
+    Err(BadRow::Memory)
 }
 
 /// The rows of a source's CSV text, in their order, or the first bad row.
@@ -171,6 +175,5 @@ pub fn read_source(
     ensures rows_always { (rows : List (List FieldsValue)) → CsvRows fields columns.now text.now rows → IfErr result IsMemory }
     ensures bad_row_always { (row column why : ℕ) → HasBadRow fields columns.now text.now row column why → IfOk result (λ _. ⊥) }
 {
-    let records = read_records(alloc, text)?;
-    rows_of(alloc, &records, columns.columns(), fields)
+    rows_of(alloc, text, columns.columns(), fields)
 }

@@ -8,15 +8,11 @@ use Rattle.std.proofs.lemmas.List.Sorted.{All-permutation}
 use Rattle.pact_record.specs.declared.values.Value.{Value}
 use Rattle.pact_bag.specs.Rows.{HaveOneWidth, cut}
 use Rattle.pact_record.specs.Record.{at_field}
-use Rattle.pact_record.proofs.Lists.{AllByRecursion-append}
+use Rattle.pact_record.proofs.Lists.{AllByRecursion-append, AllByRecursion-last}
 
 pub All-from_recursion : {X : Type 0} (P : X → Type 0) (xs : List X) → AllByRecursion P xs → All P xs
 All-from_recursion P [] h = All-nil P
 All-from_recursion P (x ∷ xs) h = All-cons P x xs h.0 (All-from_recursion P xs h.1)
-
-pub AllByRecursion-last : {X : Type 0} (P : X → Type 0) (xs : List X) (x : X) → AllByRecursion P xs → P x → AllByRecursion P (xs ++ x ∷ [])
-AllByRecursion-last P [] x h k = (k, tt)
-AllByRecursion-last P (y ∷ xs) x h k = (h.0, AllByRecursion-last P xs x h.1 k)
 
 pub HaveOneWidth-nil : HaveOneWidth []
 HaveOneWidth-nil = record { width = 0; all = All-nil (λ (row : List Value). length row ≡ 0) }

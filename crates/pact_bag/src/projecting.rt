@@ -12,11 +12,11 @@ fn cut_record(alloc: Global, row: &Record, fields: &[u32]) -> Result<Record, Out
     requires within { AllByRecursion (λ field. field < length row.now) fields.now }
     ensures { IfOk result (λ r. r ≡ cut fields.now row.now) }
 {
-    let mut cut = Record::empty(alloc, fields.len() as u32)?;
-    for (at, field) in fields.iter().enumerate() {
-        cut.set(at as u32, row.get(*field).copy(alloc)?);
+    let mut values = Vec::with_capacity(alloc, fields.len())?;
+    for field in fields {
+        values.push_reserved(row.get(*field).copy(alloc)?);
     }
-    Ok(cut)
+    Ok(Record::from_vec(values))
 }
 
 /// The listed fields of each row, in the order of the list.
@@ -25,7 +25,7 @@ pub fn project(alloc: Global, rows: &Rows, fields: &[u32]) -> Result<Rows, OutOf
     requires within { AllByRecursion (λ row. AllByRecursion (λ field. field < length row) fields.now) rows.now }
     ensures { IfOk result (λ r. r ≡ map (cut fields.now) rows.now) }
 {
-    let mut projected = Rows::new(alloc);
+    let mut projected = Rows::with_capacity(alloc, rows.len())?;
     for row in rows.rows() {
         projected.push(cut_record(alloc, row, fields)?)?;
     }

@@ -55,6 +55,15 @@ impl Rows {
         }
     }
 
+    /// No rows, and memory for so many.
+    pub fn with_capacity(alloc: Global, rows: usize) -> Result<Rows, OutOfMemory>
+        ensures { IfOk result (λ rows. rows ≡ []) }
+    {
+        Ok(Rows {
+            held: Vec::with_capacity(alloc, rows)?,
+        })
+    }
+
     pub fn push(&mut self, row: Record) -> Result<(), NoRoom>
         requires { AllByRecursion (λ held. length held ≡ length row) self.old }
         ensures ok { OnOk result (self.new ≡ self.old ++ row ∷ []) }
@@ -90,7 +99,8 @@ impl Rows {
     }
 
     pub fn rows(&self) -> &[Record]
-        ensures { result.now ≡ self.now }
+        ensures rows { result.now ≡ self.now }
+        ensures one_width { HaveOneWidth self.now }
     {
         &self.held
     }
@@ -98,9 +108,9 @@ impl Rows {
     pub fn copy(&self, alloc: Global) -> Result<Rows, OutOfMemory>
         ensures { IfOk result (λ rows. rows ≡ self.now) }
     {
-        let mut held = Vec::new(alloc);
+        let mut held = Vec::with_capacity(alloc, self.held.len())?;
         for row in &self.held {
-            held.push(row.copy(alloc)?)?;
+            held.push_reserved(row.copy(alloc)?);
         }
         Ok(Rows { held })
     }

@@ -5,13 +5,13 @@ use Rattle.pact_bag.specs.declared.columns.Column.{Column}
 use Rattle.tac_syntax.specs.Bounded.{Names}
 use Rattle.tac_syntax.specs.Valid.{IsValid, WithFields}
 use Rattle.tac_syntax.proofs.Naming.{NamesBelow-valid}
-use Rattle.pact_operators.specs.declared.declarations.OpKind.{OpKind}
-use Rattle.pact_operators.specs.declared.declarations.OpKind.TheVariants.{Source, Map, Reduce, Match, Cross, CoGroup}
+use Rattle.program_drafts.specs.declared.declarations.OpKind.{OpKind}
+use Rattle.program_drafts.specs.declared.declarations.OpKind.TheVariants.{Source, Map, Reduce, Match, Cross, CoGroup}
 use Rattle.pact_operators.specs.declared.operators.Op.{Op}
-use Rattle.pact_operators.specs.Plans.{PlanTree, leaf, over, both}
+use Rattle.plan_trees.specs.Plans.{PlanTree, leaf, over, both}
 use Rattle.pact_bag.specs.SourceRows.{IsColumnField}
 use Rattle.pact_operators.specs.Programs.{HasAttribute, Owns, OwnsBy, body_of, fields_of, source_fields}
-use Rattle.pact_operators.proofs.Shown.{AllByRecursion-left, AllByRecursion-right}
+use Rattle.pact_record.proofs.Lists.{AllByRecursion-left, AllByRecursion-right}
 
 -- the functions are valid, with this number of fields
 pub record AreOf (fields : ℕ) (v : List WithFields) : Type 0 where

@@ -1,14 +1,14 @@
 -- What the inputs of a draft's operators are by number, where each name is declared once.
-use Rattle.std.proofs.Common.{◌≡◌, ◌≤◌, ◌+◌, ◌⊎◌, ◌||◌, inl, inr, ℕ, zero, suc, Bool, true, false, Some, None, List, [], ◌∷◌, ◌++◌, length, slice_get, bytes_eq, refl, ap, sym, subst, ◌∙◌, arith}
-use Rattle.std.proofs.lemmas.Bool.{or_cases, or_right}
+use Rattle.std.proofs.Common.{◌≡◌, ◌≤◌, ◌+◌, ◌⊎◌, ◌||◌, inl, inr, ℕ, zero, suc, true, false, Some, None, List, [], ◌∷◌, ◌++◌, length, slice_get, bytes_eq, refl, ap, sym, subst, ◌∙◌, arith}
+use Rattle.std.proofs.lemmas.Bool.{both_ways, cases_Bool, or_cases, or_right}
 use Rattle.std.proofs.lemmas.Slice.Eq.{bytes_eq-Decides}
-use Rattle.pact_operators.specs.declared.declarations.OpKind.{OpKind}
-use Rattle.pact_operators.specs.declared.declarations.OpKind.TheVariants.{Source as SourceKind, Map, Reduce, Match, Cross, CoGroup}
-use Rattle.pact_operators.specs.declared.declarations.Decl.{Decl}
-use Rattle.pact_operators.specs.declared.declarations.Decl.TheVariants.{Source, Function as FunctionDecl, Op as OpDecl, Sink}
+use Rattle.program_drafts.specs.declared.declarations.OpKind.{OpKind}
+use Rattle.program_drafts.specs.declared.declarations.OpKind.TheVariants.{Source as SourceKind, Map, Reduce, Match, Cross, CoGroup}
+use Rattle.program_drafts.specs.declared.declarations.Decl.{Decl}
+use Rattle.program_drafts.specs.declared.declarations.Decl.TheVariants.{Source, Function as FunctionDecl, Op as OpDecl, Sink}
 use Rattle.pact_operators.specs.ProgramRules.{all_inputs}
 use Rattle.pact_operators.specs.Resolved.{Inputs, no_input, one_input, two_inputs, inputs_of, inputs_read, is_among, names_read, node_names, place_among, sink_inputs, times_among}
-use Rattle.pact_operators.proofs.Flows.{IsInput, Reads}
+use Rattle.pact_operators.proofs.FlowsMakeTrees.{IsInput, Reads}
 
 -- ---- names
 
@@ -17,13 +17,6 @@ eq_names a b e = (bytes_eq-Decides a b).0 e
 
 pub same_name : (a : List ℕ) → bytes_eq a a ≡ true
 same_name a = (bytes_eq-Decides a a).1 refl
-
-either : (b : Bool) → (b ≡ true) ⊎ (b ≡ false)
-either true = inl refl
-either false = inr refl
-
-clash : (b : Bool) → b ≡ true → b ≡ false → ⊥
-clash b p q = cc
 
 -- ---- places among names
 
@@ -47,8 +40,8 @@ times_later name n names e = rw e refl
 
 -- what is among the names stands at its place
 pub placed : (name : List ℕ) (names : List (List ℕ)) → is_among name names ≡ true → slice_get names (place_among name names) ≡ Some name
-placed name [] h = absurd (clash false h refl)
-placed name (n ∷ names) h = elim (either (bytes_eq name n)) as (λ _. slice_get (n ∷ names) (place_among name (n ∷ names)) ≡ Some name) [
+placed name [] h = absurd (both_ways false refl h)
+placed name (n ∷ names) h = elim (cases_Bool (bytes_eq name n)) as (λ _. slice_get (n ∷ names) (place_among name (n ∷ names)) ≡ Some name) [
   | inl e ↦ rw (place_here name n names e) (ap (λ (x : List ℕ). Some x) (sym (eq_names name n e)))
   | inr e ↦ rw (place_later name n names e) (placed name names (sym (among_later name n names e) ∙ h))
 ]
@@ -59,8 +52,8 @@ some_place name (n ∷ names) zero e = let same : n ≡ name = cc in rw (same, s
 some_place name (n ∷ names) (suc m) e = or_right (bytes_eq name n) (is_among name names) (some_place name names m e)
 
 among_times : (name : List ℕ) (names : List (List ℕ)) → is_among name names ≡ true → 1 ≤ times_among name names
-among_times name [] h = absurd (clash false h refl)
-among_times name (n ∷ names) h = elim (either (bytes_eq name n)) as (λ _. 1 ≤ times_among name (n ∷ names)) [
+among_times name [] h = absurd (both_ways false refl h)
+among_times name (n ∷ names) h = elim (cases_Bool (bytes_eq name n)) as (λ _. 1 ≤ times_among name (n ∷ names)) [
   | inl e ↦ omega (arith, times_here name n names e)
   | inr e ↦ omega (arith, times_later name n names e, among_times name names (sym (among_later name n names e) ∙ h))
 ]
@@ -69,14 +62,14 @@ among_times name (n ∷ names) h = elim (either (bytes_eq name n)) as (λ _. 1 �
 pub only_place : (name : List ℕ) (names : List (List ℕ)) (m : ℕ) → times_among name names ≤ 1 → slice_get names m ≡ Some name → place_among name names ≡ m
 only_place name [] m once e = let bad : None ≡ Some name = e in absurd cc
 only_place name (n ∷ names) zero once e = let same : n ≡ name = cc in place_here name n names (subst (λ (x : List ℕ). bytes_eq name x ≡ true) (sym same) (same_name name))
-only_place name (n ∷ names) (suc m) once e = elim (either (bytes_eq name n)) as (λ _. place_among name (n ∷ names) ≡ suc m) [
+only_place name (n ∷ names) (suc m) once e = elim (cases_Bool (bytes_eq name n)) as (λ _. place_among name (n ∷ names) ≡ suc m) [
   | inl here ↦ absurd (omega (arith, once, times_here name n names here, among_times name names (some_place name names m e)))
   | inr other ↦ place_later name n names other ∙ ap suc (only_place name names m (omega (arith, once, times_later name n names other)) e)
 ]
 
 times-append : (name : List ℕ) (a b : List (List ℕ)) → times_among name (a ++ b) ≡ times_among name a + times_among name b
 times-append name [] b = omega arith
-times-append name (n ∷ a) b = elim (either (bytes_eq name n)) as (λ _. times_among name (n ∷ (a ++ b)) ≡ times_among name (n ∷ a) + times_among name b) [
+times-append name (n ∷ a) b = elim (cases_Bool (bytes_eq name n)) as (λ _. times_among name (n ∷ (a ++ b)) ≡ times_among name (n ∷ a) + times_among name b) [
   | inl e ↦ omega (arith, times_here name n (a ++ b) e, times_here name n a e, times-append name a b)
   | inr e ↦ omega (arith, times_later name n (a ++ b) e, times_later name n a e, times-append name a b)
 ]
@@ -124,18 +117,18 @@ read_two names left right name h = elim (or_cases (bytes_eq name left) (bytes_eq
   | inl e ↦ inl (ap (λ (x : List ℕ). place_among x names) (eq_names name left e))
   | inr other ↦ elim (or_cases (bytes_eq name right) false other) [
     | inl e ↦ inr (ap (λ (x : List ℕ). place_among x names) (eq_names name right e))
-    | inr bad ↦ absurd (clash false bad refl)
+    | inr bad ↦ absurd (both_ways false refl bad)
   ]
 ]
 
 read_one : (names : List (List ℕ)) (left name : List ℕ) → is_among name (left ∷ []) ≡ true → place_among name names ≡ place_among left names
 read_one names left name h = elim (or_cases (bytes_eq name left) false h) as (λ _. place_among name names ≡ place_among left names) [
   | inl e ↦ ap (λ (x : List ℕ). place_among x names) (eq_names name left e)
-  | inr bad ↦ absurd (clash false bad refl)
+  | inr bad ↦ absurd (both_ways false refl bad)
 ]
 
 read_first : (kind : OpKind) (names : List (List ℕ)) (left right name : List ℕ) → is_among name (names_read kind left right) ≡ true → IsInput (Some (inputs_read names kind left right)) (place_among name names)
-read_first SourceKind names left right name h = clash false h refl
+read_first SourceKind names left right name h = both_ways false refl h
 read_first Map names left right name h = read_one names left name h
 read_first Reduce names left right name h = read_one names left name h
 read_first Match names left right name h = read_two names left right name h
@@ -182,7 +175,7 @@ one_reader (OpDecl own kind function left right left_keys right_keys ∷ decls) 
 one_reader (Sink input fields ∷ decls) p q name h k once = one_reader decls p q name h k (omega (arith, once, times-append name (input ∷ []) (all_inputs decls)))
 
 sink_times : (decls : List Decl) (name : List ℕ) → is_among name (sink_inputs decls) ≡ true → 1 ≤ times_among name (all_inputs decls)
-sink_times [] name s = absurd (clash false s refl)
+sink_times [] name s = absurd (both_ways false refl s)
 sink_times (Source own file columns ∷ decls) name s = sink_times decls name s
 sink_times (FunctionDecl number ∷ decls) name s = sink_times decls name s
 sink_times (OpDecl own kind function left right left_keys right_keys ∷ decls) name s = omega (arith, sink_times decls name s, times-append name (names_read kind left right) (all_inputs decls))

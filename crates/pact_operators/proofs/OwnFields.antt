@@ -11,7 +11,7 @@ use Rattle.tac_syntax.specs.Valid.{WithFields}
 use Rattle.pact_operators.specs.declared.operators.Op.{Op}
 use Rattle.pact_bag.specs.SourceRows.{IsColumnField}
 use Rattle.pact_operators.specs.Programs.{Owns, OwnsBy, body_of, fields_of, source_fields}
-use Rattle.pact_operators.proofs.Shown.{AllByRecursion-left, AllByRecursion-right}
+use Rattle.pact_record.proofs.Lists.{AllByRecursion-left, AllByRecursion-right}
 
 -- ---- columns
 

@@ -1,25 +1,23 @@
 -- A draft that keeps the rules on names, numbers and the tree has a plan as written.
 use Rattle.std.proofs.Common.{◌≡◌, ◌≤◌, ◌<◌, ◌+◌, ◌&&◌, ◌==◌, not, nat_le, inl, inr, ℕ, zero, suc, Bool, true, false, Some, None, List, [], ◌∷◌, ◌++◌, length, filter, map, slice_get, bytes_eq, refl, ap, sym, subst, ◌∙◌, append_assoc, append-nil, arith, length-append}
 use Rattle.std.specs.List.{AllByRecursion, list_any}
-use Rattle.std.proofs.lemmas.Bool.{or_cases, or_parts, and_parts, not-false, false_from_ne_true, eqb-true, leb-false}
+use Rattle.std.proofs.lemmas.Bool.{and_parts, both_ways, eqb-true, false_from_ne_true, leb-false, not-false, or_cases, or_parts}
 use Rattle.std.proofs.lemmas.List.Elements.{filter-append}
 use Rattle.std.proofs.lemmas.Option.{slice_get_within}
 use Rattle.tac_syntax.specs.Valid.{WithFields}
-use Rattle.pact_operators.specs.declared.declarations.OpKind.{OpKind}
-use Rattle.pact_operators.specs.declared.declarations.OpKind.TheVariants.{Source as SourceKind, Map, Reduce, Match, Cross, CoGroup}
-use Rattle.pact_operators.specs.declared.declarations.Decl.{Decl}
-use Rattle.pact_operators.specs.declared.declarations.Decl.TheVariants.{Source, Function as FunctionDecl, Op as OpDecl, Sink}
+use Rattle.program_drafts.specs.declared.declarations.OpKind.{OpKind}
+use Rattle.program_drafts.specs.declared.declarations.OpKind.TheVariants.{Source as SourceKind, Map, Reduce, Match, Cross, CoGroup}
+use Rattle.program_drafts.specs.declared.declarations.Decl.{Decl}
+use Rattle.program_drafts.specs.declared.declarations.Decl.TheVariants.{Source, Function as FunctionDecl, Op as OpDecl, Sink}
 use Rattle.pact_operators.specs.declared.program_rules.ProgramRule.TheVariants.{Undeclared, DeclaredTwice, NoSingleSink, TooMany, NotATree}
-use Rattle.pact_operators.specs.Drafts.{DraftData}
-use Rattle.pact_operators.specs.Plans.{PlanTree, IsPlan, nodes, node_limit}
+use Rattle.program_drafts.specs.Drafts.{DraftData}
+use Rattle.plan_trees.specs.Plans.{PlanTree, IsPlan, nodes, node_limit}
 use Rattle.pact_operators.specs.ProgramRules.{Keeps, NoneBreaks, all_inputs, is_one_too_many, is_operator, is_out_of_tree, is_reached, is_reader, name_at, some_missing, times_so}
 use Rattle.pact_operators.specs.Programs.{IsWrittenPlan, operator_limit}
 use Rattle.pact_operators.specs.Resolved.{Inputs, two_inputs, function_names, inputs_of, inputs_read, is_among, names_read, node_names, place_among, sink_inputs, times_among}
-use Rattle.pact_operators.proofs.Flows.{At, IsFlow, IsIn, Reads, readers_from, whole_tree}
+use Rattle.plan_trees.proofs.DifferentNumbers.{IsIn}
+use Rattle.pact_operators.proofs.FlowsMakeTrees.{At, IsFlow, Reads, readers_from, whole_tree}
 use Rattle.pact_operators.proofs.NamedInputs.{AllDeclared, ReadsName, eq_names, length-inputs_of, named, numbered, one_reader, only_place, placed, same_name, sink_and_reader, some_place, twice_read}
-
-clash : (b : Bool) → b ≡ true → b ≡ false → ⊥
-clash b p q = cc
 
 -- ---- what the rules say of each name
 
@@ -50,7 +48,7 @@ in_tree_each d v front (OpDecl own kind function left right left_keys right_keys
 in_tree_each d v front (Sink input fields ∷ decls) m name h e = in_tree_each d v (front ++ Sink input fields ∷ []) decls m name h.1 e
 
 none_missing : (name : List ℕ) (names declared : List (List ℕ)) → some_missing names declared ≡ false → is_among name names ≡ true → is_among name declared ≡ true
-none_missing name [] declared h i = absurd (clash false i refl)
+none_missing name [] declared h i = absurd (both_ways false refl i)
 none_missing name (n ∷ names) declared h i =
     let parts = or_parts (not (is_among n declared)) (some_missing names declared) h in
     elim (or_cases (bytes_eq name n) (is_among name names) i) as (λ _. is_among name declared ≡ true) [
@@ -71,7 +69,7 @@ reads_declared d v front (OpDecl own kind function left right left_keys right_ke
 reads_declared d v front (Sink input fields ∷ decls) h p name r = reads_declared d v (front ++ Sink input fields ∷ []) decls h.1 p name r
 
 sinks_declared : (d : DraftData) (v : List WithFields) (front decls : List Decl) (name : List ℕ) → NoneBreaks Undeclared d v front decls → is_among name (sink_inputs decls) ≡ true → is_among name (node_names d.decls) ≡ true
-sinks_declared d v front [] name h i = absurd (clash false i refl)
+sinks_declared d v front [] name h i = absurd (both_ways false refl i)
 sinks_declared d v front (Source own file columns ∷ decls) name h i = sinks_declared d v (front ++ Source own file columns ∷ []) decls name h.1 i
 sinks_declared d v front (FunctionDecl number ∷ decls) name h i = sinks_declared d v (front ++ FunctionDecl number ∷ []) decls name h.1 i
 sinks_declared d v front (OpDecl own kind function left right left_keys right_keys ∷ decls) name h i =
@@ -86,7 +84,7 @@ sinks_declared d v front (Sink input fields ∷ decls) name h i = elim (or_cases
 -- an operator that reads the name and passes a test of its own name
 reader_found : (d : DraftData) (test : List ℕ → Bool) (name : List ℕ) (decls : List Decl) → list_any (λ decl. is_reader name decl && test (name_at d.functions decl)) decls ≡ true
     → (p : ℕ) × (own : List ℕ) × (slice_get (node_names decls) p ≡ Some own) × ReadsName decls p name × (test own ≡ true)
-reader_found d test name [] h = absurd (clash false h refl)
+reader_found d test name [] h = absurd (both_ways false refl h)
 reader_found d test name (Source own file columns ∷ decls) h = let r = reader_found d test name decls h in (suc r.0, r.1, r.2, r.3, r.4)
 reader_found d test name (FunctionDecl number ∷ decls) h = reader_found d test name decls h
 reader_found d test name (OpDecl own kind function left right left_keys right_keys ∷ decls) h =
@@ -103,7 +101,7 @@ at_root d input one only m name e h =
     let named : is_among name (input ∷ []) ≡ true = subst (λ (x : List (List ℕ)). is_among name x ≡ true) one h in
     elim (or_cases (bytes_eq name input) false named) as (λ _. m ≡ place_among input (node_names d.decls)) [
       | inl same ↦ sym (only m name e) ∙ ap (λ (x : List ℕ). place_among x (node_names d.decls)) (eq_names name input same)
-      | inr bad ↦ absurd (clash false bad refl)
+      | inr bad ↦ absurd (both_ways false refl bad)
     ]
 
 level : (d : DraftData) (input : List ℕ) → sink_inputs d.decls ≡ input ∷ [] → ((m : ℕ) (name : List ℕ) → slice_get (node_names d.decls) m ≡ Some name → place_among name (node_names d.decls) ≡ m)
@@ -159,7 +157,7 @@ few_operators d v front (decl ∷ decls) h le =
 -- ---- the plan
 
 one_sink : (names : List (List ℕ)) → (length names == 1) ≡ true → (input : List ℕ) × (names ≡ input ∷ [])
-one_sink [] h = absurd (clash false h refl)
+one_sink [] h = absurd (both_ways false refl h)
 one_sink (input ∷ []) h = (input, refl)
 one_sink (input ∷ other ∷ names) h = let e = eqb-true (length (input ∷ other ∷ names)) 1 h in absurd (omega (arith, e))
 

@@ -4,9 +4,9 @@ use Rattle.std.specs.List.Sorted.{IsPermutation}
 use Rattle.pact_bag.specs.Groups.{distinct_keys, do_match, group_of_key}
 use Rattle.pact_record.specs.declared.values.Value.{Value}
 use Rattle.pact_record.specs.Record.{key_of}
-use Rattle.pact_operators.specs.declared.declarations.OpKind.{OpKind}
-use Rattle.pact_operators.specs.declared.declarations.OpKind.TheVariants.{Source, Map, Reduce, Match, Cross, CoGroup}
-use Rattle.pact_operators.specs.Plans.{PlanTree, leaf, over, both}
+use Rattle.program_drafts.specs.declared.declarations.OpKind.{OpKind}
+use Rattle.program_drafts.specs.declared.declarations.OpKind.TheVariants.{Source, Map, Reduce, Match, Cross, CoGroup}
+use Rattle.plan_trees.specs.Plans.{PlanTree, leaf, over, both}
 use Rattle.pact_operators.specs.PlanOps.{PlanOps}
 
 -- A bag is a list up to its order. Equal records at different places are different records of it.
@@ -47,10 +47,7 @@ keys_in_either left_keys right_keys ls rs = distinct_keys (map (key_of left_keys
 abbrev pub Gives : PlanOps → OpKind → ℕ → Bag → Bag → Type 0
 Gives o Map n ls out = out ≡ flat_map (o.of_record n) ls
 Gives o Reduce n ls out = Grouped (o.of_group n) (o.left_keys n) ls (keys_in (o.left_keys n) ls) out
-Gives o Source n ls out = ⊥
-Gives o Match n ls out = ⊥
-Gives o Cross n ls out = ⊥
-Gives o CoGroup n ls out = ⊥
+Gives o kind n ls out = ⊥
 
 -- what an operator of two inputs may give for two bags
 abbrev pub GivesBoth : PlanOps → OpKind → ℕ → Bag → Bag → Bag → Type 0
@@ -58,9 +55,7 @@ GivesBoth o Match n ls rs out = out ≡ crossed (matched (o.of_pair n) (o.left_k
 GivesBoth o Cross n ls rs out = out ≡ crossed (o.of_pair n) ls rs
 GivesBoth o CoGroup n ls rs out =
     CoGrouped (o.of_groups n) (o.left_keys n) (o.right_keys n) ls rs (keys_in_either (o.left_keys n) (o.right_keys n) ls rs) out
-GivesBoth o Source n ls rs out = ⊥
-GivesBoth o Map n ls rs out = ⊥
-GivesBoth o Reduce n ls rs out = ⊥
+GivesBoth o kind n ls rs out = ⊥
 
 -- ---- evaluations of a plan
 

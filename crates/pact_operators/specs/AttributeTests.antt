@@ -2,14 +2,14 @@
 use Rattle.std.specs.Prelude.{◌≡◌, ◌<◌, true, List}
 use Rattle.std.specs.List.{AllByRecursion}
 use Rattle.pact_record.specs.declared.records.TheConstants.{MAX_FIELDS}
-use Rattle.pact_operators.specs.declared.declarations.Decl.{Decl}
-use Rattle.pact_operators.specs.declared.declarations.Decl.TheVariants.{Source, Function as FunctionDecl, Op as OpDecl, Sink}
+use Rattle.program_drafts.specs.declared.declarations.Decl.{Decl}
+use Rattle.program_drafts.specs.declared.declarations.Decl.TheVariants.{Op as OpDecl}
 use Rattle.pact_operators.specs.declared.operators.Op.{Op}
 use Rattle.pact_operators.specs.declared.program_rules.ProgramRule.{ProgramRule}
-use Rattle.pact_operators.specs.declared.program_rules.ProgramRule.TheVariants.{Undeclared, DeclaredTwice, NoSingleSink, TooMany, NotATree, OtherKind, OtherKeyCount, WrongField, NoAttribute, SharedAttribute}
+use Rattle.pact_operators.specs.declared.program_rules.ProgramRule.TheVariants.{NoAttribute, SharedAttribute}
 use Rattle.pact_operators.specs.Candidates.{CandidateData}
-use Rattle.pact_operators.specs.Drafts.{DraftData}
-use Rattle.pact_operators.specs.Plans.{PlanTree, has}
+use Rattle.program_drafts.specs.Drafts.{DraftData}
+use Rattle.plan_trees.specs.Plans.{PlanTree, has}
 use Rattle.pact_operators.specs.ProgramRules.{LacksAttribute, SharesAttribute}
 use Rattle.pact_operators.specs.Programs.{source_fields}
 use Rattle.pact_operators.specs.Resolved.{node_names, place_among}
@@ -22,20 +22,11 @@ pub record AreAttributesKnown (c : CandidateData) (ops : List Op) : Type 0 where
 
 -- an operator is in the tree
 abbrev pub HasPlace : DraftData → PlanTree → Decl → Type 0
-HasPlace d tree (Source name file columns) = Unit {0}
-HasPlace d tree (FunctionDecl number) = Unit {0}
 HasPlace d tree (OpDecl name kind function left right left_keys right_keys) = has (place_among name (node_names d.decls)) tree ≡ true
-HasPlace d tree (Sink input fields) = Unit {0}
+HasPlace d tree decl = Unit {0}
 
 -- A declaration breaks a rule about attributes in this plan; of another rule, none does.
 abbrev pub BreaksIn : ProgramRule → CandidateData → PlanTree → Decl → Type 0
-BreaksIn Undeclared c tree decl = ⊥
-BreaksIn DeclaredTwice c tree decl = ⊥
-BreaksIn NoSingleSink c tree decl = ⊥
-BreaksIn TooMany c tree decl = ⊥
-BreaksIn NotATree c tree decl = ⊥
-BreaksIn OtherKind c tree decl = ⊥
-BreaksIn OtherKeyCount c tree decl = ⊥
-BreaksIn WrongField c tree decl = ⊥
 BreaksIn NoAttribute c tree decl = LacksAttribute c.draft c.valids tree decl
 BreaksIn SharedAttribute c tree decl = SharesAttribute c.draft c.valids tree decl
+BreaksIn rule c tree decl = ⊥

@@ -9,9 +9,8 @@ use Rattle.pact_operators.specs.Programs.{ProgramData}
 -- each source has its rows
 abbrev pub HaveRows : ℕ → List Op → List (List (List Value)) → Type 0
 HaveRows fields [] [] = Unit {0}
-HaveRows fields [] (rows ∷ inputs) = ⊥
-HaveRows fields (source ∷ sources) [] = ⊥
 HaveRows fields (source ∷ sources) (rows ∷ inputs) = AreSourceRows fields source.columns rows × HaveRows fields sources inputs
+HaveRows fields sources inputs = ⊥
 
 -- the rows of each source, in the order of the sources' numbers
 abbrev pub AreInputsOf : ProgramData → List (List (List Value)) → Type 0

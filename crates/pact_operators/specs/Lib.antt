@@ -1,11 +1,6 @@
-pub mod Declarations
-pub mod Distinct
-pub mod Drafts
 pub mod AttributeTests
 pub mod Candidates
 pub mod Checks
-pub mod DraftCode
-pub mod Plans
 pub mod Resolved
 pub mod Programs
 pub mod ProgramCode
@@ -14,13 +9,5 @@ pub mod Allowed
 pub mod Inputs
 pub mod ProgramRules
 pub mod RuleTests
-pub mod NodeRows
-pub mod Physicals
-pub mod PhysicalCode
-pub mod PlanCode
-pub mod PlanEquality
-pub mod PlanParts
 pub mod PlanReads
-pub mod Preorders
-pub mod ValidLists
 pub mod WrittenOps

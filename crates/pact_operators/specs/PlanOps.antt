@@ -1,8 +1,8 @@
 -- What the sources and operators of a plan do, by their numbers.
 use Rattle.std.specs.Prelude.{ℕ, Bool, true, false, List, [], Option, Some, None, filter, get_or, length, slice_get, take}
 use Rattle.pact_record.specs.declared.values.Value.{Value}
-use Rattle.pact_operators.specs.declared.declarations.OpKind.{OpKind}
-use Rattle.pact_operators.specs.declared.declarations.OpKind.TheVariants.{Source, Map, Reduce, Match, Cross, CoGroup}
+use Rattle.program_drafts.specs.declared.declarations.OpKind.{OpKind}
+use Rattle.program_drafts.specs.declared.declarations.OpKind.TheVariants.{Source}
 use Rattle.pact_operators.specs.declared.operators.Op.{Op}
 use Rattle.pact_operators.specs.Programs.{ProgramData, body_of}
 use Rattle.tac_syntax.specs.Code.{Code}
@@ -47,11 +47,7 @@ body_at p n = body_of p.functions (function_in (slice_get p.ops n))
 
 abbrev pub is_source_kind : OpKind → Bool
 is_source_kind Source = true
-is_source_kind Map = false
-is_source_kind Reduce = false
-is_source_kind Match = false
-is_source_kind Cross = false
-is_source_kind CoGroup = false
+is_source_kind kind = false
 
 -- the sources, in the order of their numbers
 abbrev pub sources_of : List Op → List Op

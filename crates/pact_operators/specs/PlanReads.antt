@@ -2,8 +2,8 @@
 use Rattle.std.specs.Prelude.{◌≡◌, ◌≤◌, ℕ, List}
 use Rattle.pact_operators.specs.declared.written_plans.Reads.{Reads}
 use Rattle.pact_operators.specs.declared.written_plans.Reads.TheVariants.{Nothing, One, Two}
-use Rattle.pact_operators.specs.Plans.{PlanTree, IsPlan, root_of}
-use Rattle.pact_operators.specs.Preorders.{count_of}
+use Rattle.plan_trees.specs.Plans.{PlanTree, IsPlan, root_of}
+use Rattle.plan_trees.specs.Preorders.{count_of}
 use Rattle.pact_operators.specs.Programs.{Follows}
 use Rattle.pact_operators.specs.Resolved.{Inputs, no_input, one_input, two_inputs}
 

@@ -5,8 +5,8 @@ use Rattle.tac_syntax.specs.Sealed.{coded_with_fields}
 use Rattle.tac_syntax.specs.Valid.{WithFields}
 use Rattle.pact_operators.specs.declared.operators.Op.{Op}
 use Rattle.pact_operators.specs.contracts.operators.Op.{the_row as op_row}
-use Rattle.pact_operators.specs.PlanCode.{coded_plan}
-use Rattle.pact_operators.specs.Plans.{PlanTree}
+use Rattle.plan_trees.specs.PlanCode.{coded_plan}
+use Rattle.plan_trees.specs.Plans.{PlanTree}
 use Rattle.pact_operators.specs.Programs.{ProgramData}
 
 abbrev pub coded_program : Coded ProgramData

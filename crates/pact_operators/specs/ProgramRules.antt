@@ -6,15 +6,15 @@ use Rattle.tac_syntax.specs.declared.functions.Function.{Function}
 use Rattle.tac_syntax.specs.declared.functions.Kind.{Kind}
 use Rattle.tac_syntax.specs.declared.functions.Kind.TheVariants as kinds
 use Rattle.tac_syntax.specs.Valid.{WithFields}
-use Rattle.pact_operators.specs.declared.declarations.OpKind.{OpKind}
-use Rattle.pact_operators.specs.declared.declarations.OpKind.TheVariants.{Source as SourceKind, Map, Reduce, Match, Cross, CoGroup}
-use Rattle.pact_operators.specs.declared.declarations.Decl.{Decl}
-use Rattle.pact_operators.specs.declared.declarations.Decl.TheVariants.{Source, Function as FunctionDecl, Op as OpDecl, Sink}
+use Rattle.program_drafts.specs.declared.declarations.OpKind.{OpKind}
+use Rattle.program_drafts.specs.declared.declarations.OpKind.TheVariants.{Map, Reduce, Match, Cross, CoGroup}
+use Rattle.program_drafts.specs.declared.declarations.Decl.{Decl}
+use Rattle.program_drafts.specs.declared.declarations.Decl.TheVariants.{Source, Function as FunctionDecl, Op as OpDecl, Sink}
 use Rattle.pact_operators.specs.declared.program_rules.ProgramRule.{ProgramRule}
 use Rattle.pact_operators.specs.declared.program_rules.ProgramRule.TheVariants.{Undeclared, DeclaredTwice, NoSingleSink, TooMany, NotATree, OtherKind, OtherKeyCount, WrongField, NoAttribute, SharedAttribute}
 use Rattle.pact_operators.specs.declared.operators.Op.{Op}
-use Rattle.pact_operators.specs.Drafts.{DraftData}
-use Rattle.pact_operators.specs.Plans.{PlanTree, leaf, over, both, subtree_of}
+use Rattle.program_drafts.specs.Drafts.{DraftData}
+use Rattle.plan_trees.specs.Plans.{PlanTree, leaf, over, both, subtree_of}
 use Rattle.pact_operators.specs.Programs.{HasAttribute, IsWrittenPlan, function_limit, operator_limit, pair_limit, is_pair_kind}
 use Rattle.pact_operators.specs.Resolved.{function_names, inputs_named, is_among, names_read, node_names, ops_of, place_among, sink_inputs, times_among}
 
@@ -32,38 +32,31 @@ some_missing names declared = list_any (λ name. not (is_among name declared)) n
 
 -- P1: a function or an input that no declaration has
 abbrev pub is_undeclared : DraftData → Decl → Bool
-is_undeclared d (Source name file columns) = false
-is_undeclared d (FunctionDecl number) = false
 is_undeclared d (OpDecl name kind function left right left_keys right_keys) =
     not (is_among function (function_names d.functions)) || some_missing (names_read kind left right) (node_names d.decls)
 is_undeclared d (Sink input fields) = not (is_among input (node_names d.decls))
+is_undeclared d decl = false
 
 -- P2: a name that two functions have, or two sources and operators
 abbrev pub is_declared_twice : DraftData → Decl → Bool
 is_declared_twice d (Source name file columns) = nat_le 2 (times_among name (node_names d.decls))
 is_declared_twice d (FunctionDecl number) = nat_le 2 (times_among (get_or (function_names d.functions) number []) (function_names d.functions))
 is_declared_twice d (OpDecl name kind function left right left_keys right_keys) = nat_le 2 (times_among name (node_names d.decls))
-is_declared_twice d (Sink input fields) = false
+is_declared_twice d decl = false
 
 -- ---- numbers of declarations
 
 abbrev pub is_function : Decl → Bool
-is_function (Source name file columns) = false
 is_function (FunctionDecl number) = true
-is_function (OpDecl name kind function left right left_keys right_keys) = false
-is_function (Sink input fields) = false
+is_function decl = false
 
 abbrev pub is_operator : Decl → Bool
-is_operator (Source name file columns) = false
-is_operator (FunctionDecl number) = false
 is_operator (OpDecl name kind function left right left_keys right_keys) = true
-is_operator (Sink input fields) = false
+is_operator decl = false
 
 abbrev pub is_pair : Decl → Bool
-is_pair (Source name file columns) = false
-is_pair (FunctionDecl number) = false
 is_pair (OpDecl name kind function left right left_keys right_keys) = is_pair_kind kind
-is_pair (Sink input fields) = false
+is_pair decl = false
 
 abbrev pub times_so : (Decl → Bool) → List Decl → ℕ
 times_so test decls = length (filter test decls)
@@ -84,10 +77,8 @@ all_inputs (decl ∷ decls) = inputs_named decl ++ all_inputs decls
 
 -- the operator reads what has this name
 abbrev pub is_reader : List ℕ → Decl → Bool
-is_reader name (Source own file columns) = false
-is_reader name (FunctionDecl number) = false
 is_reader name (OpDecl own kind function left right left_keys right_keys) = is_among name (names_read kind left right)
-is_reader name (Sink input fields) = false
+is_reader name decl = false
 
 -- A sink names it, or an operator that reads it is reached so, over at most so many operators.
 abbrev pub is_reached : ℕ → DraftData → List ℕ → Bool
@@ -100,9 +91,8 @@ is_out_of_tree d name = not (times_among name (all_inputs d.decls) == 1) || not 
 
 abbrev pub is_not_in_tree : DraftData → Decl → Bool
 is_not_in_tree d (Source name file columns) = is_out_of_tree d name
-is_not_in_tree d (FunctionDecl number) = false
 is_not_in_tree d (OpDecl name kind function left right left_keys right_keys) = is_out_of_tree d name
-is_not_in_tree d (Sink input fields) = false
+is_not_in_tree d decl = false
 
 -- ---- functions, keys and fields
 
@@ -125,10 +115,8 @@ is_function_for kind (Some f) = is_of_kind kind f.kind
 
 -- P3: the function is of another kind than the operator
 abbrev pub has_other_kind : DraftData → Decl → Bool
-has_other_kind d (Source name file columns) = false
-has_other_kind d (FunctionDecl number) = false
 has_other_kind d (OpDecl name kind function left right left_keys right_keys) = not (is_function_for kind (function_named d.functions function))
-has_other_kind d (Sink input fields) = false
+has_other_kind d decl = false
 
 abbrev pub is_key_count : Option Function → ℕ → Bool
 is_key_count None count = false
@@ -136,20 +124,16 @@ is_key_count (Some f) count = f.keys == count
 
 -- the lists of a Match are of one length, those of a Reduce and a CoGroup have the function's number of keys
 abbrev pub are_key_counts : OpKind → Option Function → ℕ → ℕ → Bool
-are_key_counts SourceKind f left right = true
-are_key_counts Map f left right = true
 are_key_counts Reduce f left right = is_key_count f left
 are_key_counts Match f left right = left == right
-are_key_counts Cross f left right = true
 are_key_counts CoGroup f left right = is_key_count f left && is_key_count f right
+are_key_counts kind f left right = true
 
 -- P4
 abbrev pub has_other_key_count : DraftData → Decl → Bool
-has_other_key_count d (Source name file columns) = false
-has_other_key_count d (FunctionDecl number) = false
 has_other_key_count d (OpDecl name kind function left right left_keys right_keys) =
     not (are_key_counts kind (function_named d.functions function) (length left_keys) (length right_keys))
-has_other_key_count d (Sink input fields) = false
+has_other_key_count d decl = false
 
 -- the fields of all columns of all sources
 abbrev pub column_fields : List Column → List ℕ
@@ -172,9 +156,8 @@ some_too_large bound fields = list_any (λ k. nat_le bound k) fields
 -- P10: a column's field that is one of another column too, or that is no field of the program; a sink's field that is none
 abbrev pub has_wrong_field : DraftData → Decl → Bool
 has_wrong_field d (Source name file columns) = list_any (λ k. nat_le 2 (times_in k (all_columns d.decls))) (column_fields columns) || some_too_large d.fields (column_fields columns)
-has_wrong_field d (FunctionDecl number) = false
-has_wrong_field d (OpDecl name kind function left right left_keys right_keys) = false
 has_wrong_field d (Sink input fields) = some_too_large d.fields fields
+has_wrong_field d decl = false
 
 -- ---- attributes
 
@@ -190,25 +173,20 @@ SidesLackKey d valids (both n t u) left_keys right_keys = LacksKey d valids t le
 
 -- P5: a key that isn't among its side's attributes, in the plan as written
 abbrev pub LacksAttribute : DraftData → List WithFields → PlanTree → Decl → Type 0
-LacksAttribute d valids tree (Source name file columns) = ⊥
-LacksAttribute d valids tree (FunctionDecl number) = ⊥
 LacksAttribute d valids tree (OpDecl name kind function left right left_keys right_keys) =
     SidesLackKey d valids (subtree_of (place_among name (node_names d.decls)) tree) left_keys right_keys
-LacksAttribute d valids tree (Sink input fields) = ⊥
+LacksAttribute d valids tree decl = ⊥
 
 -- a field is an attribute of both sides of the tree's root
 abbrev pub SidesShare : List WithFields → List Op → PlanTree → Type 0
-SidesShare valids ops (leaf n) = ⊥
-SidesShare valids ops (over n t) = ⊥
 SidesShare valids ops (both n t u) = (k : ℕ) × HasAttribute valids ops t k × HasAttribute valids ops u k
+SidesShare valids ops tree = ⊥
 
 -- P6, in the plan as written
 abbrev pub SharesAttribute : DraftData → List WithFields → PlanTree → Decl → Type 0
-SharesAttribute d valids tree (Source name file columns) = ⊥
-SharesAttribute d valids tree (FunctionDecl number) = ⊥
 SharesAttribute d valids tree (OpDecl name kind function left right left_keys right_keys) =
     SidesShare valids (ops_of (function_names d.functions) d.decls) (subtree_of (place_among name (node_names d.decls)) tree)
-SharesAttribute d valids tree (Sink input fields) = ⊥
+SharesAttribute d valids tree decl = ⊥
 
 -- ---- the first that stands
 

@@ -8,13 +8,13 @@ use Rattle.tac_syntax.specs.Code.{Code, stop}
 use Rattle.tac_syntax.specs.Valid.{WithFields, IsValid}
 use Rattle.pact_bag.specs.declared.columns.Column.{Column}
 use Rattle.pact_bag.specs.SourceRows.{IsColumnField}
-use Rattle.pact_operators.specs.declared.declarations.OpKind.{OpKind}
-use Rattle.pact_operators.specs.declared.declarations.OpKind.TheVariants.{Source, Map, Reduce, Match, Cross, CoGroup}
+use Rattle.program_drafts.specs.declared.declarations.OpKind.{OpKind}
+use Rattle.program_drafts.specs.declared.declarations.OpKind.TheVariants.{Source, Map, Reduce, Match, Cross, CoGroup}
 use Rattle.pact_operators.specs.declared.operators.Op.{Op}
-use Rattle.pact_operators.specs.Declarations.{field_list_limit}
-use Rattle.pact_operators.specs.Distinct.{AreDifferent}
-use Rattle.pact_operators.specs.Drafts.{DraftData, field_limit}
-use Rattle.pact_operators.specs.Plans.{PlanTree, leaf, over, both, root_of, nodes, has}
+use Rattle.program_drafts.specs.Declarations.{field_list_limit}
+use Rattle.plan_trees.specs.Distinct.{AreDifferent}
+use Rattle.program_drafts.specs.Drafts.{DraftData, field_limit}
+use Rattle.plan_trees.specs.Plans.{PlanTree, leaf, over, both, root_of, nodes, has}
 use Rattle.pact_operators.specs.Resolved.{Inputs, no_input, one_input, two_inputs, function_names, inputs_of, node_names, ops_of, place_among, sink_fields, sink_inputs}
 
 -- The number of fields, the functions and the sources and operators in text order, the plan as written, and the fields of the sink.
@@ -65,11 +65,7 @@ body_of (v ∷ valids) (suc n) = body_of valids n
 -- a source's own are its columns, an operator's those that its function names in a `set`
 abbrev pub OwnsBy : OpKind → List WithFields → Op → ℕ → Type 0
 OwnsBy Source valids op k = IsColumnField k op.columns
-OwnsBy Map valids op k = Names k (body_of valids op.function)
-OwnsBy Reduce valids op k = Names k (body_of valids op.function)
-OwnsBy Match valids op k = Names k (body_of valids op.function)
-OwnsBy Cross valids op k = Names k (body_of valids op.function)
-OwnsBy CoGroup valids op k = Names k (body_of valids op.function)
+OwnsBy kind valids op k = Names k (body_of valids op.function)
 
 abbrev pub Owns : List WithFields → List Op → ℕ → ℕ → Type 0
 Owns valids [] n k = ⊥
@@ -116,21 +112,19 @@ pub record IsPlanOf (valids : List WithFields) (ops : List Op) (tree : PlanTree)
   pub apart : AreSidesApart valids ops tree
 
 abbrev pub IsKindFor : OpKind → Kind → Type 0
-IsKindFor Source kind = ⊥
 IsKindFor Map kind = kind ≡ kinds.Map
 IsKindFor Reduce kind = kind ≡ kinds.Reduce
 IsKindFor Match kind = kind ≡ kinds.Match
 IsKindFor Cross kind = kind ≡ kinds.Cross
 IsKindFor CoGroup kind = kind ≡ kinds.CoGroup
+IsKindFor operator kind = ⊥
 
 -- what a kind doesn't have is empty
 abbrev pub HasKeyLists : OpKind → ℕ → List ℕ → List ℕ → Type 0
-HasKeyLists Source keys left right = (left ≡ []) × (right ≡ [])
-HasKeyLists Map keys left right = (left ≡ []) × (right ≡ [])
 HasKeyLists Reduce keys left right = (length left ≡ keys) × (right ≡ [])
 HasKeyLists Match keys left right = (1 ≤ length left) × (length left ≡ length right)
-HasKeyLists Cross keys left right = (left ≡ []) × (right ≡ [])
 HasKeyLists CoGroup keys left right = (length left ≡ keys) × (length right ≡ keys)
+HasKeyLists kind keys left right = (left ≡ []) × (right ≡ [])
 
 -- an operator calls a function of its kind, and its keys are fields of the program
 pub record IsOperatorOf (fields : ℕ) (valids : List WithFields) (op : Op) : Type 0 where
@@ -168,19 +162,12 @@ pair_limit = 8
 
 abbrev pub is_operator_kind : OpKind → Bool
 is_operator_kind Source = false
-is_operator_kind Map = true
-is_operator_kind Reduce = true
-is_operator_kind Match = true
-is_operator_kind Cross = true
-is_operator_kind CoGroup = true
+is_operator_kind kind = true
 
 abbrev pub is_pair_kind : OpKind → Bool
-is_pair_kind Source = false
-is_pair_kind Map = false
-is_pair_kind Reduce = false
 is_pair_kind Match = true
 is_pair_kind Cross = true
-is_pair_kind CoGroup = false
+is_pair_kind kind = false
 
 abbrev pub times_of_kind : (OpKind → Bool) → List Op → ℕ
 times_of_kind test ops = length (filter (λ op. test op.kind) ops)

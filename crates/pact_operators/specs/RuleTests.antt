@@ -1,10 +1,10 @@
 -- The rules that are told from the declarations alone, as tests.
-use Rattle.std.specs.Prelude.{◌≡◌, ◌&&◌, ◌||◌, nat_le, ℕ, zero, suc, Bool, false, List, [], ◌∷◌, map}
+use Rattle.std.specs.Prelude.{◌≡◌, ◌&&◌, ◌||◌, nat_le, ℕ, zero, suc, Bool, false, List, ◌∷◌, map}
 use Rattle.pact_operators.specs.declared.counts.Counts.{Counts}
-use Rattle.pact_operators.specs.declared.declarations.Decl.{Decl}
+use Rattle.program_drafts.specs.declared.declarations.Decl.{Decl}
 use Rattle.pact_operators.specs.declared.program_rules.ProgramRule.{ProgramRule}
-use Rattle.pact_operators.specs.declared.program_rules.ProgramRule.TheVariants.{Undeclared, DeclaredTwice, NoSingleSink, TooMany, NotATree, OtherKind, OtherKeyCount, WrongField, NoAttribute, SharedAttribute}
-use Rattle.pact_operators.specs.Drafts.{DraftData}
+use Rattle.pact_operators.specs.declared.program_rules.ProgramRule.TheVariants.{Undeclared, DeclaredTwice, TooMany, NotATree, OtherKind, OtherKeyCount, WrongField}
+use Rattle.program_drafts.specs.Drafts.{DraftData}
 use Rattle.pact_operators.specs.ProgramRules.{has_other_key_count, has_other_kind, has_wrong_field, is_declared_twice, is_function, is_not_in_tree, is_operator, is_pair, is_reached, is_reader, is_undeclared, times_so, name_at}
 use Rattle.pact_operators.specs.Programs.{function_limit, operator_limit, pair_limit}
 
@@ -23,14 +23,12 @@ is_past_limit counts decl =
 abbrev pub breaks : ProgramRule → DraftData → Counts → Decl → Bool
 breaks Undeclared d counts decl = is_undeclared d decl
 breaks DeclaredTwice d counts decl = is_declared_twice d decl
-breaks NoSingleSink d counts decl = false
 breaks TooMany d counts decl = is_past_limit counts decl
 breaks NotATree d counts decl = is_not_in_tree d decl
 breaks OtherKind d counts decl = has_other_kind d decl
 breaks OtherKeyCount d counts decl = has_other_key_count d decl
 breaks WrongField d counts decl = has_wrong_field d decl
-breaks NoAttribute d counts decl = false
-breaks SharedAttribute d counts decl = false
+breaks rule d counts decl = false
 
 -- ---- what is reached
 
@@ -49,6 +47,5 @@ AreReached d marks = marks ≡ map (reached_within (times_so is_operator d.decls
 
 -- one of the operators that are marked reads what has this name
 abbrev pub is_reached_reader : List ℕ → List Decl → List Bool → Bool
-is_reached_reader name [] marks = false
-is_reached_reader name (decl ∷ decls) [] = false
 is_reached_reader name (decl ∷ decls) (mark ∷ marks) = (is_reader name decl && mark) || is_reached_reader name decls marks
+is_reached_reader name decls marks = false

@@ -2,10 +2,10 @@
 use Rattle.std.specs.Prelude.{◌≤◌, nat_lt, ℕ, List, length, filter, map}
 use Rattle.pact_record.specs.declared.records.TheConstants.{MAX_FIELDS}
 use Rattle.pact_record.specs.Keys.{key_limit}
-use Rattle.pact_operators.specs.declared.declarations.Decl.{Decl}
-use Rattle.pact_operators.specs.declared.declarations.Decl.TheVariants.{Source, Function as FunctionDecl, Op as OpDecl, Sink}
+use Rattle.program_drafts.specs.declared.declarations.Decl.{Decl}
+use Rattle.program_drafts.specs.declared.declarations.Decl.TheVariants.{Op as OpDecl}
 use Rattle.pact_operators.specs.declared.operators.Op.{Op}
-use Rattle.pact_operators.specs.Drafts.{DraftData}
+use Rattle.program_drafts.specs.Drafts.{DraftData}
 use Rattle.pact_operators.specs.Resolved.{function_names, ops_of}
 
 -- those of the numbers that can be fields
@@ -22,7 +22,5 @@ small_ops d = map with_small_keys (ops_of (function_names d.functions) d.decls)
 
 -- a declaration's lists of keys are no longer than those of an operator may be
 abbrev pub HasFewKeys : Decl → Type 0
-HasFewKeys (Source name file columns) = Unit {0}
-HasFewKeys (FunctionDecl number) = Unit {0}
 HasFewKeys (OpDecl name kind function left right left_keys right_keys) = (length left_keys ≤ key_limit) × (length right_keys ≤ key_limit)
-HasFewKeys (Sink input fields) = Unit {0}
+HasFewKeys decl = Unit {0}

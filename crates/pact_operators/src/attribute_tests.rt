@@ -4,18 +4,18 @@ ghost use Rattle.std.specs.Prelude.{◌≡◌, ◌↔◌, not, true, IsTrue};
 ghost use Rattle.std.specs.List.{list_any};
 ghost use Rattle.pact_record.specs.FieldSets.{has_field};
 ghost use Rattle.pact_operators.specs.AttributeTests.{AreAttributesKnown, BreaksIn, HasPlace};
-ghost use Rattle.pact_operators.specs.Plans.{has, subtree_of};
+ghost use Rattle.plan_trees.specs.Plans.{has, subtree_of};
 ghost use Rattle.pact_operators.specs.ProgramRules.{LacksAttribute, SharesAttribute, SidesLackKey, SidesShare};
 ghost use Rattle.pact_operators.specs.Resolved.{function_names, node_names, ops_of, place_among};
 
 use crate::attributes::attributes_of;
 use crate::candidates::Candidate;
-use crate::declarations::Decl;
 use crate::name_lists::place_among;
 use crate::operators::Op;
-use crate::plans::{Parts, Plan};
 use crate::program_rules::ProgramRule;
 use pact_record::{Fields, MAX_FIELDS, Word};
+use plan_trees::{Parts, Plan};
+use program_drafts::Decl;
 
 fn has_field(fields: Fields, field: u32) -> bool
     ensures { result ≡ has_field fields field }

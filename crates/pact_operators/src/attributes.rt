@@ -5,16 +5,16 @@ ghost use Rattle.std.specs.List.{AllByRecursion};
 ghost use Rattle.pact_bag.specs.SourceRows.{IsColumnField};
 ghost use Rattle.pact_record.specs.declared.records.TheConstants.{MAX_FIELDS};
 ghost use Rattle.pact_record.specs.FieldSets.{has_field};
-ghost use Rattle.pact_operators.specs.Plans.{has, subtree_of};
+ghost use Rattle.plan_trees.specs.Plans.{has, subtree_of};
 ghost use Rattle.tac_syntax.specs.Bounded.{Names};
 ghost use Rattle.pact_operators.specs.Programs.{HasAttribute, Owns, OwnsBy, body_of, fields_of, source_fields};
 
-use crate::declarations::OpKind;
 use crate::operators::Op;
-use crate::plans::{Parts, Plan};
 use crate::programs::Program;
 use pact_bag::Column;
 use pact_record::Fields;
+use plan_trees::{Parts, Plan};
+use program_drafts::OpKind;
 use tac_syntax::Valid;
 
 fn column_fields(columns: &[Column]) -> Fields

@@ -11,17 +11,16 @@ ghost use Rattle.pact_operators.specs.Programs.{AreValidated, IsProgram, IsProgr
 ghost use Rattle.pact_operators.specs.RuleTests.{AreReached};
 
 use crate::candidates::Candidate;
-use crate::drafts::Draft;
 use crate::first_breaks::{first_attribute_break, first_break};
 use crate::operators::Op;
-use crate::plans::Plan;
 use crate::program_rules::ProgramRule;
 use crate::programs::Program;
 use crate::reached::reached_operators;
 use crate::resolving::{sink_fields, small_ops};
-use crate::valid_lists::ValidList;
 use crate::written_plans::written_plan;
 use pact_record::{OutOfMemory, Word};
+use plan_trees::Plan;
+use program_drafts::{Draft, ValidList};
 use std::alloc::Global;
 use tac_syntax::Valid;
 

@@ -12,9 +12,9 @@ use crate::attribute_tests::breaks_attributes;
 use crate::candidates::Candidate;
 use crate::counts::Counts;
 use crate::operators::Op;
-use crate::plans::Plan;
 use crate::program_rules::ProgramRule;
 use crate::rule_tests::is_broken;
+use plan_trees::Plan;
 
 /// The place of the first declaration that breaks a rule which is told from the declarations alone.
 pub fn first_break(rule: ProgramRule, candidate: &Candidate, reached: &[bool]) -> Option<usize>

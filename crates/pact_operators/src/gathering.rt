@@ -4,10 +4,10 @@ ghost use Rattle.std.specs.Prelude.{◌≡◌, ◌++◌, ◌∷◌, [], IfOk};
 ghost use Rattle.pact_operators.specs.ProgramRules.{all_columns, all_inputs, column_fields};
 ghost use Rattle.pact_operators.specs.Resolved.{function_names, inputs_named, names_read, node_names, sink_inputs};
 
-use crate::declarations::{Decl, OpKind};
 use crate::name_lists::with_name;
 use pact_bag::Column;
 use pact_record::{OutOfMemory, Word};
+use program_drafts::{Decl, OpKind};
 use std::alloc::Global;
 use tac_syntax::Function;
 

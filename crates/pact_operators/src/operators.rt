@@ -1,8 +1,8 @@
 //! The sources and operators of a program.
 
-use crate::declarations::OpKind;
 use pact_bag::Columns;
 use pact_record::{Keys, Word};
+use program_drafts::OpKind;
 
 /// A source or an operator. A source has no function and no keys; an operator has no file and no columns. What a
 /// kind doesn't have is empty or 0.

@@ -4,8 +4,8 @@ ghost use Rattle.std.specs.Prelude.{◌≡◌};
 ghost use Rattle.pact_operators.specs.Programs.{IsProgram};
 
 use crate::operators::Op;
-use crate::plans::Plan;
-use crate::valid_lists::ValidList;
+use plan_trees::Plan;
+use program_drafts::ValidList;
 use std::marker::Model;
 use tac_syntax::Valid;
 

@@ -5,9 +5,9 @@ ghost use Rattle.pact_operators.specs.ProgramRules.{is_not_in_tree, is_out_of_tr
 ghost use Rattle.pact_operators.specs.RuleTests.{AreReached, is_reached_reader, reached_within};
 
 use crate::candidates::Candidate;
-use crate::declarations::{Decl, OpKind};
 use crate::name_lists::{is_among, times_among};
 use pact_record::OutOfMemory;
+use program_drafts::{Decl, OpKind};
 use std::alloc::Global;
 
 // Whether the declaration is an operator that reads what has this name.

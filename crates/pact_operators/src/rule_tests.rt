@@ -9,13 +9,12 @@ ghost use Rattle.pact_operators.specs.RuleTests.{AreReached, breaks};
 
 use crate::candidates::Candidate;
 use crate::counts::Counts;
-use crate::declarations::{Decl, OpKind};
-use crate::drafts::functions_of;
 use crate::name_lists::{is_among, times_among, times_in};
 use crate::program_rules::ProgramRule;
 use crate::reached::is_not_in_tree;
 use pact_bag::Column;
 use pact_record::Word;
+use program_drafts::{Decl, OpKind, functions_of};
 use tac_syntax::{Function, Kind};
 
 // Whether a name that an operator of this kind reads isn't among the names.

@@ -3,18 +3,17 @@
 ghost use Rattle.std.specs.Prelude.{◌≡◌, ◌++◌, ◌∷◌, [], map, IfOk};
 ghost use Rattle.pact_operators.specs.Checks.{KeepsBefore};
 ghost use Rattle.pact_operators.specs.PlanReads.{IsPlannedFrom, inputs_as};
-ghost use Rattle.pact_operators.specs.Plans.{root_of};
+ghost use Rattle.plan_trees.specs.Plans.{root_of};
 ghost use Rattle.pact_operators.specs.Programs.{Follows, IsWrittenPlan};
 ghost use Rattle.pact_operators.specs.ProgramRules.{order_of};
 ghost use Rattle.pact_operators.specs.Resolved.{inputs_of, inputs_read};
 ghost use Rattle.pact_operators.specs.declared.program_rules.ProgramRule.TheVariants.{OtherKind};
 
 use crate::candidates::Candidate;
-use crate::declarations::{Decl, OpKind};
 use crate::name_lists::place_among;
-use crate::plans::Plan;
-use crate::preorders::MAX_NODES;
 use pact_record::{OutOfMemory, Word};
+use plan_trees::{MAX_NODES, Plan};
+use program_drafts::{Decl, OpKind};
 use std::alloc::Global;
 
 /// What a source or an operator reads.

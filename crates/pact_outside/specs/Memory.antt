@@ -1,8 +1,8 @@
 -- The feed and the sink in memory: what each call gives, and what it leaves.
-use Rattle.std.specs.Prelude.{ℕ, ◌+◌, ◌-◌, ◌^◌, ◌==◌, min, max, Bool, ◌||◌, if◌then◌else◌, List, [], ◌++◌, length, take, drop, slice_get, Option, None, is_none, unwrap_or, option_map}
+use Rattle.std.specs.Prelude.{ℕ, ◌+◌, ◌-◌, ◌^◌, ◌==◌, min, max, Bool, ◌||◌, if◌then◌else◌, List, [], ◌++◌, length, take, drop, slice_get, Option, Some, None, is_none, is_some, unwrap_or, option_map}
 use Rattle.std.specs.List.{list_any}
 use Rattle.pact_outside.specs.declared.files.NamedFile.{NamedFile}
-use Rattle.pact_outside.specs.Outside.{file_named}
+use Rattle.pact_outside.specs.Outside.{Feeding, file_named}
 
 -- a count of 64 bits, one higher; it stands still at its last value
 abbrev pub next_count : ℕ → ℕ
@@ -24,6 +24,10 @@ pub record FeedState : Type 0 where
   pub name : List ℕ
   pub left : Option (List ℕ)
   pub faults : ℕ
+
+-- its files are told, and the names given to `open` aren't: it keeps the last alone
+abbrev pub shown_from_memory : FeedState → Feeding
+shown_from_memory feed = record { files = Some feed.files; left = feed.left; history = None; opened = feed.name; is_open = is_some feed.left; faults = feed.faults }
 
 -- a feed that was not called yet
 abbrev pub new_feed : List NamedFile → ℕ → List ℕ → FeedState

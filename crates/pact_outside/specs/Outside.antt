@@ -1,5 +1,5 @@
 -- What a feed and a sink do.
-use Rattle.std.specs.Prelude.{◌≡◌, ◌≤◌, ◌<◌, ◌⊎◌, ◌-◌, ◌^◌, ℕ, Bool, true, false, List, [], ◌∷◌, ◌++◌, length, take, drop, Option, Some, None, Result, OnErr, IfSome, cond, eqb, ◌&&◌}
+use Rattle.std.specs.Prelude.{◌≡◌, ◌≤◌, ◌<◌, ◌⊎◌, ◌-◌, ◌^◌, ℕ, Bool, true, false, List, [], ◌∷◌, ◌++◌, length, take, drop, Option, Some, None, Result, OnOk, OnErr, IfOk, IfSome, cond, eqb, option_map, ◌&&◌}
 use Rattle.pact_outside.specs.declared.files.NamedFile.{NamedFile}
 
 -- a count has risen where it is greater, or stands at its last value, at which it stands still
@@ -22,6 +22,26 @@ abbrev pub file_named : List NamedFile → List ℕ → Option (List ℕ)
 file_named [] name = None
 file_named (f ∷ fs) name = cond (same_bytes f.name name) (Some f.bytes) (file_named fs name)
 
+-- ---- feeds
+
+-- what a feed shows of itself
+pub record Feeding : Type 0 where
+  -- the files, where they are told
+  pub files : Option (List NamedFile)
+  -- what is left of the open file, where the files are told
+  pub left : Option (List ℕ)
+  -- all names given to `open`, in order, where they are told
+  pub history : Option (List (List ℕ))
+  -- the last of them
+  pub opened : List ℕ
+  pub is_open : Bool
+  -- how often a call failed; it stands still at its last value
+  pub faults : ℕ
+
+-- a history with a name more
+abbrev pub with_name : List ℕ → Option (List (List ℕ)) → Option (List (List ℕ))
+with_name name history = option_map (λ names. names ++ name ∷ []) history
+
 -- where the files are told, there is a file of that name, and all of its bytes are left
 abbrev pub Opens : Option (List NamedFile) → List ℕ → Option (List ℕ) → Type 0
 Opens None name left = left ≡ None
@@ -32,6 +52,28 @@ pub record Reads (room : ℕ) (old new : Option (List ℕ)) (count : ℕ) (buf :
   pub fits : count ≤ room
   pub told : IfSome old (λ all. (take count buf ≡ take count all) × (new ≡ Some (drop count all)) × (count ≤ length all) × (count ≡ 0 → all ≡ []))
   pub untold : old ≡ None → new ≡ None
+
+-- what an open leaves
+pub record AfterOpen {T E : Type 0} (old new : Feeding) (name : List ℕ) (result : Result T E) : Type 0 where
+  pub named : new.opened ≡ name
+  pub noted : new.history ≡ with_name name old.history
+  pub files : new.files ≡ old.files
+  pub opened : OnOk result (new.is_open ≡ true)
+  pub current : OnOk result (Opens old.files name new.left)
+  pub closed : OnErr result (new.is_open ≡ false)
+  pub cause : HasCause old.faults new.faults result
+
+-- what a read into a buffer of that length leaves
+pub record AfterRead {E : Type 0} (old new : Feeding) (room : ℕ) (buf : List ℕ) (result : Result ℕ E) : Type 0 where
+  pub named : new.opened ≡ old.opened
+  pub noted : new.history ≡ old.history
+  pub files : new.files ≡ old.files
+  pub stays : OnOk result (new.is_open ≡ true)
+  pub bytes : IfOk result (λ count. Reads room old.left new.left count buf)
+  pub closed : OnErr result (new.is_open ≡ false)
+  pub cause : HasCause old.faults new.faults result
+
+-- ---- sinks
 
 -- a write takes a front of the piece, at least one byte
 pub record Takes (old new : Option (List ℕ)) (piece : List ℕ) (count : ℕ) : Type 0 where

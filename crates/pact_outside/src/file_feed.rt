@@ -1,6 +1,7 @@
-ghost use Rattle.std.specs.Prelude.{◌≡◌, ◌<◌, true, false, length, OnOk, OnErr, IfOk};
-ghost use Rattle.pact_outside.specs.Outside.{HasCause, Opens, Reads};
-ghost use Rattle.pact_outside.specs.Adapters.{after_call};
+ghost use Rattle.std.specs.Prelude.{◌≡◌, ◌≤◌, ◌<◌, true, false, length, take, IfOk, OnErr};
+ghost use Rattle.std.specs.Io.KnownBytes.{Consumes, IsAtEnd, Keeps};
+ghost use Rattle.pact_outside.specs.Outside.{AfterOpen, AfterRead};
+ghost use Rattle.pact_outside.specs.Adapters.{after_call, shown_by_files};
 
 use crate::{Failed, Feed};
 use pact_record::Bytes;
@@ -48,27 +49,28 @@ impl<'a, R: Files> FileFeed<'a, R> {
     }
 }
 
+// The next bytes of a reader, at the front of `buf`: none exactly at its end.
+fn read_next<S: Read>(from: &mut S, buf: &mut [u8]) -> Result<usize, Failed>
+    requires { 0 < length buf.old }
+    ensures fits { IfOk result (λ count. count ≤ length buf.new) }
+    ensures same_room { length buf.new ≡ length buf.old }
+    ensures bytes { IfOk result (λ count. Consumes (S.remaining from.old) (S.remaining from.new) (take count buf.new)) }
+    ensures end { IfOk result (λ count. count ≡ 0 → IsAtEnd (S.remaining from.new)) }
+    ensures failed { OnErr result (Keeps (S.remaining from.old) (S.remaining from.new)) }
+{
+    match from.read(buf) {
+        Ok(count) => Ok(count),
+        Err(_) => Err(Failed),
+    }
+}
+
 impl<'a, R: Files> Feed for FileFeed<'a, R> {
-    ghost use Rattle.std.specs.Prelude.{None};
-
-    ghost files = { λ _. None };
-
-    ghost left = { λ _. None };
-
-    ghost opened_name = { λ f. f.name };
-
-    ghost is_open = { λ f. f.is_open };
-
-    ghost faults = { λ f. f.faults };
+    ghost shows = { shown_by_files };
 
     fn open(&mut self, name: Bytes) -> Result<(), Failed>
         ensures after { self.new ≡ after_call self.old name result }
 
-        ensures named { self.new.name ≡ name }
-        ensures opened { OnOk result (self.new.is_open ≡ true) }
-        ensures current { OnOk result (Opens None name None) }
-        ensures closed { OnErr result (self.new.is_open ≡ false) }
-        ensures cause { HasCause self.old.faults self.new.faults result }
+        ensures shown { AfterOpen (shown_by_files self.old) (shown_by_files self.new) name result }
     {
         self.file = match str::from_utf8(name.bytes()) {
             Ok(path) => fs::open(self.rt, path).ok(),
@@ -87,14 +89,10 @@ impl<'a, R: Files> Feed for FileFeed<'a, R> {
         requires room { 0 < length buf.old }
         ensures after { self.new ≡ after_call self.old self.old.name result }
 
-        ensures named { self.new.name ≡ self.old.name }
-        ensures stays { OnOk result (self.new.is_open ≡ true) }
-        ensures bytes { IfOk result (λ count. Reads (length buf.old) None None count buf.new) }
-        ensures closed { OnErr result (self.new.is_open ≡ false) }
-        ensures cause { HasCause self.old.faults self.new.faults result }
+        ensures shown { AfterRead (shown_by_files self.old) (shown_by_files self.new) (length buf.old) buf.new result }
     {
         if let Some(file) = &mut self.file {
-            if let Ok(count) = file.read(buf) {
+            if let Ok(count) = read_next(file, buf) {
                 return Ok(count);
             }
         }

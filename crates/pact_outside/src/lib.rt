@@ -2,9 +2,10 @@
 //!
 //! A `Feed` opens files by name and reads them in pieces; a `Sink` takes bytes. Both say by ghost
 //! members what they hold, where they can tell, and how often they failed, so that a caller's
-//! contract can speak of the outside. `MemFeed` and `MemSink` tell everything and fail at the
-//! calls that a test lists; `FileFeed` and `StreamSink` adapt real files and writers, and tell
-//! nothing but their counts.
+//! contract can speak of the outside. `MemFeed` and `MemSink` tell what they hold, and fail at the
+//! calls that a test lists. `FileFeed` and `StreamSink` adapt real files and writers, and tell a
+//! caller no more than their counts and the name opened last. What a writer holds grows by exactly
+//! what `StreamSink` told as taken; of a file that is said of the call below `FileFeed` that reads it.
 #![tactic(auto)]
 
 pub mod feeds;

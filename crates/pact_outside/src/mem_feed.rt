@@ -1,6 +1,6 @@
-ghost use Rattle.std.specs.Prelude.{◌≡◌, ◌<◌, ◌↔◌, ℕ, true, false, length, is_some, OnOk, OnErr, IfOk, IsTrue, IsErr};
-ghost use Rattle.pact_outside.specs.Outside.{HasCause, Opens, Reads};
-ghost use Rattle.pact_outside.specs.Memory.{new_feed, open_fails, after_open, read_fails, read_count, buffer_after_read, after_read};
+ghost use Rattle.std.specs.Prelude.{◌≡◌, ◌<◌, ◌↔◌, true, length, is_some, OnOk, OnErr, IfOk, IsTrue, IsErr};
+ghost use Rattle.pact_outside.specs.Outside.{AfterOpen, AfterRead};
+ghost use Rattle.pact_outside.specs.Memory.{new_feed, shown_from_memory, open_fails, after_open, read_fails, read_count, buffer_after_read, after_read};
 
 use crate::{FailList, Failed, Feed, MemFiles};
 use pact_record::Bytes;
@@ -71,28 +71,13 @@ impl MemFeed {
 }
 
 impl Feed for MemFeed {
-    ghost use Rattle.std.specs.Prelude.{Some, is_some};
-
-    ghost files = { λ f. Some f.files };
-
-    ghost left = { λ f. f.left };
-
-    ghost opened_name = { λ f. f.name };
-
-    ghost is_open = { λ f. is_some f.left };
-
-    ghost faults = { λ f. f.faults };
+    ghost shows = { shown_from_memory };
 
     fn open(&mut self, name: Bytes) -> Result<(), Failed>
         ensures fails { IsErr result ↔ IsTrue (open_fails self.old name) }
         ensures after { self.new ≡ after_open self.old name }
 
-        ensures named { self.new.name ≡ name }
-        ensures files { Some self.new.files ≡ Some self.old.files }
-        ensures opened { OnOk result (is_some self.new.left ≡ true) }
-        ensures current { OnOk result (Opens (Some self.old.files) name self.new.left) }
-        ensures closed { OnErr result (is_some self.new.left ≡ false) }
-        ensures cause { HasCause self.old.faults self.new.faults result }
+        ensures shown { AfterOpen (shown_from_memory self.old) (shown_from_memory self.new) name result }
     {
         self.calls = self.calls.saturating_add(1);
         let found = if self.fail.contains(self.calls) {
@@ -119,12 +104,7 @@ impl Feed for MemFeed {
         ensures nothing { OnErr result (buf.new ≡ buf.old) }
         ensures after { self.new ≡ after_read self.old (length buf.old) }
 
-        ensures named { self.new.name ≡ self.old.name }
-        ensures files { Some self.new.files ≡ Some self.old.files }
-        ensures stays { OnOk result (is_some self.new.left ≡ true) }
-        ensures bytes { IfOk result (λ count. Reads (length buf.old) self.old.left self.new.left count buf.new) }
-        ensures closed { OnErr result (is_some self.new.left ≡ false) }
-        ensures cause { HasCause self.old.faults self.new.faults result }
+        ensures shown { AfterRead (shown_from_memory self.old) (shown_from_memory self.new) (length buf.old) buf.new result }
     {
         self.calls = self.calls.saturating_add(1);
         let place = if self.fail.contains(self.calls) {

@@ -1,12 +1,14 @@
-ghost use Rattle.std.specs.Prelude.{◌≡◌, ◌<◌, length, IfOk};
+ghost use Rattle.std.specs.Prelude.{◌≡◌, ◌<◌, length, take, IfOk};
+ghost use Rattle.std.specs.Io.KnownBytes.{Appends};
 ghost use Rattle.pact_outside.specs.Outside.{HasCause, Takes};
 ghost use Rattle.pact_outside.specs.Adapters.{faults_after};
 
 use crate::{Failed, Sink};
 use std::io::Write;
-use std::marker::Model;
 
-/// A sink into a writer, such as the standard output. It tells nothing of what the writer holds.
+/// A sink into a writer, such as the standard output. As a sink it tells nothing of what was taken;
+/// `write` says of a writer that tells its bytes that it holds them.
+///
 /// Each write is flushed, so that a writer with a buffer keeps nothing back where the program ends;
 /// where the flush fails, its bytes may be out or not.
 #[derive(Drop)]
@@ -15,19 +17,18 @@ pub struct StreamSink<W: Write> {
     faults: u64,
 }
 
-impl<W: Write> Model for StreamSink<W> {
-    ghost use Rattle.pact_outside.specs.Adapters.{StreamState};
-
-    ghost Value = { StreamState };
-
-    ghost view = { λ s. record { faults = s.faults } };
-}
-
 impl<W: Write> StreamSink<W> {
     pub fn new(to: W) -> StreamSink<W>
+        ensures writer { result.to ≡ to }
         ensures no_fault { result.faults ≡ 0 }
     {
         StreamSink { to, faults: 0 }
+    }
+
+    pub fn writer(&self) -> &W
+        ensures { result.now ≡ self.now.to }
+    {
+        &self.to
     }
 
     pub fn faults(&self) -> u64
@@ -46,6 +47,7 @@ impl<W: Write> Sink for StreamSink<W> {
 
     fn write(&mut self, piece: &[u8]) -> Result<usize, Failed>
         requires { 0 < length piece.now }
+        ensures grown { IfOk result (λ count. Appends (W.contents self.old.to) (W.contents self.new.to) (take count piece.now)) }
         ensures after { self.new.faults ≡ faults_after self.old.faults result }
 
         ensures takes { IfOk result (λ count. Takes None None piece.now count) }

@@ -4,7 +4,7 @@ use crate::{
 use pact_record::{Bytes, OutOfMemory};
 use std::alloc::Global;
 use std::test::Fail;
-use std::{env, fs, process};
+use std::{env, fs, io, process};
 
 fn named_file(alloc: Global, name: &[u8], bytes: &[u8]) -> Result<NamedFile, OutOfMemory> {
     Ok(NamedFile {
@@ -92,5 +92,40 @@ fn writers_take_what_is_written(rt: HostRuntime) -> Result<(), Fail> {
         "a writer that takes nothing"
     );
     assert_eq!(rt; full.faults(), 1);
+    Ok(())
+}
+
+// A writer that holds nothing back, and counts how often it is flushed. The flush of that number fails.
+#[derive(Debug, Drop)]
+struct Flushed {
+    flushes: u64,
+    fails_at: u64,
+}
+
+impl io::Write for Flushed {
+    fn write(&mut self, buf: &[u8]) -> io::Result<usize> {
+        Ok(buf.len())
+    }
+
+    fn flush(&mut self) -> io::Result<()> {
+        self.flushes = self.flushes.saturating_add(1);
+        if self.flushes == self.fails_at {
+            return Err(io::ErrorKind::BrokenPipe.into());
+        }
+        Ok(())
+    }
+}
+
+#[test]
+fn each_write_is_flushed(rt: HostRuntime) -> Result<(), Fail> {
+    let mut sink = StreamSink::new(Flushed {
+        flushes: 0,
+        fails_at: 3,
+    });
+    for (flushes, want) in [(1, Ok(2)), (2, Ok(2)), (3, Err(Failed)), (4, Ok(2))] {
+        assert_eq!(rt; sink.write(b"5\n"), want);
+        assert_eq!(rt; sink.writer().flushes, flushes);
+    }
+    assert_eq!(rt; sink.faults(), 1);
     Ok(())
 }

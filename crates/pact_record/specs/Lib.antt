@@ -5,3 +5,4 @@ pub mod Order
 pub mod Operations
 pub mod FieldSets
 pub mod Keys
+pub mod Widths

@@ -17,12 +17,11 @@ impl Record {
         requires { length left.now ≡ length right.now }
         ensures { IfOk result (λ r. r ≡ joined_record left.now right.now) }
     {
-        let mut joined = left.copy(alloc)?;
+        let mut values = Vec::with_capacity(alloc, left.len() as usize)?;
         for field in 0..left.len() {
-            let value = left.get(field).or(right.get(field)).copy(alloc)?;
-            joined.set(field, value);
+            values.push_reserved(left.get(field).or(right.get(field)).copy(alloc)?);
         }
-        Ok(joined)
+        Ok(Record::from_vec(values))
     }
 
     /// The values of the key fields, in the order of the key.
@@ -30,12 +29,11 @@ impl Record {
         requires { AllByRecursion (λ k. k < length self.now) keys.now }
         ensures { IfOk result (λ key. key ≡ key_of keys.now self.now) }
     {
-        let mut key = Record::empty(alloc, keys.len())?;
+        let mut values = Vec::with_capacity(alloc, keys.len() as usize)?;
         for n in 0..keys.len() {
-            let value = self.get(keys.at(n)).copy(alloc)?;
-            key.set(n, value);
+            values.push_reserved(self.get(keys.at(n)).copy(alloc)?);
         }
-        Ok(key)
+        Ok(Record::from_vec(values))
     }
 
     /// Whether the key fields have these values, in the order of the key. Null is equal to Null.

@@ -37,15 +37,24 @@ impl Record {
         requires { fields ≤ MAX_FIELDS }
         ensures { IfOk result (λ r. r ≡ replicate fields Value.Null) }
     {
-        let mut values = Vec::new(alloc);
+        let mut values = Vec::with_capacity(alloc, fields as usize)?;
         for _ in 0..fields {
-            values.push(Value::Null)?;
+            values.push_reserved(Value::Null);
         }
         Ok(Record { values })
     }
 
+    /// A record of these values, from the first field on.
+    pub fn from_vec(values: Vec<Value>) -> Record
+        requires { length values.items ≤ MAX_FIELDS }
+        ensures { result ≡ values.items }
+    {
+        Record { values }
+    }
+
     pub fn len(&self) -> u32
-        ensures { result ≡ length self.now }
+        ensures len { result ≡ length self.now }
+        ensures few { length self.now ≤ MAX_FIELDS }
     {
         self.values.len() as u32
     }
@@ -73,9 +82,9 @@ impl Record {
     pub fn copy(&self, alloc: Global) -> Result<Record, OutOfMemory>
         ensures { IfOk result (λ r. r ≡ self.now) }
     {
-        let mut values = Vec::new(alloc);
+        let mut values = Vec::with_capacity(alloc, self.values.len())?;
         for value in &self.values {
-            values.push(value.copy(alloc)?)?;
+            values.push_reserved(value.copy(alloc)?);
         }
         Ok(Record { values })
     }

@@ -93,7 +93,8 @@ impl Text {
         if self.held.len() + other.held.len() > MAX_TEXT {
             return Ok(None);
         }
-        let mut held = Vec::from_slice(alloc, &self.held)?;
+        let mut held = Vec::with_capacity(alloc, self.held.len() + other.held.len())?;
+        held.extend_from_slice(&self.held)?;
         held.extend_from_slice(&other.held)?;
         Ok(Some(Text { held }))
     }

@@ -1,11 +1,13 @@
-pub mod Decisions
-pub mod Exclusive
-pub mod FileRefusals
+pub mod Comings
+pub mod Decided
+pub mod Files
+pub mod Items
 pub mod NumberedTwice
 pub mod Pieces
 pub mod Progress
-pub mod SamePrograms
+pub mod Running
 pub mod Sources
 pub mod SourceNames
+pub mod StageLaws
 pub mod Told
 pub mod WrittenParts

@@ -1,7 +1,7 @@
 -- Two numbers behind fixed words.
 use Rattle.std.proofs.Common.{◌≡◌, ℕ, List, [], ◌∷◌, ◌++◌, ◌∙◌, ap, append_assoc}
 use Rattle.std.specs.Prelude.{codes, decimal}
-use Rattle.pact_top.specs.Verdict.{fault_text}
+use Rattle.pact_top.specs.RefusalLines.{fault_text}
 
 pub fault_text_is : (a b c out : List ℕ) (line what : ℕ) → a ≡ [] → b ≡ a ++ (codes ":" ++ decimal line) → c ≡ b ++ (codes ": text fault " ++ decimal what) → out ≡ c ++ codes "\n" → out ≡ fault_text line what
 fault_text_is a b c out line what e1 e2 e3 e4 =

@@ -1,18 +1,28 @@
--- Each source of a program has the name of a file.
-use Rattle.std.proofs.Common.{◌≡◌, ◌+◌, ℕ, List, [], ◌∷◌, length, IfOk, Result, Ok, Err, sym, subst}
+-- Each file that the work opens is the program's, or has the name of a file.
+use Rattle.std.proofs.Common.{◌≡◌, ◌+◌, ◌⊎◌, inl, inr, ℕ, true, false, Bool, List, [], ◌∷◌, length, cond, Option, IsTrue, sym, subst, refl}
 use Rattle.std.specs.List.{AllByRecursion}
-use Rattle.pact_operators.specs.declared.declarations.Decl.{Decl}
-use Rattle.pact_operators.specs.declared.declarations.Decl.TheVariants.{Source, Function, Op as OpDecl, Sink}
-use Rattle.pact_operators.specs.declared.declarations.OpKind.{OpKind}
-use Rattle.pact_operators.specs.declared.declarations.OpKind.TheVariants.{Source as SourceKind}
+use Rattle.program_drafts.specs.declared.declarations.Decl.{Decl}
+use Rattle.program_drafts.specs.declared.declarations.Decl.TheVariants.{Source, Function, Op as OpDecl, Sink}
+use Rattle.program_drafts.specs.declared.declarations.OpKind.{OpKind}
+use Rattle.program_drafts.specs.declared.declarations.OpKind.TheVariants.{Source as SourceKind, Map, Reduce, Match, Cross, CoGroup}
 use Rattle.pact_operators.specs.declared.operators.Op.{Op}
-use Rattle.pact_operators.specs.Declarations.{HasInputs}
-use Rattle.pact_operators.specs.Drafts.{AreDeclared}
+use Rattle.program_drafts.specs.Declarations.{HasInputs}
+use Rattle.program_drafts.specs.Drafts.{AreDeclared}
+use Rattle.pact_operators.specs.PlanOps.{is_source_kind, sources_of}
 use Rattle.pact_operators.specs.Programs.{ProgramData}
 use Rattle.pact_operators.specs.Resolved.{function_names, ops_of}
-use Rattle.pact_top.specs.declared.refusals.Refusal.{Refusal}
-use Rattle.pact_top.specs.Refusal.{HasFileName}
-use Rattle.pact_top.specs.Verdict.{HasProgram}
+use Rattle.pact_outside.specs.declared.files.NamedFile.{NamedFile}
+use Rattle.pact_words.specs.Words.{Asked, to_run, IsAsked}
+use Rattle.tac_syntax.specs.declared.functions.Function.{Function as FunctionValue}
+use Rattle.tac_syntax.specs.Names.{is_file_name}
+use Rattle.pact_top.specs.Refusal.{IsNamed, named_by}
+use Rattle.pact_top.specs.Stages.{each, fails, gives, misses, stops, Reading}
+use Rattle.pact_top.specs.Work.{file, program_file, program_limit, program_of, ready_for, source_file, source_limit, valid, work}
+use Rattle.pact_top.proofs.StageLaws.{FailsSo, fails_plain, fails_then}
+
+-- a source's file has a name that a program may give it
+abbrev HasFileName : Op → Type 0
+HasFileName op = op.kind ≡ SourceKind → IsTrue (is_file_name op.file)
 
 no_source : (kind : OpKind) (right left_keys right_keys : List ℕ) → HasInputs kind right left_keys right_keys → kind ≡ SourceKind → ⊥
 no_source kind right left_keys right_keys h e = subst (λ (k : OpKind). HasInputs k right left_keys right_keys) e h
@@ -25,7 +35,80 @@ names_in functions n count (OpDecl name kind function left right left_keys right
     ((λ e. absurd (no_source kind right left_keys right_keys h.0.3 e)), names_in functions n count decls h.1)
 names_in functions n count (Sink input fields ∷ decls) h = names_in functions n count decls h.1
 
-pub result_named : (x : Result ProgramData Refusal) (text : List ℕ) → IfOk x (HasProgram text) → IfOk x (λ p. AllByRecursion HasFileName p.ops)
-result_named (Ok p) text h =
-    subst (λ (ops : List Op). AllByRecursion HasFileName ops) (sym h.program.ops) (names_in (function_names h.draft.functions) 0 (length h.draft.functions) h.draft.decls h.functions.spelled.writable.spelled.declared)
-result_named (Err r) text h = tt
+source_kind : (kind : OpKind) → is_source_kind kind ≡ true → kind ≡ SourceKind
+source_kind SourceKind h = refl
+source_kind Map h = cc
+source_kind Reduce h = cc
+source_kind Match h = cc
+source_kind Cross h = cc
+source_kind CoGroup h = cc
+
+sources_named : (ops : List Op) → AllByRecursion HasFileName ops → AllByRecursion (λ s. IsTrue (is_file_name s.file)) (sources_of ops)
+sources_named [] h = tt
+sources_named (op ∷ ops) h = one (is_source_kind op.kind) op (sources_of ops) (λ e. h.0 (source_kind op.kind e)) (sources_named ops h.1)
+  where
+    one : (b : Bool) (op : Op) (rest : List Op) → (b ≡ true → IsTrue (is_file_name op.file)) → AllByRecursion (λ s. IsTrue (is_file_name s.file)) rest → AllByRecursion (λ s. IsTrue (is_file_name s.file)) (cond b (op ∷ rest) rest)
+    one true op rest h g = (h refl, g)
+    one false op rest h g = g
+
+program_named : (name text : List ℕ) (p : ProgramData) (r : List Reading) → (program_of name text).Ends r (gives p) → AllByRecursion HasFileName p.ops
+program_named name text p r (gives d, r1, r2, e, h, (gives vs, r3, r4, e2, v, k)) =
+    subst (λ (ops : List Op). AllByRecursion HasFileName ops) (sym k.1.program.ops) (names_in (function_names d.functions) 0 (length d.functions) d.decls h.1.writable.spelled.declared)
+program_named name text p r (gives d, r1, r2, e, h, (stops s l, r3, r4, e2, v, k)) = absurd cc
+program_named name text p r (gives d, r1, r2, e, h, (misses n, r3, r4, e2, v, k)) = absurd cc
+program_named name text p r (gives d, r1, r2, e, h, (fails n, r3, r4, e2, v, k)) = absurd cc
+program_named name text p r (stops s l, r1, r2, e, h, k) = absurd cc
+program_named name text p r (misses n, r1, r2, e, h, k) = absurd cc
+program_named name text p r (fails n, r1, r2, e, h, k) = absurd cc
+
+file_sources_named : (files : Option (List NamedFile)) (name : List ℕ) (p : ProgramData) (r : List Reading) → (program_file files name).Ends r (gives p) → AllByRecursion HasFileName p.ops
+file_sources_named files name p r (gives text, r1, r2, e, f, h) = program_named name text p r2 h
+file_sources_named files name p r (stops s l, r1, r2, e, f, h) = absurd cc
+file_sources_named files name p r (misses n, r1, r2, e, f, h) = absurd cc
+file_sources_named files name p r (fails n, r1, r2, e, f, h) = absurd cc
+
+-- ---- the names of the files that may not be read
+
+file_fails : (P : List ℕ → Type 0) (files : Option (List NamedFile)) (name : List ℕ) (limit : ℕ) → P name → FailsSo P (file files name limit)
+file_fails P files name limit h = record { so = λ other p e. subst P (sym e.1) h }
+
+each_valid_fails : (P : List ℕ → Type 0) (fields : ℕ) (functions : List FunctionValue) → FailsSo P (each (valid fields) functions)
+each_valid_fails P fields [] = fails_plain P _ _
+each_valid_fails P fields (f ∷ functions) = fails_then P _ (fails_plain P _ _) (λ v _. fails_then P _ (each_valid_fails P fields functions) (λ vs _. fails_plain P _ _))
+
+program_file_fails : (P : List ℕ → Type 0) (files : Option (List NamedFile)) (name : List ℕ) → P name → FailsSo P (program_file files name)
+program_file_fails P files name h =
+    fails_then P _ (file_fails P files name program_limit h)
+    (λ text _. fails_then P _ (fails_plain P _ _) (λ d _. fails_then P _ (each_valid_fails P d.fields d.functions) (λ vs _. fails_plain P _ _)))
+
+sources_fail : (P : List ℕ → Type 0) (fields : ℕ) (files : Option (List NamedFile)) (ops : List Op) → AllByRecursion (λ s. P s.file) ops → FailsSo P (each (source_file fields files) ops)
+sources_fail P fields files [] h = fails_plain P _ _
+sources_fail P fields files (s ∷ ops) h =
+    fails_then P _ (fails_then P _ (file_fails P files s.file source_limit h.0) (λ bytes _. fails_plain P _ _))
+    (λ rows _. fails_then P _ (sources_fail P fields files ops h.1) (λ all _. fails_plain P _ _))
+
+-- the name of the command's file, or one that a program may name
+abbrev NamedFor : Asked → List ℕ → Type 0
+NamedFor asked name = (name ≡ named_by asked) ⊎ IsTrue (is_file_name name)
+
+may_name : (asked : Asked) (sources : List Op) → AllByRecursion (λ s. IsTrue (is_file_name s.file)) sources → AllByRecursion (λ s. NamedFor asked s.file) sources
+may_name asked [] h = tt
+may_name asked (s ∷ sources) h = (inr h.0, may_name asked sources h.1)
+
+ready_for_fails : (files : Option (List NamedFile)) (asked : Asked) → FailsSo (NamedFor asked) (ready_for files asked)
+ready_for_fails files (to_run name) =
+    fails_then (NamedFor (to_run name)) _
+    (fails_then (NamedFor (to_run name)) _ (program_file_fails (NamedFor (to_run name)) files name (inl refl))
+    (λ p given. fails_then (NamedFor (to_run name)) _
+    (sources_fail (NamedFor (to_run name)) p.fields files (sources_of p.ops) (may_name (to_run name) (sources_of p.ops) (sources_named p.ops (file_sources_named files name p given.readings given.ends))))
+    (λ inputs _. fails_plain (NamedFor (to_run name)) _ _)))
+    (λ l _. fails_plain (NamedFor (to_run name)) _ _)
+
+pub work_fails : (words : List (List ℕ)) (files : Option (List NamedFile)) → FailsSo (IsNamed words) (work words files)
+work_fails words files =
+    fails_then (IsNamed words) _ (fails_plain (IsNamed words) _ _)
+    (λ c asked. fails_then (IsNamed words) _ (record { so = λ name p e. named words c name asked.ends.1 ((ready_for_fails files c).so name p e) }) (λ r _. fails_plain (IsNamed words) _ _))
+  where
+    named : (words : List (List ℕ)) (c : Asked) (name : List ℕ) → IsAsked words c → NamedFor c name → IsNamed words name
+    named words c name h (inl e) = inl (c, h, e)
+    named words c name h (inr f) = inr f

@@ -1,28 +1,26 @@
 -- The sources among the operators of a program.
-use Rattle.std.proofs.Common.{◌≡◌, ◌<◌, ◌+◌, ℕ, zero, suc, Bool, true, false, cond, List, [], ◌∷◌, ◌++◌, Option, Some, None, IfSome, get_or, length, take, refl, ap, sym, ◌∙◌, subst, arith, append-nil}
+use Rattle.std.proofs.Common.{◌≡◌, ◌<◌, ◌+◌, ℕ, zero, suc, Bool, true, false, cond, List, [], ◌∷◌, ◌++◌, Option, Result, Ok, Err, IfOk, get_or, length, take, refl, ap, sym, ◌∙◌, subst, arith, append-nil}
 use Rattle.std.proofs.lemmas.List.{take_more}
 use Rattle.std.proofs.lemmas.List.Elements.{filter-append}
 use Rattle.std.specs.List.{AllByRecursion}
+use Rattle.csv_source.specs.CsvRows.{records_of}
+use Rattle.csv_source.proofs.RowParts.{source_rows}
 use Rattle.pact_bag.specs.SourceRows.{AreSourceRows}
 use Rattle.pact_bag.specs.declared.columns.Column.{Column}
-use Rattle.pact_operators.specs.declared.declarations.OpKind.{OpKind}
-use Rattle.pact_operators.specs.declared.declarations.OpKind.TheVariants.{Source, Map, Reduce, Match, Cross, CoGroup}
 use Rattle.pact_operators.specs.declared.operators.Op.{Op}
 use Rattle.pact_operators.specs.Allowed.{Bag}
 use Rattle.pact_operators.specs.Inputs.{HaveRows}
 use Rattle.pact_operators.specs.PlanOps.{is_source_kind, sources_of}
-use Rattle.pact_operators.specs.Programs.{fields_of, source_fields}
+use Rattle.pact_operators.specs.Programs.{ProgramData, fields_of, source_fields}
 use Rattle.pact_outside.specs.declared.files.NamedFile.{NamedFile}
+use Rattle.pact_outside.specs.Outside.{Feeding}
 use Rattle.pact_record.specs.declared.values.Value.{Value}
-use Rattle.pact_top.specs.Verdict.{HasSourceRows, ReadSources}
-
-pub source_kind : (kind : OpKind) → is_source_kind kind ≡ true → kind ≡ Source
-source_kind Source h = refl
-source_kind Map h = cc
-source_kind Reduce h = cc
-source_kind Match h = cc
-source_kind Cross h = cc
-source_kind CoGroup h = cc
+use Rattle.pact_top.specs.declared.refusals.Refusal.{Refusal}
+use Rattle.pact_top.specs.Refusal.{Answers, Comes}
+use Rattle.pact_top.specs.Stages.{Reading, Stage, each, fails, gives, misses, stops}
+use Rattle.pact_top.specs.Work.{source_file, sources}
+use Rattle.pact_top.proofs.Comings.{comes_more, comes_stop}
+use Rattle.pact_top.proofs.StageLaws.{gave_cons}
 
 -- ---- a source among others
 
@@ -56,20 +54,6 @@ sources-passed ops n op h e k =
     ap sources_of (take_more ops n op h ∙ ap (λ (x : Op). take n ops ++ x ∷ []) (sym e)) ∙ filter-append (λ (x : Op). is_source_kind x.kind) (take n ops) (op ∷ [])
     ∙ ap (λ (l : List Op). sources_of (take n ops) ++ l) (passed (is_source_kind op.kind) op [] k) ∙ append-nil (sources_of (take n ops))
 
--- ---- the rows of one source more
-
-pub read-more : (fs : List NamedFile) (fields : ℕ) (sources : List Op) (inputs : List Bag) (s : Op) (rows : Bag) → ReadSources fs fields sources inputs → HasSourceRows fs fields s rows → ReadSources fs fields (sources ++ s ∷ []) (inputs ++ rows ∷ [])
-read-more fs fields [] [] s rows h r = (r, tt)
-read-more fs fields [] (x ∷ inputs) s rows h r = absurd h
-read-more fs fields (t ∷ sources) [] s rows h r = absurd h
-read-more fs fields (t ∷ sources) (x ∷ inputs) s rows h r = (h.0, read-more fs fields sources inputs s rows h.1 r)
-
-pub rows-more : (fields : ℕ) (sources : List Op) (inputs : List Bag) (s : Op) (rows : Bag) → HaveRows fields sources inputs → AreSourceRows fields s.columns rows → HaveRows fields (sources ++ s ∷ []) (inputs ++ rows ∷ [])
-rows-more fields [] [] s rows h r = (r, tt)
-rows-more fields [] (x ∷ inputs) s rows h r = absurd h
-rows-more fields (t ∷ sources) [] s rows h r = absurd h
-rows-more fields (t ∷ sources) (x ∷ inputs) s rows h r = (h.0, rows-more fields sources inputs s rows h.1 r)
-
 -- ---- columns and the fields of a sink
 
 columns_in_list : (bound : ℕ) (columns : List Column) → AllByRecursion (λ k. k < bound) (fields_of columns) → AllByRecursion (λ c. c.field < bound) columns
@@ -86,11 +70,6 @@ columns_below bound (o ∷ ops) zero op l e h =
     subst (λ (x : Op). AllByRecursion (λ c. c.field < bound) x.columns) (sym e) (columns_in_list bound o.columns (parts_of bound (fields_of o.columns) (source_fields ops) h).0)
 columns_below bound (o ∷ ops) (suc n) op l e h = columns_below bound ops n op (omega arith) e (parts_of bound (fields_of o.columns) (source_fields ops) h).1
 
-pub at_op : (P : Op → Type 0) (ops : List Op) (n : ℕ) (op : Op) → n < length ops → op ≡ get_or ops n op → AllByRecursion P ops → P op
-at_op P [] n op l e h = absurd (omega arith)
-at_op P (o ∷ ops) zero op l e h = subst P (sym e) h.0
-at_op P (o ∷ ops) (suc n) op l e h = at_op P ops n op (omega arith) e h.1
-
 fields_within : (width n : ℕ) (fields : List ℕ) → n ≡ width → AllByRecursion (λ k. k < width) fields → AllByRecursion (λ k. k < n) fields
 fields_within width n fields e h = subst (λ (m : ℕ). AllByRecursion (λ k. k < m) fields) (sym e) h
 
@@ -98,8 +77,52 @@ pub sink_within : (width : ℕ) (fields : List ℕ) (bag : List (List Value)) �
 sink_within width fields [] h k = tt
 sink_within width fields (row ∷ bag) h k = (fields_within width (length row) fields k.0 h, sink_within width fields bag h k.1)
 
-pub all_read : (files : Option (List NamedFile)) (fields : ℕ) (before now : List Op) (inputs grown : List Bag) (s : Op) (rows : Bag) → now ≡ before ++ s ∷ [] → grown ≡ inputs ++ rows ∷ [] → IfSome files (λ fs. ReadSources fs fields before inputs)
-    → IfSome files (λ fs. HasSourceRows fs fields s rows) → IfSome files (λ fs. ReadSources fs fields now grown)
-all_read None fields before now inputs grown s rows e g h r = tt
-all_read (Some fs) fields before now inputs grown s rows e g h r =
-    subst (λ (l : List Op). ReadSources fs fields l grown) (sym e) (subst (ReadSources fs fields (before ++ s ∷ [])) (sym g) (read-more fs fields before inputs s rows h r))
+-- ---- the rows of sources
+
+are_inputs : (p : ProgramData) (files : Option (List NamedFile)) (inputs : List Bag) (r : List Reading) → (sources p files).Ends r (gives inputs) → HaveRows p.fields (sources_of p.ops) inputs
+are_inputs p files inputs r h = have_rows p.fields files (sources_of p.ops) inputs r h
+  where
+    source_wide : (fields : ℕ) (files : Option (List NamedFile)) (s : Op) (rows : Bag) (r : List Reading) → (source_file fields files s).Ends r (gives rows) → AreSourceRows fields s.columns rows
+    source_wide fields files s rows r (gives bytes, r1, r2, e, f, h) = source_rows fields s.columns (records_of bytes) rows h.1
+    source_wide fields files s rows r (stops status line, r1, r2, e, f, h) = absurd cc
+    source_wide fields files s rows r (misses name, r1, r2, e, f, h) = absurd cc
+    source_wide fields files s rows r (fails name, r1, r2, e, f, h) = absurd cc
+
+    have_rows : (fields : ℕ) (files : Option (List NamedFile)) (ops : List Op) (inputs : List Bag) (r : List Reading) → (each (source_file fields files) ops).Ends r (gives inputs) → HaveRows fields ops inputs
+    have_rows fields files [] inputs r h = rw h.1 tt
+    have_rows fields files (s ∷ ops) inputs r h =
+        let all = gave_cons (source_file fields files) s ops r inputs h in
+        subst (HaveRows fields (s ∷ ops)) (sym all.together) (source_wide fields files s all.value all.front all.first, have_rows fields files ops all.values all.later all.others)
+
+pub are_inputs_read : (p : ProgramData) (before now : Feeding) (x : Result (List Bag) Refusal) → Answers (sources p before.files) before now x → IfOk x (HaveRows p.fields (sources_of p.ops))
+are_inputs_read p before now (Ok inputs) h = are_inputs p before.files inputs h.readings h.ends
+are_inputs_read p before now (Err r) h = tt
+
+-- ---- one stage for each source, as a loop goes over all operators
+
+pub sources_next : {B : Type 0} (k : Option (List NamedFile) → Op → Stage B) {before mid now : Feeding} (ops : List Op) (n : ℕ) (op : Op) (bs grown : List B) (b : B)
+    → n < length ops → op ≡ get_or ops n op → is_source_kind op.kind ≡ true → grown ≡ bs ++ b ∷ [] → Comes (λ f. each (k f) (sources_of (take n ops))) before mid (Ok bs)
+    → Comes (λ f. k f op) mid now (Ok b) → Comes (λ f. each (k f) (sources_of (take (n + 1) ops))) before now (Ok grown)
+sources_next k {before} {mid} {now} ops n op bs grown b l e s g h c =
+    subst (λ (x : List Op). Comes (λ f. each (k f) x) before now (Ok grown)) (sym (sources-taken ops n op l e s))
+    (subst (λ (x : List _). Comes (λ f. each (k f) (sources_of (take n ops) ++ op ∷ [])) before now (Ok x)) (sym g) (comes_more k (sources_of (take n ops)) op bs b h c))
+
+pub sources_kept : {B : Type 0} (k : Option (List NamedFile) → Op → Stage B) {before now : Feeding} (ops : List Op) (n : ℕ) (op : Op) (bs same : List B)
+    → n < length ops → op ≡ get_or ops n op → is_source_kind op.kind ≡ false → same ≡ bs → Comes (λ f. each (k f) (sources_of (take n ops))) before now (Ok bs)
+    → Comes (λ f. each (k f) (sources_of (take (n + 1) ops))) before now (Ok same)
+sources_kept k {before} {now} ops n op bs same l e s g h =
+    subst (λ (x : List Op). Comes (λ f. each (k f) x) before now (Ok same)) (sym (sources-passed ops n op l e s))
+    (subst (λ (x : List _). Comes (λ f. each (k f) (sources_of (take n ops))) before now (Ok x)) (sym g) h)
+
+pub sources_stop : {B : Type 0} (k : Option (List NamedFile) → Op → Stage B) {before mid now : Feeding} (ops : List Op) (n : ℕ) (op : Op) (bs : List B) (r : Refusal)
+    → n < length ops → op ≡ get_or ops n op → is_source_kind op.kind ≡ true → Comes (λ f. each (k f) (sources_of (take n ops))) before mid (Ok bs) → Comes (λ f. k f op) mid now (Err r)
+    → Comes (λ f. each (k f) (sources_of ops)) before now (Err r)
+sources_stop k {before} {mid} {now} ops n op bs r l e s h c =
+    let split = sources-split ops n op l e s in
+    subst (λ (x : List Op). Comes (λ f. each (k f) x) before now (Err r)) (sym split.1) (comes_stop k (sources_of (take n ops)) op split.0 bs r h c)
+
+pub sources_moved : (p : ProgramData) {before now : Feeding} {result : Result (List Bag) Refusal} (fields : ℕ) (ops : List Op) → fields ≡ p.fields → ops ≡ p.ops
+    → Comes (λ f. each (source_file fields f) (sources_of ops)) before now result → Comes (sources p) before now result
+sources_moved p {before} {now} {result} fields ops e s h =
+    subst (λ (k : ℕ). Comes (λ f. each (source_file k f) (sources_of p.ops)) before now result) e
+    (subst (λ (x : List Op). Comes (λ f. each (source_file fields f) (sources_of x)) before now result) s h)

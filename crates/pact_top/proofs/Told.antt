@@ -1,72 +1,60 @@
--- What is told where there is no answer, and what that says of the verdict.
-use Rattle.std.proofs.Common.{◌≡◌, ◌≤◌, ◌⊎◌, inl, inr, ℕ, List, Bool, Option, Some, None, IfSome, refl, ap, sym, ◌∙◌, arith}
-use Rattle.pact_operators.specs.Allowed.{Bag}
-use Rattle.pact_outside.specs.declared.files.NamedFile.{NamedFile}
-use Rattle.pact_outside.specs.Outside.{Rose}
-use Rattle.pact_operators.specs.Programs.{ProgramData}
+-- What a refusal says of the exit status.
+use Rattle.std.proofs.Common.{◌≡◌, ◌≤◌, ◌⊎◌, inl, inr, ℕ, List, refl, ap, sym, arith}
+use Rattle.pact_outside.specs.Outside.{Feeding, Rose}
 use Rattle.pact_top.specs.declared.refusals.Refusal.{Refusal}
 use Rattle.pact_top.specs.declared.refusals.Refusal.TheVariants.{OutOfMemory, Usage, CannotRead, CannotWrite, Decided}
-use Rattle.pact_top.specs.Refusal.{AnswerRefused, status_of, refusal_line}
-use Rattle.pact_top.specs.Verdict.{IsAnswer, IsVerdict, Verdict, line_of, missing, runs, usage, status_of_verdict}
-use Rattle.pact_top.proofs.Exclusive.{same_status}
+use Rattle.pact_top.specs.Refusal.{AreTold, ComesTo, IsRefused, status_of, refusal_line}
+use Rattle.pact_top.specs.RefusalLines.{line_of, usage_line}
+use Rattle.pact_top.specs.Stages.{CanEnd, gives, stops, misses}
+use Rattle.pact_top.specs.Work.{Ready, ready, work}
+use Rattle.pact_top.proofs.Decided.{ready_agrees, work_decided}
 
--- ---- lines
+pub line_is : (words : List (List ℕ)) (before now : Feeding) (r : Refusal) → IsRefused words before now r → status_of r ≤ 4 → refusal_line r ≡ line_of (status_of r) now.opened
+line_is words before now OutOfMemory h few = refl
+line_is words before now Usage h few = refl
+line_is words before now (CannotRead name) h few = ap (line_of 3) (sym h.0.named)
+line_is words before now CannotWrite h few = refl
+line_is words before now (Decided status line) h few = let l = h.0 in absurd (omega (arith, few, l))
 
-pub refusal_line-status_of : (words : List (List ℕ)) (files : Option (List NamedFile)) (before now : ℕ) (is_open : Bool) (opened : List ℕ) (r : Refusal)
-    → AnswerRefused words files before now is_open opened r → status_of r ≤ 4 → refusal_line r ≡ line_of (status_of r) opened
-refusal_line-status_of words files before now is_open opened OutOfMemory h few = refl
-refusal_line-status_of words files before now is_open opened Usage h few = refl
-refusal_line-status_of words files before now is_open opened (CannotRead told) h few = ap (line_of 3) (sym h.0.named)
-refusal_line-status_of words files before now is_open opened CannotWrite h few = refl
-refusal_line-status_of words files before now is_open opened (Decided status line) h few =
-    let e = h.1.status_is in let l = h.1.refuses in absurd (omega (arith, few, e, l))
+pub stopped : (words : List (List ℕ)) (before now : Feeding) (r : Refusal) → IsRefused words before now r → 5 ≤ status_of r → ComesTo (work words before.files) before now (stops (status_of r) (refusal_line r))
+stopped words before now OutOfMemory h large = absurd (omega (arith, large))
+stopped words before now Usage h large = absurd (omega (arith, large))
+stopped words before now (CannotRead name) h large = absurd (omega (arith, large))
+stopped words before now CannotWrite h large = absurd h
+stopped words before now (Decided status line) h large = h.2
 
--- ---- verdicts where something was decided
+-- ---- what stands decides the status
 
-decided_status : (words : List (List ℕ)) (fs : List NamedFile) (v w : Verdict) (status : ℕ) → status ≡ status_of_verdict v → IsVerdict words fs v → IsVerdict words fs w → status ≡ status_of_verdict w
-decided_status words fs v w status e h k = e ∙ same_status words fs v w h k
+pub where_missing : (words : List (List ℕ)) (before now : Feeding) (r : Refusal) → IsRefused words before now r → AreTold before.files → (name : List ℕ) → CanEnd (work words before.files) (misses name)
+    → (status_of r ≡ 1) ⊎ (status_of r ≡ 3)
+where_missing words before now OutOfMemory h told name m = inl refl
+where_missing words before now Usage h told name m = absurd ((work_decided words before.files told).alike (stops 2 usage_line) (misses name) h.1.readings m.readings h.1.ends m.ends)
+where_missing words before now (CannotRead t) h told name m = inr refl
+where_missing words before now CannotWrite h told name m = absurd h
+where_missing words before now (Decided status line) h told name m = absurd ((work_decided words before.files told).alike (stops status line) (misses name) h.2.readings m.readings h.2.ends m.ends)
 
--- where a program with its rows stands, the refusal is want of memory or a fault of the feed
-pub refused_where_runs : (words : List (List ℕ)) (files : Option (List NamedFile)) (before now : ℕ) (is_open : Bool) (opened : List ℕ) (r : Refusal) (Other : Type 0)
-    → AnswerRefused words files before now is_open opened r
-    → IfSome files (λ fs. (p : ProgramData) (inputs : List Bag) → IsVerdict words fs (runs p inputs) → ¬ (Rose before now) → Other → (status_of r ≡ 0) ⊎ (status_of r ≡ 1))
-refused_where_runs words None before now is_open opened r Other h = tt
-refused_where_runs words (Some fs) before now is_open opened OutOfMemory Other h = λ p inputs v n o. inr refl
-refused_where_runs words (Some fs) before now is_open opened Usage Other h = λ p inputs v n o. let bad = same_status words fs usage (runs p inputs) h v in absurd (omega (arith, bad))
-refused_where_runs words (Some fs) before now is_open opened (CannotRead told) Other h = λ p inputs v n o. absurd (n h.0.rose)
-refused_where_runs words (Some fs) before now is_open opened CannotWrite Other h = absurd h
-refused_where_runs words (Some fs) before now is_open opened (Decided status line) Other h = λ p inputs v n o.
-    inl (decided_status words fs h.0 (runs p inputs) status h.1.status_is h.2 v)
+pub where_stopped : (words : List (List ℕ)) (before now : Feeding) (r : Refusal) → IsRefused words before now r → AreTold before.files → (status : ℕ) (line : List ℕ)
+    → CanEnd (work words before.files) (stops status line) → (status_of r ≡ 1) ⊎ (status_of r ≡ 3) ⊎ (status_of r ≡ status)
+where_stopped words before now OutOfMemory h told status line s = inl refl
+where_stopped words before now Usage h told status line s = inr (inr ((work_decided words before.files told).alike (stops 2 usage_line) (stops status line) h.1.readings s.readings h.1.ends s.ends))
+where_stopped words before now (CannotRead t) h told status line s = inr (inl refl)
+where_stopped words before now CannotWrite h told status line s = absurd h
+where_stopped words before now (Decided n l) h told status line s = inr (inr ((work_decided words before.files told).alike (stops n l) (stops status line) h.2.readings s.readings h.2.ends s.ends))
 
-pub refused_where_missing : (words : List (List ℕ)) (files : Option (List NamedFile)) (before now : ℕ) (is_open : Bool) (opened : List ℕ) (r : Refusal)
-    → AnswerRefused words files before now is_open opened r
-    → IfSome files (λ fs. (name : List ℕ) → IsVerdict words fs (missing name) → (status_of r ≡ 1) ⊎ (status_of r ≡ 3))
-refused_where_missing words None before now is_open opened r h = tt
-refused_where_missing words (Some fs) before now is_open opened OutOfMemory h = λ name v. inl refl
-refused_where_missing words (Some fs) before now is_open opened Usage h = λ name v. let bad = same_status words fs usage (missing name) h v in absurd (omega (arith, bad))
-refused_where_missing words (Some fs) before now is_open opened (CannotRead told) h = λ name v. inr refl
-refused_where_missing words (Some fs) before now is_open opened CannotWrite h = absurd h
-refused_where_missing words (Some fs) before now is_open opened (Decided status line) h = λ name v.
-    inr (decided_status words fs h.0 (missing name) status h.1.status_is h.2 v)
-
-pub refused_where_decided : (words : List (List ℕ)) (files : Option (List NamedFile)) (before now : ℕ) (is_open : Bool) (opened : List ℕ) (r : Refusal)
-    → AnswerRefused words files before now is_open opened r
-    → IfSome files (λ fs. (v : Verdict) → IsVerdict words fs v → 5 ≤ status_of_verdict v → (status_of r ≡ 1) ⊎ (status_of r ≡ 3) ⊎ (status_of r ≡ status_of_verdict v))
-refused_where_decided words None before now is_open opened r h = tt
-refused_where_decided words (Some fs) before now is_open opened OutOfMemory h = λ v k l. inl refl
-refused_where_decided words (Some fs) before now is_open opened Usage h = λ v k l. inr (inr (same_status words fs usage v h k))
-refused_where_decided words (Some fs) before now is_open opened (CannotRead told) h = λ v k l. inr (inl refl)
-refused_where_decided words (Some fs) before now is_open opened CannotWrite h = absurd h
-refused_where_decided words (Some fs) before now is_open opened (Decided status line) h = λ v k l. inr (inr (decided_status words fs h.0 v status h.1.status_is h.2 k))
+pub where_ready : (words : List (List ℕ)) (before now : Feeding) (r : Refusal) → IsRefused words before now r → AreTold before.files → (y : Ready) → CanEnd (ready words before.files) (gives y)
+    → ¬ (Rose before.faults now.faults) → status_of r ≡ 1
+where_ready words before now OutOfMemory h told y g n = refl
+where_ready words before now Usage h told y g n = absurd ((ready_agrees words before.files told).alike (stops 2 usage_line) (gives y) h.1.readings g.readings h.1.ends g.ends)
+where_ready words before now (CannotRead t) h told y g n = absurd (n h.0.rose)
+where_ready words before now CannotWrite h told y g n = absurd h
+where_ready words before now (Decided status line) h told y g n = absurd ((ready_agrees words before.files told).alike (stops status line) (gives y) h.2.readings g.readings h.2.ends g.ends)
 
 -- ---- where there is an answer
 
-pub answered_not_missing : (words : List (List ℕ)) (files : Option (List NamedFile)) (text : List ℕ) (Goal : Type 0) → IfSome files (λ fs. IsAnswer words fs text)
-    → IfSome files (λ fs. (name : List ℕ) → IsVerdict words fs (missing name) → Goal)
-answered_not_missing words None text Goal a = tt
-answered_not_missing words (Some fs) text Goal a = λ name v. let bad = same_status words fs (runs a.program a.inputs) (missing name) a.verdict v in absurd (omega (arith, bad))
+pub not_missing : (words : List (List ℕ)) (before now : Feeding) (text : List ℕ) (Goal : Type 0) → ComesTo (work words before.files) before now (gives text) → AreTold before.files → (name : List ℕ)
+    → CanEnd (work words before.files) (misses name) → Goal
+not_missing words before now text Goal g told name m = absurd ((work_decided words before.files told).alike (gives text) (misses name) g.readings m.readings g.ends m.ends)
 
-pub answered_not_refused : (words : List (List ℕ)) (files : Option (List NamedFile)) (text : List ℕ) (Goal : Verdict → Type 0) → IfSome files (λ fs. IsAnswer words fs text)
-    → IfSome files (λ fs. (v : Verdict) → IsVerdict words fs v → 5 ≤ status_of_verdict v → Goal v)
-answered_not_refused words None text Goal a = tt
-answered_not_refused words (Some fs) text Goal a = λ v k l. let bad = same_status words fs (runs a.program a.inputs) v a.verdict k in absurd (omega (arith, l, bad))
+pub not_stopped : (words : List (List ℕ)) (before now : Feeding) (text : List ℕ) (Goal : ℕ → Type 0) → ComesTo (work words before.files) before now (gives text) → AreTold before.files → (status : ℕ) (line : List ℕ)
+    → CanEnd (work words before.files) (stops status line) → Goal status
+not_stopped words before now text Goal g told status line s = absurd ((work_decided words before.files told).alike (gives text) (stops status line) g.readings s.readings g.ends s.ends)

@@ -1,4 +1,8 @@
+pub mod Headline
 pub mod Lines
-pub mod Transfer
-pub mod Verdict
+pub mod Readings
 pub mod Refusal
+pub mod RefusalLines
+pub mod Stages
+pub mod Transfer
+pub mod Work

@@ -1,15 +1,10 @@
 //! From a program's text to the program.
 
-ghost use Rattle.std.specs.Prelude.{◌≡◌, ◌≤◌, ◌++◌, ◌∷◌, [], ℕ, IfErr, IfOk, OnOk};
-ghost use Rattle.pact_operators.specs.Drafts.{field_limit};
-ghost use Rattle.pact_operators.specs.declared.program_rules.ProgramRule.{ProgramRule as RuleData};
-ghost use Rattle.pact_operators.specs.Programs.{AreValidated, IsProgramOf};
-ghost use Rattle.pact_operators.specs.ProgramRules.{IsRefused, Keeps};
-ghost use Rattle.pact_top.specs.Refusal.{DecidedBy, IsBadFunctionOf, IsBadProgramOf, ProgramRefused, TextDecides, TextRefused};
-ghost use Rattle.pact_top.specs.Verdict.{HasProgram, bad_function};
-ghost use Rattle.program_text.specs.ProgramTexts.{ProgramText};
-ghost use Rattle.tac_syntax.specs.Valid.{IsRefusal, IsValid};
-ghost use Rattle.text_lines.specs.TextLines.{lines_of};
+ghost use Rattle.std.specs.Prelude.{◌≡◌, ◌≤◌, ◌++◌, ◌∷◌, [], OnOk};
+ghost use Rattle.program_drafts.specs.Drafts.{field_limit};
+ghost use Rattle.pact_operators.specs.Programs.{AreValidated};
+ghost use Rattle.pact_top.specs.Refusal.{Decides, ProgramRefused, TextRefused};
+ghost use Rattle.pact_top.specs.Work as work;
 
 use crate::refusal_lines::{bad_function, bad_program, bad_text};
 use crate::refusals::Refusal;
@@ -31,8 +26,7 @@ fn text_refused(alloc: Global, name: &[u8], fault: TextFault) -> Refusal
 }
 
 fn read_draft(alloc: Global, name: &[u8], text: &[u8]) -> Result<Draft, Refusal>
-    ensures draft { IfOk result (λ d. ProgramText d (lines_of text.now)) }
-    ensures refused { IfErr result (DecidedBy (TextDecides name.now text.now)) }
+    ensures { Decides (work.draft name.now text.now) result }
 {
     match read_program(alloc, text) {
         Ok(draft) => Ok(draft),
@@ -45,10 +39,7 @@ fn read_draft(alloc: Global, name: &[u8], text: &[u8]) -> Result<Draft, Refusal>
 fn valid_function(alloc: Global, function: &Function, fields: u32) -> Result<Valid, Refusal>
     requires some_field { 1 ≤ fields }
     requires few_fields { fields ≤ field_limit }
-    ensures function { IfOk result (λ v. v.function ≡ function.now) }
-    ensures fields { IfOk result (λ v. v.fields ≡ fields) }
-    ensures valid { IfOk result (λ v. IsValid v.function v.fields) }
-    ensures refused { IfErr result (DecidedBy (λ v. (code : ℕ) × (at : ℕ) × (v ≡ bad_function function.now.name code at) × IsRefusal function.now fields code at)) }
+    ensures { Decides (work.valid fields function.now) result }
 {
     match validate(function.copy(alloc)?, fields) {
         Ok(valid) => Ok(valid),
@@ -65,8 +56,7 @@ fn push_valid(valids: &mut ValidList, valid: Valid) -> Result<(), OutOfMemory>
 
 // The functions in text order, up to the first that isn't valid.
 fn valid_functions(alloc: Global, draft: &Draft) -> Result<ValidList, Refusal>
-    ensures validated { IfOk result (λ vs. AreValidated draft.now vs) }
-    ensures refused { IfErr result (DecidedBy (IsBadFunctionOf draft.now)) }
+    ensures { Decides (work.valids draft.now) result }
 {
     let _declared = draft.decls();
     let fields = draft.fields();
@@ -91,9 +81,7 @@ fn program_refused(alloc: Global, not: NotProgram) -> Refusal
 
 fn checked(alloc: Global, draft: &Draft, valids: ValidList) -> Result<Program, Refusal>
     requires { AreValidated draft.now valids }
-    ensures program { IfOk result (λ p. IsProgramOf draft.now valids p) }
-    ensures kept { IfOk result (λ p. (rule : RuleData) → Keeps rule draft.now valids) }
-    ensures refused { IfErr result (DecidedBy (IsBadProgramOf draft.now valids)) }
+    ensures { Decides (work.program draft.now valids) result }
 {
     match check_program(alloc, draft, valids) {
         Ok(program) => Ok(program),
@@ -103,8 +91,7 @@ fn checked(alloc: Global, draft: &Draft, valids: ValidList) -> Result<Program, R
 
 /// The program that a text spells. The name is for what is told of another text.
 pub fn program_of(alloc: Global, name: &[u8], text: &[u8]) -> Result<Program, Refusal>
-    ensures program { IfOk result (HasProgram text.now) }
-    ensures refused { IfErr result (DecidedBy (TextDecides name.now text.now)) }
+    ensures { Decides (work.program_of name.now text.now) result }
 {
     let draft = read_draft(alloc, name, text)?;
     let valids = valid_functions(alloc, &draft)?;

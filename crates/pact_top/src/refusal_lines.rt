@@ -1,9 +1,8 @@
 //! The lines that tell what the files decide.
 
 ghost use Rattle.std.specs.Prelude.{◌≡◌, ◌++◌, OnOk, IfOk, decimal};
-ghost use Rattle.pact_top.specs.Refusal.{DecidesTo};
-ghost use Rattle.pact_top.specs.Verdict.{bad_function, bad_program, bad_row, bad_text, too_long, told_name, verdict_line};
-ghost use Rattle.pact_top.specs.Verdict as verdict;
+ghost use Rattle.pact_top.specs.Refusal.{Says};
+ghost use Rattle.pact_top.specs.RefusalLines as lines;
 
 use crate::refusals::Refusal;
 use pact_record::{Bytes, OutOfMemory};
@@ -17,7 +16,7 @@ fn push_number(alloc: Global, line: &mut Bytes, number: u64) -> Result<(), OutOf
 }
 
 fn long_line(alloc: Global, name: &[u8], limit: u64) -> Result<Bytes, OutOfMemory>
-    ensures { IfOk result (λ line. line ≡ verdict_line (too_long name.now limit)) }
+    ensures { IfOk result (λ line. line ≡ lines.long_line name.now limit) }
 {
     let mut line = Bytes::from_slice(alloc, name)?;
     line.extend_from_slice(b" is longer than ")?;
@@ -41,7 +40,7 @@ fn push_numbered(
 
 // What stands behind the name of a faulty text.
 fn fault_text(alloc: Global, number: u64, what: u32) -> Result<Bytes, OutOfMemory>
-    ensures { IfOk result (λ text. text ≡ verdict.fault_text number what) }
+    ensures { IfOk result (λ text. text ≡ lines.fault_text number what) }
 {
     let mut text = Bytes::new(alloc);
     push_numbered(alloc, &mut text, b":", number)?;
@@ -51,7 +50,7 @@ fn fault_text(alloc: Global, number: u64, what: u32) -> Result<Bytes, OutOfMemor
 }
 
 fn text_line(alloc: Global, name: &[u8], number: u64, what: u32) -> Result<Bytes, OutOfMemory>
-    ensures { IfOk result (λ line. line ≡ verdict_line (bad_text name.now number what)) }
+    ensures { IfOk result (λ line. line ≡ lines.text_line name.now number what) }
 {
     let mut line = Bytes::from_slice(alloc, name)?;
     line.extend_from_slice(fault_text(alloc, number, what)?.bytes())?;
@@ -60,7 +59,7 @@ fn text_line(alloc: Global, name: &[u8], number: u64, what: u32) -> Result<Bytes
 
 // What stands behind the name of a function.
 fn break_text(alloc: Global, code: u32, at: u32) -> Result<Bytes, OutOfMemory>
-    ensures { IfOk result (λ text. text ≡ verdict.break_text code at) }
+    ensures { IfOk result (λ text. text ≡ lines.break_text code at) }
 {
     let mut text = Bytes::new(alloc);
     push_numbered(alloc, &mut text, b": V", u64::from(code))?;
@@ -70,7 +69,7 @@ fn break_text(alloc: Global, code: u32, at: u32) -> Result<Bytes, OutOfMemory>
 }
 
 fn function_line(alloc: Global, name: &[u8], code: u32, at: u32) -> Result<Bytes, OutOfMemory>
-    ensures { IfOk result (λ line. line ≡ verdict_line (bad_function name.now code at)) }
+    ensures { IfOk result (λ line. line ≡ lines.function_line name.now code at) }
 {
     let mut line = Bytes::from_slice(alloc, b"function ")?;
     line.extend_from_slice(name)?;
@@ -80,13 +79,13 @@ fn function_line(alloc: Global, name: &[u8], code: u32, at: u32) -> Result<Bytes
 
 // A program without one sink has no declaration to name.
 fn name_or_program(name: &[u8]) -> &[u8]
-    ensures { result.now ≡ told_name name.now }
+    ensures { result.now ≡ lines.told_name name.now }
 {
     if name.is_empty() { b"program" } else { name }
 }
 
 fn program_line(alloc: Global, name: &[u8], code: u32) -> Result<Bytes, OutOfMemory>
-    ensures { IfOk result (λ line. line ≡ verdict_line (bad_program name.now code)) }
+    ensures { IfOk result (λ line. line ≡ lines.program_line name.now code) }
 {
     let mut line = Bytes::from_slice(alloc, name_or_program(name))?;
     line.extend_from_slice(b": P")?;
@@ -97,7 +96,7 @@ fn program_line(alloc: Global, name: &[u8], code: u32) -> Result<Bytes, OutOfMem
 
 // What stands behind the name of a source with a bad row.
 fn row_text(alloc: Global, row: u64, column: u32, why: u32) -> Result<Bytes, OutOfMemory>
-    ensures { IfOk result (λ text. text ≡ verdict.row_text row column why) }
+    ensures { IfOk result (λ text. text ≡ lines.row_text row column why) }
 {
     let mut text = Bytes::new(alloc);
     push_numbered(alloc, &mut text, b": row ", row)?;
@@ -114,7 +113,7 @@ fn source_line(
     column: u32,
     why: u32,
 ) -> Result<Bytes, OutOfMemory>
-    ensures { IfOk result (λ line. line ≡ verdict_line (bad_row name.now row column why)) }
+    ensures { IfOk result (λ line. line ≡ lines.source_line name.now row column why) }
 {
     let mut line = Bytes::from_slice(alloc, b"source ")?;
     line.extend_from_slice(name)?;
@@ -124,7 +123,7 @@ fn source_line(
 
 /// The file of that name has more bytes than so many.
 pub fn too_long(alloc: Global, name: &[u8], limit: u64) -> Refusal
-    ensures { DecidesTo (too_long name.now limit) result }
+    ensures { Says 8 (lines.long_line name.now limit) result }
 {
     match long_line(alloc, name, limit) {
         Ok(line) => Refusal::Decided { status: 8, line },
@@ -134,7 +133,7 @@ pub fn too_long(alloc: Global, name: &[u8], limit: u64) -> Refusal
 
 /// The text of that name is faulty at a line.
 pub fn bad_text(alloc: Global, name: &[u8], number: u64, what: u32) -> Refusal
-    ensures { DecidesTo (bad_text name.now number what) result }
+    ensures { Says 5 (lines.text_line name.now number what) result }
 {
     match text_line(alloc, name, number, what) {
         Ok(line) => Refusal::Decided { status: 5, line },
@@ -144,7 +143,7 @@ pub fn bad_text(alloc: Global, name: &[u8], number: u64, what: u32) -> Refusal
 
 /// The function of that name breaks a rule at a statement.
 pub fn bad_function(alloc: Global, name: &[u8], code: u32, at: u32) -> Refusal
-    ensures { DecidesTo (bad_function name.now code at) result }
+    ensures { Says 6 (lines.function_line name.now code at) result }
 {
     match function_line(alloc, name, code, at) {
         Ok(line) => Refusal::Decided { status: 6, line },
@@ -154,7 +153,7 @@ pub fn bad_function(alloc: Global, name: &[u8], code: u32, at: u32) -> Refusal
 
 /// The declaration of that name breaks a rule.
 pub fn bad_program(alloc: Global, name: &[u8], code: u32) -> Refusal
-    ensures { DecidesTo (bad_program name.now code) result }
+    ensures { Says 6 (lines.program_line name.now code) result }
 {
     match program_line(alloc, name, code) {
         Ok(line) => Refusal::Decided { status: 6, line },
@@ -164,7 +163,7 @@ pub fn bad_program(alloc: Global, name: &[u8], code: u32) -> Refusal
 
 /// A row of the source of that name is bad.
 pub fn bad_row(alloc: Global, name: &[u8], row: u64, column: u32, why: u32) -> Refusal
-    ensures { DecidesTo (bad_row name.now row column why) result }
+    ensures { Says 7 (lines.source_line name.now row column why) result }
 {
     match source_line(alloc, name, row, column, why) {
         Ok(line) => Refusal::Decided { status: 7, line },

@@ -4,7 +4,7 @@ ghost use Rattle.std.specs.Prelude.{◌≡◌, OnOk, OnErr, IfOk};
 ghost use Rattle.pact_outside.specs.Outside.{HasCause};
 ghost use Rattle.pact_top.specs.Transfer.{Gains, GainsFront, Tells};
 ghost use Rattle.pact_top.specs.Refusal.{status_of, refusal_line};
-ghost use Rattle.pact_top.specs.Verdict.{line_of};
+ghost use Rattle.pact_top.specs.RefusalLines.{line_of};
 ghost use Rattle.pact_top.specs.declared.refusals.Refusal.TheVariants as refusals;
 
 use crate::transfer::write_all;

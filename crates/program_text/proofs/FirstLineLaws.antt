@@ -8,7 +8,7 @@ use Rattle.program_text.specs.DeclarationFaults.{nothing_left}
 use Rattle.program_text.specs.DeclarationReading.{number_in, plain_at}
 use Rattle.program_text.specs.FirstLines.{IsFieldCount, count_fault, count_word_fault, field_count_words, fields_fault, is_plain, one_fault, version_fault, version_words}
 use Rattle.program_text.proofs.ItemWords.{number_in-decimal}
-use Rattle.program_text.proofs.Tests.{by_cases, or_else-none, same_word, told_unless-none}
+use Rattle.text_lines.proofs.Faultless.{by_cases, or_else-none, same_word, told_unless-none}
 use Rattle.tac_text.proofs.WrittenWords.{AreFine, AreLineWords-fine}
 use Rattle.program_text.proofs.WordBytes.{IsFine-text, is_word_text-decimal}
 

@@ -7,7 +7,7 @@ use Rattle.text_lines.proofs.DigitWords.{is_in_range-decimal, number_spelled}
 use Rattle.program_text.specs.DeclarationFaults.{begins_with, column_fault, is_number}
 use Rattle.program_text.specs.DeclarationReading.{column_in, number_in}
 use Rattle.program_text.specs.DeclarationWords.{column_text}
-use Rattle.program_text.proofs.Tests.{by_cases, same_word, told_unless-none}
+use Rattle.text_lines.proofs.Faultless.{by_cases, same_word, told_unless-none}
 
 -- ---- numbers
 

@@ -1,4 +1,3 @@
-pub mod Tests
 pub mod ItemWords
 pub mod ListWords
 pub mod WordBytes

@@ -3,7 +3,7 @@ use Rattle.std.proofs.Common.{◌≡◌, ◌≤◌, ◌-◌, ◌==◌, ℕ, suc,
 use Rattle.std.specs.List.{AllByRecursion}
 use Rattle.std.proofs.lemmas.Bool.Decides.{nat_tests}
 use Rattle.pact_bag.specs.declared.columns.Column.{Column}
-use Rattle.pact_operators.specs.Declarations.{AreColumns, AreNumbers, AreSinkFields, IsKeyList, field_list_limit}
+use Rattle.program_drafts.specs.Declarations.{AreColumns, AreNumbers, AreSinkFields, IsKeyList, field_list_limit}
 use Rattle.program_text.specs.declared.declaration_faults.Item.{Item}
 use Rattle.program_text.specs.declared.declaration_faults.Item.TheVariants.{Column as ColumnItem, Number}
 use Rattle.tac_syntax.specs.Functions.{key_limit}
@@ -14,7 +14,7 @@ use Rattle.program_text.specs.DeclarationFaults.{is_equals, is_number, item_faul
 use Rattle.program_text.specs.DeclarationReading.{behind_equals, columns_in, numbers_in}
 use Rattle.program_text.specs.DeclarationWords.{column_word, key_pair_words, number_word, number_words}
 use Rattle.program_text.proofs.ItemWords.{column_fault-of, column_in-of, is_number-decimal, number_in-decimal, spells, spells_column}
-use Rattle.program_text.proofs.Tests.{by_cases, or_else-none, same_word, told_unless-none}
+use Rattle.text_lines.proofs.Faultless.{by_cases, or_else-none, same_word, told_unless-none}
 
 -- ---- single items
 

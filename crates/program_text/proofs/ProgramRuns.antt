@@ -2,12 +2,12 @@
 use Rattle.std.proofs.Common.{◌≡◌, ◌≤◌, ◌+◌, ℕ, true, false, List, [], ◌∷◌, ◌++◌, map, length, refl, ap, sym, subst, ◌∙◌, append_assoc, append-nil, arith, length-append}
 use Rattle.std.specs.List.{AllByRecursion}
 use Rattle.std.proofs.lemmas.List.{map-append}
-use Rattle.pact_bag.proofs.Widths.{AllByRecursion-last}
-use Rattle.pact_operators.specs.declared.declarations.Decl.{Decl}
-use Rattle.pact_operators.specs.declared.declarations.Decl.TheVariants.{Source, Function as FunctionDecl, Op, Sink}
-use Rattle.pact_operators.specs.Declarations.{IsSpelledDecl}
-use Rattle.pact_operators.specs.Drafts.{AreDeclared, DraftData}
-use Rattle.pact_operators.proofs.Declared.{IsSpelledDraft-decl, IsSpelledDraft-function}
+use Rattle.pact_record.proofs.Lists.{AllByRecursion-last}
+use Rattle.program_drafts.specs.declared.declarations.Decl.{Decl}
+use Rattle.program_drafts.specs.declared.declarations.Decl.TheVariants.{Source, Function as FunctionDecl, Op, Sink}
+use Rattle.program_drafts.specs.Declarations.{IsSpelledDecl}
+use Rattle.program_drafts.specs.Drafts.{AreDeclared, DraftData}
+use Rattle.program_drafts.proofs.Declared.{IsSpelledDraft-decl, IsSpelledDraft-function}
 use Rattle.tac_syntax.specs.declared.functions.Function.{Function}
 use Rattle.tac_syntax.specs.Code.{Code, Line, simple, test, turns, over, otherwise, close, nesting}
 use Rattle.tac_syntax.specs.Functions.{IsSpelledFunction}

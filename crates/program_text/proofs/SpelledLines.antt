@@ -1,9 +1,9 @@
 -- Words without a fault are those of a declaration.
 use Rattle.std.proofs.Common.{◌≡◌, ◌≢◌, ◌||◌, ◌++◌, ℕ, true, IsTrue, List, [], ◌∷◌, None, codes, bytes_eq, refl, ap, ◌∙◌}
-use Rattle.pact_operators.specs.declared.declarations.OpKind.TheVariants.{Map, Reduce, Match, Cross, CoGroup}
-use Rattle.pact_operators.specs.declared.declarations.Decl.{Decl}
-use Rattle.pact_operators.specs.declared.declarations.Decl.TheVariants.{Source, Op, Sink}
-use Rattle.pact_operators.specs.Declarations.{IsKeyList, IsSpelledDecl}
+use Rattle.program_drafts.specs.declared.declarations.OpKind.TheVariants.{Map, Reduce, Match, Cross, CoGroup}
+use Rattle.program_drafts.specs.declared.declarations.Decl.{Decl}
+use Rattle.program_drafts.specs.declared.declarations.Decl.TheVariants.{Source, Op, Sink}
+use Rattle.program_drafts.specs.Declarations.{IsKeyList, IsSpelledDecl}
 use Rattle.program_text.specs.declared.declaration_faults.Slot.{Slot}
 use Rattle.program_text.specs.declared.declaration_faults.Slot.TheVariants.{Name, FileName, By}
 use Rattle.program_text.specs.declared.declaration_faults.Tail.{Tail}
@@ -14,7 +14,7 @@ use Rattle.text_lines.specs.declared.line_words.LineWord.TheVariants.{Plain as p
 use Rattle.program_text.specs.DeclarationFaults.{declaration_fault, fills, nothing_left, slot_fault, slots_then, word_fault}
 use Rattle.program_text.specs.DeclarationWords.{key_pair_words, number_words, plain_words, words_of_decl}
 use Rattle.program_text.proofs.ListWords.{spells_columns, spells_fields, spells_key_pair, spells_keys}
-use Rattle.program_text.proofs.Tests.{by_cases, or_else-none, same_word, told_unless-none}
+use Rattle.text_lines.proofs.Faultless.{by_cases, or_else-none, same_word, told_unless-none}
 
 -- ---- one word after the other
 

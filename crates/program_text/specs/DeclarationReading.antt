@@ -2,10 +2,10 @@
 use Rattle.std.specs.Prelude.{ℕ, Bool, true, false, if◌then◌else◌, nat_le, List, [], ◌∷◌, map, length, get_or, drop, codes, bytes_eq}
 use Rattle.std.specs.Str.Parse.{digits_value}
 use Rattle.pact_bag.specs.declared.columns.Column.{Column}
-use Rattle.pact_operators.specs.declared.declarations.OpKind.{OpKind}
-use Rattle.pact_operators.specs.declared.declarations.OpKind.TheVariants.{Source as SourceKind, Map, Reduce, Match, Cross, CoGroup}
-use Rattle.pact_operators.specs.declared.declarations.Decl.{Decl}
-use Rattle.pact_operators.specs.declared.declarations.Decl.TheVariants.{Source, Op, Sink}
+use Rattle.program_drafts.specs.declared.declarations.OpKind.{OpKind}
+use Rattle.program_drafts.specs.declared.declarations.OpKind.TheVariants.{Map, Reduce, Match, Cross, CoGroup}
+use Rattle.program_drafts.specs.declared.declarations.Decl.{Decl}
+use Rattle.program_drafts.specs.declared.declarations.Decl.TheVariants.{Source, Op, Sink}
 use Rattle.pact_record.specs.declared.words.TheConstants.{MAX_WORD}
 use Rattle.text_lines.specs.declared.line_words.LineWord.{LineWord}
 use Rattle.text_lines.specs.declared.line_words.LineWord.TheVariants.{Plain as plain_word, Literal as literal_word}
@@ -51,12 +51,10 @@ behind_equals (word ∷ words) = if is_equals word then words else behind_equals
 -- ---- declarations
 
 abbrev pub has_right : OpKind → Bool
-has_right SourceKind = false
-has_right Map = false
-has_right Reduce = false
 has_right Match = true
 has_right Cross = true
 has_right CoGroup = true
+has_right kind = false
 
 abbrev pub kind_in : List ℕ → OpKind
 kind_in word =

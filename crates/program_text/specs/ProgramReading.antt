@@ -1,12 +1,12 @@
 -- What reading a program answers, line by line and as a whole.
-use Rattle.std.specs.Prelude.{◌≡◌, ℕ, Bool, false, max, List, [], ◌∷◌, Some, Result, Ok, Err, codes, bytes_eq}
-use Rattle.pact_operators.specs.Drafts.{DraftData}
+use Rattle.std.specs.Prelude.{◌≡◌, ℕ, Bool, false, max, List, ◌∷◌, Some, Result, Ok, Err, codes, bytes_eq}
+use Rattle.program_drafts.specs.Drafts.{DraftData}
 use Rattle.tac_text.specs.declared.statement_reading.NotLine.{NotLine}
 use Rattle.tac_text.specs.declared.statement_reading.NotLine.TheVariants as line
 use Rattle.text_lines.specs.declared.lines.TextFault.{TextFault}
 use Rattle.text_lines.specs.declared.lines.TextFault.TheVariants as told
 use Rattle.text_lines.specs.declared.line_words.LineWord.{LineWord}
-use Rattle.text_lines.specs.declared.line_words.LineWord.TheVariants.{Plain as plain_word, Literal as literal_word}
+use Rattle.text_lines.specs.declared.line_words.LineWord.TheVariants.{Plain as plain_word}
 use Rattle.text_lines.specs.declared.word_reading.NotWords.{NotWords}
 use Rattle.text_lines.specs.declared.word_reading.NotWords.TheVariants as words
 use Rattle.text_lines.specs.FirstFaults.{HasFault, IsFirstFault}
@@ -37,9 +37,8 @@ at_line number (Fault what) = told.At number what
 at_line number Memory = told.Memory
 
 abbrev pub begins_function : List LineWord → Bool
-begins_function [] = false
 begins_function (plain_word word ∷ words) = bytes_eq word (codes "function")
-begins_function (literal_word bytes ∷ words) = false
+begins_function words = false
 
 -- the words are of a line that may be said there, and leads to this state
 abbrev pub LeadsOn : ProgramState → List LineWord → ProgramState → Type 0

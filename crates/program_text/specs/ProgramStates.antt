@@ -1,12 +1,12 @@
 -- Reading a program line by line.
 use Rattle.std.specs.Prelude.{ℕ, Bool, true, false, if◌then◌else◌, List, [], ◌∷◌, ◌++◌, length}
-use Rattle.pact_operators.specs.declared.declarations.Decl.{Decl}
-use Rattle.pact_operators.specs.declared.declarations.Decl.TheVariants.{Function as FunctionDecl}
-use Rattle.pact_operators.specs.Declarations.{IsSpelledDecl}
-use Rattle.pact_operators.specs.Drafts.{DraftData}
+use Rattle.program_drafts.specs.declared.declarations.Decl.{Decl}
+use Rattle.program_drafts.specs.declared.declarations.Decl.TheVariants.{Function as FunctionDecl}
+use Rattle.program_drafts.specs.Declarations.{IsSpelledDecl}
+use Rattle.program_drafts.specs.Drafts.{DraftData}
 use Rattle.tac_syntax.specs.declared.functions.Function.{Function}
 use Rattle.tac_syntax.specs.declared.functions.Kind.{Kind}
-use Rattle.tac_syntax.specs.Code.{Line, simple, test, turns, over, otherwise, close}
+use Rattle.tac_syntax.specs.Code.{Line, close}
 use Rattle.tac_text.specs.declared.building.Block.{Block}
 use Rattle.tac_text.specs.FunctionAnswers.{OpenData, begun, function_of, with_build}
 use Rattle.tac_text.specs.FunctionLines.{header_words, IsHeader}
@@ -62,13 +62,8 @@ with_function d f = record { fields = d.fields; functions = d.functions ++ f ∷
 
 -- an `end` where no block is open ends the function
 abbrev pub ends_function : Line → List Block → Bool
-ends_function (simple s) blocks = false
-ends_function (test on) blocks = false
-ends_function (turns count) blocks = false
-ends_function (over name list) blocks = false
-ends_function otherwise blocks = false
 ends_function close [] = true
-ends_function close (block ∷ blocks) = false
+ends_function line blocks = false
 
 abbrev pub said_inside : DraftData → OpenData → Line → ProgramState
 said_inside d o line = if ends_function line o.build.blocks then drafted (with_function d (function_of o)) else open_function d (with_build o (built_on o.build line))

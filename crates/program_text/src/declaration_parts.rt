@@ -6,8 +6,8 @@ ghost use Rattle.program_text.specs.DeclarationReading.{behind_equals, column_in
 
 use crate::declaration_faults::{is_equals, is_number};
 use pact_bag::{Column, Columns};
-use pact_operators::{Numbers, OpKind};
 use pact_record::{MAX_WORD, OutOfMemory, Word};
+use program_drafts::{Numbers, OpKind};
 use std::alloc::Global;
 use text_lines::{LineWord, read_number};
 

@@ -1,8 +1,8 @@
 //! The lines of declarations, read from their words.
 
 ghost use Rattle.std.specs.Prelude.{◌≡◌, ◌<◌, ℕ, None, Some, IfErr, IfOk, length};
-ghost use Rattle.pact_operators.specs.Declarations.{IsSpelledDecl};
-ghost use Rattle.pact_operators.specs.declared.declarations.Decl.{Decl as DeclData};
+ghost use Rattle.program_drafts.specs.Declarations.{IsSpelledDecl};
+ghost use Rattle.program_drafts.specs.declared.declarations.Decl.{Decl as DeclData};
 ghost use Rattle.program_text.specs.DeclarationAnswers.{GivesDecl, GivesSomeDecl, IsFaultOf, TellsFault};
 ghost use Rattle.program_text.specs.DeclarationFaults.{declaration_fault};
 ghost use Rattle.program_text.specs.DeclarationReading.{decl_in, keys_at, kind_in, op_in, right_in};
@@ -12,8 +12,8 @@ use crate::declaration_faults::declaration_fault;
 use crate::declaration_parts::{
     behind_equals, columns_in, has_right, name_at, numbers_in, plain_at, words_from,
 };
-use pact_operators::{Decl, OpKind};
 use pact_record::{OutOfMemory, Word};
+use program_drafts::{Decl, OpKind};
 use std::alloc::Global;
 use text_lines::{LineWord, is_word};
 

@@ -21,12 +21,4 @@ pub use program_reading::read_program;
 pub use program_writing::write_program;
 
 #[cfg(test)]
-mod declaration_tests;
-#[cfg(test)]
-mod example_tests;
-#[cfg(test)]
-mod fault_tests;
-#[cfg(test)]
-mod first_line_tests;
-#[cfg(test)]
 mod program_tests;

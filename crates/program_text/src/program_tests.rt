@@ -1,138 +1,198 @@
+//! Programs, read and written, and each fault with the line that it is told at. The line and the number are worked out by
+//! hand from the rules in `docs/language.md`.
+
 use crate::{read_program, write_program};
-use pact_operators::functions_of;
-use pact_record::{Bytes, OutOfMemory};
+use pact_record::OutOfMemory;
 use std::alloc::Global;
 use std::test::Fail;
 use text_lines::TextFault;
 
-// Whether this is the fault that is told of a text.
-fn faulty(alloc: Global, text: &[u8], line: u64, what: u32) -> Result<bool, OutOfMemory> {
+const FIVE: &str = "pact 1
+fields 6
+source s s.csv int:0 int:1
+source t t.csv int:2 int:3
+function lft match
+  r0 = copy left
+  emit r0
+end
+function five map
+  r0 = copy in
+  v0 = int 7
+  set r0 5 v0
+  emit r0
+end
+match g lft s t by 0 = 2
+map m five g
+sink m 0 1 5
+";
+
+const COGROUP: &str = "pact 1
+fields 6
+source s s.csv int:0 int:1
+source t t3.csv int:2 int:3
+function both cogroup 1
+  v0 = key 0
+  r0 = new
+  set r0 0 v0
+  v1 = int 0
+  v3 = int 0
+  v2 = int 1
+  each x1 of left
+    v1 = addw v1 v2
+  end
+  each x1 of right
+    v3 = addw v3 v2
+  end
+  set r0 4 v1
+  set r0 5 v3
+  emit r0
+end
+cogroup g both s t by 0 = 2
+sink g 0 4 5
+";
+
+const SHOP: &str = "pact 1
+fields 7
+source c customers.csv int:0 text:1 text:2
+source o orders.csv int:3 int:4 int:5
+function jn match
+  r0 = copy join
+  emit r0
+end
+function de map
+  v0 = get in 2
+  v1 = text \"DE\"
+  v2 = eq v0 v1
+  if v2
+    r0 = copy in
+    emit r0
+  end
+end
+function tot reduce 2
+  v0 = int 0
+  each x1 of group
+    v1 = get x1 5
+    v0 = addw v0 v1
+  end
+  r0 = new
+  v2 = key 0
+  set r0 0 v2
+  v2 = key 1
+  set r0 1 v2
+  set r0 6 v0
+  emit r0
+end
+match j jn c o by 0 = 4
+map d de j
+reduce r tot d by 0 1
+sink r 1 6
+";
+
+// Line ends of both kinds, tabs, comments, empty lines, an empty body behind `else`, a literal with a tab and a number
+// sign in it, and no line feed at the end.
+const LOOSE: &str =
+    "\r\n\t# two sides\r\npact\t1\r\n fields  7 # few\n\nfunction both cogroup\t1\r\n\teach x1 of left # one side\r\n\t\teach x2 of right\n v0 = text  \"a\t# \\\"b\\\"\"# behind it\n if v0\n else # nothing\n\n end\nrepeat 3\nemit r0\nend\n  end\nend\r\nif v1\nelse\nset r0 6 v0\nend\nend # both\nsource s in/a-1.csv  text:0\tint:1\r\nsource t t.csv int:2\n\ncogroup g both s t by 0 = 2\n sink g 0 6\r";
+
+const LOOSE_WRITTEN: &str = "pact 1
+fields 7
+function both cogroup 1
+  each x1 of left
+    each x2 of right
+      v0 = text \"a\\t# \\\"b\\\"\"
+      if v0
+      end
+      repeat 3
+        emit r0
+      end
+    end
+  end
+  if v1
+  else
+    set r0 6 v0
+  end
+end
+source s in/a-1.csv text:0 int:1
+source t t.csv int:2
+cogroup g both s t by 0 = 2
+sink g 0 6
+";
+
+// Whether what is written of the program that a text spells is this.
+fn is_written_as(alloc: Global, text: &str, wanted: &str) -> Result<bool, TextFault> {
+    let draft = read_program(alloc, text.as_bytes())?;
+    let written = write_program(alloc, &draft)?;
+    Ok(written.bytes() == wanted.as_bytes())
+}
+
+// Whether a text is the canonical one of its program.
+fn is_kept(alloc: Global, text: &str) -> Result<bool, TextFault> {
+    is_written_as(alloc, text, text)
+}
+
+#[test]
+fn canonical_texts_are_kept(rt: HostRuntime) -> Result<(), Fail> {
+    assert!(rt; is_kept(rt.alloc(), FIVE)?);
+    assert!(rt; is_kept(rt.alloc(), COGROUP)?);
+    assert!(rt; is_kept(rt.alloc(), SHOP)?);
+    assert!(rt; is_kept(rt.alloc(), LOOSE_WRITTEN)?);
+    Ok(())
+}
+
+#[test]
+fn another_spelling_is_written_in_the_canonical_one(rt: HostRuntime) -> Result<(), Fail> {
+    assert!(rt; is_written_as(rt.alloc(), LOOSE, LOOSE_WRITTEN)?);
+    Ok(())
+}
+
+// Whether this fault is told of a text.
+fn told(alloc: Global, text: &[u8], line: u64, what: u32) -> Result<bool, OutOfMemory> {
     match read_program(alloc, text) {
         Ok(_) => Ok(false),
-        Err(
-            TextFault::At {
-                line: at,
-                what: told,
-            },
-        ) => Ok(at == line && told == what),
         Err(TextFault::Memory) => Err(OutOfMemory),
+        Err(fault) => Ok(fault == TextFault::At { line, what }),
     }
 }
 
-// What is written of the program that a text spells.
-fn rewritten(alloc: Global, text: &[u8]) -> Result<Bytes, TextFault> {
-    Ok(write_program(alloc, &read_program(alloc, text)?)?)
+// Whether this fault is told of a text whose first two lines are in order, so that these begin with the third.
+fn told_in(alloc: Global, lines: &[u8], line: u64, what: u32) -> Result<bool, OutOfMemory> {
+    let mut text = Vec::from_slice(alloc, b"pact 1\nfields 9\n")?;
+    text.extend_from_slice(lines)?;
+    told(alloc, &text, line, what)
 }
 
 #[test]
-fn blanks_comments_and_line_ends_are_free(rt: HostRuntime) -> Result<(), Fail> {
-    let text =
-        b"# flow\r\n\n pact\t1 # version\nfields  3\r\nsource s s.csv\ttext:0 int:2\nfunction f reduce 2\nr0 = copy first\nemit r0#once\nend\n\nreduce r f s by 2 0\nsink r 0 2 # out";
-    let wanted =
-        b"pact 1\nfields 3\nsource s s.csv text:0 int:2\nfunction f reduce 2\n  r0 = copy first\n  emit r0\nend\nreduce r f s by 2 0\nsink r 0 2\n";
-    assert!(rt; rewritten(rt.alloc(), text)?.bytes() == wanted.as_slice());
-    assert!(rt; rewritten(rt.alloc(), wanted)?.bytes() == wanted.as_slice());
+fn faults_of_the_first_lines(rt: HostRuntime) -> Result<(), Fail> {
+    assert!(rt; told(rt.alloc(), b"# nothing\n\n", 2, 12)?);
+    assert!(rt; told(rt.alloc(), b"", 1, 12)?);
+    assert!(rt; told(rt.alloc(), b"\npact 2\n", 2, 12)?);
+    assert!(rt; told(rt.alloc(), b"pact 1\n\nfields 65\n", 3, 7)?);
     Ok(())
 }
 
 #[test]
-fn the_operators_of_two_inputs_are_read(rt: HostRuntime) -> Result<(), Fail> {
-    let text =
-        b"pact 1\nfields 4\nsource a a.csv int:0\nsource b b.csv int:1\nfunction m match\nend\nfunction x cross\nend\nfunction g cogroup 1\nend\nmatch j m a b by 0 = 1\ncross c x a b\ncogroup o g j c by 0 = 1\nsink o 0\n";
-    let program = read_program(rt.alloc(), text)?;
-    assert!(rt; program.fields() == 4 && program.decls().len() == 9);
-    assert!(rt; functions_of(&program).len() == 3);
-    assert!(rt; write_program(rt.alloc(), &program)?.bytes() == text.as_slice());
+fn faults_of_declarations(rt: HostRuntime) -> Result<(), Fail> {
+    assert!(rt; told_in(rt.alloc(), b"\r\nmap\rm f s\n", 4, 1)?);
+    assert!(rt; told_in(rt.alloc(), b"source s \"a int:0\n", 3, 2)?);
+    assert!(rt; told_in(rt.alloc(), b"sink s 0\nfilter m f s\n", 4, 3)?);
+    assert!(rt; told_in(rt.alloc(), b"source s s.csv\n", 3, 4)?);
+    assert!(rt; told_in(rt.alloc(), b"sink s 0\n\ncross x f a b by 0 = 0\n", 5, 5)?);
+    assert!(rt; told_in(rt.alloc(), b"map M\n", 3, 6)?);
     Ok(())
 }
 
 #[test]
-fn the_order_of_declarations_is_free_and_kept(rt: HostRuntime) -> Result<(), Fail> {
-    let text =
-        b"pact 1\nfields 1\nsink m 0\nmap m f s\nfunction f map\nend\nsource s s.csv int:0\n";
-    assert!(rt; rewritten(rt.alloc(), text)?.bytes() == text.as_slice());
-    Ok(())
-}
-
-#[test]
-fn a_text_may_declare_nothing(rt: HostRuntime) -> Result<(), Fail> {
-    let text = b"pact 1\nfields 64\n";
-    assert!(rt; rewritten(rt.alloc(), b"pact 1\n\nfields 64")?.bytes() == text.as_slice());
-    Ok(())
-}
-
-#[test]
-fn a_text_that_ends_too_early(rt: HostRuntime) -> Result<(), Fail> {
-    assert!(rt; faulty(rt.alloc(), b"", 1, 12)?);
-    assert!(rt; faulty(rt.alloc(), b"# nothing\n\n", 2, 12)?);
-    assert!(rt; faulty(rt.alloc(), b"pact 1\n", 1, 12)?);
-    assert!(rt; faulty(rt.alloc(), b"pact 1\n\n# no fields", 3, 12)?);
-    assert!(rt; faulty(rt.alloc(), b"pact 1\nfields 2\nfunction f map\n", 3, 10)?);
+fn faults_of_functions(rt: HostRuntime) -> Result<(), Fail> {
+    assert!(rt; told_in(rt.alloc(), b"function f reduce 9 9\nend\n", 3, 7)?);
+    assert!(rt; told_in(rt.alloc(), b"function f map\nr0 = int 1\nend\n", 4, 8)?);
+    assert!(rt; told_in(rt.alloc(), b"function f filter\nend\n", 3, 9)?);
+    assert!(rt; told_in(rt.alloc(), b"function f map\nrepeat 2\nelse\n", 5, 10)?);
+    assert!(rt; told_in(rt.alloc(), b"function f map\nif v0\nend\n\n", 6, 10)?);
     assert!(rt;
-        faulty(
+        told_in(
             rt.alloc(),
-            b"pact 1\nfields 2\nfunction f map\nif v0\nend\n\n",
-            6,
-            10
-        )?
-    );
-    Ok(())
-}
-
-#[test]
-fn the_first_two_lines(rt: HostRuntime) -> Result<(), Fail> {
-    assert!(rt; faulty(rt.alloc(), b"pact 2\nfields 2\n", 1, 12)?);
-    assert!(rt; faulty(rt.alloc(), b"\nfields 2\n", 2, 12)?);
-    assert!(rt; faulty(rt.alloc(), b"pact 1\nsink s 0\n", 2, 12)?);
-    assert!(rt; faulty(rt.alloc(), b"pact 1\nfields 2\npact 1\n", 3, 3)?);
-    Ok(())
-}
-
-#[test]
-fn the_first_faulty_line_is_told(rt: HostRuntime) -> Result<(), Fail> {
-    assert!(rt;
-        faulty(
-            rt.alloc(),
-            b"pact 1\nfields 2\nsource s \xff int:0\nfoo\n",
-            3,
-            1
-        )?
-    );
-    assert!(rt; faulty(rt.alloc(), b"pact 1\nfields 2\n\"s\nfoo\n", 3, 2)?);
-    assert!(rt; faulty(rt.alloc(), b"pact 1\nfields 2\nfoo\nsink\n", 3, 3)?);
-    assert!(rt; faulty(rt.alloc(), b"pact 1\nfields 2\nsink\nfoo\n", 3, 4)?);
-    assert!(rt; faulty(rt.alloc(), b"pact 1\nfields 2\nmap m f s 1\n", 3, 5)?);
-    assert!(rt; faulty(rt.alloc(), b"pact 1\nfields 2\nmap M f s\n", 3, 6)?);
-    assert!(rt;
-        faulty(
-            rt.alloc(),
-            b"pact 1\nfields 2\nfunction f map\nemit v0\nend\n",
+            b"function f reduce 1\neach x2 of group\n",
             4,
-            8
-        )?
-    );
-    assert!(rt;
-        faulty(
-            rt.alloc(),
-            b"pact 1\nfields 2\nfunction f map\nend\nend\n",
-            5,
-            10
-        )?
-    );
-    assert!(rt;
-        faulty(
-            rt.alloc(),
-            b"pact 1\nfields 2\nfunction f map\nv0 = foo v1\nend\n",
-            4,
-            9
-        )?
-    );
-    assert!(rt;
-        faulty(
-            rt.alloc(),
-            b"pact 1\nfields 2\nfunction f map\nelse\nend\n",
-            4,
-            10
+            11
         )?
     );
     Ok(())

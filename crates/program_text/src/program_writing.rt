@@ -10,8 +10,8 @@ ghost use Rattle.tac_syntax.specs.Limits.{nesting_limit};
 ghost use Rattle.text_lines.specs.TextLines.{lines_of};
 
 use crate::declaration_writing::write_declaration;
-use pact_operators::{Decl, Draft, functions_of};
 use pact_record::{Bytes, OutOfMemory};
+use program_drafts::{Decl, Draft, functions_of};
 use std::alloc::Global;
 use tac_syntax::Function;
 use tac_text::write_function;

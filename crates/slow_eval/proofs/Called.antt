@@ -2,8 +2,8 @@
 use Rattle.std.proofs.Common.{◌≡◌, ◌<◌, ℕ, zero, suc, List, [], ◌∷◌, inl, inr, Option, Some, None, length, get_or, slice_get, ap, sym, ◌∙◌, subst, arith}
 use Rattle.std.specs.Prelude.{flat_map}
 use Rattle.std.proofs.lemmas.Option.{get_or_from_slice_get}
-use Rattle.pact_operators.specs.declared.declarations.OpKind.{OpKind}
-use Rattle.pact_operators.specs.declared.declarations.OpKind.TheVariants.{Source, Map, Reduce, Match, Cross, CoGroup}
+use Rattle.program_drafts.specs.declared.declarations.OpKind.{OpKind}
+use Rattle.program_drafts.specs.declared.declarations.OpKind.TheVariants.{Source, Map, Reduce, Match, Cross, CoGroup}
 use Rattle.pact_operators.specs.declared.operators.Op.{Op}
 use Rattle.pact_operators.specs.Allowed.{Bag, CoGrouped, Gives, GivesBoth, Grouped, crossed, keys_in, keys_in_either, matched}
 use Rattle.pact_operators.specs.PlanOps.{body_at, function_in, kind_at, kind_in, left_keys_in, plan_ops, right_keys_in}
@@ -11,8 +11,9 @@ use Rattle.pact_operators.specs.Programs.{HasKeyLists, IsKindFor, IsOpOf, IsOper
 use Rattle.tac_syntax.specs.Call.{Out, of_group, of_groups, of_pair, of_record}
 use Rattle.tac_syntax.specs.Code.{Code}
 use Rattle.tac_syntax.specs.Valid.{WithFields}
+use Rattle.pact_operators.proofs.OwnFields.{body_at as body_of-get}
 use Rattle.slow_eval.proofs.Items.{item-read}
-use Rattle.pact_bag.specs.Widths.{AreBelow}
+use Rattle.pact_record.specs.Widths.{AreBelow}
 
 -- ---- operators and their functions
 
@@ -25,11 +26,6 @@ pub record IsCalled (p : ProgramData) (at : ℕ) (op : Op) (v : WithFields) : Ty
   pub keys : HasKeyLists op.kind v.function.keys op.left_keys op.right_keys
   pub left_below : AreBelow v.fields op.left_keys
   pub right_below : AreBelow v.fields op.right_keys
-
-body_of-get : (valids : List WithFields) (n : ℕ) (v : WithFields) → slice_get valids n ≡ Some v → body_of valids n ≡ v.function.body
-body_of-get [] n v e = let bad : None ≡ Some v = e in absurd cc
-body_of-get (w ∷ valids) zero v e = let same : w ≡ v = cc in ap (λ (x : WithFields). x.function.body) same
-body_of-get (w ∷ valids) (suc n) v e = body_of-get valids n v e
 
 get_below : {X : Type 0} (xs : List X) (n : ℕ) (x : X) → slice_get xs n ≡ Some x → n < length xs
 get_below [] n x e = let bad : None ≡ Some x = e in absurd cc

@@ -3,3 +3,4 @@ pub mod Items
 pub mod Called
 pub mod PlanCounts
 pub mod SourceRows
+pub mod KnownKeys

@@ -3,14 +3,14 @@ use Rattle.std.proofs.Common.{◌≡◌, ◌<◌, ℕ, zero, suc, Bool, true, fa
 use Rattle.std.specs.List.{AllByRecursion}
 use Rattle.pact_bag.specs.SourceRows.{AreSourceRows}
 use Rattle.pact_bag.specs.declared.columns.Column.{Column}
-use Rattle.pact_operators.specs.declared.declarations.OpKind.{OpKind}
-use Rattle.pact_operators.specs.declared.declarations.OpKind.TheVariants.{Source, Map, Reduce, Match, Cross, CoGroup}
+use Rattle.program_drafts.specs.declared.declarations.OpKind.{OpKind}
+use Rattle.program_drafts.specs.declared.declarations.OpKind.TheVariants.{Source, Map, Reduce, Match, Cross, CoGroup}
 use Rattle.pact_operators.specs.declared.operators.Op.{Op}
 use Rattle.pact_operators.specs.Inputs.{HaveRows}
 use Rattle.pact_operators.specs.PlanOps.{is_source_kind, kind_at, kind_in, source_place, sources_of}
 use Rattle.pact_operators.specs.Programs.{Takes, takes}
 use Rattle.pact_record.specs.declared.values.Value.{Value}
-use Rattle.pact_bag.specs.Widths.{AreWide}
+use Rattle.pact_record.specs.Widths.{AreWide}
 
 takes_none : (kind : OpKind) → takes kind ≡ 0 → kind ≡ Source
 takes_none Source h = refl

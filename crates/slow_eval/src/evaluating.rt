@@ -3,13 +3,15 @@
 ghost use Rattle.std.specs.Prelude.{◌≡◌, ◌≤◌, ℕ, List, length, slice_get, IfOk, OnOk};
 ghost use Rattle.pact_record.specs.declared.values.Value.{Value as FieldValue};
 ghost use Rattle.pact_operators.specs.Allowed.{Allows, Counted, Gives, GivesBoth};
-ghost use Rattle.pact_operators.specs.Distinct.{IsAbsent};
+ghost use Rattle.plan_trees.specs.Distinct.{IsAbsent};
 ghost use Rattle.pact_operators.specs.Inputs.{AreInputsOf};
 ghost use Rattle.pact_operators.specs.PlanOps.{kind_at, plan_ops, source_place};
-ghost use Rattle.pact_operators.specs.Plans.{nodes};
+ghost use Rattle.plan_trees.specs.Plans.{nodes};
 ghost use Rattle.pact_operators.specs.Programs.{HasArity, IsPlanOf, Takes};
-ghost use Rattle.pact_bag.specs.Widths.{AreWide};
+ghost use Rattle.pact_record.specs.Widths.{AreWide};
+ghost use Rattle.slow_eval.specs.GivenRows.{rows_of};
 
+use crate::given_rows::GivenRows;
 use crate::grouping::{cogroup_rows, reduce_rows};
 use crate::pairing::{cross_rows, map_rows, match_rows};
 use pact_bag::{Counts, Inputs, Outcome, Rows};
@@ -75,40 +77,40 @@ fn over_two(
 }
 
 // Counts only the plan's own numbers.
-fn evaluate_into(
+fn evaluate_into<'a>(
     alloc: Global,
     program: &Program,
     plan: &Plan,
-    inputs: &Inputs,
+    inputs: &'a Inputs,
     counts: &mut Counts,
-) -> Result<Rows, OutOfMemory>
+) -> Result<GivenRows<'a>, OutOfMemory>
     requires arity { HasArity program.now.ops plan.now }
     requires inputs { AreInputsOf program.now inputs.now }
     requires counts { length counts.old ≡ length program.now.ops }
-    ensures counted { IfOk result (λ rows. Counted (plan_ops program.now inputs.now) plan.now rows counts.new) }
+    ensures counted { IfOk result (λ given. Counted (plan_ops program.now inputs.now) plan.now (rows_of given) counts.new) }
     ensures others { OnOk result ((n : ℕ) → IsAbsent n (nodes plan.now) → slice_get counts.new n ≡ slice_get counts.old n) }
     ensures counts { length counts.new ≡ length program.now.ops }
-    ensures widths { IfOk result (AreWide program.now.fields) }
+    ensures widths { IfOk result (λ given. AreWide program.now.fields (rows_of given)) }
 {
     match plan.parts() {
         Parts::Alone { at } => {
             let place = source_place(program.ops(), at);
-            let rows = inputs.at(place).copy(alloc)?;
+            let rows = inputs.at(place);
             counts.set(at as usize, rows.len() as u64);
-            Ok(rows)
+            Ok(GivenRows::Lent(rows))
         }
         Parts::OverOne { at, input } => {
             let below = evaluate_into(alloc, program, &input, inputs, counts)?;
-            let rows = over_one(alloc, program, at, &below)?;
+            let rows = over_one(alloc, program, at, below.rows())?;
             counts.set(at as usize, rows.len() as u64);
-            Ok(rows)
+            Ok(GivenRows::Own(rows))
         }
         Parts::OverTwo { at, left, right } => {
             let lefts = evaluate_into(alloc, program, &left, inputs, counts)?;
             let rights = evaluate_into(alloc, program, &right, inputs, counts)?;
-            let rows = over_two(alloc, program, at, &lefts, &rights)?;
+            let rows = over_two(alloc, program, at, lefts.rows(), rights.rows())?;
             counts.set(at as usize, rows.len() as u64);
-            Ok(rows)
+            Ok(GivenRows::Own(rows))
         }
     }
 }
@@ -131,6 +133,7 @@ pub fn evaluate(
     ensures widths { IfOk result (λ o. AreWide program.now.fields o.rows) }
 {
     let mut counts = Counts::zeros(alloc, program.ops().len())?;
-    let rows = evaluate_into(alloc, program, plan, inputs, &mut counts)?;
+    let given = evaluate_into(alloc, program, plan, inputs, &mut counts)?;
+    let rows = given.into_rows(alloc)?;
     Ok(Outcome { rows, counts })
 }

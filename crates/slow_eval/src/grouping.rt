@@ -1,6 +1,7 @@
 //! One call for each group of records with equal keys.
 
-ghost use Rattle.std.specs.Prelude.{◌≡◌, ◌<◌, ◌++◌, length, map, IfOk};
+ghost use Rattle.std.specs.Prelude.{◌≡◌, ◌<◌, ◌++◌, List, length, map, IfOk};
+ghost use Rattle.pact_record.specs.declared.values.Value.{Value as FieldValue};
 ghost use Rattle.std.specs.List.{AllByRecursion, list_any};
 ghost use Rattle.pact_record.specs.Record.{key_of};
 ghost use Rattle.tac_syntax.specs.declared.functions.Kind.TheVariants.{CoGroup, Reduce};
@@ -8,7 +9,7 @@ ghost use Rattle.tac_syntax.specs.Call.{Out, of_group, of_groups};
 ghost use Rattle.pact_bag.specs.Groups.{distinct_keys, group_of_key, is_same_key};
 ghost use Rattle.pact_operators.specs.Allowed.{CoGrouped, Grouped, keys_in, keys_in_either};
 ghost use Rattle.slow_eval.specs.Keyed.{HasEitherGroup, HasGroup};
-ghost use Rattle.pact_bag.specs.Widths.{AreBelow, AreWide};
+ghost use Rattle.pact_record.specs.Widths.{AreBelow, AreWide};
 
 use pact_bag::Rows;
 use pact_record::{Keys, OutOfMemory, Record};
@@ -16,44 +17,35 @@ use std::alloc::Global;
 use tac_interp::{call_cogroup, call_group};
 use tac_syntax::Valid;
 
-// The key values of each record, behind others.
-fn append_keys(alloc: Global, keys: &Keys, rows: &Rows, found: Rows) -> Result<Rows, OutOfMemory>
-    requires below { AllByRecursion (λ row. AreBelow (length row) keys.now) rows.now }
-    requires widths { AreWide (length keys.now) found }
-    ensures keys { IfOk result (λ all. all ≡ found ++ map (key_of keys.now) rows.now) }
-    ensures widths { IfOk result (AreWide (length keys.now)) }
+// Whether some of the keys are those of the record.
+fn is_known(row: &Record, keys: &Keys, found: &[Record]) -> bool
+    requires below { AreBelow (length row.now) keys.now }
+    requires widths { AreWide (length keys.now) found.now }
+    ensures { result ≡ list_any (λ key. is_same_key key (key_of keys.now row.now)) found.now }
 {
-    let mut all = found;
-    for row in rows.rows() {
-        all.push(row.key(alloc, keys)?)?;
-    }
-    Ok(all)
-}
-
-fn is_among(key: &Record, keys: &[Record]) -> bool
-    ensures { result ≡ list_any (λ other. is_same_key other key.now) keys.now }
-{
-    for other in keys {
-        if other == key {
+    for key in found {
+        if row.has_key(keys, key) {
             return true;
         }
     }
     false
 }
 
-// Each of the key values once.
-fn distinct(alloc: Global, width: u32, keys: &Rows) -> Result<Rows, OutOfMemory>
-    requires { AreWide width keys.now }
-    ensures keys { IfOk result (λ found. found ≡ distinct_keys keys.now) }
-    ensures widths { IfOk result (AreWide width) }
+// The key values of the records, each once, behind those of other records. A key is made only where
+// it is new.
+fn with_keys(alloc: Global, keys: &Keys, rows: &Rows, found: Rows) -> Result<Rows, OutOfMemory>
+    requires below { AllByRecursion (λ row. AreBelow (length row) keys.now) rows.now }
+    requires widths { AreWide (length keys.now) found }
+    ensures keys { (before : List (List FieldValue)) → found ≡ distinct_keys before → IfOk result (λ all. all ≡ distinct_keys (before ++ map (key_of keys.now) rows.now)) }
+    ensures widths { IfOk result (AreWide (length keys.now)) }
 {
-    let mut found = Rows::new(alloc);
-    for key in keys.rows() {
-        if !is_among(key, found.rows()) {
-            found.push(key.copy(alloc)?)?;
+    let mut all = found;
+    for row in rows.rows() {
+        if !is_known(row, keys, all.rows()) {
+            all.push(row.key(alloc, keys)?)?;
         }
     }
-    Ok(found)
+    Ok(all)
 }
 
 // The records that have these key values.
@@ -86,8 +78,7 @@ fn keys_in(alloc: Global, keys: &Keys, rows: &Rows) -> Result<Rows, OutOfMemory>
     ensures widths { IfOk result (AreWide (length keys.now)) }
     ensures groups { IfOk result (AllByRecursion (HasGroup keys.now rows.now)) }
 {
-    let all = append_keys(alloc, keys, rows, Rows::new(alloc))?;
-    distinct(alloc, keys.len(), &all)
+    with_keys(alloc, keys, rows, Rows::new(alloc))
 }
 
 // The key values that occur in some records, or in others.
@@ -105,9 +96,8 @@ fn keys_in_either(
     ensures widths { IfOk result (AreWide (length left_keys.now)) }
     ensures groups { IfOk result (AllByRecursion (HasEitherGroup left_keys.now right_keys.now lefts.now rights.now)) }
 {
-    let all = append_keys(alloc, left_keys, lefts, Rows::new(alloc))?;
-    let all = append_keys(alloc, right_keys, rights, all)?;
-    distinct(alloc, left_keys.len(), &all)
+    let found = with_keys(alloc, left_keys, lefts, Rows::new(alloc))?;
+    with_keys(alloc, right_keys, rights, found)
 }
 
 // The call for the records that have these key values.

@@ -6,10 +6,8 @@
 #![tactic(auto)]
 
 mod evaluating;
+mod given_rows;
 mod grouping;
 mod pairing;
 
 pub use evaluating::evaluate;
-
-#[cfg(test)]
-mod tests;

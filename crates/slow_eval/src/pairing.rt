@@ -5,7 +5,7 @@ ghost use Rattle.std.specs.List.{AllByRecursion};
 ghost use Rattle.tac_syntax.specs.declared.functions.Kind.TheVariants.{Cross, Map, Match};
 ghost use Rattle.tac_syntax.specs.Call.{Out, of_pair, of_record};
 ghost use Rattle.pact_operators.specs.Allowed.{crossed, matched};
-ghost use Rattle.pact_bag.specs.Widths.{AreBelow, AreWide};
+ghost use Rattle.pact_record.specs.Widths.{AreBelow, AreWide};
 
 use pact_bag::Rows;
 use pact_record::{Keys, OutOfMemory, Record};

@@ -10,11 +10,11 @@ use Rattle.tac_syntax.specs.Call.{Store, bind}
 use Rattle.tac_syntax.specs.Exec.{times, for_each, exec}
 use Rattle.tac_syntax.proofs.Bodies.{code_of-drop, placed-onto}
 use Rattle.tac_syntax.specs.Places.{placed, in_if, in_repeat, in_each}
-use Rattle.pact_bag.specs.Widths.{AreWide}
-use Rattle.tac_interp.specs.InRange.{IsInRange}
-use Rattle.tac_interp.specs.Ready.{FitsStore, IsReady, IsReadyIn, CanStart}
-use Rattle.tac_interp.proofs.Ranges.{first_part, second_part}
-use Rattle.tac_interp.proofs.Fitting.{CanAct-fits, next_name-over, value_register, Fits-bind, Fits-out_of_each, Fits-exec}
+use Rattle.pact_record.specs.Widths.{AreWide}
+use Rattle.tac_syntax.specs.InRange.{IsInRange}
+use Rattle.tac_syntax.specs.Ready.{FitsStore, IsReady, IsReadyIn, CanStart}
+use Rattle.pact_record.proofs.Lists.{AllByRecursion-left, AllByRecursion-right}
+use Rattle.tac_syntax.proofs.Fitting.{CanAct-fits, next_name-over, value_register, Fits-bind, Fits-out_of_each, Fits-exec}
 
 -- ---- a body that is ready
 
@@ -41,8 +41,8 @@ CanStart-ready (choice on body other) next s r =
     let p = r.place in
     let h = r.fits in
     let rest = placed (in_if p) other ++ placed p next in
-    let inside = first_part IsInRange (placed (in_if p) body) rest r.in_range.1 in
-    let outside = first_part IsInRange (placed (in_if p) other) (placed p next) (second_part IsInRange (placed (in_if p) body) rest r.in_range.1) in
+    let inside = AllByRecursion-left IsInRange (placed (in_if p) body) rest r.in_range.1 in
+    let outside = AllByRecursion-left IsInRange (placed (in_if p) other) (placed p next) (AllByRecursion-right IsInRange (placed (in_if p) body) rest r.in_range.1) in
     let fits : FitsStore (in_if p) s = record { fields = h.fields; kind = h.kind; keys = h.keys; lists = h.lists } in (
       value_register on r.in_range.0.registers,
       record { place = in_if p; in_range = inside; fits = fits },
@@ -53,14 +53,14 @@ CanStart-ready (turning count body) next s r =
     let h = r.fits in
     record {
       place = q;
-      in_range = first_part IsInRange (placed q body) (placed r.place next) r.in_range.1;
+      in_range = AllByRecursion-left IsInRange (placed q body) (placed r.place next) r.in_range.1;
       fits = record { fields = h.fields; kind = h.kind; keys = h.keys; lists = h.lists };
     }
 CanStart-ready (going_through name list body) next s r =
     record {
       place = r.place;
       next_name = next_name-over r.place name list r.in_range.0;
-      in_range = first_part IsInRange (placed (in_each r.place) body) (placed r.place next) r.in_range.1;
+      in_range = AllByRecursion-left IsInRange (placed (in_each r.place) body) (placed r.place next) r.in_range.1;
       fits = r.fits;
     }
 
@@ -81,12 +81,12 @@ RunsOn-onto : (stmt : Statement) (next whole : Code) (now then first : Store) �
 RunsOn-onto stmt next whole now then first e h =
     let p = h.ready.place in
     let both = subst (AllByRecursion IsInRange) (placed-onto p stmt next) h.ready.in_range in
-    let own = first_part IsInRange (placed p (onto stmt stop)) (placed p next) both in
+    let own = AllByRecursion-left IsInRange (placed p (onto stmt stop)) (placed p next) both in
     record {
       gives = ap (exec next) e ∙ sym (exec-onto stmt next now) ∙ h.gives;
       ready = record {
         place = p;
-        in_range = second_part IsInRange (placed p (onto stmt stop)) (placed p next) both;
+        in_range = AllByRecursion-right IsInRange (placed p (onto stmt stop)) (placed p next) both;
         fits = subst (FitsStore p) (sym e) (Fits-exec (onto stmt stop) p now own h.ready.fits);
       };
     }

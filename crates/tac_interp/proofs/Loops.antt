@@ -3,7 +3,7 @@ use Rattle.std.proofs.Common.{◌≡◌, ◌<◌, ℕ, List, [], ◌∷◌, ◌+
 use Rattle.std.proofs.lemmas.List.{take-map, map-append, length-map, get_or-map}
 use Rattle.std.proofs.lemmas.List.Elements.{All-from_recursion, recursion_from_All, All-push, All-take}
 use Rattle.pact_record.specs.declared.values.Value.{Value}
-use Rattle.pact_bag.specs.Widths.{AreWide}
+use Rattle.pact_record.specs.Widths.{AreWide}
 
 abbrev row_of : Bor (List Value) → List Value
 row_of r = r.now

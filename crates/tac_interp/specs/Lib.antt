@@ -1,4 +1,2 @@
-pub mod CallInputs
-pub mod InRange
-pub mod Ready
 pub mod Machine
+pub mod Registers

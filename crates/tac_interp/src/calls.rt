@@ -7,9 +7,9 @@ ghost use Rattle.pact_record.specs.Record.{key_of};
 ghost use Rattle.tac_syntax.specs.declared.functions.Kind.TheVariants.{CoGroup, Cross, Map, Match, Reduce};
 ghost use Rattle.tac_syntax.specs.Call.{of_group, of_groups, of_pair, of_record, end_state, Out};
 ghost use Rattle.tac_syntax.specs.Bounded.{AreBounded};
-ghost use Rattle.pact_bag.specs.Widths.{AreBelow, AreWide};
-ghost use Rattle.tac_interp.specs.CallInputs.{HasKeys, HasWidth, IsInputOf};
-ghost use Rattle.tac_interp.specs.Machine.{input_of};
+ghost use Rattle.pact_record.specs.Widths.{AreBelow, AreWide};
+ghost use Rattle.tac_syntax.specs.CallInputs.{HasKeys, HasWidth, IsInputOf};
+ghost use Rattle.tac_interp.specs.Machine.{HasKeyFields, input_of};
 
 use crate::inputs::Input;
 use crate::machines::Machine;
@@ -24,12 +24,13 @@ fn call(alloc: Global, f: &Valid, input: Input<'_>) -> Result<Rows, OutOfMemory>
     requires kind { IsInputOf f.now.function.kind (input_of input) }
     requires keys { HasKeys f.now.function.keys (input_of input) }
     requires width { HasWidth f.now.fields (input_of input) }
+    requires key_fields { HasKeyFields input }
     ensures emitted { IfOk result (λ rows. rows ≡ Out f.now.fields f.now.function.body (input_of input.entry)) }
     ensures bounded { IfOk result (λ rows. AreBounded f.now.fields f.now.function.body (input_of input.entry) rows) }
     ensures widths { IfOk result (AreWide f.now.fields) }
 {
     let function = f.function();
-    let mut machine = Machine::start(alloc, f.fields(), input)?;
+    let mut machine = Machine::start(alloc, f.fields(), input);
     run_body(alloc, &function.body, &mut machine)?;
     Ok(machine.into_emitted())
 }
@@ -78,15 +79,8 @@ pub fn call_group(alloc: Global, f: &Valid, keys: &Keys, group: &Rows) -> Result
     ensures widths { IfOk result (AreWide f.now.fields) }
 {
     let group = group.rows();
-    let key = group[0].key(alloc, keys)?;
-    call(
-        alloc,
-        f,
-        Input::Group {
-            key: key.values(),
-            group,
-        },
-    )
+    let one = &group[0];
+    call(alloc, f, Input::Group { keys, one, group })
 }
 
 /// What a CoGroup's function emits for the groups of either side, in its order. One of them may be
@@ -113,15 +107,16 @@ pub fn call_cogroup(
     ensures widths { IfOk result (AreWide f.now.fields) }
 {
     let (left, right) = (left.rows(), right.rows());
-    let key = match left.first() {
-        Some(row) => row.key(alloc, left_keys)?,
-        None => right[0].key(alloc, right_keys)?,
+    let (keys, one) = match left.first() {
+        Some(row) => (left_keys, row),
+        None => (right_keys, &right[0]),
     };
     call(
         alloc,
         f,
         Input::Groups {
-            key: key.values(),
+            keys,
+            one,
             left,
             right,
         },

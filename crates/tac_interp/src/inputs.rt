@@ -1,12 +1,13 @@
 //! What a function is called for.
 
-ghost use Rattle.std.specs.Prelude.{◌≡◌, ◌<◌, length};
+ghost use Rattle.std.specs.Prelude.{◌≡◌, ◌<◌, length, get_or};
+ghost use Rattle.pact_record.specs.declared.values.Value.TheVariants.{Null};
 ghost use Rattle.tac_syntax.specs.declared.statements.LoopList.TheVariants.{Group};
 ghost use Rattle.tac_syntax.specs.Call.{first_record, input_record, key_values, left_record, right_record, rows_of};
-ghost use Rattle.tac_interp.specs.CallInputs.{IsOfGroup, IsOfPair, IsOfRecord};
-ghost use Rattle.tac_interp.specs.Machine.{input_of};
+ghost use Rattle.tac_syntax.specs.CallInputs.{IsOfGroup, IsOfPair, IsOfRecord};
+ghost use Rattle.tac_interp.specs.Machine.{HasKeyFields, input_of};
 
-use pact_record::{Record, Value};
+use pact_record::{Keys, Record, Value};
 use tac_syntax::LoopList;
 
 /// What a call is for, by the function's kind.
@@ -16,14 +17,17 @@ pub(crate) enum Input<'a> {
     Record(&'a Record),
     /// The two records of a Match or a Cross.
     Pair(&'a Record, &'a Record),
-    /// The key values of a Reduce and the records that have them.
+    /// The key of a Reduce, one record that has its values, and all that have them.
     Group {
-        key: &'a [Value],
+        keys: &'a Keys,
+        one: &'a Record,
         group: &'a [Record],
     },
-    /// The key values of a CoGroup and the records of either side that have them.
+    /// The key of a side of a CoGroup, one record of that side, and the records of either side that
+    /// have its key values.
     Groups {
-        key: &'a [Value],
+        keys: &'a Keys,
+        one: &'a Record,
         left: &'a [Record],
         right: &'a [Record],
     },
@@ -72,13 +76,17 @@ impl<'a> Input<'a> {
         }
     }
 
-    /// The key values of a group, or of the groups of either side.
-    pub(crate) fn key(&self) -> &'a [Value]
-        ensures { result.now ≡ key_values (input_of self.now) }
+    /// A key value of a group, or of the groups of either side.
+    pub(crate) fn key_value(&self, at: u32) -> &'a Value
+        requires at { at < length (key_values (input_of self.now)) }
+        requires below { HasKeyFields self.now }
+        ensures { result.now ≡ get_or (key_values (input_of self.now)) at Null }
     {
         match self {
-            Input::Record(_) | Input::Pair(..) => &[],
-            Input::Group { key, .. } | Input::Groups { key, .. } => key,
+            Input::Group { keys, one, .. } | Input::Groups { keys, one, .. } => {
+                one.get(keys.at(at))
+            }
+            Input::Record(_) | Input::Pair(..) => unreachable!(),
         }
     }
 

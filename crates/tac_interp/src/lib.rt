@@ -8,6 +8,7 @@
 mod calls;
 mod inputs;
 mod machines;
+mod registers;
 mod runs;
 
 pub use calls::{call_cogroup, call_group, call_map, call_pair};

@@ -1,34 +1,32 @@
 //! The registers of a call, and what each statement of one line does to them.
 
-ghost use Rattle.std.specs.Prelude.{◌≡◌, ◌≤◌, ◌<◌, length, OnOk, IfOk, IfSome, MatchOption};
-ghost use Rattle.std.specs.List.{AllByRecursion};
+ghost use Rattle.std.specs.Prelude.{◌≡◌, ◌≤◌, ◌<◌, length, OnOk, IfOk};
 ghost use Rattle.pact_record.specs.declared.records.TheConstants.{MAX_FIELDS};
 ghost use Rattle.pact_record.specs.Record.{at_field};
 ghost use Rattle.pact_record.specs.Value as values;
-ghost use Rattle.tac_syntax.specs.declared.statements.Rec.TheVariants.{Join};
 ghost use Rattle.tac_syntax.specs.Limits.{value_registers};
 ghost use Rattle.tac_syntax.specs.Code as code;
 ghost use Rattle.tac_syntax.specs.Call.{Store, value_in, named_record, rows_of, after, start_store};
 ghost use Rattle.tac_syntax.specs.Call as call;
-ghost use Rattle.pact_bag.specs.Widths.{AreWide};
-ghost use Rattle.tac_interp.specs.CallInputs.{HasWidth};
-ghost use Rattle.tac_interp.specs.Ready.{HasRecord, CanAct};
-ghost use Rattle.tac_interp.specs.Machine.{input_of};
+ghost use Rattle.pact_record.specs.Widths.{AreWide};
+ghost use Rattle.tac_syntax.specs.CallInputs.{HasWidth};
+ghost use Rattle.tac_syntax.specs.Ready.{HasRecord, CanAct};
+ghost use Rattle.tac_interp.specs.Machine.{HasKeyFields, IsGiven, input_of};
 
 use crate::inputs::Input;
+use crate::registers::{RecordRegisters, ValueRegisters};
 use pact_bag::Rows;
 use pact_record::{Op1, Op2, OutOfMemory, Record, Text, Value, apply1, apply2};
 use std::alloc::Global;
 use std::marker::Model;
-use tac_syntax::{LoopList, RECORD_REGISTERS, Rec, VALUE_REGISTERS};
+use tac_syntax::{LoopList, Rec};
 
 /// The registers of a call, the record bound to each loop's name, and what was emitted so far.
 #[derive(Drop)]
 pub(crate) struct Machine<'a> {
-    fields: u32,
     input: Input<'a>,
-    values: Vec<Value>,
-    records: Vec<Record>,
+    values: ValueRegisters,
+    records: RecordRegisters,
     // of the loops around a statement, the outermost first
     loops: Vec<&'a Record>,
     emitted: Rows,
@@ -39,55 +37,43 @@ impl<'a> Model for Machine<'a> {
 
     ghost Value = { Store };
 
-    ghost use Rattle.tac_interp.specs.Machine.{store_of, IsWide};
+    ghost use Rattle.tac_interp.specs.Machine.{HasKeyFields, IsWide, store_of};
 
     ghost view = { store_of };
 
-    ghost invariant = { λ m. IsWide (store_of m) };
+    ghost invariant = { λ m. IsWide (store_of m) × HasKeyFields m.input };
 }
 
 impl<'a> Machine<'a> {
-    pub(crate) fn start(
-        alloc: Global,
-        fields: u32,
-        input: Input<'a>,
-    ) -> Result<Machine<'a>, OutOfMemory>
+    pub(crate) fn start(alloc: Global, fields: u32, input: Input<'a>) -> Machine<'a>
         requires fields { fields ≤ MAX_FIELDS }
         requires width { HasWidth fields (input_of input) }
-        ensures { IfOk result (λ m. m ≡ start_store fields (input_of input.entry)) }
+        requires keys { HasKeyFields input }
+        ensures { result ≡ start_store fields (input_of input.entry) }
     {
-        let mut values = Vec::new(alloc);
-        for _ in 0..VALUE_REGISTERS {
-            values.push(Value::Null)?;
-        }
-        let mut records = Vec::new(alloc);
-        for _ in 0..RECORD_REGISTERS {
-            records.push(Record::empty(alloc, fields)?)?;
-        }
-        Ok(Machine {
-            fields,
+        Machine {
             input,
-            values,
-            records,
+            values: ValueRegisters::new(alloc),
+            records: RecordRegisters::new(alloc, fields),
             loops: Vec::new(alloc),
             emitted: Rows::new(alloc),
-        })
+        }
     }
 
-    // The record that a statement reads, where it is one: the join of two records isn't.
-    fn named(&self, from: Rec) -> Option<&Record>
-        requires { HasRecord self.now from }
-        ensures record { MatchOption result (from ≡ Join) (λ row. row.now ≡ named_record self.now from) }
-        ensures width { IfSome result (λ row. length row.now ≡ self.now.fields) }
+    // The record of the input or of a loop that a statement reads.
+    fn given(&self, from: Rec) -> &Record
+        requires given { IsGiven from }
+        requires there { HasRecord self.now from }
+        ensures record { result.now ≡ named_record self.now from }
+        ensures width { length result.now ≡ self.now.fields }
     {
         match from {
-            Rec::Reg(k) => Some(&self.records[k as usize]),
-            Rec::Loop(name) => Some(self.loops[name as usize - 1]),
-            Rec::Input => Some(self.input.record()),
-            Rec::Left => Some(self.input.left()),
-            Rec::Right => Some(self.input.right()),
-            Rec::First => Some(self.input.first()),
-            Rec::Join => None,
+            Rec::Loop(name) => self.loops[name as usize - 1],
+            Rec::Input => self.input.record(),
+            Rec::Left => self.input.left(),
+            Rec::Right => self.input.right(),
+            Rec::First => self.input.first(),
+            Rec::Reg(_) | Rec::Join => unreachable!(),
         }
     }
 
@@ -97,11 +83,14 @@ impl<'a> Machine<'a> {
         requires field { field < self.now.fields }
         ensures { result.now ≡ at_field (named_record self.now from) field }
     {
-        match self.named(from) {
-            Some(row) => row.get(field),
-            None => {
+        match from {
+            Rec::Reg(k) => self.records.field(k, field),
+            Rec::Join => {
                 let left = self.input.left().get(field);
                 left.or(self.input.right().get(field))
+            }
+            Rec::Loop(_) | Rec::Input | Rec::Left | Rec::Right | Rec::First => {
+                self.given(from).get(field)
             }
         }
     }
@@ -112,9 +101,12 @@ impl<'a> Machine<'a> {
         ensures record { IfOk result (λ row. row ≡ named_record self.now from) }
         ensures width { IfOk result (λ row. length row ≡ self.now.fields) }
     {
-        match self.named(from) {
-            Some(row) => row.copy(alloc),
-            None => Record::join(alloc, self.input.left(), self.input.right()),
+        match from {
+            Rec::Reg(k) => self.records.copy(alloc, k),
+            Rec::Join => Record::join(alloc, self.input.left(), self.input.right()),
+            Rec::Loop(_) | Rec::Input | Rec::Left | Rec::Right | Rec::First => {
+                self.given(from).copy(alloc)
+            }
         }
     }
 
@@ -141,14 +133,14 @@ impl<'a> Machine<'a> {
         requires { on < value_registers }
         ensures { result ≡ values.is_true (value_in self.now on) }
     {
-        self.values[on as usize].is_true()
+        self.values.get(on).is_true()
     }
 
-    pub(crate) fn load_int(&mut self, to: u32, value: i64)
+    pub(crate) fn load_int(&mut self, to: u32, value: i64) -> Result<(), OutOfMemory>
         requires { CanAct (code.load_int to value) self.old }
-        ensures { self.new ≡ after (code.load_int to value) self.old }
+        ensures { OnOk result (self.new ≡ after (code.load_int to value) self.old) }
     {
-        self.values[to as usize] = Value::Int(value);
+        self.values.set(to, Value::Int(value))
     }
 
     pub(crate) fn load_text(
@@ -161,15 +153,14 @@ impl<'a> Machine<'a> {
         ensures { OnOk result (self.new ≡ after (code.load_text to text.now) self.old) }
     {
         let text = text.copy(alloc)?;
-        self.values[to as usize] = Value::Text(text);
-        Ok(())
+        self.values.set(to, Value::Text(text))
     }
 
-    pub(crate) fn load_null(&mut self, to: u32)
+    pub(crate) fn load_null(&mut self, to: u32) -> Result<(), OutOfMemory>
         requires { CanAct (code.load_null to) self.old }
-        ensures { self.new ≡ after (code.load_null to) self.old }
+        ensures { OnOk result (self.new ≡ after (code.load_null to) self.old) }
     {
-        self.values[to as usize] = Value::Null;
+        self.values.set(to, Value::Null)
     }
 
     pub(crate) fn move_value(
@@ -181,9 +172,8 @@ impl<'a> Machine<'a> {
         requires { CanAct (code.move_value to from) self.old }
         ensures { OnOk result (self.new ≡ after (code.move_value to from) self.old) }
     {
-        let value = self.values[from as usize].copy(alloc)?;
-        self.values[to as usize] = value;
-        Ok(())
+        let value = self.values.get(from).copy(alloc)?;
+        self.values.set(to, value)
     }
 
     pub(crate) fn get_field(
@@ -197,25 +187,23 @@ impl<'a> Machine<'a> {
         ensures { OnOk result (self.new ≡ after (code.get_field to from field) self.old) }
     {
         let value = self.field_of(from, field).copy(alloc)?;
-        self.values[to as usize] = value;
-        Ok(())
+        self.values.set(to, value)
     }
 
     pub(crate) fn get_key(&mut self, alloc: Global, to: u32, at: u32) -> Result<(), OutOfMemory>
         requires { CanAct (code.get_key to at) self.old }
         ensures { OnOk result (self.new ≡ after (code.get_key to at) self.old) }
     {
-        let value = self.input.key()[at as usize].copy(alloc)?;
-        self.values[to as usize] = value;
-        Ok(())
+        let value = self.input.key_value(at).copy(alloc)?;
+        self.values.set(to, value)
     }
 
-    pub(crate) fn apply_one(&mut self, to: u32, op: Op1, a: u32)
+    pub(crate) fn apply_one(&mut self, to: u32, op: Op1, a: u32) -> Result<(), OutOfMemory>
         requires { CanAct (code.apply_one to op a) self.old }
-        ensures { self.new ≡ after (code.apply_one to op a) self.old }
+        ensures { OnOk result (self.new ≡ after (code.apply_one to op a) self.old) }
     {
-        let value = apply1(op, &self.values[a as usize]);
-        self.values[to as usize] = value;
+        let value = apply1(op, self.values.get(a));
+        self.values.set(to, value)
     }
 
     pub(crate) fn apply_two(
@@ -229,23 +217,16 @@ impl<'a> Machine<'a> {
         requires { CanAct (code.apply_two to op a b) self.old }
         ensures { OnOk result (self.new ≡ after (code.apply_two to op a b) self.old) }
     {
-        let value = apply2(
-            alloc,
-            op,
-            &self.values[a as usize],
-            &self.values[b as usize],
-        )?;
-        self.values[to as usize] = value;
-        Ok(())
+        let value = apply2(alloc, op, self.values.get(a), self.values.get(b))?;
+        self.values.set(to, value)
     }
 
     pub(crate) fn new_record(&mut self, alloc: Global, to: u32) -> Result<(), OutOfMemory>
         requires { CanAct (code.new_record to) self.old }
         ensures { OnOk result (self.new ≡ after (code.new_record to) self.old) }
     {
-        let row = Record::empty(alloc, self.fields)?;
-        self.records[to as usize] = row;
-        Ok(())
+        let row = Record::empty(alloc, self.records.fields())?;
+        self.records.set(alloc, to, row)
     }
 
     pub(crate) fn copy_record(
@@ -258,8 +239,7 @@ impl<'a> Machine<'a> {
         ensures { OnOk result (self.new ≡ after (code.copy_record to from) self.old) }
     {
         let row = self.copy_of(alloc, from)?;
-        self.records[to as usize] = row;
-        Ok(())
+        self.records.set(alloc, to, row)
     }
 
     pub(crate) fn set_field(
@@ -272,16 +252,15 @@ impl<'a> Machine<'a> {
         requires { CanAct (code.set_field to field value) self.old }
         ensures { OnOk result (self.new ≡ after (code.set_field to field value) self.old) }
     {
-        let value = self.values[value as usize].copy(alloc)?;
-        self.records[to as usize].set(field, value);
-        Ok(())
+        let value = self.values.get(value).copy(alloc)?;
+        self.records.set_field(alloc, to, field, value)
     }
 
     pub(crate) fn emit_record(&mut self, alloc: Global, from: u32) -> Result<(), OutOfMemory>
         requires { CanAct (code.emit_record from) self.old }
         ensures { OnOk result (self.new ≡ after (code.emit_record from) self.old) }
     {
-        let row = self.records[from as usize].copy(alloc)?;
+        let row = self.records.copy(alloc, from)?;
         self.emitted.push(row)?;
         Ok(())
     }

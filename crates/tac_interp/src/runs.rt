@@ -4,7 +4,7 @@ ghost use Rattle.std.specs.Prelude.{◌≡◌, OnOk};
 ghost use Rattle.tac_syntax.specs.Trees.{statement_of, only};
 ghost use Rattle.tac_syntax.specs.Call.{rows_of};
 ghost use Rattle.tac_syntax.specs.Exec.{exec, times, for_each};
-ghost use Rattle.tac_interp.specs.Ready.{IsReady, IsReadyIn, CanStart};
+ghost use Rattle.tac_syntax.specs.Ready.{IsReady, IsReadyIn, CanStart};
 
 use crate::machines::Machine;
 use pact_record::OutOfMemory;
@@ -17,22 +17,13 @@ fn run_stmt(alloc: Global, stmt: &Stmt, machine: &mut Machine<'_>) -> Result<(),
     ensures { OnOk result (machine.new ≡ exec (only stmt.now) machine.old) }
 {
     match stmt {
-        Stmt::Int { to, value } => {
-            machine.load_int(*to, *value);
-            Ok(())
-        }
+        Stmt::Int { to, value } => machine.load_int(*to, *value),
         Stmt::Text { to, value } => machine.load_text(alloc, *to, value),
-        Stmt::Null { to } => {
-            machine.load_null(*to);
-            Ok(())
-        }
+        Stmt::Null { to } => machine.load_null(*to),
         Stmt::Mov { to, from } => machine.move_value(alloc, *to, *from),
         Stmt::Get { to, from, field } => machine.get_field(alloc, *to, *from, *field),
         Stmt::Key { to, at } => machine.get_key(alloc, *to, *at),
-        Stmt::One { to, op, a } => {
-            machine.apply_one(*to, *op, *a);
-            Ok(())
-        }
+        Stmt::One { to, op, a } => machine.apply_one(*to, *op, *a),
         Stmt::Two { to, op, a, b } => machine.apply_two(alloc, *to, *op, *a, *b),
         Stmt::New { to } => machine.new_record(alloc, *to),
         Stmt::Copy { to, from } => machine.copy_record(alloc, *to, *from),

@@ -1,5 +1,5 @@
 ghost use Rattle.std.specs.Prelude.{◌≡◌, ◌<◌, ◌∷◌, ◌⊎◌, [], true, length, IfOk};
-ghost use Rattle.pact_bag.specs.Widths.{AreWide};
+ghost use Rattle.pact_record.specs.Widths.{AreWide};
 ghost use Rattle.tac_syntax.specs.declared.functions.Kind.TheVariants.{CoGroup, Map, Match, Reduce};
 
 use crate::{call_cogroup, call_group, call_map, call_pair};

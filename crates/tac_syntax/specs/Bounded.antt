@@ -4,7 +4,7 @@ use Rattle.std.specs.List.{AllByRecursion}
 use Rattle.pact_record.specs.declared.values.Value.{Value}
 use Rattle.pact_record.specs.declared.values.Value.TheVariants.{Null}
 use Rattle.pact_record.specs.Record.{at_field}
-use Rattle.tac_syntax.specs.Code.{Simple, load_int, load_text, load_null, move_value, get_field, get_key, apply_one, apply_two, new_record, copy_record, set_field, emit_record, Code, stop, plain, branch, again, each}
+use Rattle.tac_syntax.specs.Code.{Simple, set_field, Code, stop, plain, branch, again, each}
 use Rattle.tac_syntax.specs.Call.{CallInput, of_record, of_pair, of_group, of_groups}
 
 -- a record has a value in a field where it isn't Null there
@@ -25,18 +25,8 @@ InputHasValue field (of_groups key left right) = SomeHasValue field left ⊎ Som
 
 -- a statement sets the field
 abbrev pub NamesField : ℕ → Simple → Type 0
-NamesField field (load_int to value) = ⊥
-NamesField field (load_text to bytes) = ⊥
-NamesField field (load_null to) = ⊥
-NamesField field (move_value to from) = ⊥
-NamesField field (get_field to from k) = ⊥
-NamesField field (get_key to at) = ⊥
-NamesField field (apply_one to op a) = ⊥
-NamesField field (apply_two to op a b) = ⊥
-NamesField field (new_record to) = ⊥
-NamesField field (copy_record to from) = ⊥
 NamesField field (set_field to k value) = field ≡ k
-NamesField field (emit_record from) = ⊥
+NamesField field statement = ⊥
 
 -- some statement of a body does
 abbrev pub Names : ℕ → Code → Type 0

@@ -14,3 +14,6 @@ pub mod Bounded
 pub mod Grammar
 pub mod Names
 pub mod Functions
+pub mod CallInputs
+pub mod InRange
+pub mod Ready

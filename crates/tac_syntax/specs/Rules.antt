@@ -8,7 +8,7 @@ use Rattle.tac_syntax.specs.declared.statements.LoopList.{LoopList}
 use Rattle.tac_syntax.specs.declared.statements.LoopList.TheVariants.{Group, Left as LeftGroup, Right as RightGroup}
 use Rattle.tac_syntax.specs.declared.rules.Rule.{Rule}
 use Rattle.tac_syntax.specs.declared.rules.Rule.TheVariants.{Registers, Operands, Fields, KeyPositions, NestedIfs, NestedLoops, Statements, Repeats}
-use Rattle.tac_syntax.specs.Code.{Simple, load_int, load_text, load_null, move_value, get_field, get_key, apply_one, apply_two, new_record, copy_record, set_field, emit_record, Line, simple, test, turns, over, otherwise, close}
+use Rattle.tac_syntax.specs.Code.{Simple, load_int, load_text, load_null, move_value, get_field, get_key, apply_one, apply_two, new_record, copy_record, set_field, emit_record, Line, simple, test, turns, over}
 use Rattle.tac_syntax.specs.Limits.{value_registers, record_registers, statement_limit, if_limit, loop_limit, turn_limit}
 use Rattle.tac_syntax.specs.Places.{Place}
 
@@ -22,12 +22,7 @@ no_record_register n = nat_le record_registers n
 
 abbrev pub no_register_read : Rec → Bool
 no_register_read (Reg k) = no_record_register k
-no_register_read (Loop name) = false
-no_register_read Input = false
-no_register_read Left = false
-no_register_read Right = false
-no_register_read Join = false
-no_register_read First = false
+no_register_read from = false
 
 abbrev pub no_register : Simple → Bool
 no_register (load_int to value) = no_value_register to
@@ -47,41 +42,27 @@ no_register (emit_record from) = no_record_register from
 abbrev pub breaks_registers : Line → Bool
 breaks_registers (simple s) = no_register s
 breaks_registers (test on) = no_value_register on
-breaks_registers (turns count) = false
-breaks_registers (over name list) = false
-breaks_registers otherwise = false
-breaks_registers close = false
+breaks_registers line = false
 
 -- ---- operands of the kind and the place
 
 abbrev pub is_map : Kind → Bool
 is_map Map = true
-is_map Match = false
-is_map Cross = false
-is_map Reduce = false
-is_map CoGroup = false
+is_map kind = false
 
 -- Match and Cross are called for two records
 abbrev pub is_pairing : Kind → Bool
-is_pairing Map = false
 is_pairing Match = true
 is_pairing Cross = true
-is_pairing Reduce = false
-is_pairing CoGroup = false
+is_pairing kind = false
 
 abbrev pub is_reduce : Kind → Bool
-is_reduce Map = false
-is_reduce Match = false
-is_reduce Cross = false
 is_reduce Reduce = true
-is_reduce CoGroup = false
+is_reduce kind = false
 
 abbrev pub is_cogroup : Kind → Bool
-is_cogroup Map = false
-is_cogroup Match = false
-is_cogroup Cross = false
-is_cogroup Reduce = false
 is_cogroup CoGroup = true
+is_cogroup kind = false
 
 -- a record register; a loop that is around the statement; the records of the kind
 abbrev pub has_record : Place → Rec → Bool
@@ -99,105 +80,56 @@ has_list p LeftGroup = is_cogroup p.kind
 has_list p RightGroup = is_cogroup p.kind
 
 abbrev pub misses_operand : Place → Simple → Bool
-misses_operand p (load_int to value) = false
-misses_operand p (load_text to bytes) = false
-misses_operand p (load_null to) = false
-misses_operand p (move_value to from) = false
 misses_operand p (get_field to from field) = not (has_record p from)
 misses_operand p (get_key to at) = not (is_reduce p.kind || is_cogroup p.kind)
-misses_operand p (apply_one to op a) = false
-misses_operand p (apply_two to op a b) = false
-misses_operand p (new_record to) = false
 misses_operand p (copy_record to from) = not (has_record p from)
-misses_operand p (set_field to field value) = false
-misses_operand p (emit_record from) = false
+misses_operand p statement = false
 
 -- An operand or a list that the kind or the place doesn't have, a key where the kind has none, or a loop whose name isn't one more
 -- than the number of `each` around it.
 abbrev pub breaks_operands : Place → Line → Bool
 breaks_operands p (simple s) = misses_operand p s
-breaks_operands p (test on) = false
-breaks_operands p (turns count) = false
 breaks_operands p (over name list) = not (has_list p list) || not (name == p.lists + 1)
-breaks_operands p otherwise = false
-breaks_operands p close = false
+breaks_operands p line = false
 
 -- ---- fields and key positions
 
 abbrev pub no_field : Place → Simple → Bool
-no_field p (load_int to value) = false
-no_field p (load_text to bytes) = false
-no_field p (load_null to) = false
-no_field p (move_value to from) = false
 no_field p (get_field to from field) = nat_le p.fields field
-no_field p (get_key to at) = false
-no_field p (apply_one to op a) = false
-no_field p (apply_two to op a b) = false
-no_field p (new_record to) = false
-no_field p (copy_record to from) = false
 no_field p (set_field to field value) = nat_le p.fields field
-no_field p (emit_record from) = false
+no_field p statement = false
 
 -- a field number of F or more
 abbrev pub breaks_fields : Place → Line → Bool
 breaks_fields p (simple s) = no_field p s
-breaks_fields p (test on) = false
-breaks_fields p (turns count) = false
-breaks_fields p (over name list) = false
-breaks_fields p otherwise = false
-breaks_fields p close = false
+breaks_fields p line = false
 
 abbrev pub no_key_position : Place → Simple → Bool
-no_key_position p (load_int to value) = false
-no_key_position p (load_text to bytes) = false
-no_key_position p (load_null to) = false
-no_key_position p (move_value to from) = false
-no_key_position p (get_field to from field) = false
 no_key_position p (get_key to at) = nat_le p.keys at
-no_key_position p (apply_one to op a) = false
-no_key_position p (apply_two to op a b) = false
-no_key_position p (new_record to) = false
-no_key_position p (copy_record to from) = false
-no_key_position p (set_field to field value) = false
-no_key_position p (emit_record from) = false
+no_key_position p statement = false
 
 -- a key position of the function's number of keys or more
 abbrev pub breaks_key_positions : Place → Line → Bool
 breaks_key_positions p (simple s) = no_key_position p s
-breaks_key_positions p (test on) = false
-breaks_key_positions p (turns count) = false
-breaks_key_positions p (over name list) = false
-breaks_key_positions p otherwise = false
-breaks_key_positions p close = false
+breaks_key_positions p line = false
 
 -- ---- blocks
 
 -- an `if` inside 8 others
 abbrev pub breaks_nested_ifs : Place → Line → Bool
-breaks_nested_ifs p (simple s) = false
 breaks_nested_ifs p (test on) = nat_le if_limit p.ifs
-breaks_nested_ifs p (turns count) = false
-breaks_nested_ifs p (over name list) = false
-breaks_nested_ifs p otherwise = false
-breaks_nested_ifs p close = false
+breaks_nested_ifs p line = false
 
 -- a loop of either kind inside 3 others
 abbrev pub breaks_nested_loops : Place → Line → Bool
-breaks_nested_loops p (simple s) = false
-breaks_nested_loops p (test on) = false
 breaks_nested_loops p (turns count) = nat_le loop_limit p.loops
 breaks_nested_loops p (over name list) = nat_le loop_limit p.loops
-breaks_nested_loops p otherwise = false
-breaks_nested_loops p close = false
+breaks_nested_loops p line = false
 
 -- a `repeat` of no turn, or one whose turns times those of the `repeat` around it are above 100,000
 abbrev pub breaks_repeats : Place → Line → Bool
-breaks_repeats p (simple s) = false
-breaks_repeats p (test on) = false
 breaks_repeats p (turns count) = (count == 0) || nat_lt turn_limit (p.repeats * count)
-breaks_repeats p (over name list) = false
-breaks_repeats p otherwise = false
-breaks_repeats p close = false
+breaks_repeats p line = false
 
 -- ---- all of them
 

@@ -11,7 +11,7 @@ use Rattle.tac_text.specs.declared.building.Block.TheVariants.{If, Else, Repeat,
 use Rattle.tac_text.specs.Blocks.{SpellsBody}
 use Rattle.tac_text.specs.Building.{Build, build_start, built, IsBuilt}
 use Rattle.tac_text.specs.Places.{lists_in, MayInside, built_or, built_on, opening, before_block, FitsBody, FitsFirst, FitsBuild, BeginsBlock, Front}
-use Rattle.tac_text.proofs.Builds.{build, joined-stop, joined-joined, with_statement-fits}
+use Rattle.tac_text.proofs.LongerBodies.{build, joined-stop, joined-joined, with_statement-fits}
 
 -- ---- a block that ends
 

@@ -19,7 +19,8 @@ use Rattle.tac_text.specs.StatementLines.{LinePlace, MayStand, words_of_line}
 use Rattle.tac_text.specs.StatementFaults.{Slot, fixed, register, operand, number, signed, text, loop, list, is_target, slot_fault, first_fault, Wanted, to_value, to_record, wanted_by, form_fault, is_equals, is_op1, is_op2, target_alone, assignment_fault, block_fault, word_fault, register_fault, statement_fault}
 use Rattle.text_lines.specs.Digits.{or_else}
 use Rattle.text_lines.proofs.DigitWords.{number_spelled}
-use Rattle.tac_text.proofs.SlotWords.{by_cases, told_unless-none, or_else-none, same_word, Numbered, register_spelled, operand_spelled, signed_spelled, list_spelled, name_spelled}
+use Rattle.text_lines.proofs.Faultless.{by_cases, told_unless-none, or_else-none, same_word}
+use Rattle.tac_text.proofs.SlotWords.{Numbered, register_spelled, operand_spelled, signed_spelled, list_spelled, name_spelled}
 
 -- the line whose words these are, which may stand
 abbrev pub LineFor : LinePlace → List LineWord → Type 0

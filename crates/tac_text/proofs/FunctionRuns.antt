@@ -21,7 +21,7 @@ use Rattle.tac_text.specs.FunctionStates.{FunctionState, waiting, reading, whole
 use Rattle.tac_text.specs.Places.{lists_in, IsInside, MayInside, built_on, place_of, FitsBuild, Front}
 use Rattle.tac_text.specs.StatementLines.{MayStand, words_of_line}
 use Rattle.tac_text.proofs.BodySteps.{body_steps, front_start, fits_start, front_step, front_whole, closable}
-use Rattle.tac_text.proofs.Builds.{build}
+use Rattle.tac_text.proofs.LongerBodies.{build}
 use Rattle.tac_text.proofs.FaultlessWords.{line_of_words}
 use Rattle.tac_text.proofs.HeaderWords.{header_fault-header_words, header_of_words, one_header}
 use Rattle.tac_text.proofs.StatementWords.{IsSpelledLine-MayStand, statement_fault-words_of_line, words_of_line-some, words_of_one_line}

@@ -15,7 +15,7 @@ use Rattle.tac_text.specs.FunctionLines.{header, header_words, IsHeader}
 use Rattle.tac_text.specs.Spelling.{kind_word, key_words}
 use Rattle.tac_text.specs.StatementFaults.{number, first_fault}
 use Rattle.tac_text.proofs.FaultlessWords.{taken, none_left, number_word}
-use Rattle.tac_text.proofs.SlotWords.{by_cases, told_unless-none, or_else-none, same_word}
+use Rattle.text_lines.proofs.Faultless.{by_cases, told_unless-none, or_else-none, same_word, some_words}
 
 -- ---- a header's words have no fault
 
@@ -123,9 +123,6 @@ one_header a b j k m n h l e =
     let rest : map plain_word (key_words j m) ≡ map plain_word (key_words k n) = cc in
     let keys = one_keys k m n (subst (λ (x : Kind). HasKeys x m) kind h.1) l.1 (subst (λ (x : Kind). map plain_word (key_words x m) ≡ map plain_word (key_words k n)) kind rest) in
     λ i. header (name i) (kind i) (keys i)
-
-some_words : (words : List LineWord) → 0 < length words → words ≢ []
-some_words words some e = let none = ap length e in absurd (omega (arith, some, none))
 
 pub header_found : (words : List LineWord) (told : Option ℕ) → 0 < length words → told ≡ header_fault words → told ≡ None → HeaderFor words
 header_found words told some e none = header_of_words words (some_words words some) (sym e ∙ none)

@@ -1,12 +1,12 @@
 pub mod BodyLines
 pub mod BodySteps
-pub mod Builds
+pub mod LongerBodies
 pub mod FunctionReads
 pub mod FunctionRuns
 pub mod HeaderWords
 pub mod LineForms
 pub mod OperandWords
-pub mod Written
+pub mod WrittenBodies
 pub mod SlotWords
 pub mod StatementWords
 pub mod FaultlessWords

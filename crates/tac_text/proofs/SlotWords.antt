@@ -1,10 +1,9 @@
 -- The words that fill slots.
-use Rattle.std.proofs.Common.{◌≡◌, ◌≤◌, ◌<◌, ◌^◌, ◌==◌, ◌&&◌, inl, inr, ℕ, zero, suc, nat_le, nat_lt, ◌-◌, ℤ, pos, negsuc, Bool, true, false, if◌then◌else◌, List, [], ◌∷◌, Option, Some, None, FitsSigned, w64, codes, bytes_eq, decimal, refl, ap, sym, ◌∙◌, arith}
+use Rattle.std.proofs.Common.{◌≡◌, ◌≤◌, ◌<◌, ◌^◌, ◌==◌, ◌&&◌, inl, inr, ℕ, zero, suc, nat_le, nat_lt, ◌-◌, ℤ, pos, negsuc, true, List, [], ◌∷◌, None, FitsSigned, w64, codes, bytes_eq, decimal, refl, ap, sym, ◌∙◌, arith}
 use Rattle.std.specs.Fmt.{signed_decimal}
 use Rattle.std.specs.Str.Parse.{digits_value}
 use Rattle.std.proofs.lemmas.Bool.{and_from, and_parts, eq-eqb, eqb-true, le-leb, ltb-true, or_cases}
 use Rattle.std.proofs.lemmas.Fmt.{decimal_is_IsNumeral}
-use Rattle.std.proofs.lemmas.Slice.Eq.{bytes_eq-Decides}
 use Rattle.tac_syntax.specs.declared.statements.Rec.{Rec}
 use Rattle.tac_syntax.specs.declared.statements.Rec.TheVariants.{Reg, Loop, Input, Left, Right, Join, First}
 use Rattle.tac_syntax.specs.declared.statements.LoopList.{LoopList}
@@ -12,26 +11,10 @@ use Rattle.tac_syntax.specs.declared.statements.LoopList.TheVariants.{Group, Lef
 use Rattle.tac_syntax.specs.Grammar.{IsNumber, IsLoopName, IsTurnCount, IsSpelledRecord}
 use Rattle.tac_text.specs.Spelling.{record_word, list_word}
 use Rattle.tac_text.specs.StatementFaults.{numbered_fault, register_fault, is_fixed_record, operand_fault, name_fault, is_list_word}
-use Rattle.text_lines.specs.Digits.{is_in_form, is_in_range, is_number_word, is_signed_word, told_unless, or_else}
+use Rattle.text_lines.specs.Digits.{is_in_form, is_in_range, is_number_word, is_signed_word}
+use Rattle.text_lines.proofs.Faultless.{by_cases, same_word, told_unless-none}
 use Rattle.text_lines.proofs.DigitWords.{are_digits-decimal, is_in_range-decimal, number_spelled}
 use Rattle.tac_text.proofs.OperandWords.{bytes_eq-decimal}
-
--- ---- cases
-
-pub by_cases : {A C : Type 0} (b : Bool) (x y : A) {v : A} → (b ≡ true → x ≡ v → C) → (b ≡ false → y ≡ v → C) → (if b then x else y) ≡ v → C
-by_cases true x y f g h = f refl h
-by_cases false x y f g h = g refl h
-
-pub told_unless-none : (b : Bool) (what : ℕ) → told_unless b what ≡ None → b ≡ true
-told_unless-none true what h = refl
-told_unless-none false what h = absurd cc
-
-pub or_else-none : (a b : Option ℕ) → or_else a b ≡ None → (a ≡ None) × (b ≡ None)
-or_else-none None b h = (refl, h)
-or_else-none (Some what) b h = absurd cc
-
-pub same_word : (w v : List ℕ) → bytes_eq w v ≡ true → w ≡ v
-same_word w v h = (bytes_eq-Decides w v).0 h
 
 -- ---- what fills a slot has no fault
 

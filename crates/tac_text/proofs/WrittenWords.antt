@@ -1,10 +1,9 @@
 -- The words of a function's lines are words that some line has, and no line feed stands in them.
-use Rattle.std.proofs.Common.{◌≡◌, ◌<◌, ◌^◌, ◌==◌, ◌&&◌, ◌||◌, ◌+◌, ◌*◌, ◌%◌, inl, inr, ℕ, suc, ℤ, pos, negsuc, Bool, true, false, nat_lt, nat_le, List, [], ◌∷◌, ◌++◌, map, flat_map, replicate, zero, length, IsUtf8, FitsSigned, w64, decimal, refl, ◌∙◌, arith}
+use Rattle.std.proofs.Common.{◌≡◌, ◌<◌, ◌^◌, ◌==◌, ◌&&◌, ◌||◌, ◌+◌, ◌*◌, ◌%◌, inl, inr, ℕ, suc, ℤ, pos, negsuc, Bool, true, false, nat_lt, nat_le, List, [], ◌∷◌, ◌++◌, map, flat_map, replicate, zero, length, IsUtf8, FitsSigned, w64, decimal, refl, arith}
 use Rattle.std.specs.Fmt.{signed_decimal}
 use Rattle.std.specs.List.{AllByRecursion}
 use Rattle.std.proofs.lemmas.Bool.{and_from, and_parts, eqb-true, leb-true, lt-ltb, ltb-true, ne_eqb, or_cases}
 use Rattle.std.proofs.lemmas.Fmt.{decimal_by_steps}
-use Rattle.std.proofs.lemmas.List.Folds.{list_any-append}
 use Rattle.std.proofs.lemmas.Str.{IsUtf8-nil}
 use Rattle.pact_record.specs.declared.operations.Op1.{Op1}
 use Rattle.pact_record.specs.declared.operations.Op1.TheVariants.{Not, IsNull, Len}
@@ -25,6 +24,7 @@ use Rattle.text_lines.specs.LineGrammar.{ends_word, has_return}
 use Rattle.text_lines.specs.declared.line_words.LineWord.{LineWord}
 use Rattle.text_lines.specs.declared.line_words.LineWord.TheVariants.{Plain as plain_word, Literal as literal_word}
 use Rattle.text_lines.proofs.FirstLines.{has_feed}
+use Rattle.text_lines.proofs.WrittenLines.{has_feed-append, has_feed-escaped}
 use Rattle.text_lines.proofs.Utf8Cuts.{IsUtf8-around_ascii}
 use Rattle.tac_text.specs.FunctionLines.{header_words, IsHeader}
 use Rattle.tac_text.specs.Spelling.{record_word, list_word, op1_word, op2_word, kind_word, key_words}
@@ -244,23 +244,6 @@ pub AreFine-header_words : (name : List ℕ) (kind : Kind) (keys : ℕ) → IsHe
 AreFine-header_words name kind keys h = (refl, (fine_name name h.0, (fine_kind kind, fine_keys kind keys h.1)))
 
 -- ---- no line feeds
-
-has_feed-append : (x y : List ℕ) → has_feed x ≡ false → has_feed y ≡ false → has_feed (x ++ y) ≡ false
-has_feed-append x y h k = list_any-append (λ (b : ℕ). b == 10) x y ∙ rw (h, k) refl
-
-escape_without_feed : (b : ℕ) (backslash quote feed return tab : Bool)
-    → (b == 92) ≡ backslash → (b == 34) ≡ quote → (b == 10) ≡ feed → (b == 13) ≡ return → (b == 9) ≡ tab → has_feed (escaped b) ≡ false
-escape_without_feed b true quote feed return tab p q r s t = rw p refl
-escape_without_feed b false true feed return tab p q r s t = rw (p, q) refl
-escape_without_feed b false false true return tab p q r s t = rw (p, q, r) refl
-escape_without_feed b false false false true tab p q r s t = rw (p, q, r, s) refl
-escape_without_feed b false false false false true p q r s t = rw (p, q, r, s, t) refl
-escape_without_feed b false false false false false p q r s t = rw (p, q, r, s, t) (rw r refl)
-
-has_feed-escaped : (bytes : List ℕ) → has_feed (flat_map escaped bytes) ≡ false
-has_feed-escaped [] = refl
-has_feed-escaped (b ∷ bytes) =
-    has_feed-append (escaped b) (flat_map escaped bytes) (escape_without_feed b (b == 92) (b == 34) (b == 10) (b == 13) (b == 9) refl refl refl refl refl) (has_feed-escaped bytes)
 
 has_feed-word_text : (word : LineWord) → IsFine word → has_feed (word_text word) ≡ false
 has_feed-word_text (plain_word bytes) h = (fine_bytes bytes (are_fine-word bytes h)).no_feed

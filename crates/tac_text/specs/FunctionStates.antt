@@ -23,10 +23,8 @@ pub data FunctionState : Type 0 where
 
 abbrev pub MayFollow : FunctionState → FunctionLine → Type 0
 MayFollow waiting (header name kind keys) = IsHeader name kind keys
-MayFollow waiting (inside l) = ⊥
-MayFollow (reading o) (header name kind keys) = ⊥
 MayFollow (reading o) (inside l) = MayStand (place_of o.build) l
-MayFollow (whole f) l = ⊥
+MayFollow state l = ⊥
 
 -- an `end` where no block is open ends the function
 abbrev pub after_inside : Line → List Block → OpenData → FunctionState

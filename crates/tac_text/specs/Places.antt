@@ -21,11 +21,8 @@ lists_in (Each name list before ∷ blocks) = lists_in blocks + 1
 
 -- `else` may follow where the innermost block is the first body of an `if`
 abbrev pub may_part : List Block → Bool
-may_part [] = false
 may_part (If on before ∷ blocks) = true
-may_part (Else on first before ∷ blocks) = false
-may_part (Repeat count before ∷ blocks) = false
-may_part (Each name list before ∷ blocks) = false
+may_part blocks = false
 
 abbrev pub place_of : Build → LinePlace
 place_of b = record { blocks = length b.blocks; lists = lists_in b.blocks; may_part = may_part b.blocks }

@@ -27,8 +27,4 @@ pub use open_functions::{OpenFunction, read_header};
 pub use statement_reading::NotLine;
 
 #[cfg(test)]
-mod fault_tests;
-#[cfg(test)]
-mod function_tests;
-#[cfg(test)]
-mod statement_tests;
+mod tests;

@@ -1,4 +1,4 @@
-pub mod Going
+pub mod LeftStatements
 pub mod Refusals
 pub mod Turns
 pub mod Walked

@@ -1,3 +1,4 @@
+pub mod Faultless
 pub mod SpelledWords
 pub mod FoundWords
 pub mod LineFaults

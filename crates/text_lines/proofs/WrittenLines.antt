@@ -7,6 +7,7 @@ use Rattle.text_lines.specs.CanonicalLines.{word_text, canonical_line, IsLineWor
 use Rattle.text_lines.specs.LineGrammar.{LineWord, plain_word, literal_word, needs_escape, SpellsByte, SpellsBytes, SpellsWord, SpellsWords, IsGap, IsWordEnd, IsLine, has_return}
 use Rattle.text_lines.specs.CanonicalLines.{escaped, literal, line_text, spaced}
 use Rattle.text_lines.specs.TextLines.{HasWords, trimmed}
+use Rattle.text_lines.proofs.FirstLines.{has_feed}
 use Rattle.text_lines.proofs.LiteralTexts.{IsUtf8-spelling}
 use Rattle.text_lines.proofs.Utf8Cuts.{IsUtf8-around_ascii}
 
@@ -43,19 +44,28 @@ has_return-append x y h k = list_any-append (λ (b : ℕ). b == 13) x y ∙ rw (
 IsClean-append : (x y : List ℕ) → IsClean x → IsClean y → IsClean (x ++ y)
 IsClean-append x y p q = record { utf8 = IsUtf8-append x y p.utf8 q.utf8; no_return = has_return-append x y p.no_return q.no_return }
 
-clean_escape : (b : ℕ) (backslash quote feed return tab : Bool)
-    → (b == 92) ≡ backslash → (b == 34) ≡ quote → (b == 10) ≡ feed → (b == 13) ≡ return → (b == 9) ≡ tab → has_return (escaped b) ≡ false
-clean_escape b true quote feed return tab p q r s t = rw p refl
-clean_escape b false true feed return tab p q r s t = rw (p, q) refl
-clean_escape b false false true return tab p q r s t = rw (p, q, r) refl
-clean_escape b false false false true tab p q r s t = rw (p, q, r, s) refl
-clean_escape b false false false false true p q r s t = rw (p, q, r, s, t) refl
-clean_escape b false false false false false p q r s t = rw (p, q, r, s, t) (rw s refl)
+pub has_feed-append : (x y : List ℕ) → has_feed x ≡ false → has_feed y ≡ false → has_feed (x ++ y) ≡ false
+has_feed-append x y h k = list_any-append (λ (b : ℕ). b == 10) x y ∙ rw (h, k) refl
 
-has_return-escaped : (bytes : List ℕ) → has_return (flat_map escaped bytes) ≡ false
-has_return-escaped [] = refl
-has_return-escaped (b ∷ bytes) =
-    has_return-append (escaped b) (flat_map escaped bytes) (clean_escape b (b == 92) (b == 34) (b == 10) (b == 13) (b == 9) refl refl refl refl refl) (has_return-escaped bytes)
+-- neither byte that ends a line stands in an escape
+clean_escape : (b : ℕ) (backslash quote feed return tab : Bool)
+    → (b == 92) ≡ backslash → (b == 34) ≡ quote → (b == 10) ≡ feed → (b == 13) ≡ return → (b == 9) ≡ tab → (has_return (escaped b) ≡ false) × (has_feed (escaped b) ≡ false)
+clean_escape b true quote feed return tab p q r s t = rw p (refl, refl)
+clean_escape b false true feed return tab p q r s t = rw (p, q) (refl, refl)
+clean_escape b false false true return tab p q r s t = rw (p, q, r) (refl, refl)
+clean_escape b false false false true tab p q r s t = rw (p, q, r, s) (refl, refl)
+clean_escape b false false false false true p q r s t = rw (p, q, r, s, t) (refl, refl)
+clean_escape b false false false false false p q r s t = rw (p, q, r, s, t) (rw s refl, rw r refl)
+
+clean_escapes : (bytes : List ℕ) → (has_return (flat_map escaped bytes) ≡ false) × (has_feed (flat_map escaped bytes) ≡ false)
+clean_escapes [] = (refl, refl)
+clean_escapes (b ∷ bytes) =
+    let own = clean_escape b (b == 92) (b == 34) (b == 10) (b == 13) (b == 9) refl refl refl refl refl in
+    let others = clean_escapes bytes in
+    (has_return-append (escaped b) (flat_map escaped bytes) own.0 others.0, has_feed-append (escaped b) (flat_map escaped bytes) own.1 others.1)
+
+pub has_feed-escaped : (bytes : List ℕ) → has_feed (flat_map escaped bytes) ≡ false
+has_feed-escaped bytes = (clean_escapes bytes).1
 
 IsClean-literal : (bytes : List ℕ) → IsUtf8 bytes → IsClean (literal bytes)
 IsClean-literal bytes h =
@@ -63,7 +73,7 @@ IsClean-literal bytes h =
     let utf8 = IsUtf8-spelling [] inside bytes (SpellsBytes-escaped bytes) h in
     record {
       utf8 = IsUtf8-around_ascii [] 34 (inside ++ 34 ∷ []) (omega arith) IsUtf8-nil (IsUtf8-around_ascii inside 34 [] (omega arith) utf8 IsUtf8-nil);
-      no_return = has_return-append inside (34 ∷ []) (has_return-escaped bytes) refl;
+      no_return = has_return-append inside (34 ∷ []) (clean_escapes bytes).0 refl;
     }
 
 IsClean-space : (bytes : List ℕ) → IsClean bytes → IsClean (32 ∷ bytes)

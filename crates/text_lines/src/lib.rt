@@ -19,6 +19,4 @@ pub use numbers::{read_number, read_number_behind, read_signed};
 pub use word_reading::{NotWords, read_words};
 
 #[cfg(test)]
-mod line_tests;
-#[cfg(test)]
-mod word_tests;
+mod tests;

@@ -1,4 +1,4 @@
-use Rattle.pact_operators.proofs.Sides.{attributes_by, left_side, one_side, right_side}
+use Rattle.pact_operators.proofs.AttributesOfSides.{attributes_by, left_side, one_side, right_side}
 use Rattle.pact_operators.proofs.attribute_tests.do_sides_lack_key.Goals as goal
 
 pub returns-in-OverOne : goal.returns-in-OverOne

@@ -1,4 +1,4 @@
-use Rattle.pact_operators.proofs.Sides.{attributes_by, shared_by}
+use Rattle.pact_operators.proofs.AttributesOfSides.{attributes_by, shared_by}
 use Rattle.pact_operators.proofs.attribute_tests.do_sides_share.Goals as goal
 
 pub returns-in-OverTwo : goal.returns-in-OverTwo

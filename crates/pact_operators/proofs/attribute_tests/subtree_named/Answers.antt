@@ -1,6 +1,6 @@
 use Rattle.std.proofs.Common.{◌≡◌, arith}
 use Rattle.pact_operators.specs.Resolved.{node_names, place_among}
-use Rattle.pact_operators.proofs.Ships.{below_limit}
+use Rattle.plan_trees.proofs.Ships.{below_limit}
 use Rattle.pact_operators.proofs.attribute_tests.subtree_named.Goals as goal
 
 pub overflow_cast-place_among : goal.overflow_cast-place_among

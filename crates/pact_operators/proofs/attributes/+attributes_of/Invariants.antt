@@ -1,4 +1,4 @@
-use Rattle.pact_operators.specs.Preorders.{count_of}
+use Rattle.plan_trees.specs.Preorders.{count_of}
 use Rattle.pact_operators.proofs.attributes.+attributes_of.Given as goal
 
 abbrev pub decreases-attributes_of : goal.decreases-attributes_of

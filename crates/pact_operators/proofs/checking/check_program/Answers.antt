@@ -2,7 +2,7 @@ use Rattle.std.proofs.Common.{List, subst, ◌∙◌}
 use Rattle.std.proofs.lemmas.Result.{err_from_is_err_and}
 use Rattle.tac_syntax.specs.Valid.{WithFields}
 use Rattle.pact_operators.specs.Checks.{IsToldBy}
-use Rattle.pact_operators.proofs.Whole.{memory-alone}
+use Rattle.pact_operators.proofs.RefusedOrKept.{memory-alone}
 use Rattle.pact_operators.proofs.checking.check_program.Goals as goal
 
 pub returns-in_err-resolved-clause-complete : goal.returns-in_err-resolved-clause-complete

@@ -4,7 +4,7 @@ use Rattle.pact_operators.specs.Candidates.{CandidateData}
 use Rattle.pact_operators.specs.Programs.{AreValidated, IsProgram, IsProgramOf, function_limit}
 use Rattle.pact_operators.specs.Resolved.{ops_of, sink_fields}
 use Rattle.pact_operators.specs.WrittenOps.{HasFewKeys, small_ops, with_small_keys}
-use Rattle.pact_operators.proofs.Whole.{attributes-known, few-keys_of, few-names, is-program, is-program_of, keeps-all, program}
+use Rattle.pact_operators.proofs.ProgramsFromRules.{attributes-known, few-keys_of, few-names, is-program, is-program_of, keeps-all, program}
 use Rattle.pact_operators.proofs.checking.resolve.Goals as goal
 
 pub small_ops-requires-clause-functions : goal.small_ops-requires-clause-functions

@@ -1,7 +1,7 @@
 use Rattle.std.proofs.Common.{take}
 use Rattle.std.proofs.lemmas.Bool.{iff_false}
 use Rattle.pact_operators.proofs.FirstBreaks.{first_at, none-all, none-more}
-use Rattle.pact_operators.proofs.Places.{broken-in, has_place, kept-in}
+use Rattle.pact_operators.proofs.OperatorsInPlan.{broken-in, has_place, kept-in}
 use Rattle.pact_operators.proofs.first_breaks.first_attribute_break.Goals as goal
 
 pub breaks_attributes-requires-clause-place : goal.breaks_attributes-requires-clause-place

@@ -1,6 +1,6 @@
 use Rattle.std.proofs.Common.{nat_lt, length, ap, arith}
 use Rattle.pact_record.specs.declared.records.TheConstants.{MAX_FIELDS}
-use Rattle.pact_operators.proofs.Ops.{kept-taken}
+use Rattle.pact_operators.proofs.OpsOfDeclarations.{kept-taken}
 use Rattle.pact_operators.proofs.resolving.small_keys.Goals as goal
 
 pub push-requires-clause-room : goal.push-requires-clause-room

@@ -1,12 +1,13 @@
 use Rattle.std.proofs.Common.{rules, ◌≡◌, ◌-◌, ◌<◌, ℕ, Some, map, slice_get, ap, sym, subst, ◌∙◌, arith}
 use Rattle.pact_operators.specs.declared.written_plans.Reads.TheVariants.{Nothing, One, Two}
-use Rattle.pact_operators.specs.Distinct.{IsAbsent}
+use Rattle.plan_trees.specs.Distinct.{IsAbsent}
 use Rattle.pact_operators.specs.PlanReads.{inputs_as}
-use Rattle.pact_operators.specs.Plans.{PlanTree, both, over, nodes, root_of, IsPlan}
+use Rattle.plan_trees.specs.Plans.{PlanTree, both, over, nodes, root_of, IsPlan}
 use Rattle.pact_operators.specs.Programs.{Follows}
 use Rattle.pact_operators.specs.Resolved.{one_input, two_inputs}
-use Rattle.pact_operators.specs.PlanCode.{some_node}
-use Rattle.pact_operators.proofs.Growing.{entry, one_planned, same_tree, two_planned}
+use Rattle.plan_trees.specs.PlanCode.{some_node}
+use Rattle.pact_operators.proofs.OnePlan.{same_tree}
+use Rattle.pact_operators.proofs.PlannedInputs.{entry, one_planned, two_planned}
 use Rattle.pact_operators.proofs.written_plans.+tree_at.Goals as goal
 
 pub over-requires-clause-absent : goal.over-requires-clause-absent

@@ -2,7 +2,7 @@ use Rattle.std.proofs.Common.{map}
 use Rattle.pact_operators.specs.PlanReads.{inputs_as}
 use Rattle.pact_operators.specs.Resolved.{inputs_of}
 use Rattle.pact_operators.proofs.Gathered.{joined_more}
-use Rattle.pact_operators.proofs.Ops.{inputs_of-append}
+use Rattle.pact_operators.proofs.OpsOfDeclarations.{inputs_of-append}
 use Rattle.pact_operators.proofs.written_plans.all_reads.Goals as goal
 
 pub loop-decl-preserved : goal.loop-decl-preserved

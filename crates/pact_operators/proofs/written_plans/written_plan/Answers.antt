@@ -1,7 +1,7 @@
 use Rattle.std.proofs.Common.{◌≡◌, ap, map, ◌∙◌}
 use Rattle.pact_operators.specs.PlanReads.{inputs_as}
 use Rattle.pact_operators.specs.Resolved.{inputs_of, node_names}
-use Rattle.pact_operators.proofs.Planned.{planned, some_sink, written}
+use Rattle.pact_operators.proofs.PlanFromRules.{planned, some_sink, written}
 use Rattle.pact_operators.proofs.written_plans.written_plan.Goals as goal
 
 pub bounds-sinks-0 : goal.bounds-sinks-0

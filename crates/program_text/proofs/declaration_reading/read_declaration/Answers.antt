@@ -1,15 +1,13 @@
-use Rattle.std.proofs.Common.{◌≡◌, ◌≢◌, ◌<◌, List, [], None, length, ap, sym, subst, ◌∙◌, arith}
-use Rattle.pact_operators.specs.declared.declarations.Decl.{Decl}
-use Rattle.pact_operators.specs.Declarations.{IsSpelledDecl}
+use Rattle.std.proofs.Common.{◌≡◌, ◌<◌, List, None, length, ap, sym, subst, ◌∙◌}
+use Rattle.program_drafts.specs.declared.declarations.Decl.{Decl}
+use Rattle.program_drafts.specs.Declarations.{IsSpelledDecl}
 use Rattle.text_lines.specs.declared.line_words.LineWord.{LineWord}
 use Rattle.program_text.specs.DeclarationFaults.{declaration_fault}
 use Rattle.program_text.specs.DeclarationReading.{decl_in}
 use Rattle.program_text.specs.DeclarationWords.{words_of_decl}
+use Rattle.text_lines.proofs.Faultless.{some_words}
 use Rattle.program_text.proofs.DeclarationLaws.{decl_in-words_of_decl, declared, faultless}
 use Rattle.program_text.proofs.declaration_reading.read_declaration.Goals as goal
-
-some_words : (words : List LineWord) → 0 < length words → words ≢ []
-some_words words some e = let none = ap length e in omega (arith, some, none)
 
 -- what is read is the declaration whose words these are
 as_read : (words : List LineWord) (found d : Decl) → found ≡ decl_in words → IsSpelledDecl d → words ≡ words_of_decl d → found ≡ d

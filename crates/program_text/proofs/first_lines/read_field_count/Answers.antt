@@ -1,12 +1,10 @@
-use Rattle.std.proofs.Common.{◌≡◌, ◌≢◌, ◌<◌, ℕ, List, [], None, length, ap, sym, subst, ◌∙◌, arith}
+use Rattle.std.proofs.Common.{◌≡◌, ℕ, List, None, ap, sym, subst, ◌∙◌}
 use Rattle.text_lines.specs.declared.line_words.LineWord.{LineWord}
 use Rattle.program_text.specs.DeclarationReading.{number_in, plain_at}
 use Rattle.program_text.specs.FirstLines.{IsFieldCount, field_count_words, fields_fault}
+use Rattle.text_lines.proofs.Faultless.{some_words}
 use Rattle.program_text.proofs.FirstLineLaws.{field_count_declared, field_count_faultless, number_in-field_count_words}
 use Rattle.program_text.proofs.first_lines.read_field_count.Goals as goal
-
-some_words : (words : List LineWord) → 0 < length words → words ≢ []
-some_words words some e = let none = ap length e in omega (arith, some, none)
 
 -- what is read is the number whose words these are
 as_read : (words : List LineWord) (text : List ℕ) (found count : ℕ) → found ≡ number_in text → text ≡ plain_at words 1 → IsFieldCount count → words ≡ field_count_words count → found ≡ count

@@ -1,4 +1,4 @@
-use Rattle.pact_operators.specs.Preorders.{count_of}
+use Rattle.plan_trees.specs.Preorders.{count_of}
 use Rattle.slow_eval.proofs.evaluating.+evaluate_into.Given as goal
 
 abbrev pub decreases-evaluate_into : goal.decreases-evaluate_into

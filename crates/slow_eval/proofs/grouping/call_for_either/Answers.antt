@@ -3,7 +3,7 @@ use Rattle.std.proofs.lemmas.Result.{IfOk-weaker}
 use Rattle.std.specs.List.{AllByRecursion}
 use Rattle.pact_record.specs.Record.{key_of}
 use Rattle.tac_syntax.specs.Call.{Out, of_groups}
-use Rattle.slow_eval.proofs.KeyGroups.{group_keys}
+use Rattle.pact_bag.proofs.KeyGroups.{group_keys}
 use Rattle.slow_eval.proofs.grouping.call_for_either.Goals as goal
 
 pub returns-clause-given : goal.returns-clause-given

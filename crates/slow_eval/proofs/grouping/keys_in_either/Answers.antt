@@ -1,12 +1,14 @@
-use Rattle.std.proofs.Common.{ap, sym, ◌∙◌, subst, ◌++◌, map, List}
+use Rattle.std.proofs.Common.{◌++◌, [], map, subst, sym}
 use Rattle.std.proofs.lemmas.Result.{IfOk-weaker}
 use Rattle.std.specs.List.{AllByRecursion}
-use Rattle.pact_bag.specs.Groups.{distinct_keys}
-use Rattle.pact_record.specs.declared.values.Value.{Value}
+use Rattle.pact_bag.proofs.KeyGroups.{all-distinct}
 use Rattle.pact_record.specs.Record.{key_of}
 use Rattle.slow_eval.specs.Keyed.{HasEitherGroup}
-use Rattle.slow_eval.proofs.KeyGroups.{all-distinct, keys_have_either}
+use Rattle.slow_eval.proofs.KeyGroups.{keys_have_either}
 use Rattle.slow_eval.proofs.grouping.keys_in_either.Goals as goal
+
+pub returns-clause-keys : goal.returns-clause-keys
+returns-clause-keys c = c.with_keys-2.ensures.keys (map (key_of c.args.left_keys.now) c.args.lefts.now) (c.in_ok-found.ensures.keys [] c.new.ensures)
 
 pub returns-clause-groups : goal.returns-clause-groups
 returns-clause-groups c =
@@ -14,8 +16,6 @@ returns-clause-groups c =
     let right_keys = c.args.right_keys.now in
     let ls = c.args.lefts.now in
     let rs = c.args.rights.now in
-    let first = c.in_ok-all.ensures.keys ∙ ap (λ (l : List (List Value)). l ++ map (key_of left_keys) ls) c.new.ensures in
-    let all = c.in_ok-all-2.ensures.keys ∙ ap (λ (l : List (List Value)). l ++ map (key_of right_keys) rs) first in
     let P = HasEitherGroup left_keys right_keys ls rs in
-    IfOk-weaker c.distinct.result _ _ (λ found e. subst (AllByRecursion P) (sym (e ∙ ap distinct_keys all)) (all-distinct P (map (key_of left_keys) ls ++ map (key_of right_keys) rs) (keys_have_either left_keys right_keys ls rs)))
-    c.distinct.ensures.keys
+    IfOk-weaker c.with_keys-2.result _ _ (λ found e. subst (AllByRecursion P) (sym e) (all-distinct P (map (key_of left_keys) ls ++ map (key_of right_keys) rs) (keys_have_either left_keys right_keys ls rs)))
+    (c.with_keys-2.ensures.keys (map (key_of left_keys) ls) (c.in_ok-found.ensures.keys [] c.new.ensures))

@@ -16,6 +16,6 @@ returns-clause-given c =
     let f = c.args.f.now in
     let keys = c.args.keys.now in
     let rows = c.args.rows.now in
-    let all = take_all c.loop-key.key-index c.rows-key-items.result.now c.loop-key-test.false ∙ c.rows-key-items.ensures ∙ c.in_ok-found.ensures.keys in
+    let all = take_all c.loop-key.key-index c.rows-key-items.result.now c.loop-key-test.false ∙ c.rows-key-items.ensures.rows ∙ c.in_ok-found.ensures.keys in
     grouped (λ key group. Out f.fields f.function.body (of_group key group)) keys rows (keys_in keys rows) c.loop-key.out
     (c.loop-key.invariant.0 ∙ ap (flat_map (λ key. Out f.fields f.function.body (of_group key (group_of_key keys rows key)))) all)

@@ -2,7 +2,7 @@ use Rattle.std.proofs.Common.{◌≡◌, ◌++◌, take}
 use Rattle.std.specs.Prelude.{flat_map}
 use Rattle.tac_syntax.specs.Call.{Out, of_pair}
 use Rattle.pact_operators.specs.Allowed.{matched}
-use Rattle.pact_bag.specs.Widths.{AreWide}
+use Rattle.pact_record.specs.Widths.{AreWide}
 use Rattle.slow_eval.proofs.pairing.append_pairs.Given as goal
 
 abbrev pub invariant-loop-right : goal.invariant-loop-right

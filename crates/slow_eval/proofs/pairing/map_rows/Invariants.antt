@@ -1,7 +1,7 @@
 use Rattle.std.proofs.Common.{◌≡◌, take}
 use Rattle.std.specs.Prelude.{flat_map}
 use Rattle.tac_syntax.specs.Call.{Out, of_record}
-use Rattle.pact_bag.specs.Widths.{AreWide}
+use Rattle.pact_record.specs.Widths.{AreWide}
 use Rattle.slow_eval.proofs.pairing.map_rows.Given as goal
 
 abbrev pub invariant-loop-row : goal.invariant-loop-row

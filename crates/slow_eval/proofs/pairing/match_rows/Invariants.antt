@@ -1,7 +1,7 @@
 use Rattle.std.proofs.Common.{◌≡◌, take}
 use Rattle.tac_syntax.specs.Call.{Out, of_pair}
 use Rattle.pact_operators.specs.Allowed.{crossed, matched}
-use Rattle.pact_bag.specs.Widths.{AreWide}
+use Rattle.pact_record.specs.Widths.{AreWide}
 use Rattle.slow_eval.proofs.pairing.match_rows.Given as goal
 
 abbrev pub invariant-loop-left : goal.invariant-loop-left

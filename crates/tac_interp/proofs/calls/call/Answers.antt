@@ -1,39 +1,37 @@
 use Rattle.std.proofs.Common.{◌≡◌, ap, sym, ◌∙◌, subst, ℕ, arith}
 use Rattle.tac_syntax.specs.Call.{start_store}
 use Rattle.tac_syntax.specs.Exec.{exec}
-use Rattle.tac_syntax.specs.Places.{top_place}
 use Rattle.tac_syntax.specs.Bounded.{AreBounded}
 use Rattle.tac_syntax.proofs.Leads.{Out-exec}
 use Rattle.tac_interp.specs.Machine.{input_of}
-use Rattle.tac_interp.proofs.Ranges.{AreInRange-valid}
-use Rattle.tac_interp.proofs.Bounds.{AreBounded-exec}
-use Rattle.tac_interp.proofs.Starts.{Fits-start, IsReady-start, emitted-exec, widths-bounded}
+use Rattle.tac_syntax.proofs.Bounds.{AreBounded-Out, Fits-start, widths-bounded}
+use Rattle.tac_interp.proofs.Starts.{IsReady-start, emitted-exec}
 use Rattle.tac_interp.proofs.calls.call.Goals as goal
 
-pub start-requires-clause-fields : goal.start-requires-clause-fields
-start-requires-clause-fields c = omega (arith, c.fields.ensures, c.function-function.ensures.valid.few_fields)
+pub start-machine-requires-clause-fields : goal.start-machine-requires-clause-fields
+start-machine-requires-clause-fields c = omega (arith, c.fields.ensures, c.function-function.ensures.valid.few_fields)
 
 pub run_body-requires : goal.run_body-requires
 run_body-requires c =
     let f = c.args.f.now.function in
     let fields = c.args.f.now.fields in
     let input = input_of c.args.input in
-    IsReady-start f c.function-function.result.now fields input c.in_ok-machine.machine c.function-function.ensures.valid (Fits-start f fields input c.requires.kind c.requires.keys)
-    c.function-function.ensures.function (c.in_ok-machine.ensures ∙ ap (λ (n : ℕ). start_store n input) c.fields.ensures)
+    IsReady-start f c.function-function.result.now fields input c.start-machine.result c.function-function.ensures.valid (Fits-start f fields input c.requires.kind c.requires.keys)
+    c.function-function.ensures.function (c.start-machine.ensures ∙ ap (λ (n : ℕ). start_store n input) c.fields.ensures)
 
 emitted : (c : goal.After-into_emitted) → c.into_emitted.result ≡ (exec c.args.f.now.function.body (start_store c.args.f.now.fields (input_of c.args.input))).emitted
 emitted c =
     let input = input_of c.args.input in
-    emitted-exec c.args.f.now.function c.function-function.result.now c.args.f.now.fields input c.in_ok-machine.machine c.run_body.new.machine c.into_emitted.result c.into_emitted.ensures c.in_ok-run_body.ensures
-    c.function-function.ensures.function (c.in_ok-machine.ensures ∙ ap (λ (n : ℕ). start_store n input) c.fields.ensures)
+    emitted-exec c.args.f.now.function c.function-function.result.now c.args.f.now.fields input c.start-machine.result c.run_body.new.machine c.into_emitted.result c.into_emitted.ensures c.in_ok-run_body.ensures
+    c.function-function.ensures.function (c.start-machine.ensures ∙ ap (λ (n : ℕ). start_store n input) c.fields.ensures)
 
 bounded : (c : goal.After-into_emitted) → AreBounded c.args.f.now.fields c.args.f.now.function.body (input_of c.args.input) c.into_emitted.result
 bounded c =
     let f = c.args.f.now.function in
     let fields = c.args.f.now.fields in
     let input = input_of c.args.input in
-    subst (AreBounded fields f.body input) (sym (emitted c))
-    (AreBounded-exec fields f.body input c.requires.width (top_place f fields) (AreInRange-valid f fields c.function-function.ensures.valid) (Fits-start f fields input c.requires.kind c.requires.keys))
+    subst (AreBounded fields f.body input) (sym (emitted c ∙ sym (Out-exec fields f.body input)))
+    (AreBounded-Out f fields input c.function-function.ensures.valid c.requires.kind c.requires.keys c.requires.width)
 
 pub returns-clause-emitted : goal.returns-clause-emitted
 returns-clause-emitted c = emitted c ∙ sym (Out-exec c.args.f.now.fields c.args.f.now.function.body (input_of c.args.input))

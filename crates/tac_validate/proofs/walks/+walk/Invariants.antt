@@ -1,7 +1,7 @@
 use Rattle.std.proofs.Common.{◌+◌, ◌*◌, drop}
 use Rattle.tac_syntax.specs.Coding.{tall}
 use Rattle.tac_syntax.specs.Trees.{only}
-use Rattle.tac_validate.proofs.Going.{GoesOn}
+use Rattle.tac_validate.proofs.LeftStatements.{GoesOn}
 use Rattle.tac_validate.proofs.walks.+walk.Given as goal
 
 abbrev pub decreases-walk_body : goal.decreases-walk_body

@@ -1,25 +1,21 @@
-use Rattle.std.proofs.Common.{◌+◌, ap, ◌∙◌, refl, arith, length, slice_set}
-use Rattle.pact_record.specs.Record.{joined_value}
-use Rattle.pact_record.proofs.JoinedRecords.{joined_so_far-next, joined_so_far-all, length-joined_so_far}
+use Rattle.std.proofs.Common.{ap, ◌+◌, ℕ, ◌∙◌, arith, ◌++◌, ◌∷◌, []}
+use Rattle.std.proofs.lemmas.List.{take_all}
+use Rattle.pact_record.specs.Record.{joined_record, joined_value}
+use Rattle.pact_record.proofs.JoinedRecords.{joined_record-next, length-joined_record}
 use Rattle.pact_record.proofs.records.Record.join.Goals as goal
-
-pub set-requires : goal.set-requires
-set-requires c =
-    let l = c.args.left.now in
-    let r = c.args.right.now in
-    omega (arith, length-joined_so_far l r c.loop-field.field c.requires, ap length c.loop-field.invariant, c.len-field-end.ensures)
 
 pub loop-field-preserved : goal.loop-field-preserved
 loop-field-preserved c =
     let l = c.args.left.now in
     let r = c.args.right.now in
-    let n = c.loop-field.field in
-    c.set.ensures
-    ∙ (λ i. slice_set (c.loop-field.invariant i) n ((c.in_ok-value.ensures ∙ c.or.ensures ∙ (λ j. joined_value (c.get.ensures j) (c.get-in-loop-field.ensures j))) i))
-    ∙ joined_so_far-next l r n (n + 1) refl c.requires (omega (arith, c.len-field-end.ensures))
+    let value = c.in_ok-copy.ensures ∙ c.or.ensures ∙ (λ i. joined_value (c.get.ensures i) (c.get-in-loop-field.ensures i)) in (
+      c.push_reserved.ensures.items ∙ (λ i. c.loop-field.invariant.0 i ++ value i ∷ []) ∙ joined_record-next l r c.loop-field.field c.requires (omega (arith, c.len-field-end.ensures.len)),
+      c.push_reserved.ensures.len ∙ ap (λ (n : ℕ). n + 1) c.loop-field.invariant.1,
+      c.push_reserved.ensures.capacity ∙ c.loop-field.invariant.2,
+    )
 
 pub returns : goal.returns
 returns c =
     let l = c.args.left.now in
     let r = c.args.right.now in
-    c.loop-field.invariant ∙ joined_so_far-all l r c.loop-field.field c.requires (omega (arith, c.len-field-end.ensures))
+    c.from_vec.ensures ∙ c.loop-field.invariant.0 ∙ take_all c.loop-field.field (joined_record l r) (omega (arith, length-joined_record l r c.requires, c.len-field-end.ensures.len))

@@ -2,26 +2,25 @@ use Rattle.std.proofs.Common.{◌-◌, ◌++◌, ◌∷◌, [], List, map, ap, s
 use Rattle.pact_record.specs.declared.values.Value.{Value}
 use Rattle.tac_syntax.specs.Call.{Store}
 use Rattle.tac_syntax.specs.Call as call
-use Rattle.pact_bag.specs.Widths.{AreWide}
+use Rattle.pact_record.specs.Widths.{AreWide}
 use Rattle.tac_interp.specs.Machine.{store_of}
 use Rattle.tac_interp.proofs.Loops.{map_now-bound, AreWide-bound}
 use Rattle.tac_interp.proofs.machines.Machine.bind.Goals as goal
 
 pub invariant_of-self-2 : goal.invariant_of-self-2
 invariant_of-self-2 c =
-    let h = c.self.invariant in
+    let h = c.self.invariant.0 in
     let before = c.self.inside.loops.items in
     let e = map_now-bound before c.push.new.self.items c.args.row (c.args.name - 1) (c.in_ok-push.ensures.items ∙ ap (λ (l : List (Bor (List Value))). l ++ c.args.row ∷ []) c.truncate.ensures.items) in
-    let w = AreWide-bound c.self.inside.fields (c.args.name - 1) (map (λ r. r.now) before) c.args.row.now h.loop_widths (c.requires.width ∙ sym (ap (λ (s : Store). s.fields) c.self.view_is)) in
-    record {
-      fields_fit = h.fields_fit;
-      input_width = h.input_width;
-      value_count = h.value_count;
-      record_count = h.record_count;
-      widths = h.widths;
-      loop_widths = subst (AreWide c.self.inside.fields) (sym e) w;
-      emitted_widths = h.emitted_widths;
-    }
+    let w = AreWide-bound c.self.inside.records.fields (c.args.name - 1) (map (λ r. r.now) before) c.args.row.now h.loop_widths (c.requires.width ∙ sym (ap (λ (s : Store). s.fields) c.self.view_is)) in (
+      record {
+        fields_fit = h.fields_fit;
+        input_width = h.input_width;
+        loop_widths = subst (AreWide c.self.inside.records.fields) (sym e) w;
+        emitted_widths = h.emitted_widths;
+      },
+      c.self.invariant.1,
+    )
 
 pub returns : goal.returns
 returns c =

@@ -1,18 +1,18 @@
 use Rattle.std.proofs.Common.{◌<◌, ap, sym, ◌∙◌, subst, ℕ}
 use Rattle.pact_record.specs.Record.{at_field}
 use Rattle.tac_syntax.specs.Call.{Store, named_record}
-use Rattle.tac_interp.specs.CallInputs.{IsOfPair}
+use Rattle.tac_syntax.specs.CallInputs.{IsOfPair}
 use Rattle.tac_interp.specs.Machine.{input_of}
-use Rattle.tac_interp.specs.Ready.{HasRecord}
+use Rattle.tac_syntax.specs.Ready.{HasRecord}
 use Rattle.tac_interp.proofs.InputRecords.{joined_field}
 use Rattle.tac_interp.proofs.machines.Machine.field_of.Goals as goal
 
-pub returns-in-None : goal.returns-in-None
-returns-in-None c =
+pub returns-in-Join : goal.returns-in-Join
+returns-in-Join c =
     let input = input_of c.self.inside.input in
-    let join = c.in-None.ensures.record in
+    let join = c.in-Join.is in
     let pair = subst IsOfPair (sym (ap (λ (s : Store). s.input) c.self.view_is)) (subst (HasRecord c.args.self.now) join c.requires.there) in
     let below = subst (λ (n : ℕ). c.args.field < n) (sym (ap (λ (s : Store). s.fields) c.self.view_is)) c.requires.field in
-    joined_field c.self.inside.fields c.args.field input c.get-left.result.now c.get-in-None.result.now c.or.result.now c.left.result.now c.right.result.now pair c.self.invariant.input_width below
-    c.left.ensures c.right.ensures c.get-left.ensures c.get-in-None.ensures c.or.ensures
+    joined_field c.self.inside.records.fields c.args.field input c.get-left.result.now c.get.result.now c.or.result.now c.left.result.now c.right.result.now pair c.self.invariant.0.input_width below
+    c.left.ensures c.right.ensures c.get-left.ensures c.get.ensures c.or.ensures
     ∙ (λ i. at_field (named_record (c.self.view_is i) (sym join i)) c.args.field)

@@ -1,0 +1,69 @@
+-- The commands, from the words to the text.
+use Rattle.std.proofs.Common.{◌≡◌, inl, inr, ℕ, List, Result, Ok, Err, IfOk, IfErr, refl, arith}
+use Rattle.pact_operators.specs.Allowed.{Allows, Bag}
+use Rattle.pact_operators.specs.PlanOps.{plan_ops}
+use Rattle.pact_operators.specs.Programs.{ProgramData}
+use Rattle.pact_outside.specs.Outside.{Feeding}
+use Rattle.pact_top.specs.Lines.{AreLines}
+use Rattle.pact_top.specs.declared.refusals.Refusal.{Refusal}
+use Rattle.pact_top.specs.declared.refusals.Refusal.TheVariants.{OutOfMemory, Usage, CannotRead, CannotWrite, Decided}
+use Rattle.pact_top.specs.Refusal.{Answers, Comes, ComesTo, IsRefused}
+use Rattle.pact_top.specs.Stages.{and_then, give, gives, stops}
+use Rattle.pact_top.specs.RefusalLines.{usage_line}
+use Rattle.pact_top.specs.Work.{IsTextOf, Loaded, Ready, loaded, program_file, ready_for, sources, text_for, to_evaluate, work}
+use Rattle.pact_words.specs.Words.{AreRefused, to_run}
+use Rattle.pact_top.proofs.Comings.{comes_decided, comes_err, comes_then}
+use Rattle.pact_top.proofs.Decided.{IsKnown, work_known}
+use Rattle.pact_top.proofs.SourceNames.{work_fails}
+
+-- ---- run
+
+pub run_program : {before now : Feeding} (name : List ℕ) (r : Refusal) → Comes (λ f. program_file f name) before now (Err r) → Comes (λ f. text_for f (to_run name)) before now (Err r)
+run_program {before} {now} name r h =
+    comes_err {A = Ready} {s = λ f. ready_for f (to_run name)} (λ f y. give (IsTextOf y)) r
+    (comes_err {A = Loaded} {s = λ f. loaded f name} (λ f l. give (λ y. y ≡ to_evaluate l)) r
+    (comes_err (λ f p. and_then (sources p f) (λ inputs. give (λ all. all ≡ record { program = p; inputs = inputs }))) r h))
+
+pub run_inputs : {before mid now : Feeding} (name : List ℕ) (p : ProgramData) (r : Refusal) → Comes (λ f. program_file f name) before mid (Ok p)
+    → Comes (sources p) mid now (Err r) → Comes (λ f. text_for f (to_run name)) before now (Err r)
+run_inputs name p r h g =
+    comes_err {A = Ready} {s = λ f. ready_for f (to_run name)} (λ f y. give (IsTextOf y)) r
+    (comes_err {A = Loaded} {s = λ f. loaded f name} (λ f l. give (λ y. y ≡ to_evaluate l)) r
+    (comes_then (λ f q. and_then (sources q f) (λ inputs. give (λ all. all ≡ record { program = q; inputs = inputs }))) p (Err r) h (comes_err (λ f inputs. give (λ all. all ≡ record { program = p; inputs = inputs })) r g)))
+
+pub run_text : {before mid now : Feeding} (name : List ℕ) (p : ProgramData) (inputs : List Bag) (bag : Bag) (text : List ℕ) → Comes (λ f. program_file f name) before mid (Ok p)
+    → Comes (sources p) mid now (Ok inputs) → Allows (plan_ops p inputs) p.plan bag → AreLines p.sink bag text → Comes (λ f. text_for f (to_run name)) before now (Ok text)
+run_text {before} {mid} {now} name p inputs bag text h g allowed lines =
+    let l : Loaded = record { program = p; inputs = inputs } in
+    comes_decided {A = Ready} {s = λ f. ready_for f (to_run name)} (λ y. give (IsTextOf y)) (to_evaluate l) (Ok text)
+    (comes_decided {A = Loaded} {s = λ f. loaded f name} (λ x. give (λ y. y ≡ to_evaluate x)) l (Ok (to_evaluate l))
+    (comes_then (λ f q. and_then (sources q f) (λ read. give (λ all. all ≡ record { program = q; inputs = read }))) p (Ok l) h
+    (comes_decided {s = sources p} (λ read. give (λ all. all ≡ record { program = p; inputs = read })) inputs (Ok l) g (refl, refl)))
+    (refl, refl))
+    (refl, record { bag = bag; allowed = allowed; lines = lines })
+
+-- ---- all commands
+
+stop_refused : (words : List (List ℕ)) (before now : Feeding) (status : ℕ) (line : List ℕ) → (AreRefused words → ◌≡◌ {A = Result (List ℕ) Refusal} (Err (Decided status line)) (Err Usage))
+    → ComesTo (work words before.files) before now (stops status line) → IsKnown words status line → IsRefused words before now (Decided status line)
+stop_refused words before now status line usage h (inl k) = let bad = usage k.0 in absurd cc
+stop_refused words before now status line usage h (inr k) = (k.0, k.1, h)
+
+no_words : (words : List (List ℕ)) (status : ℕ) (line : List ℕ) → IsKnown words status line → status ≡ 2 → AreRefused words
+no_words words status line (inl k) e = k.0
+no_words words status line (inr k) e = let l = k.0 in absurd (omega (arith, l, e))
+
+refused_so : (words : List (List ℕ)) (before now : Feeding) (r : Refusal) → (AreRefused words → ◌≡◌ {A = Result (List ℕ) Refusal} (Err r) (Err Usage)) → Answers (work words before.files) before now (Err r) → IsRefused words before now r
+refused_so words before now OutOfMemory usage h = tt
+refused_so words before now Usage usage h = (no_words words 2 usage_line ((work_known words before.files).so 2 usage_line h.readings h.ends) refl, h)
+refused_so words before now (CannotRead name) usage h = (h, (work_fails words before.files).so name h.readings h.ends)
+refused_so words before now CannotWrite usage h = absurd h
+refused_so words before now (Decided status line) usage h = stop_refused words before now status line usage h ((work_known words before.files).so status line h.readings h.ends)
+
+pub text_comes : (words : List (List ℕ)) (before now : Feeding) (x : Result (List ℕ) Refusal) → Answers (work words before.files) before now x → IfOk x (λ text. ComesTo (work words before.files) before now (gives text))
+text_comes words before now (Ok text) h = h
+text_comes words before now (Err r) h = tt
+
+pub is_refused : (words : List (List ℕ)) (before now : Feeding) (x : Result (List ℕ) Refusal) → (AreRefused words → x ≡ Err Usage) → Answers (work words before.files) before now x → IfErr x (IsRefused words before now)
+is_refused words before now (Ok text) usage h = tt
+is_refused words before now (Err r) usage h = refused_so words before now r usage h

@@ -1,0 +1,93 @@
+//! Calls of the program over files in memory, for the tests.
+
+use crate::pact_main;
+use pact_outside::{FailList, MemFeed, MemFiles, MemSink, NamedFile};
+use pact_record::{Bytes, OutOfMemory};
+use std::alloc::Global;
+
+/// What a call left.
+#[derive(Drop)]
+pub struct Outcome {
+    pub status: u8,
+    pub out: MemSink,
+    pub err: MemSink,
+    pub feed_faults: u64,
+}
+
+impl Outcome {
+    /// Whether it is this status, with these bytes written and told. The feed fails exactly with status 3.
+    pub fn is(&self, status: u8, out: &str, err: &str) -> bool {
+        self.status == status
+            && self.out.taken() == out.as_bytes()
+            && self.err.taken() == err.as_bytes()
+            && (self.feed_faults > 0) == (status == 3)
+    }
+}
+
+pub fn add_file(
+    alloc: Global,
+    files: &mut MemFiles,
+    name: &str,
+    bytes: Bytes,
+) -> Result<(), OutOfMemory> {
+    files.push(NamedFile {
+        name: Bytes::from_slice(alloc, name.as_bytes())?,
+        bytes,
+    })?;
+    Ok(())
+}
+
+pub fn add_text(
+    alloc: Global,
+    files: &mut MemFiles,
+    name: &str,
+    text: &str,
+) -> Result<(), OutOfMemory> {
+    add_file(
+        alloc,
+        files,
+        name,
+        Bytes::from_slice(alloc, text.as_bytes())?,
+    )
+}
+
+pub fn fail_at(alloc: Global, call: u64) -> Result<FailList, OutOfMemory> {
+    let mut fail = FailList::new(alloc);
+    fail.push(call)?;
+    Ok(fail)
+}
+
+/// A sink that takes at most four bytes at a time, and fails at the call of this number; 0 for none.
+pub fn sink(alloc: Global, fail: u64) -> Result<MemSink, OutOfMemory> {
+    let mut sink = MemSink::new(alloc, 4, fail_at(alloc, fail)?)?;
+    sink.reserve(65536)?;
+    Ok(sink)
+}
+
+/// The words over these files, with the calls of the feed and of the output that fail; 0 for none.
+pub fn call(
+    alloc: Global,
+    words: &[&str],
+    files: MemFiles,
+    feed_fails: u64,
+    out_fails: u64,
+) -> Result<Outcome, OutOfMemory> {
+    let mut feed = MemFeed::new(files, 65536, fail_at(alloc, feed_fails)?);
+    let mut out = sink(alloc, out_fails)?;
+    let mut err = sink(alloc, 0)?;
+    let status = pact_main(alloc, words, &mut feed, &mut out, &mut err);
+    Ok(Outcome {
+        status,
+        out,
+        err,
+        feed_faults: feed.faults(),
+    })
+}
+
+/// `run p.pact`, of this program and this `s.csv`.
+pub fn run(alloc: Global, program: &str, rows: &str) -> Result<Outcome, OutOfMemory> {
+    let mut files = MemFiles::new(alloc);
+    add_text(alloc, &mut files, "p.pact", program)?;
+    add_text(alloc, &mut files, "s.csv", rows)?;
+    call(alloc, &["run", "p.pact"], files, 0, 0)
+}

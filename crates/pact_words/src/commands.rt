@@ -1,0 +1,19 @@
+ghost use Rattle.pact_words.specs.Words.{Answers, texts_of};
+
+/// What the words ask for.
+#[derive(Clone, Copy, Debug, PartialEq, Eq)]
+pub enum Command<'a> {
+    /// `run PROGRAM`: the program in the file of that name is run, and its rows are written.
+    Run { program: &'a str },
+}
+
+/// The command that the words ask for, without the program's own name. None where the first of them is
+/// no command, or the command doesn't take the others.
+pub fn read_words<'a>(words: &[&'a str]) -> Option<Command<'a>>
+    ensures { Answers (texts_of words.now) result }
+{
+    match words {
+        [word, program] if *word == "run" => Some(Command::Run { program: *program }),
+        _ => None,
+    }
+}

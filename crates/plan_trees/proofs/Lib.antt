@@ -1,0 +1,10 @@
+pub mod DifferentNumbers
+pub mod NodesOfTrees
+pub mod RootParts
+pub mod BelowRoot
+pub mod FewNodes
+pub mod ShownPlans
+pub mod NodeRows
+pub mod ReplacedSubtrees
+pub mod SamePlans
+pub mod Ships

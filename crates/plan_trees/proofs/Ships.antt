@@ -1,0 +1,65 @@
+-- Ships by the number of the node that an edge leaves.
+use Rattle.std.proofs.Common.{◌≡◌, ◌≢◌, ◌<◌, ◌==◌, inl, inr, ℕ, zero, suc, true, false, length, get_or, replicate, refl, ap, sym, ◌∙◌, arith}
+use Rattle.std.specs.Prelude.{Some}
+use Rattle.std.proofs.lemmas.Bool.{cases_Bool}
+use Rattle.std.proofs.lemmas.Bool.Decides.{nat_tests, eqb_tells}
+use Rattle.std.proofs.lemmas.List.{get_or_default, get_or-set_same, ext_get_or}
+use Rattle.plan_trees.specs.declared.physicals.Ship.{Ship}
+use Rattle.plan_trees.specs.declared.physicals.Ship.TheVariants.{Forward}
+use Rattle.plan_trees.specs.Plans.{PlanTree, leaf, over, both, node_limit, root_of, has, IsPlan}
+use Rattle.plan_trees.specs.Physicals.{PhysicalData, has_edge, ship_at, with_ship, IsPhysical}
+use Rattle.plan_trees.proofs.BelowRoot.{input_plan, left_plan, right_plan}
+
+-- a node's number is below the limit
+pub below_limit : (at : ℕ) (t : PlanTree) → IsPlan t → has at t ≡ true → at < node_limit
+below_limit at (leaf n) h there = elim (eqb_tells at n) as (λ _. at < node_limit) [
+  | inl e ↦ (let below = h.below.0 in let same = e.1 in omega arith)
+  | inr e ↦ absurd (let not_here = e.0 in cc)
+]
+below_limit at (over n t) h there = elim (eqb_tells at n) as (λ _. at < node_limit) [
+  | inl e ↦ (let below = h.below.0 in let same = e.1 in omega arith)
+  | inr e ↦ below_limit at t (input_plan n t h) (simp e.0 at there)
+]
+below_limit at (both n t u) h there = elim (eqb_tells at n) as (λ _. at < node_limit) [
+  | inl e ↦ (let below = h.below.0 in let same = e.1 in omega arith)
+  | inr e ↦ elim (cases_Bool (has at t)) as (λ _. at < node_limit) [
+    | inl p ↦ below_limit at t (left_plan n t u h) p
+    | inr p ↦ below_limit at u (right_plan n t u h) (simp (e.0, p) at there)
+  ]
+]
+
+pub is_edge : (at : ℕ) (t : PlanTree) → has at t ≡ true → at ≢ root_of t → has_edge at t ≡ true
+is_edge at t there other =
+    let test : (at == root_of t) ≡ false = grind (arith, nat_tests) in
+    simp (there, test)
+
+pub ship_on_edge : (p : PhysicalData) (at : ℕ) (other : Ship) → IsPhysical p → has at p.tree ≡ true → at ≢ root_of p.tree
+    → Some (get_or p.ships at other) ≡ ship_at p at
+ship_on_edge p at other h there edge =
+    let test = is_edge at p.tree there edge in
+    let below : at < length p.ships = let b = below_limit at p.tree h.plan there in omega (arith, h.long) in
+    rw test (ap (λ (ship : Ship). Some ship) (get_or_default p.ships at other Forward below))
+
+pub get_or_blank : {X : Type 0} (n at : ℕ) (x : X) → get_or (replicate n x) at x ≡ x
+get_or_blank zero at x = refl
+get_or_blank (suc n) zero x = refl
+get_or_blank (suc n) (suc at) x = get_or_blank n at x
+
+pub ship_set : (p : PhysicalData) (at : ℕ) (ship : Ship) → IsPhysical p → has at p.tree ≡ true → at ≢ root_of p.tree → ship_at (with_ship p at ship) at ≡ Some ship
+ship_set p at ship h there edge =
+    let test = is_edge at p.tree there edge in
+    let below : at < length p.ships = let b = below_limit at p.tree h.plan there in omega (arith, h.long) in
+    rw test (ap (λ (s : Ship). Some s) (get_or-set_same p.ships at ship Forward below))
+
+ships_alike : (p q : PhysicalData) (at : ℕ) → IsPhysical p → IsPhysical q → p.tree ≡ q.tree → ship_at p at ≡ ship_at q at
+    → get_or p.ships at Forward ≡ get_or q.ships at Forward
+ships_alike p q at h k tree alike = elim (cases_Bool (has_edge at p.tree)) as (λ _. get_or p.ships at Forward ≡ get_or q.ships at Forward) [
+  | inl e ↦ (let f : has_edge at q.tree ≡ true = ap (has_edge at) (sym tree) ∙ e in let told = simp (e, f) at alike in cc)
+  | inr e ↦ h.rest at e ∙ sym (k.rest at (ap (has_edge at) (sym tree) ∙ e))
+]
+
+-- two physical plans that run one plan with as many workers, and ship alike on each edge, are the same
+pub same_physical : (p q : PhysicalData) → IsPhysical p → IsPhysical q → p.tree ≡ q.tree → p.workers ≡ q.workers → ((at : ℕ) → ship_at p at ≡ ship_at q at) → p ≡ q
+same_physical p q h k tree workers alike =
+    let same : p.ships ≡ q.ships = ext_get_or Forward p.ships q.ships (h.long ∙ sym k.long) (λ at _. ships_alike p q at h k tree (alike at)) in
+    λ i. record { tree = tree i; workers = workers i; ships = same i }

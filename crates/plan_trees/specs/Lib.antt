@@ -1,0 +1,9 @@
+pub mod Distinct
+pub mod Plans
+pub mod PlanParts
+pub mod Preorders
+pub mod PlanCode
+pub mod PlanEquality
+pub mod NodeRows
+pub mod Physicals
+pub mod PhysicalCode

@@ -1,0 +1,99 @@
+//! Physical plans: a plan, how many workers run it, and how records go along each of its edges.
+
+ghost use Rattle.std.specs.Prelude.{◌≡◌, ◌≢◌, ◌≤◌, ◌↔◌, ℕ, true, Some, IsNone};
+ghost use Rattle.plan_trees.specs.Plans.{root_of, has};
+ghost use Rattle.plan_trees.specs.Physicals.{worker_limit, has_edge, ship_at, with_ship, forwarded, IsPhysical};
+
+use crate::plans::Plan;
+use crate::preorders::MAX_NODES;
+use pact_record::Keys;
+use std::marker::Model;
+
+/// How the records that a worker has of an operator or a source go to its consumer.
+#[derive(Clone, Copy, Debug, PartialEq, Eq)]
+pub enum Ship {
+    /// They stay with the worker.
+    Forward,
+    /// Each goes to the worker that its values at the keys tell.
+    Partition(Keys),
+    /// Each goes to every worker.
+    Broadcast,
+}
+
+/// A plan with a number of workers, and a ship on each edge. An edge is named by the number of
+/// the operator or source that it leaves. It is copied without memory.
+#[derive(Clone, Copy, Debug, PartialEq, Eq)]
+pub struct Physical {
+    plan: Plan,
+    workers: u32,
+    ships: [Ship; MAX_NODES],
+}
+
+impl Model for Physical {
+    ghost use Rattle.plan_trees.specs.Physicals.{PhysicalData};
+    ghost use Rattle.plan_trees.specs.PhysicalCode.{coded_physical};
+
+    ghost Value = { PhysicalData };
+
+    ghost coded = { coded_physical };
+
+    ghost use Rattle.plan_trees.specs.Physicals.{IsPhysical};
+
+    ghost view = { λ p. record { tree = p.plan; workers = p.workers; ships = p.ships } };
+
+    ghost invariant = { λ p. IsPhysical (record { tree = p.plan; workers = p.workers; ships = p.ships }) };
+
+    ghost inverse = { λ d. record { plan = d.tree; workers = d.workers; ships = d.ships } };
+}
+
+impl Physical {
+    /// Forward on every edge.
+    pub fn forward(plan: Plan, workers: u32) -> Physical
+        requires { (1 ≤ workers) × (workers ≤ worker_limit) }
+        ensures value { result ≡ forwarded plan workers }
+        ensures ships { (at : ℕ) → has_edge at plan ≡ true → ship_at result at ≡ Some Ship.Forward }
+    {
+        // the root of a plan tells that it is one
+        let _root = plan.root();
+        Physical {
+            plan,
+            workers,
+            ships: [Ship::Forward; MAX_NODES],
+        }
+    }
+
+    pub fn plan(&self) -> &Plan
+        ensures { result.now ≡ self.now.tree }
+    {
+        &self.plan
+    }
+
+    pub fn workers(&self) -> u32
+        ensures workers { result ≡ self.now.workers }
+        ensures physical { IsPhysical self.now }
+    {
+        self.workers
+    }
+
+    /// How records go from the operator or source to its consumer.
+    pub fn ship(&self, at: u32) -> Option<Ship>
+        requires { has at self.now.tree ≡ true }
+        ensures ship { result ≡ ship_at self.now at }
+        ensures none_at_root { IsNone result ↔ (at ≡ root_of self.now.tree) }
+    {
+        if at == self.plan.root() {
+            return None;
+        }
+        Some(self.ships[at as usize])
+    }
+
+    pub fn set_ship(&mut self, at: u32, ship: Ship)
+        requires has { has at self.old.tree ≡ true }
+        requires edge { at ≢ root_of self.old.tree }
+        ensures value { self.new ≡ with_ship self.old at ship }
+        ensures edge { ship_at self.new at ≡ Some ship }
+        ensures others { (k : ℕ) → k ≢ at → ship_at self.new k ≡ ship_at self.old k }
+    {
+        self.ships[at as usize] = ship;
+    }
+}

@@ -1,0 +1,4 @@
+pub mod Declarations
+pub mod Drafts
+pub mod DraftCode
+pub mod ValidLists

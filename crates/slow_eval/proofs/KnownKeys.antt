@@ -1,0 +1,43 @@
+-- Keys that are among others, and a key more behind others.
+use Rattle.std.proofs.Common.{◌≡◌, ◌<◌, ◌+◌, ℕ, Bool, true, false, ◌||◌, List, [], ◌∷◌, ◌++◌, length, map, take, drop, get_or, refl, ap, sym, ◌∙◌, subst}
+use Rattle.std.proofs.lemmas.List.{drop_more, take_more, map-append}
+use Rattle.std.specs.List.{list_any}
+use Rattle.pact_bag.specs.Groups.{is_same_key}
+use Rattle.pact_bag.proofs.KeyGroups.{key_itself, same_keys}
+use Rattle.pact_record.specs.declared.values.Value.{Value}
+use Rattle.pact_record.specs.Record.{key_of}
+
+pub is_same_key-flipped : (a b : List Value) → is_same_key a b ≡ is_same_key b a
+is_same_key-flipped a b = go (is_same_key a b) (is_same_key b a) refl refl where
+  go : (s t : Bool) → is_same_key a b ≡ s → is_same_key b a ≡ t → is_same_key a b ≡ is_same_key b a
+  go true t e f = e ∙ sym (subst (λ (c : List Value). is_same_key c a ≡ true) (same_keys a b e) (key_itself a))
+  go false true e f = subst (λ (c : List Value). is_same_key a c ≡ is_same_key c a) (sym (same_keys b a f)) refl
+  go false false e f = e ∙ sym f
+
+abbrev knows : List Value → List (List Value) → Bool
+knows k found = list_any (λ key. is_same_key key k) found
+
+step : (k : List Value) (found : List (List Value)) (n : ℕ) (key : List Value) → n < length found → key ≡ get_or found n key → knows k (drop n found) ≡ (is_same_key key k || knows k (drop (n + 1) found))
+step k found n key lt e = ap (knows k) (drop_more found n key lt ∙ ap (λ (x : List Value). x ∷ drop (n + 1) found) (sym e))
+
+pub known-here : (k : List Value) (found : List (List Value)) (n : ℕ) (key : List Value) (b : Bool) → n < length found → key ≡ get_or found n key → b ≡ is_same_key k key → b ≡ true
+    → knows k found ≡ knows k (drop n found) → true ≡ knows k found
+known-here k found n key b lt e s t h =
+    sym (h ∙ step k found n key lt e ∙ ap (λ (c : Bool). c || knows k (drop (n + 1) found)) (is_same_key-flipped key k ∙ sym s ∙ t))
+
+pub known-later : (k : List Value) (found : List (List Value)) (n : ℕ) (key : List Value) (b : Bool) → n < length found → key ≡ get_or found n key → b ≡ is_same_key k key → b ≡ false
+    → knows k found ≡ knows k (drop n found) → knows k found ≡ knows k (drop (n + 1) found)
+known-later k found n key b lt e s t h =
+    h ∙ step k found n key lt e ∙ ap (λ (c : Bool). c || knows k (drop (n + 1) found)) (is_same_key-flipped key k ∙ sym s ∙ t)
+
+append-last : (before xs : List (List Value)) (k : List Value) → before ++ (xs ++ k ∷ []) ≡ (before ++ xs) ++ k ∷ []
+append-last [] xs k = refl
+append-last (y ∷ before) xs k = ap (λ (l : List (List Value)). y ∷ l) (append-last before xs k)
+
+-- the keys of one record more
+pub keys-more : (before : List (List Value)) (keys : List ℕ) (rows : List (List Value)) (n : ℕ) (row : List Value) → n < length rows → row ≡ get_or rows n row
+    → before ++ map (key_of keys) (take (n + 1) rows) ≡ (before ++ map (key_of keys) (take n rows)) ++ key_of keys row ∷ []
+keys-more before keys rows n row lt e =
+    ap (λ (l : List (List Value)). before ++ map (key_of keys) l) (take_more rows n row lt ∙ ap (λ (r : List Value). take n rows ++ r ∷ []) (sym e))
+    ∙ ap (λ (l : List (List Value)). before ++ l) (map-append (key_of keys) (take n rows) (row ∷ []))
+    ∙ append-last before (map (key_of keys) (take n rows)) (key_of keys row)

@@ -1,0 +1,24 @@
+use Rattle.std.proofs.Common.{◌+◌, ◌∙◌, sym, subst, arith}
+use Rattle.pact_record.specs.declared.values.Value.TheVariants.{Null}
+use Rattle.tac_syntax.specs.Limits.{value_registers}
+use Rattle.tac_interp.proofs.Filled.{FillsTo, FillsTo-start, FillsTo-next, FillsTo-end, FillsTo-few, FillsTo-length}
+use Rattle.tac_interp.proofs.registers.reach_value.Goals as goal
+
+pub loop-init : goal.loop-init
+loop-init c = FillsTo-start Null c.args.held.now.items c.len-counter.result (c.args.at + 1) (c.len-counter.ensures ∙ c.args.held.now.ok.0)
+
+pub loop-preserved : goal.loop-preserved
+loop-preserved c = FillsTo-next Null _ _ _ _ _ _ (omega arith) c.loop-test.true c.in_ok-push.ensures.items c.loop.invariant
+
+pub returns-in_err-push-clause-few : goal.returns-in_err-push-clause-few
+returns-in_err-push-clause-few c few =
+    FillsTo-few value_registers Null _ _ c.loop.counter _ (omega (arith, c.requires)) (subst (λ l. FillsTo Null c.args.held.now.items l c.loop.counter (c.args.at + 1)) (sym c.in_err-push.ensures.items) c.loop.invariant) few
+
+pub returns-clause-reached : goal.returns-clause-reached
+returns-clause-reached c = FillsTo-end Null _ _ _ _ c.loop-test.false c.loop.invariant
+
+pub returns-clause-few : goal.returns-clause-few
+returns-clause-few c few = FillsTo-few value_registers Null _ _ c.loop.counter _ (omega (arith, c.requires)) c.loop.invariant few
+
+pub returns-clause-there : goal.returns-clause-there
+returns-clause-there c = omega (arith, c.loop-test.false, FillsTo-length Null _ _ _ _ c.loop.invariant, c.loop.held.ok.0)

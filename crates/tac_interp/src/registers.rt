@@ -1,0 +1,193 @@
+//! The registers of a call. One that nothing was put into yet, and none was put behind it, takes no room.
+
+ghost use Rattle.std.specs.Prelude.{◌≡◌, ◌≤◌, ◌<◌, ◌+◌, [], length, replicate, get_or, slice_set, vec_len, OnOk, IfOk};
+ghost use Rattle.pact_record.specs.declared.records.TheConstants.{MAX_FIELDS};
+ghost use Rattle.pact_record.specs.declared.values.Value.TheVariants.{Null};
+ghost use Rattle.pact_record.specs.Record.{at_field};
+ghost use Rattle.pact_record.specs.Widths.{AreWide};
+ghost use Rattle.tac_syntax.specs.Limits.{value_registers, record_registers};
+ghost use Rattle.tac_syntax.specs.Call.{empty_record};
+ghost use Rattle.tac_interp.specs.Registers.{filled, new_records, with_record};
+
+use pact_record::{OutOfMemory, Record, Value};
+use std::alloc::Global;
+use std::marker::Model;
+
+/// The value registers of a call: Null at first.
+#[derive(Drop)]
+pub(crate) struct ValueRegisters {
+    // up to the greatest one that was set
+    held: Vec<Value>,
+    // what every other one has
+    null: Value,
+}
+
+impl Model for ValueRegisters {
+    ghost use Rattle.std.specs.Prelude.{◌≡◌, ◌≤◌, List, length};
+    ghost use Rattle.pact_record.specs.declared.values.Value.{Value as FieldValue};
+    ghost use Rattle.pact_record.specs.declared.values.Value.TheVariants.{Null};
+    ghost use Rattle.tac_syntax.specs.Limits.{value_registers};
+    ghost use Rattle.tac_interp.specs.Registers.{filled};
+
+    ghost Value = { List FieldValue };
+
+    ghost view = { λ r. filled value_registers Null r.held.items };
+
+    ghost invariant = { λ r. (length r.held.items ≤ value_registers) × (r.null ≡ Null) };
+}
+
+// Puts Null behind the values, so that there is one at the place.
+fn reach_value(held: &mut Vec<Value>, at: u32) -> Result<(), OutOfMemory>
+    requires { at < value_registers }
+    ensures reached { OnOk result (held.new.items ≡ filled (at + 1) Null held.old.items) }
+    ensures there { OnOk result (at < vec_len held.new) }
+    ensures few { length held.old.items ≤ value_registers → length held.new.items ≤ value_registers }
+{
+    for _ in held.len()..at as usize + 1 {
+        held.push(Value::Null)?;
+    }
+    Ok(())
+}
+
+impl ValueRegisters {
+    pub(crate) fn new(alloc: Global) -> ValueRegisters
+        ensures { result ≡ replicate value_registers Null }
+    {
+        ValueRegisters {
+            held: Vec::new(alloc),
+            null: Value::Null,
+        }
+    }
+
+    pub(crate) fn get(&self, at: u32) -> &Value
+        requires { at < value_registers }
+        ensures { result.now ≡ get_or self.now at Null }
+    {
+        if at as usize >= self.held.len() {
+            return &self.null;
+        }
+        &self.held[at as usize]
+    }
+
+    pub(crate) fn set(&mut self, at: u32, value: Value) -> Result<(), OutOfMemory>
+        requires { at < value_registers }
+        ensures { OnOk result (self.new ≡ slice_set self.old at value) }
+    {
+        reach_value(&mut self.held, at)?;
+        self.held[at as usize] = value;
+        Ok(())
+    }
+}
+
+/// The record registers of a call: Null in each field at first.
+#[derive(Drop)]
+pub(crate) struct RecordRegisters {
+    fields: u32,
+    // up to the greatest one that was set
+    held: Vec<Record>,
+    // what each field of every other one has
+    null: Value,
+}
+
+impl Model for RecordRegisters {
+    ghost use Rattle.tac_interp.specs.Registers.{RecordsData};
+
+    ghost Value = { RecordsData };
+
+    ghost use Rattle.tac_interp.specs.Registers.{records_of, AreKept};
+
+    ghost view = { records_of };
+
+    ghost invariant = { AreKept };
+}
+
+// Puts empty records behind the others, so that there is one at the place.
+fn reach_record(
+    alloc: Global,
+    held: &mut Vec<Record>,
+    fields: u32,
+    at: u32,
+) -> Result<(), OutOfMemory>
+    requires place { at < record_registers }
+    requires fields { fields ≤ MAX_FIELDS }
+    ensures reached { OnOk result (held.new.items ≡ filled (at + 1) (empty_record fields) held.old.items) }
+    ensures there { OnOk result (at < vec_len held.new) }
+    ensures few { length held.old.items ≤ record_registers → length held.new.items ≤ record_registers }
+    ensures widths { AreWide fields held.old.items → AreWide fields held.new.items }
+{
+    for _ in held.len()..at as usize + 1 {
+        held.push(Record::empty(alloc, fields)?)?;
+    }
+    Ok(())
+}
+
+impl RecordRegisters {
+    pub(crate) fn new(alloc: Global, fields: u32) -> RecordRegisters
+        requires { fields ≤ MAX_FIELDS }
+        ensures { result ≡ new_records fields }
+    {
+        RecordRegisters {
+            fields,
+            held: Vec::new(alloc),
+            null: Value::Null,
+        }
+    }
+
+    pub(crate) fn fields(&self) -> u32
+        ensures fields { result ≡ self.now.fields }
+        ensures few { result ≤ MAX_FIELDS }
+    {
+        self.fields
+    }
+
+    /// A field of one of the records.
+    pub(crate) fn field(&self, at: u32, field: u32) -> &Value
+        requires place { at < record_registers }
+        requires field { field < self.now.fields }
+        ensures { result.now ≡ at_field (get_or self.now.records at []) field }
+    {
+        if at as usize >= self.held.len() {
+            return &self.null;
+        }
+        self.held[at as usize].get(field)
+    }
+
+    pub(crate) fn copy(&self, alloc: Global, at: u32) -> Result<Record, OutOfMemory>
+        requires { at < record_registers }
+        ensures record { IfOk result (λ row. row ≡ get_or self.now.records at []) }
+        ensures width { IfOk result (λ row. length row ≡ self.now.fields) }
+    {
+        if at as usize >= self.held.len() {
+            return Record::empty(alloc, self.fields);
+        }
+        self.held[at as usize].copy(alloc)
+    }
+
+    pub(crate) fn set(&mut self, alloc: Global, at: u32, row: Record) -> Result<(), OutOfMemory>
+        requires place { at < record_registers }
+        requires width { length row ≡ self.old.fields }
+        ensures set { OnOk result (self.new ≡ with_record self.old at row) }
+        ensures fields { self.new.fields ≡ self.old.fields }
+    {
+        reach_record(alloc, &mut self.held, self.fields, at)?;
+        self.held[at as usize] = row;
+        Ok(())
+    }
+
+    pub(crate) fn set_field(
+        &mut self,
+        alloc: Global,
+        at: u32,
+        field: u32,
+        value: Value,
+    ) -> Result<(), OutOfMemory>
+        requires place { at < record_registers }
+        requires field { field < self.old.fields }
+        ensures set { OnOk result (self.new ≡ with_record self.old at (slice_set (get_or self.old.records at []) field value)) }
+        ensures fields { self.new.fields ≡ self.old.fields }
+    {
+        reach_record(alloc, &mut self.held, self.fields, at)?;
+        self.held[at as usize].set(field, value);
+        Ok(())
+    }
+}

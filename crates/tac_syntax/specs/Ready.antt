@@ -1,0 +1,67 @@
+-- Where a statement and a body may be run.
+use Rattle.std.specs.Prelude.{◌≡◌, ◌≤◌, ◌<◌, ◌+◌, ℕ, List, length}
+use Rattle.pact_record.specs.declared.values.Value.{Value}
+use Rattle.tac_syntax.specs.declared.statements.Rec.{Rec}
+use Rattle.tac_syntax.specs.declared.statements.Rec.TheVariants.{Reg, Loop, Input, Left, Right, Join, First}
+use Rattle.tac_syntax.specs.Limits.{value_registers, record_registers}
+use Rattle.tac_syntax.specs.Code.{Simple, load_int, load_text, load_null, move_value, get_field, get_key, apply_one, apply_two, new_record, copy_record, set_field, emit_record, Code}
+use Rattle.tac_syntax.specs.Trees.{Statement, one_line, choice, turning, going_through}
+use Rattle.tac_syntax.specs.Call.{CallInput, Store, key_values}
+use Rattle.tac_syntax.specs.Places.{Place, in_each}
+use Rattle.tac_syntax.specs.CallInputs.{IsOfRecord, IsOfPair, IsOfGroup, IsInputOf, HasKeys}
+use Rattle.tac_syntax.specs.InRange.{AreInRange}
+
+-- a place fits a call: its number of fields, its input, and the loops' names that are bound
+pub record Fits (p : Place) (width : ℕ) (input : CallInput) (loops : List (List Value)) : Type 0 where
+  pub fields : p.fields ≡ width
+  pub kind : IsInputOf p.kind input
+  pub keys : HasKeys p.keys input
+  pub lists : p.lists ≤ length loops
+
+abbrev pub FitsStore : Place → Store → Type 0
+FitsStore p s = Fits p s.fields s.input s.loops
+
+-- a body in range at a place that fits
+pub record IsReady (c : Code) (s : Store) : Type 0 where
+  pub place : Place
+  pub in_range : AreInRange place c
+  pub fits : FitsStore place s
+
+-- a record that can be read
+abbrev pub HasRecord : Store → Rec → Type 0
+HasRecord s (Reg k) = k < record_registers
+HasRecord s (Loop name) = (1 ≤ name) × (name ≤ length s.loops)
+HasRecord s Input = IsOfRecord s.input
+HasRecord s Left = IsOfPair s.input
+HasRecord s Right = IsOfPair s.input
+HasRecord s Join = IsOfPair s.input
+HasRecord s First = IsOfGroup s.input
+
+-- what a statement of one line names is there
+abbrev pub CanAct : Simple → Store → Type 0
+CanAct (load_int to value) s = to < value_registers
+CanAct (load_text to bytes) s = to < value_registers
+CanAct (load_null to) s = to < value_registers
+CanAct (move_value to from) s = (to < value_registers) × (from < value_registers)
+CanAct (get_field to from field) s = (to < value_registers) × HasRecord s from × (field < s.fields)
+CanAct (get_key to at) s = (to < value_registers) × (at < length (key_values s.input))
+CanAct (apply_one to op a) s = (to < value_registers) × (a < value_registers)
+CanAct (apply_two to op a b) s = (to < value_registers) × (a < value_registers) × (b < value_registers)
+CanAct (new_record to) s = to < record_registers
+CanAct (copy_record to from) s = (to < record_registers) × HasRecord s from
+CanAct (set_field to field value) s = (to < record_registers) × (field < s.fields) × (value < value_registers)
+CanAct (emit_record from) s = from < record_registers
+
+-- a body in range inside a loop over a list with that name, at a place that fits
+pub record IsReadyIn (name : ℕ) (body : Code) (s : Store) : Type 0 where
+  pub place : Place
+  pub next_name : name ≡ place.lists + 1
+  pub in_range : AreInRange (in_each place) body
+  pub fits : FitsStore place s
+
+-- what a statement names is there, and the bodies inside it may be run
+abbrev pub CanStart : Statement → Store → Type 0
+CanStart (one_line a) s = CanAct a s
+CanStart (choice on body other) s = (on < value_registers) × IsReady body s × IsReady other s
+CanStart (turning count body) s = IsReady body s
+CanStart (going_through name list body) s = IsReadyIn name body s

@@ -1,0 +1,11 @@
+# One file is named twice: as those who are led, and as those who lead.
+pact 1
+fields 6
+source person staff.csv int:0 text:1 int:2
+source leader staff.csv int:3 text:4 int:5
+function pair match
+  r0 = copy join
+  emit r0
+end
+match led pair person leader by 2 = 3
+sink led 1 4
