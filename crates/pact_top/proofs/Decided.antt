@@ -19,18 +19,12 @@ use Rattle.pact_top.specs.Stages.{End, gives, stops, misses, fails, Reading, eac
 use Rattle.pact_top.specs.RefusalLines.{usage_line}
 use Rattle.pact_top.specs.Work.{IsTextOf, FileEnds, command, draft, file, loaded, program, program_file, program_limit, program_of, ready, ready_for, rows, source_file, sources, text_for, valid, valids, work}
 use Rattle.pact_words.specs.Words.{Asked, to_run, AreRefused}
-use Rattle.pact_words.proofs.OneAsked.{asked_not_refused, one_asked}
+use Rattle.pact_words.proofs.OneAsked.{asked_not_refused, not_both, one_asked, one_of}
 use Rattle.pact_operators.proofs.OneProgram.{one_program}
 use Rattle.pact_operators.proofs.RefusedOrKept.{refused_not_kept}
 use Rattle.pact_top.proofs.StageLaws.{AreAlike, Agree, GivesOne, IsDecided, StopsSo, agree_then, decided_then, each_decided, each_one, gave_cons, give_agrees, give_alike, one_then, plain_decided, stops_each, stops_give, stops_then}
 
 -- ---- words
-
-none_and_some : {A : Type 0} (o : Option A) (a : A) → o ≡ Some a → o ≡ None → ⊥
-none_and_some o a c d = cc
-
-one_some : {A : Type 0} (o : Option A) (s t : A) → o ≡ Some s → o ≡ Some t → s ≡ t
-one_some o s t p q = cc
 
 command_decided : (words : List (List ℕ)) → IsDecided (command words)
 command_decided words = plain_decided _ _ (λ c s l h g. asked_not_refused words c h g.0) (λ s t l m h g. h.1 ∙ sym g.1)
@@ -45,15 +39,15 @@ short_and_long a b limit e l k = let m = ap length e in omega (arith, m, l, k)
 
 file_alike : (held : List NamedFile) (name : List ℕ) (limit : ℕ) (x y : End (List ℕ)) → FileEnds (Some held) name limit x → FileEnds (Some held) name limit y → AreAlike x y
 file_alike held name limit (gives a) (gives b) h g = tt
-file_alike held name limit (gives a) (stops t m) h g = absurd (short_and_long a g.0 limit (one_some (file_named held name) a g.0 h.0 g.1) h.1 g.2)
-file_alike held name limit (gives a) (misses m) h g = absurd (none_and_some (file_named held name) a h.0 g.0)
+file_alike held name limit (gives a) (stops t m) h g = absurd (short_and_long a g.0 limit (one_of (file_named held name) a g.0 h.0 g.1) h.1 g.2)
+file_alike held name limit (gives a) (misses m) h g = absurd (not_both (file_named held name) a h.0 g.0)
 file_alike held name limit (gives a) (fails m) h g = tt
-file_alike held name limit (stops s l) (gives b) h g = absurd (short_and_long b h.0 limit (one_some (file_named held name) b h.0 g.0 h.1) g.1 h.2)
+file_alike held name limit (stops s l) (gives b) h g = absurd (short_and_long b h.0 limit (one_of (file_named held name) b h.0 g.0 h.1) g.1 h.2)
 file_alike held name limit (stops s l) (stops t m) h g = h.3 ∙ sym g.3
-file_alike held name limit (stops s l) (misses m) h g = absurd (none_and_some (file_named held name) h.0 h.1 g.0)
+file_alike held name limit (stops s l) (misses m) h g = absurd (not_both (file_named held name) h.0 h.1 g.0)
 file_alike held name limit (stops s l) (fails m) h g = tt
-file_alike held name limit (misses n) (gives b) h g = absurd (none_and_some (file_named held name) b g.0 h.0)
-file_alike held name limit (misses n) (stops t m) h g = absurd (none_and_some (file_named held name) g.0 g.1 h.0)
+file_alike held name limit (misses n) (gives b) h g = absurd (not_both (file_named held name) b g.0 h.0)
+file_alike held name limit (misses n) (stops t m) h g = absurd (not_both (file_named held name) g.0 g.1 h.0)
 file_alike held name limit (misses n) (misses m) h g = h.1 ∙ sym g.1
 file_alike held name limit (misses n) (fails m) h g = tt
 file_alike held name limit (fails n) y h g = tt
@@ -64,7 +58,7 @@ file_decided (Some held) told name limit = record { alike = λ x y p q h g. file
 
 file_one : (files : Option (List NamedFile)) → AreTold files → (name : List ℕ) (limit : ℕ) → GivesOne (file files name limit)
 file_one None told name limit = absurd told
-file_one (Some held) told name limit = record { one = λ a b p q h g. one_some (file_named held name) a b h.1.0 g.1.0 }
+file_one (Some held) told name limit = record { one = λ a b p q h g. one_of (file_named held name) a b h.1.0 g.1.0 }
 
 -- ---- programs
 

@@ -1,20 +1,17 @@
 -- The two lines that a program begins with, and their words.
-use Rattle.std.proofs.Common.{◌≡◌, ◌≢◌, ℕ, true, List, [], ◌∷◌, None, codes, decimal, refl, ap, sym, ◌∙◌, arith}
+use Rattle.std.proofs.Common.{◌≡◌, ◌≢◌, ℕ, List, [], ◌∷◌, None, codes, decimal, refl, ap, sym, ◌∙◌, arith}
 use Rattle.text_lines.proofs.DigitWords.{is_in_range-decimal, number_spelled}
 use Rattle.text_lines.specs.CanonicalLines.{AreLineWords}
+use Rattle.text_lines.specs.LineGrammar.{is_plain}
 use Rattle.text_lines.specs.declared.line_words.LineWord.{LineWord}
 use Rattle.text_lines.specs.declared.line_words.LineWord.TheVariants.{Plain as plain_word, Literal as literal_word}
 use Rattle.program_text.specs.DeclarationFaults.{nothing_left}
 use Rattle.program_text.specs.DeclarationReading.{number_in, plain_at}
-use Rattle.program_text.specs.FirstLines.{IsFieldCount, count_fault, count_word_fault, field_count_words, fields_fault, is_plain, one_fault, version_fault, version_words}
+use Rattle.program_text.specs.FirstLines.{IsFieldCount, count_fault, count_word_fault, field_count_words, fields_fault, one_fault, version_fault, version_words}
 use Rattle.program_text.proofs.ItemWords.{number_in-decimal}
-use Rattle.text_lines.proofs.Faultless.{by_cases, or_else-none, same_word, told_unless-none}
+use Rattle.text_lines.proofs.Faultless.{by_cases, is_plain-same, or_else-none, told_unless-none}
 use Rattle.tac_text.proofs.WrittenWords.{AreFine, AreLineWords-fine}
 use Rattle.program_text.proofs.WordBytes.{IsFine-text, is_word_text-decimal}
-
-plain_is : (text : List ℕ) (word : LineWord) → is_plain text word ≡ true → word ≡ plain_word text
-plain_is text (plain_word w) h = ap plain_word (same_word w text h)
-plain_is text (literal_word w) h = absurd cc
 
 -- ---- the version
 
@@ -32,13 +29,13 @@ version_faultless = refl
 
 one_left : (words : List LineWord) → one_fault words ≡ None → words ≡ plain_word (codes "1") ∷ []
 one_left [] h = absurd cc
-one_left (word ∷ []) h = let e = plain_is (codes "1") word (told_unless-none _ _ h) in λ i. e i ∷ []
+one_left (word ∷ []) h = let e = is_plain-same (codes "1") word (told_unless-none _ _ h) in λ i. e i ∷ []
 one_left (word ∷ other ∷ words) h = absurd cc
 
 pub version_declared : (words : List LineWord) → words ≢ [] → version_fault words ≡ None → words ≡ version_words
 version_declared [] some h = absurd (some refl)
 version_declared (word ∷ words) some h = by_cases (is_plain (codes "pact") word) _ _
-    (λ named rest. let e = plain_is (codes "pact") word named in let one = one_left words rest in λ i. e i ∷ one i) (λ _ e. absurd cc) h
+    (λ named rest. let e = is_plain-same (codes "pact") word named in let one = one_left words rest in λ i. e i ∷ one i) (λ _ e. absurd cc) h
 
 -- ---- the number of fields
 
@@ -68,7 +65,7 @@ count_spelled (plain_word w) h =
     let s = number_spelled 1 64 w (omega arith) (told_unless-none _ _ h) in (s.number, (s.above, s.below), ap plain_word s.spelled)
 count_spelled (literal_word w) h = absurd cc
 
-none_left : (words : List LineWord) → nothing_left words ≡ None → words ≡ []
+pub none_left : (words : List LineWord) → nothing_left words ≡ None → words ≡ []
 none_left [] h = refl
 none_left (word ∷ words) h = absurd cc
 
@@ -84,6 +81,6 @@ pub field_count_declared : (words : List LineWord) → words ≢ [] → fields_f
 field_count_declared [] some h = absurd (some refl)
 field_count_declared (word ∷ words) some h = by_cases (is_plain (codes "fields") word) _ _
     (λ named rest.
-    let e = plain_is (codes "fields") word named in
+    let e = is_plain-same (codes "fields") word named in
     let s = count_left words rest in
     (s.0, (λ i. e i ∷ s.2 i), s.1)) (λ _ e. absurd cc) h

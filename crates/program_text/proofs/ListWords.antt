@@ -10,11 +10,12 @@ use Rattle.tac_syntax.specs.Functions.{key_limit}
 use Rattle.tac_syntax.specs.Grammar.{IsNumber}
 use Rattle.text_lines.specs.declared.line_words.LineWord.{LineWord}
 use Rattle.text_lines.specs.declared.line_words.LineWord.TheVariants.{Plain as plain_word, Literal as literal_word}
-use Rattle.program_text.specs.DeclarationFaults.{is_equals, is_number, item_fault, items_fault, key_pair_fault, left_keys_fault, list_fault}
+use Rattle.program_text.specs.DeclarationFaults.{is_number, item_fault, items_fault, key_pair_fault, left_keys_fault, list_fault}
 use Rattle.program_text.specs.DeclarationReading.{behind_equals, columns_in, numbers_in}
 use Rattle.program_text.specs.DeclarationWords.{column_word, key_pair_words, number_word, number_words}
 use Rattle.program_text.proofs.ItemWords.{column_fault-of, column_in-of, is_number-decimal, number_in-decimal, spells, spells_column}
-use Rattle.text_lines.proofs.Faultless.{by_cases, or_else-none, same_word, told_unless-none}
+use Rattle.text_lines.proofs.Faultless.{by_cases, is_plain-same, or_else-none, same_word, told_unless-none}
+use Rattle.text_lines.specs.LineGrammar.{is_plain}
 
 -- ---- single items
 
@@ -121,15 +122,15 @@ other_than_equals : (w : List ℕ) (b : Bool) → bytes_eq w (codes "=") ≡ b �
 other_than_equals w false e h = e
 other_than_equals w true e h = let same : is_number (codes "=") ≡ true = subst (λ (v : List ℕ). is_number v ≡ true) (same_word w (codes "=") e) h in absurd cc
 
-is_equals-number : (n : ℕ) → IsNumber n → is_equals (number_word n) ≡ false
-is_equals-number n h = other_than_equals (decimal n) _ refl (is_number-decimal n h)
+is_plain-number : (n : ℕ) → IsNumber n → is_plain (codes "=") (number_word n) ≡ false
+is_plain-number n h = other_than_equals (decimal n) _ refl (is_number-decimal n h)
 
 left_keys_fit : (room : ℕ) (left right : List ℕ) → length left ≤ room → AreNumbers left → IsKeyList right → left_keys_fault room (key_pair_words left right) ≡ None
 left_keys_fit room [] right few good h = keys_fit right h
 left_keys_fit room (n ∷ left) right few good h =
     let more = no_room (length left) room few in
     let rest = left_keys_fit (room - 1) left right (omega (arith, few)) good.1 h in
-    rw (is_equals-number n good.0, number_fits n good.0, more, rest) refl
+    rw (is_plain-number n good.0, number_fits n good.0, more, rest) refl
 
 pub key_pair_fits : (left right : List ℕ) → IsKeyList left → IsKeyList right → key_pair_fault (key_pair_words left right) ≡ None
 key_pair_fits [] right h k = let some = h.some in absurd (omega (arith, some))
@@ -145,15 +146,11 @@ record SpellsPair (room : ℕ) (words : List LineWord) : Type 0 where
   pub numbers : AreNumbers left
   pub right_keys : IsKeyList right
 
-is_equals-word : (word : LineWord) → is_equals word ≡ true → word ≡ plain_word (codes "=")
-is_equals-word (plain_word w) h = ap plain_word (same_word w (codes "=") h)
-is_equals-word (literal_word w) h = absurd cc
-
 spells_left_keys : (room : ℕ) (words : List LineWord) → left_keys_fault room words ≡ None → SpellsPair room words
 spells_left_keys room [] h = absurd cc
-spells_left_keys room (word ∷ words) h = by_cases (is_equals word) _ _
+spells_left_keys room (word ∷ words) h = by_cases (is_plain (codes "=") word) _ _
     (λ equals told.
-    let e = is_equals-word word equals in
+    let e = is_plain-same (codes "=") word equals in
     let keys = spells_keys words told in
     record { left = []; right = keys.0; parts = λ i. e i ∷ keys.1 i; few = omega arith; numbers = tt; right_keys = keys.2 })
     (λ _ told.
@@ -193,16 +190,16 @@ columns_in-words (c ∷ cs) h = λ i. column_in-of c.field c.text h.0 i ∷ colu
 
 pub numbers_in-words : (ns : List ℕ) → AreNumbers ns → numbers_in (number_words ns) ≡ ns
 numbers_in-words [] h = refl
-numbers_in-words (n ∷ ns) h = rw (is_equals-number n h.0, number_in-decimal n h.0, numbers_in-words ns h.1) refl
+numbers_in-words (n ∷ ns) h = rw (is_plain-number n h.0, number_in-decimal n h.0, numbers_in-words ns h.1) refl
 
 pub numbers_in-pair : (left right : List ℕ) → AreNumbers left → numbers_in (key_pair_words left right) ≡ left
 numbers_in-pair [] right h = refl
-numbers_in-pair (n ∷ left) right h = rw (is_equals-number n h.0, number_in-decimal n h.0, numbers_in-pair left right h.1) refl
+numbers_in-pair (n ∷ left) right h = rw (is_plain-number n h.0, number_in-decimal n h.0, numbers_in-pair left right h.1) refl
 
 pub behind_equals-words : (ns : List ℕ) → AreNumbers ns → behind_equals (number_words ns) ≡ []
 behind_equals-words [] h = refl
-behind_equals-words (n ∷ ns) h = rw (is_equals-number n h.0, behind_equals-words ns h.1) refl
+behind_equals-words (n ∷ ns) h = rw (is_plain-number n h.0, behind_equals-words ns h.1) refl
 
 pub behind_equals-pair : (left right : List ℕ) → AreNumbers left → behind_equals (key_pair_words left right) ≡ number_words right
 behind_equals-pair [] right h = refl
-behind_equals-pair (n ∷ left) right h = rw (is_equals-number n h.0, behind_equals-pair left right h.1) refl
+behind_equals-pair (n ∷ left) right h = rw (is_plain-number n h.0, behind_equals-pair left right h.1) refl

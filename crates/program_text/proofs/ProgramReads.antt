@@ -1,5 +1,5 @@
 -- The lines of a text lead a reader of programs on exactly where a program's text goes on.
-use Rattle.std.proofs.Common.{◌≡◌, ◌≢◌, ◌<◌, inr, ℕ, Bool, true, false, bytes_eq, codes, List, [], ◌∷◌, ◌++◌, map, length, Some, None, refl, ap, sym, subst, ◌∙◌, arith}
+use Rattle.std.proofs.Common.{◌≡◌, ◌≢◌, inr, ℕ, Bool, true, false, bytes_eq, codes, List, [], ◌∷◌, ◌++◌, map, Some, None, refl, ap, sym, subst, ◌∙◌}
 use Rattle.program_drafts.specs.declared.declarations.OpKind.{OpKind}
 use Rattle.program_drafts.specs.declared.declarations.OpKind.TheVariants.{Source as SourceKind, Map, Reduce, Match, Cross, CoGroup}
 use Rattle.program_drafts.specs.declared.declarations.Decl.{Decl}
@@ -29,6 +29,7 @@ use Rattle.program_text.specs.ProgramTexts.{IsProgramText, ProgramText, between_
 use Rattle.program_text.proofs.DeclarationLaws.{AreDeclarationWords, declared, faultless, words_of_decl-some, words_of_decl-unique}
 use Rattle.program_text.proofs.FirstLineLaws.{AreFieldCountWords, AreVersionWords, field_count_declared, field_count_faultless, field_count_words-some, field_count_words-unique, version_declared, version_faultless, version_words-some}
 use Rattle.program_text.proofs.ProgramRuns.{Leads, StateFront, can_end, lines_read, program_leads}
+use Rattle.text_lines.proofs.Faultless.{some_length}
 
 -- ---- declarations, and the first lines of functions
 
@@ -177,10 +178,6 @@ fault_sound (open_function d o) (field_count count) h = absurd h
 fault_sound (open_function d o) (declares decl) h = absurd h
 fault_sound (open_function d o) (begins name kind keys) h = absurd h
 fault_sound (open_function d o) (inside line) h = statement_fault-words_of_line (place_of o.build) line h
-
-some_length : (words : List LineWord) → words ≢ [] → 0 < length words
-some_length [] some = absurd (some refl)
-some_length (word ∷ words) some = omega arith
 
 pub said_between : (d : DraftData) (ws : List LineWord) → ws ≢ [] → between_fault ws ≡ None → (l : ProgramLine) × (ws ≡ words_of_program_line l) × MaySay (drafted d) l
 said_between d [] some e = absurd (some refl)

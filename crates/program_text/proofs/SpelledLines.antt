@@ -11,8 +11,9 @@ use Rattle.program_text.specs.declared.declaration_faults.Tail.TheVariants.{Noth
 use Rattle.tac_syntax.specs.Names.{is_name}
 use Rattle.text_lines.specs.declared.line_words.LineWord.{LineWord}
 use Rattle.text_lines.specs.declared.line_words.LineWord.TheVariants.{Plain as plain_word, Literal as literal_word}
-use Rattle.program_text.specs.DeclarationFaults.{declaration_fault, fills, nothing_left, slot_fault, slots_then, word_fault}
+use Rattle.program_text.specs.DeclarationFaults.{declaration_fault, fills, slot_fault, slots_then, word_fault}
 use Rattle.program_text.specs.DeclarationWords.{key_pair_words, number_words, plain_words, words_of_decl}
+use Rattle.program_text.proofs.FirstLineLaws.{none_left}
 use Rattle.program_text.proofs.ListWords.{spells_columns, spells_fields, spells_key_pair, spells_keys}
 use Rattle.text_lines.proofs.Faultless.{by_cases, or_else-none, same_word, told_unless-none}
 
@@ -31,10 +32,6 @@ taken slot slots tail (plain_word word ∷ words) h =
     let both = or_else-none (slot_fault slot (plain_word word)) (slots_then slots tail words) h in
     record { word = word; rest = words; parts = refl; fits = told_unless-none _ _ both.0; left = both.1 }
 taken slot slots tail (literal_word bytes ∷ words) h = absurd cc
-
-none_left : (words : List LineWord) → nothing_left words ≡ None → words ≡ []
-none_left [] h = refl
-none_left (word ∷ words) h = absurd cc
 
 behind : {words rest more : List LineWord} {word : List ℕ} → words ≡ plain_word word ∷ rest → rest ≡ more → words ≡ plain_word word ∷ more
 behind {word = word} parts next = parts ∙ ap (λ (ws : List LineWord). plain_word word ∷ ws) next

@@ -1,5 +1,5 @@
 -- What is wrong with a line that should be a declaration's: the first fault from the left.
-use Rattle.std.specs.Prelude.{ℕ, ◌-◌, ◌==◌, Bool, false, ◌||◌, if◌then◌else◌, Option, Some, None, List, [], ◌∷◌, length, take, drop, codes, bytes_eq}
+use Rattle.std.specs.Prelude.{ℕ, ◌-◌, ◌==◌, Bool, ◌||◌, if◌then◌else◌, Option, Some, None, List, [], ◌∷◌, length, take, drop, codes, bytes_eq}
 use Rattle.program_drafts.specs.Declarations.{field_list_limit}
 use Rattle.program_text.specs.declared.declaration_faults.Slot.{Slot}
 use Rattle.program_text.specs.declared.declaration_faults.Slot.TheVariants.{Name, FileName, By}
@@ -12,6 +12,7 @@ use Rattle.tac_syntax.specs.Names.{is_name, is_file_name}
 use Rattle.text_lines.specs.Digits.{is_in_range, told_unless, or_else}
 use Rattle.text_lines.specs.declared.line_words.LineWord.{LineWord}
 use Rattle.text_lines.specs.declared.line_words.LineWord.TheVariants.{Plain as plain_word, Literal as literal_word}
+use Rattle.text_lines.specs.LineGrammar.{is_plain}
 
 -- ---- single words
 
@@ -51,10 +52,6 @@ item_fault Column (literal_word bytes) = Some 8
 item_fault Number (plain_word word) = told_unless (is_number word) 7
 item_fault Number (literal_word bytes) = Some 7
 
-abbrev pub is_equals : LineWord → Bool
-is_equals (plain_word word) = bytes_eq word (codes "=")
-is_equals (literal_word bytes) = false
-
 -- ---- lists
 
 -- Where there is room for so many: each word has to be an item, also the first that is left over.
@@ -71,7 +68,7 @@ list_fault item limit (word ∷ words) = items_fault item limit (word ∷ words)
 abbrev pub left_keys_fault : ℕ → List LineWord → Option ℕ
 left_keys_fault room [] = Some 4
 left_keys_fault room (word ∷ words) =
-    if is_equals word then list_fault Number key_limit words
+    if is_plain (codes "=") word then list_fault Number key_limit words
     else or_else (item_fault Number word) (if room == 0 then Some 8 else left_keys_fault (room - 1) words)
 
 -- the left keys, `=` and the right keys

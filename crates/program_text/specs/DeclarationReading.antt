@@ -9,7 +9,8 @@ use Rattle.program_drafts.specs.declared.declarations.Decl.TheVariants.{Source, 
 use Rattle.pact_record.specs.declared.words.TheConstants.{MAX_WORD}
 use Rattle.text_lines.specs.declared.line_words.LineWord.{LineWord}
 use Rattle.text_lines.specs.declared.line_words.LineWord.TheVariants.{Plain as plain_word, Literal as literal_word}
-use Rattle.program_text.specs.DeclarationFaults.{begins_with, is_equals, is_number}
+use Rattle.program_text.specs.DeclarationFaults.{begins_with, is_number}
+use Rattle.text_lines.specs.LineGrammar.{is_plain}
 
 -- ---- single words
 
@@ -42,11 +43,11 @@ columns_in words = map (λ w. column_in (plain_text w)) words
 -- the numbers in front of a word `=`
 abbrev pub numbers_in : List LineWord → List ℕ
 numbers_in [] = []
-numbers_in (word ∷ words) = if is_equals word then [] else number_in (plain_text word) ∷ numbers_in words
+numbers_in (word ∷ words) = if is_plain (codes "=") word then [] else number_in (plain_text word) ∷ numbers_in words
 
 abbrev pub behind_equals : List LineWord → List LineWord
 behind_equals [] = []
-behind_equals (word ∷ words) = if is_equals word then words else behind_equals words
+behind_equals (word ∷ words) = if is_plain (codes "=") word then words else behind_equals words
 
 -- ---- declarations
 

@@ -1,15 +1,11 @@
 -- The two lines that a program begins with: their words, and what is wrong with others.
-use Rattle.std.specs.Prelude.{◌≤◌, ℕ, Bool, false, if◌then◌else◌, Option, Some, None, List, [], ◌∷◌, codes, bytes_eq}
+use Rattle.std.specs.Prelude.{◌≤◌, ℕ, if◌then◌else◌, Option, Some, None, List, [], ◌∷◌, codes}
 use Rattle.text_lines.specs.Digits.{is_in_range, told_unless, or_else}
 use Rattle.text_lines.specs.declared.line_words.LineWord.{LineWord}
 use Rattle.text_lines.specs.declared.line_words.LineWord.TheVariants.{Plain as plain_word, Literal as literal_word}
 use Rattle.program_text.specs.DeclarationFaults.{nothing_left}
 use Rattle.program_text.specs.DeclarationWords.{plain_words, number_word}
-
--- a word as it stands in the line, and not a literal that stands for it
-abbrev pub is_plain : List ℕ → LineWord → Bool
-is_plain text (plain_word word) = bytes_eq word text
-is_plain text (literal_word bytes) = false
+use Rattle.text_lines.specs.LineGrammar.{is_plain}
 
 -- ---- the version
 

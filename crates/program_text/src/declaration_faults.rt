@@ -89,16 +89,6 @@ fn item_fault(item: Item, word: &LineWord) -> Option<u32>
     }
 }
 
-/// Whether a word is the `=` between two lists of keys.
-pub fn is_equals(word: &LineWord) -> bool
-    ensures { result ≡ specs.is_equals word.now }
-{
-    match word {
-        LineWord::Plain(bytes) => is_word(bytes.bytes(), b"="),
-        LineWord::Literal(_) => false,
-    }
-}
-
 // ---- lists
 
 fn items_fault(item: Item, room: usize, words: &[LineWord]) -> Option<u32>
@@ -131,7 +121,7 @@ fn left_keys_fault(room: usize, words: &[LineWord]) -> Option<u32>
     let Some((word, words)) = words.split_first() else {
         return Some(4);
     };
-    if is_equals(word) {
+    if word.is_plain(b"=") {
         return list_fault(Item::Number, MAX_KEYS, words);
     }
     if let Some(what) = item_fault(Item::Number, word) {

@@ -4,7 +4,7 @@ ghost use Rattle.std.specs.Prelude.{◌≡◌, IfOk, drop};
 ghost use Rattle.tac_syntax.specs.Grammar.{IsNumber};
 ghost use Rattle.program_text.specs.DeclarationReading.{behind_equals, column_in, columns_in, has_right, name_at, number_in, numbers_in, plain_at, plain_text};
 
-use crate::declaration_faults::{is_equals, is_number};
+use crate::declaration_faults::is_number;
 use pact_bag::{Column, Columns};
 use pact_record::{MAX_WORD, OutOfMemory, Word};
 use program_drafts::{Numbers, OpKind};
@@ -97,7 +97,7 @@ pub fn numbers_in(alloc: Global, words: &[LineWord]) -> Result<Numbers, OutOfMem
 {
     let mut numbers = Numbers::new(alloc);
     for word in words {
-        if is_equals(word) {
+        if word.is_plain(b"=") {
             return Ok(numbers);
         }
         numbers.push(number_in(plain_text(word)))?;
@@ -110,7 +110,7 @@ pub fn behind_equals(words: &[LineWord]) -> &[LineWord]
     ensures { result.now ≡ behind_equals words.now }
 {
     match words.split_first() {
-        Some((word, words)) if is_equals(word) => words,
+        Some((word, words)) if word.is_plain(b"=") => words,
         Some((_, words)) => behind_equals(words),
         None => words,
     }

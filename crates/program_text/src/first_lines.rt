@@ -1,27 +1,18 @@
 //! The two lines that a program begins with.
 
 ghost use Rattle.std.specs.Prelude.{◌≡◌, ◌<◌, ℕ, None, Some, Ok, Err, IfErr, IfOk, IsOk, length};
-ghost use Rattle.program_text.specs.FirstLines.{IsFieldCount, count_fault, count_word_fault, field_count_words, fields_fault, is_plain, one_fault, version_fault, version_words};
+ghost use Rattle.program_text.specs.FirstLines.{IsFieldCount, count_fault, count_word_fault, field_count_words, fields_fault, one_fault, version_fault, version_words};
 
 use crate::declaration_faults::told_unless;
 use crate::declaration_parts::{number_in, plain_at};
-use text_lines::{LineWord, is_in_range, is_word};
-
-fn is_plain(text: &[u8], word: &LineWord) -> bool
-    ensures { result ≡ is_plain text.now word.now }
-{
-    match word {
-        LineWord::Plain(bytes) => is_word(bytes.bytes(), text),
-        LineWord::Literal(_) => false,
-    }
-}
+use text_lines::{LineWord, is_in_range};
 
 fn version_fault(words: &[LineWord]) -> Option<u32>
     ensures { result ≡ version_fault words.now }
 {
     match words {
         [] => None,
-        [name, version] => told_unless(is_plain(b"pact", name) && is_plain(b"1", version), 12),
+        [name, version] => told_unless(name.is_plain(b"pact") && version.is_plain(b"1"), 12),
         _ => Some(12),
     }
 }
@@ -52,7 +43,7 @@ fn fields_fault(words: &[LineWord]) -> Option<u32>
     ensures { result ≡ fields_fault words.now }
 {
     match words.split_first() {
-        Some((word, words)) if is_plain(b"fields", word) => count_fault(words),
+        Some((word, words)) if word.is_plain(b"fields") => count_fault(words),
         Some(_) => Some(12),
         None => None,
     }

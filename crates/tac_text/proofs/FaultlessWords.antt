@@ -16,11 +16,12 @@ use Rattle.text_lines.specs.declared.line_words.LineWord.{LineWord}
 use Rattle.text_lines.specs.declared.line_words.LineWord.TheVariants.{Plain as plain_word, Literal as literal_word}
 use Rattle.tac_text.specs.Spelling.{record_word, list_word, op1_word, op2_word}
 use Rattle.tac_text.specs.StatementLines.{LinePlace, MayStand, words_of_line}
-use Rattle.tac_text.specs.StatementFaults.{Slot, fixed, register, operand, number, signed, text, loop, list, is_target, slot_fault, first_fault, Wanted, to_value, to_record, wanted_by, form_fault, is_equals, is_op1, is_op2, target_alone, assignment_fault, block_fault, word_fault, register_fault, statement_fault}
+use Rattle.tac_text.specs.StatementFaults.{Slot, fixed, register, operand, number, signed, text, loop, list, is_target, slot_fault, first_fault, Wanted, to_value, to_record, wanted_by, form_fault, is_op1, is_op2, target_alone, assignment_fault, block_fault, word_fault, register_fault, statement_fault}
 use Rattle.text_lines.specs.Digits.{or_else}
 use Rattle.text_lines.proofs.DigitWords.{number_spelled}
-use Rattle.text_lines.proofs.Faultless.{by_cases, told_unless-none, or_else-none, same_word}
+use Rattle.text_lines.proofs.Faultless.{by_cases, told_unless-none, or_else-none, same_word, is_plain-same}
 use Rattle.tac_text.proofs.SlotWords.{Numbered, register_spelled, operand_spelled, signed_spelled, list_spelled, name_spelled}
+use Rattle.text_lines.specs.LineGrammar.{is_plain}
 
 -- the line whose words these are, which may stand
 abbrev pub LineFor : LinePlace → List LineWord → Type 0
@@ -153,10 +154,6 @@ end_line p word words named h = let all = none_left words h in (close, (λ i. pl
 some_fault : (a : Option ℕ) (what : ℕ) → or_else a (Some what) ≡ None → ⊥
 some_fault None what h = absurd cc
 some_fault (Some told) what h = absurd cc
-
-equals_word : (word : LineWord) → is_equals word ≡ true → word ≡ plain_word (codes "=")
-equals_word (plain_word w) h = ap plain_word (same_word w _ h)
-equals_word (literal_word w) h = absurd cc
 
 begun : {target word form name : List ℕ} {equals : LineWord} {words more : List LineWord} → target ≡ word → equals ≡ plain_word (codes "=") → form ≡ name → words ≡ more
     → plain_word target ∷ equals ∷ plain_word form ∷ words ≡ plain_word word ∷ plain_word (codes "=") ∷ plain_word name ∷ more
@@ -326,11 +323,11 @@ form_line p target equals form words good eq h =
 
 assignment_line : (p : LinePlace) (target : List ℕ) (words : List LineWord) → AreLineWords words → assignment_fault target words ≡ None → LineFor p (plain_word target ∷ words)
 assignment_line p target [] good h = absurd (some_fault (target_alone target) 4 h)
-assignment_line p target (equals ∷ []) good h = by_cases (is_equals equals) _ _
+assignment_line p target (equals ∷ []) good h = by_cases (is_plain (codes "=") equals) _ _
     (λ _ e. absurd cc) (λ _ e. absurd cc) (or_else-none (target_alone target) _ h).1
-assignment_line p target (equals ∷ plain_word form ∷ words) good h = by_cases (is_equals equals) _ _
-    (λ e rest. form_line p target equals form words good.1.1 (equals_word equals e) rest) (λ _ e. absurd (some_fault (target_alone target) 8 e)) h
-assignment_line p target (equals ∷ literal_word form ∷ words) good h = by_cases (is_equals equals) _ _
+assignment_line p target (equals ∷ plain_word form ∷ words) good h = by_cases (is_plain (codes "=") equals) _ _
+    (λ e rest. form_line p target equals form words good.1.1 (is_plain-same (codes "=") equals e) rest) (λ _ e. absurd (some_fault (target_alone target) 8 e)) h
+assignment_line p target (equals ∷ literal_word form ∷ words) good h = by_cases (is_plain (codes "=") equals) _ _
     (λ _ e. absurd (some_fault (target_alone target) 9 e)) (λ _ e. absurd (some_fault (target_alone target) 8 e)) h
 
 -- ---- all lines

@@ -1,5 +1,5 @@
 -- The lines of a text lead a reader of functions on exactly where a function's text goes on.
-use Rattle.std.proofs.Common.{◌≡◌, ◌≢◌, ◌<◌, inr, ℕ, Bool, true, false, List, [], ◌∷◌, ◌++◌, map, length, Some, None, refl, ap, sym, subst, ◌∙◌, append_assoc, append-nil, arith}
+use Rattle.std.proofs.Common.{◌≡◌, ◌≢◌, inr, ℕ, Bool, true, false, List, [], ◌∷◌, ◌++◌, map, Some, None, refl, ap, sym, subst, ◌∙◌, append_assoc, append-nil, arith}
 use Rattle.std.proofs.lemmas.List.{map-append}
 use Rattle.tac_syntax.specs.declared.functions.Function.{Function}
 use Rattle.tac_syntax.specs.declared.functions.Kind.{Kind}
@@ -26,6 +26,7 @@ use Rattle.tac_text.proofs.FaultlessWords.{line_of_words}
 use Rattle.tac_text.proofs.HeaderWords.{header_fault-header_words, header_of_words, one_header}
 use Rattle.tac_text.proofs.StatementWords.{IsSpelledLine-MayStand, statement_fault-words_of_line, words_of_line-some, words_of_one_line}
 use Rattle.tac_text.proofs.WrittenWords.{AreLineWords-fine, AreFine-header_words, AreFine-words_of_line}
+use Rattle.text_lines.proofs.Faultless.{some_length}
 
 -- ---- what may follow has words of its own
 
@@ -65,10 +66,6 @@ fault_sound (whole f) l h = absurd h
 not_ended : (words : List LineWord) → words ≢ [] → ended_fault words ≡ None → ⊥
 not_ended [] some e = some refl
 not_ended (word ∷ words) some e = cc
-
-some_length : (words : List LineWord) → words ≢ [] → 0 < length words
-some_length [] some = absurd (some refl)
-some_length (word ∷ words) some = omega arith
 
 fault_complete : (s : FunctionState) (ws : List LineWord) → ws ≢ [] → AreLineWords ws → function_fault (place_at s) ws ≡ None → (l : FunctionLine) × (ws ≡ words_of_function_line l) × MayFollow s l
 fault_complete waiting ws some good e = let h = header_of_words ws some e in (header h.0 h.1 h.2, h.3, h.4)

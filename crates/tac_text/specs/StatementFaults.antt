@@ -1,11 +1,12 @@
 -- What is wrong with a line that should be a statement's: the first fault from the left.
-use Rattle.std.specs.Prelude.{ℕ, ◌+◌, ◌==◌, Bool, false, ◌||◌, if◌then◌else◌, nat_lt, Option, Some, None, List, [], ◌∷◌, codes, bytes_eq}
+use Rattle.std.specs.Prelude.{ℕ, ◌+◌, ◌==◌, Bool, ◌||◌, if◌then◌else◌, nat_lt, Option, Some, None, List, [], ◌∷◌, codes, bytes_eq}
 use Rattle.std.specs.Str.Parse.{digits_value}
 use Rattle.tac_syntax.specs.Limits.{nesting_limit}
 use Rattle.text_lines.specs.declared.line_words.LineWord.{LineWord}
 use Rattle.text_lines.specs.declared.line_words.LineWord.TheVariants.{Plain as plain_word, Literal as literal_word}
 use Rattle.text_lines.specs.Digits.{is_in_form, is_in_range, is_signed_word, told_unless, or_else}
 use Rattle.tac_text.specs.StatementLines.{LinePlace}
+use Rattle.text_lines.specs.LineGrammar.{is_plain}
 
 -- ---- slots
 
@@ -112,10 +113,6 @@ abbrev pub form_wanted : LineWord → Option Wanted
 form_wanted (plain_word word) = wanted_by word
 form_wanted (literal_word bytes) = None
 
-abbrev pub is_equals : LineWord → Bool
-is_equals (plain_word word) = bytes_eq word (codes "=")
-is_equals (literal_word bytes) = false
-
 -- the target by itself, where no form says which is wanted
 abbrev pub target_alone : List ℕ → Option ℕ
 target_alone word = numbered_fault 0 255 word
@@ -127,8 +124,8 @@ form_fault target (Some w) words = or_else (register_fault w.letter target) (fir
 -- the words behind the target
 abbrev pub assignment_fault : List ℕ → List LineWord → Option ℕ
 assignment_fault target [] = or_else (target_alone target) (Some 4)
-assignment_fault target (equals ∷ []) = or_else (target_alone target) (if is_equals equals then Some 4 else Some 8)
-assignment_fault target (equals ∷ form ∷ words) = if is_equals equals then form_fault target (form_wanted form) words else or_else (target_alone target) (Some 8)
+assignment_fault target (equals ∷ []) = or_else (target_alone target) (if is_plain (codes "=") equals then Some 4 else Some 8)
+assignment_fault target (equals ∷ form ∷ words) = if is_plain (codes "=") equals then form_fault target (form_wanted form) words else or_else (target_alone target) (Some 8)
 
 -- ---- lines
 

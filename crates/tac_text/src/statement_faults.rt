@@ -1,7 +1,7 @@
 //! What is wrong with a line that should be a statement's: the first fault from the left.
 
 ghost use Rattle.std.specs.Prelude.{◌≡◌, ◌+◌, ◌∷◌, [], Some, codes, if◌then◌else◌, map};
-ghost use Rattle.tac_text.specs.StatementFaults.{assignment_fault, block_fault, first_fault, fixed, form_fault, form_wanted, is_equals, is_op1, is_op2, is_target, list, loop, register_fault, statement_fault, target_alone, wanted_by, word_fault};
+ghost use Rattle.tac_text.specs.StatementFaults.{assignment_fault, block_fault, first_fault, fixed, form_fault, form_wanted, is_op1, is_op2, is_target, list, loop, register_fault, statement_fault, target_alone, wanted_by, word_fault};
 ghost use Rattle.text_lines.specs.Digits.{or_else};
 ghost use Rattle.tac_text.specs.WantedSlots.{slot_meant};
 
@@ -59,15 +59,6 @@ fn is_op2(word: &[u8]) -> bool
         || is_word(word, b"and")
         || is_word(word, b"or")
         || is_word(word, b"cat")
-}
-
-fn is_equals(word: &LineWord) -> bool
-    ensures { result ≡ is_equals word.now }
-{
-    match word {
-        LineWord::Plain(bytes) => is_word(bytes.bytes(), b"="),
-        LineWord::Literal(_) => false,
-    }
 }
 
 // The target's own fault, and else one behind it.
@@ -134,7 +125,7 @@ fn assignment_fault(target: &[u8], words: &[LineWord]) -> Option<u32>
     let Some((equals, words)) = words.split_first() else {
         return target_or(target, 4);
     };
-    if !is_equals(equals) {
+    if !equals.is_plain(b"=") {
         return target_or(target, 8);
     }
     match words.split_first() {

@@ -1,5 +1,5 @@
 -- One line of a text, without its line end: its words, the bytes that spell them, and what can be wrong with it.
-use Rattle.std.specs.Prelude.{◌≡◌, ◌≤◌, ◌⊎◌, ℕ, Bool, true, false, ◌||◌, ◌==◌, if◌then◌else◌, List, [], ◌∷◌, ◌++◌, length, Option, Some, None, IsUtf8}
+use Rattle.std.specs.Prelude.{◌≡◌, ◌≤◌, ◌⊎◌, ℕ, Bool, true, false, ◌||◌, ◌==◌, if◌then◌else◌, List, [], ◌∷◌, ◌++◌, length, Option, Some, None, IsUtf8, bytes_eq}
 use Rattle.std.specs.List.{AllByRecursion, list_any}
 use Rattle.pact_record.specs.Limits.{text_limit}
 -- A `LineWord` is a word as it stands in the line, or the bytes that a literal stands for.
@@ -7,6 +7,11 @@ pub use Rattle.text_lines.specs.declared.line_words.LineWord.{LineWord}
 pub use Rattle.text_lines.specs.declared.line_words.LineWord.TheVariants.{Plain as plain_word, Literal as literal_word}
 
 -- ---- words
+
+-- a word as it stands in the line, and not a literal that stands for it
+abbrev pub is_plain : List ℕ → LineWord → Bool
+is_plain name (plain_word word) = bytes_eq word name
+is_plain name (literal_word bytes) = false
 
 -- a space or a tab
 abbrev pub is_blank : ℕ → Bool

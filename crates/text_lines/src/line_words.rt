@@ -1,6 +1,7 @@
 //! The words of one line, where literals stand for their bytes.
 
 ghost use Rattle.std.specs.Prelude.{◌≡◌, ◌++◌, ◌∷◌, [], bytes_eq, IfErr, OnErr, OnOk};
+ghost use Rattle.text_lines.specs.LineGrammar.{is_plain};
 
 use pact_record::Bytes;
 use std::alloc::{AllocFailed, Global};
@@ -13,6 +14,18 @@ pub enum LineWord {
     Plain(Bytes),
     /// What a literal stands for: its bytes without quotation marks and escapes.
     Literal(Bytes),
+}
+
+impl LineWord {
+    /// Whether the word stands in the line as this name; a literal never does.
+    pub fn is_plain(&self, name: &[u8]) -> bool
+        ensures { result ≡ is_plain name.now self.now }
+    {
+        match self {
+            LineWord::Plain(bytes) => is_word(bytes.bytes(), name),
+            LineWord::Literal(_) => false,
+        }
+    }
 }
 
 /// The words of a line.

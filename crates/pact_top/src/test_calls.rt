@@ -1,7 +1,9 @@
 //! Calls of the program over files in memory, for the tests.
 
+ghost use Rattle.pact_outside.specs.Memory.{shown_from_memory};
+
 use crate::pact_main;
-use pact_outside::{FailList, MemFeed, MemFiles, MemSink, NamedFile};
+use pact_outside::{FailList, Failed, Feed, MemFeed, MemFiles, MemSink, NamedFile};
 use pact_record::{Bytes, OutOfMemory};
 use std::alloc::Global;
 
@@ -55,6 +57,34 @@ pub fn fail_at(alloc: Global, call: u64) -> Result<FailList, OutOfMemory> {
     let mut fail = FailList::new(alloc);
     fail.push(call)?;
     Ok(fail)
+}
+
+/// A feed that writes down how it is called.
+#[derive(Drop)]
+pub struct NotingFeed {
+    pub feed: MemFeed,
+    /// A line for each file that was opened: its name, and a `.` for each read.
+    pub calls: Bytes,
+}
+
+// A call that can't be written down leaves a text that no test expects.
+fn note(calls: &mut Bytes, what: &[u8]) {
+    let _ = calls.extend_from_slice(what);
+}
+
+impl Feed for NotingFeed {
+    ghost shows = { λ f. shown_from_memory f.feed };
+
+    fn open(&mut self, name: Bytes) -> Result<(), Failed> {
+        note(&mut self.calls, b"\n");
+        note(&mut self.calls, name.bytes());
+        self.feed.open(name)
+    }
+
+    fn read(&mut self, buf: &mut [u8]) -> Result<usize, Failed> {
+        note(&mut self.calls, b".");
+        self.feed.read(buf)
+    }
 }
 
 /// A sink that takes at most four bytes at a time, and fails at the call of this number; 0 for none.
