@@ -22,3 +22,4 @@ pub mod OperatorsOfKind
 pub mod ProgramsFromRules
 pub mod Validated
 pub mod RefusedOrKept
+pub mod PlanContexts

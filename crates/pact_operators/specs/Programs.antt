@@ -5,6 +5,7 @@ use Rattle.tac_syntax.specs.declared.functions.Kind.{Kind}
 use Rattle.tac_syntax.specs.declared.functions.Kind.TheVariants as kinds
 use Rattle.tac_syntax.specs.Bounded.{Names}
 use Rattle.tac_syntax.specs.Code.{Code, stop}
+use Rattle.tac_syntax.specs.Forms.{AreApart}
 use Rattle.tac_syntax.specs.Valid.{WithFields, IsValid}
 use Rattle.pact_bag.specs.declared.columns.Column.{Column}
 use Rattle.pact_bag.specs.SourceRows.{IsColumnField}
@@ -78,6 +79,16 @@ HasAttribute valids ops (leaf n) k = Owns valids ops n k
 HasAttribute valids ops (over n t) k = Owns valids ops n k ⊎ HasAttribute valids ops t k
 HasAttribute valids ops (both n t u) k = Owns valids ops n k ⊎ HasAttribute valids ops t k ⊎ HasAttribute valids ops u k
 
+-- those of the inputs of a tree's root
+abbrev pub HasLeftAttribute : List WithFields → List Op → PlanTree → ℕ → Type 0
+HasLeftAttribute valids ops (leaf n) k = ⊥
+HasLeftAttribute valids ops (over n t) k = HasAttribute valids ops t k
+HasLeftAttribute valids ops (both n t u) k = HasAttribute valids ops t k
+
+abbrev pub HasRightAttribute : List WithFields → List Op → PlanTree → ℕ → Type 0
+HasRightAttribute valids ops (both n t u) k = HasAttribute valids ops u k
+HasRightAttribute valids ops tree k = ⊥
+
 -- ---- what every program keeps
 
 -- a node has as many inputs as its kind takes
@@ -101,8 +112,7 @@ HasArity ops (both n t u) = Takes ops n 2 × HasArity ops t × HasArity ops u
 abbrev pub AreSidesApart : List WithFields → List Op → PlanTree → Type 0
 AreSidesApart valids ops (leaf n) = Unit {0}
 AreSidesApart valids ops (over n t) = AreSidesApart valids ops t
-AreSidesApart valids ops (both n t u) =
-    ((k : ℕ) → HasAttribute valids ops t k → HasAttribute valids ops u k → ⊥) × AreSidesApart valids ops t × AreSidesApart valids ops u
+AreSidesApart valids ops (both n t u) = AreApart (HasAttribute valids ops t) (HasAttribute valids ops u) × AreSidesApart valids ops t × AreSidesApart valids ops u
 
 -- A plan is of a program where its nodes are the program's sources and operators, each once.
 pub record IsPlanOf (valids : List WithFields) (ops : List Op) (tree : PlanTree) : Type 0 where

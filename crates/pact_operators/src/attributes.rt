@@ -1,21 +1,24 @@
-//! The fields that what an operator or source puts out may have a value in.
+//! The fields that what an operator or source puts out, or reads, may have a value in.
 
-ghost use Rattle.std.specs.Prelude.{◌≡◌, ◌<◌, ◌↔◌, ℕ, true, IsTrue};
+ghost use Rattle.std.specs.Prelude.{◌≡◌, ◌<◌, ◌↔◌, ℕ, true, IsTrue, slice_get};
 ghost use Rattle.std.specs.List.{AllByRecursion};
 ghost use Rattle.pact_bag.specs.SourceRows.{IsColumnField};
 ghost use Rattle.pact_record.specs.declared.records.TheConstants.{MAX_FIELDS};
 ghost use Rattle.pact_record.specs.FieldSets.{has_field};
 ghost use Rattle.plan_trees.specs.Plans.{has, subtree_of};
 ghost use Rattle.tac_syntax.specs.Bounded.{Names};
-ghost use Rattle.pact_operators.specs.Programs.{HasAttribute, Owns, OwnsBy, body_of, fields_of, source_fields};
+ghost use Rattle.tac_syntax.specs.Contexts.{IsContextOf};
+ghost use Rattle.program_drafts.specs.declared.declarations.OpKind.TheVariants.{Source};
+ghost use Rattle.pact_operators.specs.PlanOps.{kind_at, left_keys_in, right_keys_in};
+ghost use Rattle.pact_operators.specs.Programs.{HasAttribute, HasLeftAttribute, Owns, OwnsBy, HasRightAttribute, body_of, fields_of, source_fields};
 
 use crate::operators::Op;
 use crate::programs::Program;
 use pact_bag::Column;
-use pact_record::Fields;
+use pact_record::{Fields, Keys};
 use plan_trees::{Parts, Plan};
 use program_drafts::OpKind;
-use tac_syntax::Valid;
+use tac_syntax::{Context, Valid};
 
 fn column_fields(columns: &[Column]) -> Fields
     requires { AllByRecursion (λ k. k < MAX_FIELDS) (fields_of columns.now) }
@@ -82,4 +85,57 @@ pub fn attrs(program: &Program, plan: &Plan, at: u32) -> Fields
     ensures { (k : ℕ) → IsTrue (has_field result k) ↔ HasAttribute program.now.functions program.now.ops (subtree_of at plan.now) k }
 {
     attributes_of(program.functions(), program.ops(), &plan.subtree(at))
+}
+
+fn left_fields(functions: &[Valid], ops: &[Op], plan: &Plan) -> Fields
+    requires { AllByRecursion (λ k. k < MAX_FIELDS) (source_fields ops.now) }
+    ensures { (k : ℕ) → IsTrue (has_field result k) ↔ HasLeftAttribute functions.now ops.now plan.now k }
+{
+    match plan.parts() {
+        Parts::Alone { .. } => Fields::empty(),
+        Parts::OverOne { input, .. } => attributes_of(functions, ops, &input),
+        Parts::OverTwo { left, .. } => attributes_of(functions, ops, &left),
+    }
+}
+
+fn right_fields(functions: &[Valid], ops: &[Op], plan: &Plan) -> Fields
+    requires { AllByRecursion (λ k. k < MAX_FIELDS) (source_fields ops.now) }
+    ensures { (k : ℕ) → IsTrue (has_field result k) ↔ HasRightAttribute functions.now ops.now plan.now k }
+{
+    match plan.parts() {
+        Parts::Alone { .. } | Parts::OverOne { .. } => Fields::empty(),
+        Parts::OverTwo { right, .. } => attributes_of(functions, ops, &right),
+    }
+}
+
+fn keys_of(ops: &[Op], at: u32) -> (Keys, Keys)
+    ensures left { result.0 ≡ left_keys_in (slice_get ops.now at) }
+    ensures right { result.1 ≡ right_keys_in (slice_get ops.now at) }
+{
+    match ops.get(at as usize) {
+        Some(op) => (op.left_keys, op.right_keys),
+        None => (Keys::new(), Keys::new()),
+    }
+}
+
+/// What the inputs of an operator may hold in the plan, and its keys: the attributes of what it reads. A source reads
+/// nothing.
+pub fn context(program: &Program, plan: &Plan, at: u32) -> Context
+    requires { has at plan.now ≡ true }
+    ensures left { (k : ℕ) → IsTrue (has_field result.left k) ↔ HasLeftAttribute program.now.functions program.now.ops (subtree_of at plan.now) k }
+    ensures right { (k : ℕ) → IsTrue (has_field result.right k) ↔ HasRightAttribute program.now.functions program.now.ops (subtree_of at plan.now) k }
+    ensures left_keys { result.left_keys ≡ left_keys_in (slice_get program.now.ops at) }
+    ensures right_keys { result.right_keys ≡ right_keys_in (slice_get program.now.ops at) }
+    ensures below { (kind_at program.now.ops at ≡ Source → ⊥) → IsContextOf program.now.fields result }
+{
+    let functions = program.functions();
+    let ops = program.ops();
+    let subtree = plan.subtree(at);
+    let (left_keys, right_keys) = keys_of(ops, at);
+    Context {
+        left: left_fields(functions, ops, &subtree),
+        right: right_fields(functions, ops, &subtree),
+        left_keys,
+        right_keys,
+    }
 }

@@ -21,7 +21,7 @@ mod resolving;
 mod rule_tests;
 mod written_plans;
 
-pub use attributes::attrs;
+pub use attributes::{attrs, context};
 pub use checking::{NotProgram, check_program};
 pub use operators::Op;
 pub use plan_trees::{MAX_NODES, Parts, Physical, Plan, Ship};

@@ -9,14 +9,14 @@ ghost use Rattle.program_drafts.specs.Declarations.{IsKeyList, IsSpelledDecl};
 
 use crate::{
     Decl, Draft, NotProgram, Numbers, OpKind, Plan, Program, ValidList, attrs, check_program,
-    functions_of,
+    context, functions_of,
 };
 use pact_bag::{Column, Columns};
 use pact_record::{Fields, OutOfMemory, Word};
 use std::alloc::Global;
 use std::marker::Model;
 use std::test::Fail;
-use tac_syntax::{Body, Function, Kind, Stmt, Valid, is_name};
+use tac_syntax::{Body, Context, Function, Kind, Stmt, Valid, is_name};
 
 // A draft whose functions are valid.
 #[derive(Drop)]
@@ -219,8 +219,24 @@ fn names_become_numbers(rt: HostRuntime) -> Result<(), Fail> {
     let left = Plan::over(1, &Plan::leaf(0));
     assert!(rt; *program.plan() == Plan::pair(3, &left, &Plan::leaf(2)));
     let fields = Fields::empty().with(0).with(1).with(4).with(6);
-    assert!(rt; program.plan().has(3) && attrs(&program, program.plan(), 3) == fields);
+    let plan = program.plan();
+    assert!(rt; plan.has(3) && attrs(&program, plan, 3) == fields);
+    assert!(rt; plan.has(3) && is_context(context(&program, plan, 3), [&[0, 4], &[1], &[4], &[1]]));
+    assert!(rt; plan.has(1) && is_context(context(&program, plan, 1), [&[0], &[], &[], &[]]));
     Ok(())
+}
+
+// The fields and the keys of either side.
+fn is_context(found: Context, wanted: [&[u32]; 4]) -> bool {
+    let [left, right, left_keys, right_keys] = wanted;
+    has(found.left, left)
+        && has(found.right, right)
+        && has(found.left_keys.fields(), left_keys)
+        && has(found.right_keys.fields(), right_keys)
+}
+
+fn has(set: Fields, wanted: &[u32]) -> bool {
+    (0..8).all(|field| set.has(field) == wanted.contains(&field))
 }
 
 // Whether the draft is refused with this code and name.

@@ -1,12 +1,13 @@
 -- What a body emits has a value only in fields where its input has one or that it sets.
 use Rattle.std.proofs.Common.{◌≡◌, ◌≢◌, ◌<◌, ◌-◌, ℕ, zero, suc, List, [], ◌∷◌, ◌++◌, inl, inr, length, take, slice_set, refl, ap, sym, ◌∙◌, subst, arith}
 use Rattle.std.proofs.lemmas.List.{length-set, length-replicate, get_or-set_other}
-use Rattle.std.proofs.lemmas.List.Elements.{All-from_recursion, recursion_from_All, All-nil, All-append, All-set, All-push, All-take, All-get_or, All-replicate}
+use Rattle.std.proofs.lemmas.List.Elements.{All-from_recursion, recursion_from_All, All-nil, All-set, All-push, All-take, All-get_or, All-replicate}
 use Rattle.std.specs.List.{All, AllByRecursion}
 use Rattle.pact_record.specs.declared.values.Value.{Value}
 use Rattle.pact_record.specs.declared.values.Value.TheVariants.{Null, Int, Text}
 use Rattle.pact_record.specs.Record.{at_field, joined_value, joined_record}
 use Rattle.pact_record.proofs.JoinedRecords.{length-joined_record}
+use Rattle.pact_record.proofs.Lists.{AllByRecursion-append}
 use Rattle.tac_syntax.specs.declared.functions.Function.{Function}
 use Rattle.tac_syntax.specs.declared.statements.Rec.{Rec}
 use Rattle.tac_syntax.specs.declared.statements.Rec.TheVariants.{Reg, Loop, Input, Left, Right, Join, First}
@@ -120,23 +121,18 @@ SetsNamed body close = Unit {0}
 abbrev IsGood : Code → Placed → Type 0
 IsGood body x = IsInRange x × SetsNamed body x.line
 
-good_parts : (body : Code) (xs ys : List Placed) → AllByRecursion (λ x. SetsNamed body x.line) xs → AllByRecursion (λ x. SetsNamed body x.line) ys → AllByRecursion (λ x. SetsNamed body x.line) (xs ++ ys)
-good_parts body xs ys h k =
-    let P : Placed → Type 0 = λ x. SetsNamed body x.line in
-    recursion_from_All P (xs ++ ys) (All-append P xs ys (All-from_recursion P xs h) (All-from_recursion P ys k))
-
 SetsNamed-placed : (body c : Code) (p : Place) → ((field : ℕ) → Names field c → Names field body) → AllByRecursion (λ x. SetsNamed body x.line) (placed p c)
 SetsNamed-placed body stop p h = tt
 SetsNamed-placed body (plain a next) p h = (λ field n. h field (inl n), SetsNamed-placed body next p (λ field n. h field (inr n)))
 SetsNamed-placed body (branch on inner other next) p h = (
   tt,
-  good_parts body (placed (in_if p) inner) (placed (in_if p) other ++ placed p next) (SetsNamed-placed body inner (in_if p) (λ field n. h field (inl n)))
-      (good_parts body (placed (in_if p) other) (placed p next) (SetsNamed-placed body other (in_if p) (λ field n. h field (inr (inl n)))) (SetsNamed-placed body next p (λ field n. h field (inr (inr n))))),
+  AllByRecursion-append (λ x. SetsNamed body x.line) (placed (in_if p) inner) (placed (in_if p) other ++ placed p next) (SetsNamed-placed body inner (in_if p) (λ field n. h field (inl n)))
+      (AllByRecursion-append (λ x. SetsNamed body x.line) (placed (in_if p) other) (placed p next) (SetsNamed-placed body other (in_if p) (λ field n. h field (inr (inl n)))) (SetsNamed-placed body next p (λ field n. h field (inr (inr n))))),
 )
 SetsNamed-placed body (again count inner next) p h =
-    (tt, good_parts body (placed (in_repeat count p) inner) (placed p next) (SetsNamed-placed body inner (in_repeat count p) (λ field n. h field (inl n))) (SetsNamed-placed body next p (λ field n. h field (inr n))))
+    (tt, AllByRecursion-append (λ x. SetsNamed body x.line) (placed (in_repeat count p) inner) (placed p next) (SetsNamed-placed body inner (in_repeat count p) (λ field n. h field (inl n))) (SetsNamed-placed body next p (λ field n. h field (inr n))))
 SetsNamed-placed body (each name list inner next) p h =
-    (tt, good_parts body (placed (in_each p) inner) (placed p next) (SetsNamed-placed body inner (in_each p) (λ field n. h field (inl n))) (SetsNamed-placed body next p (λ field n. h field (inr n))))
+    (tt, AllByRecursion-append (λ x. SetsNamed body x.line) (placed (in_each p) inner) (placed p next) (SetsNamed-placed body inner (in_each p) (λ field n. h field (inl n))) (SetsNamed-placed body next p (λ field n. h field (inr n))))
 
 good_placed : (body : Code) (xs : List Placed) → AllByRecursion IsInRange xs → AllByRecursion (λ x. SetsNamed body x.line) xs → AllByRecursion (IsGood body) xs
 good_placed body [] h k = tt

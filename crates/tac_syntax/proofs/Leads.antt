@@ -34,7 +34,7 @@ within p h = record { more = λ k. let first = p.more k in (first.0, omega (arit
 
 -- ---- the input stays
 
-input-after : (statement : Simple) (s : Store) → (after statement s).input ≡ s.input
+pub input-after : (statement : Simple) (s : Store) → (after statement s).input ≡ s.input
 input-after (load_int to value) s = refl
 input-after (load_text to bytes) s = refl
 input-after (load_null to) s = refl

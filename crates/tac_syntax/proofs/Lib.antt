@@ -5,3 +5,6 @@ pub mod Ranges
 pub mod Kept
 pub mod Fitting
 pub mod Bounds
+pub mod WellFormed
+pub mod EmitCounts
+pub mod LawfulExamples

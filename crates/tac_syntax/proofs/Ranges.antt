@@ -8,7 +8,7 @@ use Rattle.tac_syntax.specs.Rules.{breaks_registers, breaks_operands, breaks_fie
 use Rattle.tac_syntax.specs.Valid.{IsValid, first_break_from}
 use Rattle.tac_syntax.specs.InRange.{IsInRange, AreInRange}
 
-none_of : (b : Bool) (n : ℕ) (rest : Option ℕ) → (if b then Some n else rest) ≡ None → (b ≡ false) × (rest ≡ None)
+pub none_of : (b : Bool) (n : ℕ) (rest : Option ℕ) → (if b then Some n else rest) ≡ None → (b ≡ false) × (rest ≡ None)
 none_of true n rest h = cc
 none_of false n rest h = (refl, h)
 

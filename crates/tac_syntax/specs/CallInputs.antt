@@ -1,5 +1,5 @@
 -- What a call of a function of each kind is for.
-use Rattle.std.specs.Prelude.{◌≡◌, ◌≤◌, ◌<◌, ℕ, length}
+use Rattle.std.specs.Prelude.{◌≡◌, ◌≤◌, ◌<◌, ◌+◌, ℕ, length}
 use Rattle.pact_record.specs.Widths.{AreWide}
 use Rattle.tac_syntax.specs.declared.functions.Kind.{Kind}
 use Rattle.tac_syntax.specs.declared.functions.Kind.TheVariants.{Map, Match, Cross, Reduce, CoGroup}
@@ -29,6 +29,12 @@ IsInputOf Match input = IsOfPair input
 IsInputOf Cross input = IsOfPair input
 IsInputOf Reduce input = IsOfGroup input
 IsInputOf CoGroup input = IsOfGroups input
+
+-- A group has a record, and so has one of the two groups of a CoGroup.
+abbrev pub HasSome : CallInput → Type 0
+HasSome (of_group key group) = 0 < length group
+HasSome (of_groups key left right) = 0 < length left + length right
+HasSome input = Unit {0}
 
 -- an input with a key has so many key values
 abbrev pub HasKeys : ℕ → CallInput → Type 0

@@ -16,4 +16,9 @@ pub mod Names
 pub mod Functions
 pub mod CallInputs
 pub mod InRange
+pub mod NamedThings
 pub mod Ready
+pub mod Contexts
+pub mod Forms
+pub mod EmitBounds
+pub mod WellFormed

@@ -4,7 +4,8 @@ use Rattle.pact_record.specs.declared.values.Value.{Value}
 use Rattle.tac_syntax.specs.declared.statements.Rec.{Rec}
 use Rattle.tac_syntax.specs.declared.statements.Rec.TheVariants.{Reg, Loop, Input, Left, Right, Join, First}
 use Rattle.tac_syntax.specs.Limits.{value_registers, record_registers}
-use Rattle.tac_syntax.specs.Code.{Simple, load_int, load_text, load_null, move_value, get_field, get_key, apply_one, apply_two, new_record, copy_record, set_field, emit_record, Code}
+use Rattle.tac_syntax.specs.Code.{Simple, Code}
+use Rattle.tac_syntax.specs.NamedThings.{NamesOnly}
 use Rattle.tac_syntax.specs.Trees.{Statement, one_line, choice, turning, going_through}
 use Rattle.tac_syntax.specs.Call.{CallInput, Store, key_values}
 use Rattle.tac_syntax.specs.Places.{Place, in_each}
@@ -39,18 +40,7 @@ HasRecord s First = IsOfGroup s.input
 
 -- what a statement of one line names is there
 abbrev pub CanAct : Simple → Store → Type 0
-CanAct (load_int to value) s = to < value_registers
-CanAct (load_text to bytes) s = to < value_registers
-CanAct (load_null to) s = to < value_registers
-CanAct (move_value to from) s = (to < value_registers) × (from < value_registers)
-CanAct (get_field to from field) s = (to < value_registers) × HasRecord s from × (field < s.fields)
-CanAct (get_key to at) s = (to < value_registers) × (at < length (key_values s.input))
-CanAct (apply_one to op a) s = (to < value_registers) × (a < value_registers)
-CanAct (apply_two to op a b) s = (to < value_registers) × (a < value_registers) × (b < value_registers)
-CanAct (new_record to) s = to < record_registers
-CanAct (copy_record to from) s = (to < record_registers) × HasRecord s from
-CanAct (set_field to field value) s = (to < record_registers) × (field < s.fields) × (value < value_registers)
-CanAct (emit_record from) s = from < record_registers
+CanAct statement s = NamesOnly s.fields (HasRecord s) (λ at. at < length (key_values s.input)) statement
 
 -- a body in range inside a loop over a list with that name, at a place that fits
 pub record IsReadyIn (name : ℕ) (body : Code) (s : Store) : Type 0 where

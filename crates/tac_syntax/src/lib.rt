@@ -6,6 +6,7 @@
 //! away. `specs/Rules.antt` has the rules that a valid function keeps to; a `Valid` is one.
 #![tactic(auto)]
 
+pub mod contexts;
 pub mod functions;
 mod named_fields;
 pub mod names;
@@ -13,9 +14,10 @@ pub mod rules;
 pub mod statements;
 pub mod valids;
 
+pub use contexts::{Context, Side};
 pub use functions::{Function, Kind};
 pub use names::{is_file_name, is_name};
-pub use rules::Rule;
+pub use rules::{MAX_LOOPS, Rule};
 pub use statements::{
     Body, LoopList, MAX_NESTING, NotPushed, RECORD_REGISTERS, Rec, Stmt, VALUE_REGISTERS,
 };

@@ -3,6 +3,9 @@
 ghost use Rattle.std.specs.Prelude.{◌≡◌};
 ghost use Rattle.tac_syntax.specs.Rules.{code_of_rule};
 
+/// A loop of a valid function stands inside fewer than so many others.
+pub const MAX_LOOPS: u32 = 3;
+
 /// A rule of valid functions, named for what breaks it.
 #[derive(Clone, Copy, Debug, PartialEq, Eq)]
 pub enum Rule {

@@ -7,15 +7,13 @@ ghost use Rattle.tac_validate.specs.Stands.{place_of};
 ghost use Rattle.tac_syntax.specs.Trees.{first_line};
 
 use crate::places::Place;
-use tac_syntax::{Kind, LoopList, RECORD_REGISTERS, Rec, Rule, Stmt, VALUE_REGISTERS};
+use tac_syntax::{Kind, LoopList, MAX_LOOPS, RECORD_REGISTERS, Rec, Rule, Stmt, VALUE_REGISTERS};
 
 // A function has at most so many statements.
 const MAX_STATEMENTS: u32 = 1_000;
 
-// An `if` stands inside at most so many others, and a loop inside at most so many.
+// An `if` stands inside fewer than so many others.
 const MAX_IFS: u32 = 8;
-
-const MAX_LOOPS: u32 = 3;
 
 // The turns of nested `repeat` come to at most so many.
 const MAX_TURNS: u64 = 100_000;

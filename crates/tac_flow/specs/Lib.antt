@@ -1,0 +1,6 @@
+pub mod Known
+pub mod Steps
+pub mod Walks
+pub mod Results
+pub mod Gathering
+pub mod Views
