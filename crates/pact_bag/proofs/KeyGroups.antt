@@ -14,6 +14,7 @@ use Rattle.pact_record.specs.declared.values.Value.TheVariants.{Null, Int, Text}
 use Rattle.pact_record.specs.Order.{records_total}
 use Rattle.pact_record.specs.Record.{key_of, record_cmp}
 use Rattle.pact_record.specs.Value.{value_cmp}
+use Rattle.pact_record.proofs.Lists.{AllByRecursion-filter}
 
 -- ---- equal keys
 
@@ -98,17 +99,9 @@ distinct_keys-new ks more found grown k b e f o t g =
 
 -- ---- what holds of each key
 
-all-cond : (P : List Value → Type 0) (b : Bool) (x : List Value) (d : List (List Value)) → P x → AllByRecursion P d → AllByRecursion P (cond b (x ∷ d) d)
-all-cond P true x d p h = (p, h)
-all-cond P false x d p h = h
-
-all-filter : (P : List Value → Type 0) (test : List Value → Bool) (ks : List (List Value)) → AllByRecursion P ks → AllByRecursion P (filter test ks)
-all-filter P test [] h = tt
-all-filter P test (k ∷ ks) h = all-cond P (test k) k (filter test ks) h.0 (all-filter P test ks h.1)
-
 pub all-distinct : (P : List Value → Type 0) (ks : List (List Value)) → AllByRecursion P ks → AllByRecursion P (distinct_keys ks)
 all-distinct P [] h = tt
-all-distinct P (k ∷ ks) h = (h.0, all-filter P (other_than k) (distinct_keys ks) (all-distinct P ks h.1))
+all-distinct P (k ∷ ks) h = (h.0, AllByRecursion-filter P (other_than k) (distinct_keys ks) (all-distinct P ks h.1))
 
 -- ---- the records of a key
 

@@ -34,11 +34,6 @@ spelled n count (FunctionDecl number ∷ decls) h = (tt, spelled (n + 1) count d
 spelled n count (OpDecl name kind function left right left_keys right_keys ∷ decls) h = (h.0, spelled n count decls h.1)
 spelled n count (Sink input fields ∷ decls) h = (h.0, spelled n count decls h.1)
 
-pub all-at : {X : Type 0} (P : X → Type 0) (xs : List X) (m : ℕ) (x : X) → AllByRecursion P xs → slice_get xs m ≡ Some x → P x
-all-at P [] m x h e = let bad : None ≡ Some x = e in absurd cc
-all-at P (y ∷ xs) zero x h e = let same : y ≡ x = cc in subst P same h.0
-all-at P (y ∷ xs) (suc m) x h e = all-at P xs m x h.1 e
-
 -- ---- its lists of keys are short
 
 none_few : (keys : List ℕ) → keys ≡ [] → length keys ≤ key_limit

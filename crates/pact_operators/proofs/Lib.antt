@@ -23,3 +23,11 @@ pub mod ProgramsFromRules
 pub mod Validated
 pub mod RefusedOrKept
 pub mod PlanContexts
+pub mod KeptInPlace
+pub mod PlanInPlace
+pub mod ExchangesOfTrees
+pub mod WithinFields
+pub mod SoundPrograms
+pub mod SmallerContexts
+pub mod CalledFunctions
+pub mod LawfulBags

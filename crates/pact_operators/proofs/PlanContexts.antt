@@ -14,21 +14,21 @@ use Rattle.pact_operators.specs.PlanOps.{kind_at, left_keys_in, right_keys_in}
 use Rattle.pact_operators.specs.Programs.{IsOpOf, IsProgram, HasLeftAttribute, ProgramData, HasRightAttribute, source_fields}
 use Rattle.pact_operators.proofs.BelowFields.{AreOf, attribute-below}
 
-left-below : (fields : ℕ) (v : List WithFields) (ops : List Op) (t : PlanTree) (k : ℕ) → AreOf fields v → AreBelow fields (source_fields ops) → HasLeftAttribute v ops t k → k < fields
+pub left-below : (fields : ℕ) (v : List WithFields) (ops : List Op) (t : PlanTree) (k : ℕ) → AreOf fields v → AreBelow fields (source_fields ops) → HasLeftAttribute v ops t k → k < fields
 left-below fields v ops (leaf n) k h c a = absurd a
 left-below fields v ops (over n t) k h c a = attribute-below fields v ops t k h c a
 left-below fields v ops (both n t u) k h c a = attribute-below fields v ops t k h c a
 
-right-below : (fields : ℕ) (v : List WithFields) (ops : List Op) (t : PlanTree) (k : ℕ) → AreOf fields v → AreBelow fields (source_fields ops) → HasRightAttribute v ops t k → k < fields
+pub right-below : (fields : ℕ) (v : List WithFields) (ops : List Op) (t : PlanTree) (k : ℕ) → AreOf fields v → AreBelow fields (source_fields ops) → HasRightAttribute v ops t k → k < fields
 right-below fields v ops (leaf n) k h c a = absurd a
 right-below fields v ops (over n t) k h c a = absurd a
 right-below fields v ops (both n t u) k h c a = attribute-below fields v ops u k h c a
 
 -- a set of fields of which each is below
-set-below : (fields s : ℕ) → ((k : ℕ) → IsTrue (has_field s k) → k < fields) → IsBelow fields (has_field s)
+pub set-below : (fields s : ℕ) → ((k : ℕ) → IsTrue (has_field s k) → k < fields) → IsBelow fields (has_field s)
 set-below fields s h k past = false_from_ne_true (has_field s k) (λ e. let lt = h k e in absurd (omega (arith, past, lt)))
 
-keys-below : (fields : ℕ) (v : List WithFields) (ops : List Op) (n : ℕ) → AllByRecursion (IsOpOf fields v) ops → (kind_at ops n ≡ Source → ⊥)
+pub keys-below : (fields : ℕ) (v : List WithFields) (ops : List Op) (n : ℕ) → AllByRecursion (IsOpOf fields v) ops → (kind_at ops n ≡ Source → ⊥)
     → AreBelow fields (left_keys_in (slice_get ops n)) × AreBelow fields (right_keys_in (slice_get ops n))
 keys-below fields v [] n h operator = (tt, tt)
 keys-below fields v (op ∷ ops) zero h operator = elim h.0 [ inl source ↦ absurd (operator source) | inr o ↦ (o.left_below, o.right_below) ]

@@ -4,6 +4,7 @@ use Rattle.std.specs.List.{AllByRecursion}
 use Rattle.std.proofs.lemmas.Bool.{eqb-true, lt-ltb, not-false}
 use Rattle.std.proofs.lemmas.List.{length-map}
 use Rattle.pact_record.specs.declared.records.TheConstants.{MAX_FIELDS}
+use Rattle.pact_record.proofs.Lists.{AllByRecursion-slice_get}
 use Rattle.tac_syntax.specs.declared.functions.Function.{Function}
 use Rattle.tac_syntax.specs.Valid.{WithFields}
 use Rattle.program_drafts.specs.declared.declarations.OpKind.TheVariants.{Source as SourceKind}
@@ -25,7 +26,7 @@ use Rattle.pact_operators.specs.WrittenOps.{HasFewKeys, small_keys, small_ops, w
 use Rattle.pact_operators.proofs.PlanOfProgram.{plan-of}
 use Rattle.pact_operators.proofs.ColumnRules.{columns-below, columns-different, sink-is, source_fields-ops_of, source_fields-small}
 use Rattle.pact_operators.proofs.FewDeclarations.{few-functions, few-operators, few-pairs}
-use Rattle.pact_operators.proofs.EachDecl.{IsSpelledIn, all-at, few-keys, spelled}
+use Rattle.pact_operators.proofs.EachDecl.{IsSpelledIn, few-keys, spelled}
 use Rattle.pact_operators.proofs.OperatorsOfKind.{KeepsOpRules, operator-is}
 
 -- every rule, after the last
@@ -106,7 +107,7 @@ op_decls : (c : CandidateData) (tree : PlanTree) → ((rule : ProgramRule) → K
     → AllByRecursion (IsOpDecl c.draft c.valids) c.draft.decls
 op_decls c tree h w valid s =
     all_from (IsOpDecl c.draft c.valids) c.draft.decls
-    (λ m decl at. op_is c tree m decl h w valid (all-at IsSpelledIn c.draft.decls m decl (spelled 0 (length c.draft.functions) c.draft.decls s.declared) at) at)
+    (λ m decl at. op_is c tree m decl h w valid (AllByRecursion-slice_get IsSpelledIn c.draft.decls m decl (spelled 0 (length c.draft.functions) c.draft.decls s.declared) at) at)
 
 ops_are : (d : DraftData) (v : List WithFields) (decls : List Decl) → AllByRecursion (IsOpDecl d v) decls → AllByRecursion (IsOpOf d.fields v) (ops_of (function_names d.functions) decls)
 ops_are d v [] h = tt

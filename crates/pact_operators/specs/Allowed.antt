@@ -98,3 +98,7 @@ count_of k = min k (2 ^ 64 - 1)
 -- The counts, by number, are those of one evaluation that gives the bag.
 abbrev pub Counted : PlanOps → PlanTree → Bag → List ℕ → Type 0
 Counted o t bag counts = Evaluates (λ n k. slice_get counts n ≡ Some (count_of k)) o t bag
+
+-- Two plans allow the same bags.
+abbrev pub AllowSame : PlanOps → PlanTree → PlanTree → Type 0
+AllowSame o t u = (bag : Bag) → (Allows o t bag → Allows o u bag) × (Allows o u bag → Allows o t bag)

@@ -11,3 +11,4 @@ pub mod ProgramRules
 pub mod RuleTests
 pub mod PlanReads
 pub mod WrittenOps
+pub mod SoundOps

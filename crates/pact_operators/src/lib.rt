@@ -24,7 +24,7 @@ mod written_plans;
 pub use attributes::{attrs, context};
 pub use checking::{NotProgram, check_program};
 pub use operators::Op;
-pub use plan_trees::{MAX_NODES, Parts, Physical, Plan, Ship};
+pub use plan_trees::{MAX_NODES, Parts, Physical, Plan, Shape, Ship};
 pub use program_drafts::{Decl, Draft, Numbers, OpKind, ValidList, functions_of};
 pub use program_rules::ProgramRule;
 pub use programs::Program;

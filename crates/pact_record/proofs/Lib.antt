@@ -2,4 +2,6 @@ pub mod SameBefore
 pub mod JoinedRecords
 pub mod KeyOrder
 pub mod Lists
+pub mod SideBySide
 pub mod Members
+pub mod Permutations

@@ -8,3 +8,8 @@ pub mod NodeRows
 pub mod ReplacedSubtrees
 pub mod SamePlans
 pub mod Ships
+pub mod InPlace
+pub mod PermutedNodes
+pub mod SubtreesOfPlans
+pub mod ExchangedTrees
+pub mod NeighbourTrees

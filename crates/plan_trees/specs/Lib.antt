@@ -7,3 +7,4 @@ pub mod PlanEquality
 pub mod NodeRows
 pub mod Physicals
 pub mod PhysicalCode
+pub mod Shapes

@@ -8,10 +8,12 @@
 pub mod physicals;
 pub mod plans;
 mod preorders;
+pub mod shapes;
 
 pub use physicals::{Physical, Ship};
 pub use plans::{Parts, Plan};
 pub use preorders::MAX_NODES;
+pub use shapes::Shape;
 
 #[cfg(test)]
 mod plan_tests;

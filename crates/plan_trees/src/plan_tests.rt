@@ -1,7 +1,7 @@
 ghost use Rattle.std.specs.Prelude.{◌≡◌, ◌↔◌, IsTrue};
 ghost use Rattle.plan_trees.specs.Plans.{leaf, over, both};
 
-use crate::{Parts, Physical, Plan, Ship};
+use crate::{Parts, Physical, Plan, Shape, Ship};
 use pact_record::Keys;
 use std::test::Fail;
 
@@ -61,6 +61,46 @@ fn two_operators_are_exchanged(rt: HostRuntime) -> Result<(), Fail> {
     assert!(rt; are_same(&new, &Plan::pair(4, &left, &Plan::leaf(1))));
     assert!(rt; !are_same(&new, &plan));
     assert!(rt; new.input(4, 0) == Some(2) && new.input(3, 0) == Some(0));
+    Ok(())
+}
+
+// Each row has a shape, the plan before the exchange, the plan after it, and the shape that leads back.
+#[test]
+fn neighbours_are_exchanged(rt: HostRuntime) -> Result<(), Fail> {
+    let (a, b, c) = (Plan::leaf(0), Plan::leaf(1), Plan::leaf(2));
+    let joined = Plan::pair(4, &a, &b);
+    let above = Plan::over(3, &joined);
+    let rows = [
+        (
+            Shape::OneOverOne,
+            Plan::over(3, &Plan::over(4, &a)),
+            Plan::over(4, &Plan::over(3, &a)),
+            Shape::OneOverOne,
+        ),
+        (
+            Shape::IntoLeft,
+            above,
+            Plan::pair(4, &Plan::over(3, &a), &b),
+            Shape::OutOfLeft,
+        ),
+        (
+            Shape::IntoRight,
+            above,
+            Plan::pair(4, &a, &Plan::over(3, &b)),
+            Shape::OutOfRight,
+        ),
+        (
+            Shape::ToRight,
+            Plan::pair(3, &joined, &c),
+            Plan::pair(4, &a, &Plan::pair(3, &b, &c)),
+            Shape::ToLeft,
+        ),
+    ];
+    for (shape, before, after, back) in rows {
+        assert!(rt; before.exchanged(shape) == Some(after), "{shape:?}");
+        assert!(rt; after.exchanged(back) == Some(before), "{back:?}");
+        assert!(rt; a.exchanged(shape).is_none() && a.exchanged(back).is_none());
+    }
     Ok(())
 }
 

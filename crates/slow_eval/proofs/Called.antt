@@ -1,36 +1,19 @@
 -- What an operator of a program calls, and what it then gives.
-use Rattle.std.proofs.Common.{◌≡◌, ◌<◌, ℕ, zero, suc, List, [], ◌∷◌, inl, inr, Option, Some, None, length, get_or, slice_get, ap, sym, ◌∙◌, subst, arith}
+use Rattle.std.proofs.Common.{◌≡◌, ◌<◌, ℕ, suc, List, length, get_or, slice_get, ap, sym, ◌∙◌, subst, arith}
 use Rattle.std.specs.Prelude.{flat_map}
-use Rattle.std.proofs.lemmas.Option.{get_or_from_slice_get}
+use Rattle.std.proofs.lemmas.Option.{slice_get_within}
 use Rattle.program_drafts.specs.declared.declarations.OpKind.{OpKind}
 use Rattle.program_drafts.specs.declared.declarations.OpKind.TheVariants.{Source, Map, Reduce, Match, Cross, CoGroup}
 use Rattle.pact_operators.specs.declared.operators.Op.{Op}
 use Rattle.pact_operators.specs.Allowed.{Bag, CoGrouped, Gives, GivesBoth, Grouped, crossed, keys_in, keys_in_either, matched}
-use Rattle.pact_operators.specs.PlanOps.{body_at, function_in, kind_at, kind_in, left_keys_in, plan_ops, right_keys_in}
-use Rattle.pact_operators.specs.Programs.{HasKeyLists, IsKindFor, IsOpOf, IsOperatorOf, IsProgram, ProgramData, Takes, body_of, takes}
+use Rattle.pact_operators.specs.PlanOps.{body_at, kind_at, kind_in, left_keys_in, plan_ops, right_keys_in}
+use Rattle.pact_operators.specs.Programs.{IsProgram, ProgramData, Takes, takes}
 use Rattle.tac_syntax.specs.Call.{Out, of_group, of_groups, of_pair, of_record}
 use Rattle.tac_syntax.specs.Code.{Code}
 use Rattle.tac_syntax.specs.Valid.{WithFields}
-use Rattle.pact_operators.proofs.OwnFields.{body_at as body_of-get}
-use Rattle.slow_eval.proofs.Items.{item-read}
-use Rattle.pact_record.specs.Widths.{AreBelow}
+use Rattle.pact_operators.proofs.CalledFunctions.{IsCalled, is_called}
 
 -- ---- operators and their functions
-
-pub record IsCalled (p : ProgramData) (at : ℕ) (op : Op) (v : WithFields) : Type 0 where
-  pub found : slice_get p.ops at ≡ Some op
-  pub below : op.function < length p.functions
-  pub fields : v.fields ≡ p.fields
-  pub body : v.function.body ≡ body_at p at
-  pub kind : IsKindFor op.kind v.function.kind
-  pub keys : HasKeyLists op.kind v.function.keys op.left_keys op.right_keys
-  pub left_below : AreBelow v.fields op.left_keys
-  pub right_below : AreBelow v.fields op.right_keys
-
-get_below : {X : Type 0} (xs : List X) (n : ℕ) (x : X) → slice_get xs n ≡ Some x → n < length xs
-get_below [] n x e = let bad : None ≡ Some x = e in absurd cc
-get_below (y ∷ xs) zero x e = omega arith
-get_below (y ∷ xs) (suc n) x e = let below = get_below xs n x e in omega (arith, below)
 
 takes_some : (count : ℕ) (kind : OpKind) → takes kind ≡ suc count → kind ≡ Source → ⊥
 takes_some count Source h e = omega (arith, h)
@@ -40,47 +23,16 @@ takes_some count Match h e = cc
 takes_some count Cross h e = cc
 takes_some count CoGroup h e = cc
 
-same_op : (ops : List Op) (at : ℕ) (op found : Op) → op ≡ get_or ops at op → slice_get ops at ≡ Some found → slice_get ops at ≡ Some op
-same_op ops at op found e f = f ∙ ap Some (sym (e ∙ get_or_from_slice_get ops at found op f))
-
-pub op_at : (p : ProgramData) (at count : ℕ) (op : Op) → Takes p.ops at count → op ≡ get_or p.ops at op → slice_get p.ops at ≡ Some op
-op_at p at count op t e = same_op p.ops at op t.0 e t.1
+is_operator : (ops : List Op) (at count : ℕ) → Takes ops at (suc count) → kind_at ops at ≡ Source → ⊥
+is_operator ops at count t source = takes_some count t.0.kind t.2 (sym (ap kind_in t.1) ∙ source)
 
 pub at_below : (p : ProgramData) (at count : ℕ) → Takes p.ops at count → at < length p.ops
-at_below p at count t = get_below p.ops at t.0 t.1
-
-pub is_operator : (p : ProgramData) (at count : ℕ) (op : Op) → IsProgram p → Takes p.ops at (suc count) → op ≡ get_or p.ops at op → IsOperatorOf p.fields p.functions op
-is_operator p at count op keeps t e =
-    let found = op_at p at (suc count) op t e in
-    let kind : takes op.kind ≡ suc count = ap (λ (o : Option Op). takes (kind_in o)) (sym found ∙ t.1) ∙ t.2 in
-    elim (item-read (IsOpOf p.fields p.functions) p.ops at op found keeps.ops) [ inl source ↦ absurd (takes_some count op.kind kind source) | inr h ↦ h ]
-
-pub function_below : (p : ProgramData) (at count : ℕ) (op : Op) → IsProgram p → Takes p.ops at (suc count) → op ≡ get_or p.ops at op → op.function < length p.functions
-function_below p at count op keeps t e =
-    let h = is_operator p at count op keeps t e in
-    get_below p.functions op.function h.called h.function
-
-is_called : (p : ProgramData) (at count : ℕ) (op : Op) (v : WithFields) → IsProgram p → Takes p.ops at (suc count) → op ≡ get_or p.ops at op → v ≡ get_or p.functions op.function v → IsCalled p at op v
-is_called p at count op v keeps t e f =
-    let found = op_at p at (suc count) op t e in
-    let h = is_operator p at count op keeps t e in
-    let same : v ≡ h.called = f ∙ get_or_from_slice_get p.functions op.function h.called v h.function in
-    let fields : v.fields ≡ p.fields = ap (λ (x : WithFields). x.fields) same ∙ item-read (λ (x : WithFields). x.fields ≡ p.fields) p.functions op.function h.called h.function keeps.functions in
-    record {
-      found = found;
-      below = get_below p.functions op.function h.called h.function;
-      fields = fields;
-      body = ap (λ (x : WithFields). x.function.body) same ∙ sym (body_of-get p.functions op.function h.called h.function) ∙ ap (λ (o : Option Op). body_of p.functions (function_in o)) (sym found);
-      kind = subst (λ (x : WithFields). IsKindFor op.kind x.function.kind) (sym same) h.kind;
-      keys = subst (λ (x : WithFields). HasKeyLists op.kind x.function.keys op.left_keys op.right_keys) (sym same) h.keys;
-      left_below = subst (λ (n : ℕ). AreBelow n op.left_keys) (sym fields) h.left_below;
-      right_below = subst (λ (n : ℕ). AreBelow n op.right_keys) (sym fields) h.right_below;
-    }
+at_below p at count t = slice_get_within p.ops at t.0 t.1
 
 pub called_from : (p : ProgramData) (at count : ℕ) (ops : List Op) (functions : List WithFields) (op : Op) (v : WithFields) → IsProgram p → ops ≡ p.ops → functions ≡ p.functions → Takes p.ops at (suc count)
     → op ≡ get_or ops at op → v ≡ get_or functions op.function v → IsCalled p at op v
 called_from p at count ops functions op v keeps o f t e g =
-    is_called p at count op v keeps t (subst (λ (l : List Op). op ≡ get_or l at op) o e) (subst (λ (l : List WithFields). v ≡ get_or l op.function v) f g)
+    is_called p keeps at op (is_operator p.ops at count t) (subst (λ (l : List Op). op ≡ get_or l at op) o e) v (subst (λ (l : List WithFields). v ≡ get_or l op.function v) f g)
 
 -- ---- what they give
 

@@ -8,21 +8,15 @@ use Rattle.pact_bag.proofs.KeyGroups.{group_keys, keys_have_groups}
 use Rattle.pact_operators.specs.Allowed.{Bag, CoGrouped, Grouped}
 use Rattle.pact_record.specs.declared.values.Value.{Value}
 use Rattle.pact_record.specs.Record.{key_of}
+use Rattle.pact_record.proofs.Lists.{AllByRecursion-append, AllByRecursion-weaker}
 use Rattle.slow_eval.specs.Keyed.{HasEitherGroup, HasGroup}
-
-on_left : (left_keys right_keys : List ℕ) (ls rs : Bag) (ks js : List (List Value)) → AllByRecursion (HasGroup left_keys ls) ks → AllByRecursion (HasEitherGroup left_keys right_keys ls rs) js
-    → AllByRecursion (HasEitherGroup left_keys right_keys ls rs) (ks ++ js)
-on_left left_keys right_keys ls rs [] js h j = j
-on_left left_keys right_keys ls rs (k ∷ ks) js h j = (inl h.0, on_left left_keys right_keys ls rs ks js h.1 j)
-
-on_right : (left_keys right_keys : List ℕ) (ls rs : Bag) (ks : List (List Value)) → AllByRecursion (HasGroup right_keys rs) ks → AllByRecursion (HasEitherGroup left_keys right_keys ls rs) ks
-on_right left_keys right_keys ls rs [] h = tt
-on_right left_keys right_keys ls rs (k ∷ ks) h = (inr h.0, on_right left_keys right_keys ls rs ks h.1)
 
 pub keys_have_either : (left_keys right_keys : List ℕ) (ls rs : Bag) → AllByRecursion (HasEitherGroup left_keys right_keys ls rs) (map (key_of left_keys) ls ++ map (key_of right_keys) rs)
 keys_have_either left_keys right_keys ls rs =
-    on_left left_keys right_keys ls rs (map (key_of left_keys) ls) (map (key_of right_keys) rs) (keys_have_groups left_keys ls)
-    (on_right left_keys right_keys ls rs (map (key_of right_keys) rs) (keys_have_groups right_keys rs))
+    let either = HasEitherGroup left_keys right_keys ls rs in
+    AllByRecursion-append either (map (key_of left_keys) ls) (map (key_of right_keys) rs)
+    (AllByRecursion-weaker (HasGroup left_keys ls) either (map (key_of left_keys) ls) (λ k h. inl h) (keys_have_groups left_keys ls))
+    (AllByRecursion-weaker (HasGroup right_keys rs) either (map (key_of right_keys) rs) (λ k h. inr h) (keys_have_groups right_keys rs))
 
 -- ---- calls in the order of the records
 

@@ -1,7 +1,7 @@
 -- The rows of a source, by its number.
 use Rattle.std.proofs.Common.{◌≡◌, ◌<◌, ℕ, zero, suc, Bool, true, false, cond, List, [], ◌∷◌, length, take, refl, ap, ◌∙◌, arith}
 use Rattle.std.specs.List.{AllByRecursion}
-use Rattle.pact_bag.specs.SourceRows.{AreSourceRows}
+use Rattle.pact_bag.specs.SourceRows.{AreSourceRows, IsSourceRow}
 use Rattle.pact_bag.specs.declared.columns.Column.{Column}
 use Rattle.program_drafts.specs.declared.declarations.OpKind.{OpKind}
 use Rattle.program_drafts.specs.declared.declarations.OpKind.TheVariants.{Source, Map, Reduce, Match, Cross, CoGroup}
@@ -11,6 +11,7 @@ use Rattle.pact_operators.specs.PlanOps.{is_source_kind, kind_at, kind_in, sourc
 use Rattle.pact_operators.specs.Programs.{Takes, takes}
 use Rattle.pact_record.specs.declared.values.Value.{Value}
 use Rattle.pact_record.specs.Widths.{AreWide}
+use Rattle.pact_record.proofs.Lists.{AllByRecursion-weaker}
 
 takes_none : (kind : OpKind) → takes kind ≡ 0 → kind ≡ Source
 takes_none Source h = refl
@@ -52,8 +53,7 @@ place_below fields ops inputs n h below k =
 -- ---- its rows
 
 row_widths : (fields : ℕ) (columns : List Column) (rows : List (List Value)) → AreSourceRows fields columns rows → AreWide fields rows
-row_widths fields columns [] h = tt
-row_widths fields columns (row ∷ rows) h = (h.0.width, row_widths fields columns rows h.1)
+row_widths fields columns rows h = AllByRecursion-weaker (IsSourceRow fields columns) (λ row. length row ≡ fields) rows (λ row s. s.width) h
 
 pub input_widths : (fields : ℕ) (sources : List Op) (inputs : List (List (List Value))) → HaveRows fields sources inputs → AllByRecursion (AreWide fields) inputs
 input_widths fields [] [] h = tt

@@ -10,10 +10,10 @@ use Rattle.pact_record.specs.declared.values.Value.{Value}
 use Rattle.slow_eval.specs.GivenRows.{rows_of}
 use Rattle.plan_trees.proofs.RootParts.{is_both, is_leaf, is_over}
 use Rattle.slow_eval.proofs.Called.{at_below}
-use Rattle.slow_eval.proofs.Items.{item-read}
 use Rattle.slow_eval.proofs.PlanCounts.{counted-both, counted-leaf, counted-over, others-both, others-leaf, others-over}
 use Rattle.slow_eval.proofs.SourceRows.{input_widths, is_source, place_below}
 use Rattle.pact_record.specs.Widths.{AreWide}
+use Rattle.pact_record.proofs.Lists.{AllByRecursion-slice_get}
 use Rattle.slow_eval.proofs.evaluating.+evaluate_into.Goals as goal
 
 pub at-rows-requires : goal.at-rows-requires
@@ -69,7 +69,7 @@ returns-in-Alone-clause-others t c m a =
 pub returns-in-Alone-clause-widths : goal.returns-in-Alone-clause-widths
 returns-in-Alone-clause-widths t c =
     let p = c.args.program.now in
-    item-read (AreWide p.fields) c.args.inputs.now c.source_place-place.result c.at-rows.result.now c.at-rows.ensures (input_widths p.fields (sources_of p.ops) c.args.inputs.now c.requires.inputs)
+    AllByRecursion-slice_get (AreWide p.fields) c.args.inputs.now c.source_place-place.result c.at-rows.result.now (input_widths p.fields (sources_of p.ops) c.args.inputs.now c.requires.inputs) c.at-rows.ensures
 
 pub returns-in_ok-rows-in-OverOne-clause-counted : goal.returns-in_ok-rows-in-OverOne-clause-counted
 returns-in_ok-rows-in-OverOne-clause-counted t c =

@@ -1,4 +1,4 @@
-use Rattle.std.proofs.Common.{◌<◌, ap, sym, ◌∙◌, subst, ℕ}
+use Rattle.std.proofs.Common.{ap, sym, ◌∙◌, subst}
 use Rattle.pact_record.specs.Record.{at_field}
 use Rattle.tac_syntax.specs.Call.{Store, named_record}
 use Rattle.tac_syntax.specs.CallInputs.{IsOfPair}
@@ -12,7 +12,6 @@ returns-in-Join c =
     let input = input_of c.self.inside.input in
     let join = c.in-Join.is in
     let pair = subst IsOfPair (sym (ap (λ (s : Store). s.input) c.self.view_is)) (subst (HasRecord c.args.self.now) join c.requires.there) in
-    let below = subst (λ (n : ℕ). c.args.field < n) (sym (ap (λ (s : Store). s.fields) c.self.view_is)) c.requires.field in
-    joined_field c.self.inside.records.fields c.args.field input c.get-left.result.now c.get.result.now c.or.result.now c.left.result.now c.right.result.now pair c.self.invariant.0.input_width below
+    joined_field c.self.inside.records.fields c.args.field input c.get-left.result.now c.get.result.now c.or.result.now c.left.result.now c.right.result.now pair c.self.invariant.0.input_width
     c.left.ensures c.right.ensures c.get-left.ensures c.get.ensures c.or.ensures
     ∙ (λ i. at_field (named_record (c.self.view_is i) (sym join i)) c.args.field)

@@ -1,0 +1,64 @@
+-- The function that an operator of a program calls: it is valid, of the operator's kind, with the program's fields and the operator's keys.
+use Rattle.std.proofs.Common.{◌≡◌, ◌<◌, ℕ, zero, suc, List, [], ◌∷◌, inl, inr, Option, Some, length, get_or, slice_get, refl, ap, sym, ◌∙◌, subst, arith}
+use Rattle.std.proofs.lemmas.Option.{same_Some, slice_get_read, slice_get_within}
+use Rattle.pact_record.specs.Widths.{AreBelow}
+use Rattle.pact_record.proofs.Lists.{AllByRecursion-slice_get}
+use Rattle.tac_syntax.specs.Valid.{IsValid, WithFields}
+use Rattle.program_drafts.specs.declared.declarations.OpKind.TheVariants.{Source}
+use Rattle.pact_operators.specs.declared.operators.Op.{Op}
+use Rattle.pact_operators.specs.PlanOps.{body_at, function_in, kind_at, kind_in}
+use Rattle.pact_operators.specs.Programs.{HasKeyLists, IsKindFor, IsOpOf, IsOperatorOf, IsProgram, ProgramData, body_of}
+use Rattle.pact_operators.proofs.OwnFields.{body_at as body_of_function}
+
+pub record IsCalled (p : ProgramData) (at : ℕ) (op : Op) (v : WithFields) : Type 0 where
+  pub found : slice_get p.ops at ≡ Some op
+  pub below : op.function < length p.functions
+  pub valid : IsValid v.function v.fields
+  pub fields : v.fields ≡ p.fields
+  pub body : v.function.body ≡ body_at p at
+  pub kind : IsKindFor op.kind v.function.kind
+  pub keys : HasKeyLists op.kind v.function.keys op.left_keys op.right_keys
+  pub left_below : AreBelow v.fields op.left_keys
+  pub right_below : AreBelow v.fields op.right_keys
+
+-- a number past the last operator has a source's kind
+pub operator-below : (ops : List Op) (n : ℕ) → (kind_at ops n ≡ Source → ⊥) → n < length ops
+operator-below [] n h = absurd (h refl)
+operator-below (op ∷ ops) zero h = omega arith
+operator-below (op ∷ ops) (suc n) h = omega (arith, operator-below ops n h)
+
+module _ (p : ProgramData) (program : IsProgram p) (at : ℕ) (op : Op) (operator : kind_at p.ops at ≡ Source → ⊥) where
+  is_operator : slice_get p.ops at ≡ Some op → IsOperatorOf p.fields p.functions op
+  is_operator found = elim (AllByRecursion-slice_get (IsOpOf p.fields p.functions) p.ops at op program.ops found) as (λ _. IsOperatorOf p.fields p.functions op) [
+    | inl source ↦ absurd (operator (ap kind_in found ∙ source))
+    | inr h ↦ h
+  ]
+
+  -- from what `get` gives for the two numbers
+  pub called_at : (v : WithFields) → slice_get p.ops at ≡ Some op → slice_get p.functions op.function ≡ Some v → IsCalled p at op v
+  called_at v found function =
+      let h = is_operator found in
+      let same : h.called ≡ v = same_Some h.called v (sym h.function ∙ function) in
+      let fields = AllByRecursion-slice_get (λ (w : WithFields). w.fields ≡ p.fields) p.functions op.function v program.functions function in
+      record {
+        found = found;
+        below = slice_get_within p.functions op.function v function;
+        valid = AllByRecursion-slice_get (λ (w : WithFields). IsValid w.function w.fields) p.functions op.function v program.valid function;
+        fields = fields;
+        body = sym (body_of_function p.functions op.function v function) ∙ ap (λ (o : Option Op). body_of p.functions (function_in o)) (sym found);
+        kind = subst (λ (w : WithFields). IsKindFor op.kind w.function.kind) same h.kind;
+        keys = subst (λ (w : WithFields). HasKeyLists op.kind w.function.keys op.left_keys op.right_keys) same h.keys;
+        left_below = subst (λ (n : ℕ). AreBelow n op.left_keys) (sym fields) h.left_below;
+        right_below = subst (λ (n : ℕ). AreBelow n op.right_keys) (sym fields) h.right_below;
+      }
+
+  module _ (is : op ≡ get_or p.ops at op) where
+    operator_read : slice_get p.ops at ≡ Some op
+    operator_read = slice_get_read p.ops (length p.ops) at op refl (operator-below p.ops at operator) is
+
+    pub function_below : op.function < length p.functions
+    function_below = let h = is_operator operator_read in slice_get_within p.functions op.function h.called h.function
+
+    -- from what indexing gives
+    pub is_called : (v : WithFields) → v ≡ get_or p.functions op.function v → IsCalled p at op v
+    is_called v found = called_at v operator_read (slice_get_read p.functions (length p.functions) op.function v refl function_below found)

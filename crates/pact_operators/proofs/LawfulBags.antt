@@ -1,0 +1,177 @@
+-- The records of a bag that a plan allows are Null outside the plan's attributes.
+use Rattle.std.proofs.Common.{◌≡◌, ◌<◌, ◌+◌, ◌⊎◌, inl, inr, ℕ, false, List, [], ◌∷◌, ◌++◌, length, map, refl, sym, ap, subst, arith}
+use Rattle.std.specs.Prelude.{flat_map}
+use Rattle.std.specs.List.{AllByRecursion}
+use Rattle.std.proofs.lemmas.Bool.{both_ways}
+use Rattle.pact_bag.specs.Groups.{group_of_key, is_same_key}
+use Rattle.pact_bag.proofs.KeyGroups.{all-distinct, group_keys, keys_have_groups}
+use Rattle.pact_record.specs.Widths.{AreWide}
+use Rattle.pact_record.specs.declared.values.Value.{Value}
+use Rattle.pact_record.specs.Record.{key_of}
+use Rattle.pact_record.proofs.Lists.{AllByRecursion-append, AllByRecursion-cond, AllByRecursion-filter, AllByRecursion-flat_map, AllByRecursion-weaker}
+use Rattle.pact_record.proofs.Permutations.{from_permutation, each_perm, length-perm}
+use Rattle.tac_syntax.specs.Bounded.{SomeHasValue, InputHasValue}
+use Rattle.tac_syntax.specs.Call.{CallInput, of_record, of_pair, of_group, of_groups}
+use Rattle.tac_syntax.specs.Forms.{IsWithin, left_records, right_records, HaveKey}
+use Rattle.tac_syntax.specs.Valid.{WithFields}
+use Rattle.program_drafts.specs.declared.declarations.OpKind.{OpKind}
+use Rattle.program_drafts.specs.declared.declarations.OpKind.TheVariants.{Source, Map, Reduce, Match, Cross, CoGroup}
+use Rattle.plan_trees.specs.Plans.{PlanTree, leaf, over, both}
+use Rattle.pact_operators.specs.declared.operators.Op.{Op}
+use Rattle.pact_operators.specs.Allowed.{Bag, Allows, Gives, GivesBoth, Grouped, CoGrouped, crossed, matched, keys_in, keys_in_either}
+use Rattle.pact_operators.specs.PlanOps.{PlanOps, is_source_kind}
+use Rattle.pact_operators.specs.Programs.{HasAttribute, Owns}
+use Rattle.pact_operators.specs.SoundOps.{AreOpsOf, IsCallOf, called}
+use Rattle.pact_operators.proofs.WithinFields.{all_within_larger}
+
+pub all_wide : (fields : ℕ) (s : ℕ → Type 0) (rows : Bag) → AllByRecursion (IsWithin fields s) rows → AreWide fields rows
+all_wide fields s rows h = AllByRecursion-weaker (IsWithin fields s) (λ row. length row ≡ fields) rows (λ row w. w.width) h
+
+none_has : (fields : ℕ) (s : ℕ → Type 0) (k : ℕ) → (s k → ⊥) → (rows : Bag) → AllByRecursion (IsWithin fields s) rows → SomeHasValue k rows → ⊥
+none_has fields s k out [] h v = v
+none_has fields s k out (row ∷ rows) h v = elim v as (λ _. ⊥) [ inl here ↦ here (h.0.null k out) | inr there ↦ none_has fields s k out rows h.1 there ]
+
+input_has_none : (fields : ℕ) (s t : ℕ → Type 0) (k : ℕ) → (s k → ⊥) → (t k → ⊥) → (x : CallInput) → AllByRecursion (IsWithin fields s) (left_records x) → AllByRecursion (IsWithin fields t) (right_records x)
+    → InputHasValue k x → ⊥
+input_has_none fields s t k out off (of_record row) h j v = v (h.0.null k out)
+input_has_none fields s t k out off (of_pair l r) h j v = elim v as (λ _. ⊥) [ inl a ↦ a (h.0.null k out) | inr b ↦ b (j.0.null k off) ]
+input_has_none fields s t k out off (of_group key group) h j v = none_has fields s k out group h v
+input_has_none fields s t k out off (of_groups key l r) h j v = elim v as (λ _. ⊥) [ inl a ↦ none_has fields s k out l h a | inr b ↦ none_has fields t k off r j b ]
+
+-- ---- what each kind of operator is called for
+
+no_source : (kind : OpKind) → is_source_kind kind ≡ false → kind ≡ Source → ⊥
+no_source kind f e = both_ways (is_source_kind kind) f (ap is_source_kind e)
+
+pub IsCallOf-record : (kind : OpKind) (ks js : List ℕ) (row : List Value) → kind ≡ Map → IsCallOf kind ks js (of_record row)
+IsCallOf-record kind ks js row e = subst (λ (q : OpKind). IsCallOf q ks js (of_record row)) (sym e) (record { operator = no_source Map refl; called = tt; some = tt; keyed = tt })
+
+pub IsCallOf-match : (kind : OpKind) (ks js : List ℕ) (l r : List Value) → kind ≡ Match → IsCallOf kind ks js (of_pair l r)
+IsCallOf-match kind ks js l r e = subst (λ (q : OpKind). IsCallOf q ks js (of_pair l r)) (sym e) (record { operator = no_source Match refl; called = tt; some = tt; keyed = tt })
+
+pub IsCallOf-cross : (kind : OpKind) (ks js : List ℕ) (l r : List Value) → kind ≡ Cross → IsCallOf kind ks js (of_pair l r)
+IsCallOf-cross kind ks js l r e = subst (λ (q : OpKind). IsCallOf q ks js (of_pair l r)) (sym e) (record { operator = no_source Cross refl; called = tt; some = tt; keyed = tt })
+
+pub IsCallOf-group : (kind : OpKind) (ks js : List ℕ) (key : List Value) (group : Bag) → kind ≡ Reduce → 0 < length group → HaveKey ks key group → IsCallOf kind ks js (of_group key group)
+IsCallOf-group kind ks js key group e some h =
+    subst (λ (q : OpKind). IsCallOf q ks js (of_group key group)) (sym e) (record { operator = no_source Reduce refl; called = tt; some = some; keyed = h })
+
+pub IsCallOf-groups : (kind : OpKind) (ks js : List ℕ) (key : List Value) (l r : Bag) → kind ≡ CoGroup → 0 < length l + length r → HaveKey ks key l → HaveKey js key r → IsCallOf kind ks js (of_groups key l r)
+IsCallOf-groups kind ks js key l r e some h j =
+    subst (λ (q : OpKind). IsCallOf q ks js (of_groups key l r)) (sym e) (record { operator = no_source CoGroup refl; called = tt; some = some; keyed = (h, j) })
+
+module _ (fields : ℕ) (v : List WithFields) (ops : List Op) (o : PlanOps) (good : AreOpsOf fields v ops o) where
+  -- the fields of an operator, and those of its one input or of its two
+  abbrev Over : ℕ → (ℕ → Type 0) → ℕ → Type 0
+  Over n s k = Owns v ops n k ⊎ s k
+
+  abbrev OverBoth : ℕ → (ℕ → Type 0) → (ℕ → Type 0) → ℕ → Type 0
+  OverBoth n s t k = Owns v ops n k ⊎ s k ⊎ t k
+
+  pub call_fits : (n : ℕ) (s t : ℕ → Type 0) (x : CallInput) → IsCallOf (o.kind n) (o.left_keys n) (o.right_keys n) x → AllByRecursion (IsWithin fields s) (left_records x)
+      → AllByRecursion (IsWithin fields t) (right_records x) → AllByRecursion (IsWithin fields (λ k. Owns v ops n k ⊎ s k ⊎ t k)) (called o n x)
+  call_fits n s t x c h j =
+      all_within_larger fields (λ k. InputHasValue k x ⊎ Owns v ops n k) (OverBoth n s t) (called o n x)
+      (λ k out p. elim p as (λ _. ⊥) [
+        | inl has ↦ input_has_none fields s t k (λ a. out (inr (inl a))) (λ b. out (inr (inr b))) x h j has
+        | inr own ↦ out (inl own)
+      ])
+      (good.calls n x c (all_wide fields s (left_records x) h) (all_wide fields t (right_records x) j))
+
+  -- of one input
+  pub call_fits_one : (n : ℕ) (s : ℕ → Type 0) (x : CallInput) → IsCallOf (o.kind n) (o.left_keys n) (o.right_keys n) x → AllByRecursion (IsWithin fields s) (left_records x)
+      → AllByRecursion (IsWithin fields (λ k. ⊥)) (right_records x) → AllByRecursion (IsWithin fields (λ k. Owns v ops n k ⊎ s k)) (called o n x)
+  call_fits_one n s x c h j =
+      all_within_larger fields (OverBoth n s (λ k. ⊥)) (Over n s) (called o n x)
+      (λ k out p. elim p as (λ _. ⊥) [ inl own ↦ out (inl own) | inr q ↦ elim q as (λ _. ⊥) [ inl a ↦ out (inr a) | inr b ↦ b ] ])
+      (call_fits n s (λ k. ⊥) x c h j)
+
+  pub map_fits : (n : ℕ) (s : ℕ → Type 0) → o.kind n ≡ Map → (row : List Value) → IsWithin fields s row → AllByRecursion (IsWithin fields (λ k. Owns v ops n k ⊎ s k)) (o.of_record n row)
+  map_fits n s e row h = call_fits_one n s (of_record row) (IsCallOf-record (o.kind n) (o.left_keys n) (o.right_keys n) row e) (h, tt) tt
+
+  pub match_fits : (n : ℕ) (s t : ℕ → Type 0) → o.kind n ≡ Match → (l r : List Value) → IsWithin fields s l → IsWithin fields t r → AllByRecursion (IsWithin fields (λ k. Owns v ops n k ⊎ s k ⊎ t k)) (o.of_pair n l r)
+  match_fits n s t e l r h j = call_fits n s t (of_pair l r) (IsCallOf-match (o.kind n) (o.left_keys n) (o.right_keys n) l r e) (h, tt) (j, tt)
+
+  pub cross_fits : (n : ℕ) (s t : ℕ → Type 0) → o.kind n ≡ Cross → (l r : List Value) → IsWithin fields s l → IsWithin fields t r → AllByRecursion (IsWithin fields (λ k. Owns v ops n k ⊎ s k ⊎ t k)) (o.of_pair n l r)
+  cross_fits n s t e l r h j = call_fits n s t (of_pair l r) (IsCallOf-cross (o.kind n) (o.left_keys n) (o.right_keys n) l r e) (h, tt) (j, tt)
+
+  -- ---- what an operator gives
+
+  crossed_fits : (s t u : ℕ → Type 0) (f : List Value → List Value → Bag) (ls rs : Bag) → AllByRecursion (IsWithin fields s) ls → AllByRecursion (IsWithin fields t) rs
+      → ((l r : List Value) → IsWithin fields s l → IsWithin fields t r → AllByRecursion (IsWithin fields u) (f l r)) → AllByRecursion (IsWithin fields u) (crossed f ls rs)
+  crossed_fits s t u f ls rs h j e =
+      AllByRecursion-flat_map (IsWithin fields s) (IsWithin fields u) (λ l. flat_map (f l) rs) ls h
+      (λ l fl. AllByRecursion-flat_map (IsWithin fields t) (IsWithin fields u) (f l) rs j (λ r fr. e l r fl fr))
+
+  grouped_fits : (s u : ℕ → Type 0) (keys : List ℕ) (f : List Value → Bag → Bag) (rows : Bag) → AllByRecursion (IsWithin fields s) rows
+      → ((k : List Value) (group : Bag) → AllByRecursion (IsWithin fields s) group → HaveKey keys k group → 0 < length group → AllByRecursion (IsWithin fields u) (f k group))
+      → (ks : List (List Value)) → AllByRecursion (λ k. 0 < length (group_of_key keys rows k)) ks → (out : Bag) → Grouped f keys rows ks out → AllByRecursion (IsWithin fields u) out
+  grouped_fits s u keys f rows h e [] some out p = subst (AllByRecursion (IsWithin fields u)) (sym p) tt
+  grouped_fits s u keys f rows h e (k ∷ ks) some out p =
+      let perm = from_permutation (group_of_key keys rows k) p.0 p.2 in
+      let here = e k p.0 (each_perm (IsWithin fields s) perm (AllByRecursion-filter (IsWithin fields s) (λ r. is_same_key (key_of keys r) k) rows h))
+      (each_perm (λ r. key_of keys r ≡ k) perm (group_keys keys rows k)) (omega (arith, some.0, length-perm perm)) in
+      subst (AllByRecursion (IsWithin fields u)) (sym p.3) (AllByRecursion-append (IsWithin fields u) (f k p.0) p.1 here (grouped_fits s u keys f rows h e ks some.1 p.1 p.4))
+
+  cogrouped_fits : (s t u : ℕ → Type 0) (keys others : List ℕ) (f : List Value → Bag → Bag → Bag) (ls rs : Bag) → AllByRecursion (IsWithin fields s) ls → AllByRecursion (IsWithin fields t) rs
+      → ((k : List Value) (left right : Bag) → AllByRecursion (IsWithin fields s) left → AllByRecursion (IsWithin fields t) right → HaveKey keys k left → HaveKey others k right → 0 < length left + length right
+      → AllByRecursion (IsWithin fields u) (f k left right))
+      → (ks : List (List Value)) → AllByRecursion (λ k. 0 < length (group_of_key keys ls k) + length (group_of_key others rs k)) ks → (out : Bag) → CoGrouped f keys others ls rs ks out
+      → AllByRecursion (IsWithin fields u) out
+  cogrouped_fits s t u keys others f ls rs h j e [] some out p = subst (AllByRecursion (IsWithin fields u)) (sym p) tt
+  cogrouped_fits s t u keys others f ls rs h j e (k ∷ ks) some out p =
+      let lp = from_permutation (group_of_key keys ls k) p.0 p.3 in
+      let rp = from_permutation (group_of_key others rs k) p.1 p.4 in
+      let here = e k p.0 p.1 (each_perm (IsWithin fields s) lp (AllByRecursion-filter (IsWithin fields s) (λ r. is_same_key (key_of keys r) k) ls h))
+      (each_perm (IsWithin fields t) rp (AllByRecursion-filter (IsWithin fields t) (λ r. is_same_key (key_of others r) k) rs j))
+      (each_perm (λ r. key_of keys r ≡ k) lp (group_keys keys ls k)) (each_perm (λ r. key_of others r ≡ k) rp (group_keys others rs k)) (omega (arith, some.0, length-perm lp, length-perm rp)) in
+      subst (AllByRecursion (IsWithin fields u)) (sym p.5) (AllByRecursion-append (IsWithin fields u) (f k p.0 p.1) p.2 here (cogrouped_fits s t u keys others f ls rs h j e ks some.1 p.2 p.6))
+
+  keys_some : (keys : List ℕ) (rows : Bag) → AllByRecursion (λ k. 0 < length (group_of_key keys rows k)) (keys_in keys rows)
+  keys_some keys rows = all-distinct (λ k. 0 < length (group_of_key keys rows k)) (map (key_of keys) rows) (keys_have_groups keys rows)
+
+  either_some : (keys others : List ℕ) (ls rs : Bag) → AllByRecursion (λ k. 0 < length (group_of_key keys ls k) + length (group_of_key others rs k)) (keys_in_either keys others ls rs)
+  either_some keys others ls rs =
+      let P = λ (k : List Value). 0 < length (group_of_key keys ls k) + length (group_of_key others rs k) in
+      all-distinct P (map (key_of keys) ls ++ map (key_of others) rs) (AllByRecursion-append P (map (key_of keys) ls) (map (key_of others) rs)
+      (AllByRecursion-weaker (λ k. 0 < length (group_of_key keys ls k)) P (map (key_of keys) ls) (λ k h. omega (arith, h)) (keys_have_groups keys ls))
+      (AllByRecursion-weaker (λ k. 0 < length (group_of_key others rs k)) P (map (key_of others) rs) (λ k h. omega (arith, h)) (keys_have_groups others rs)))
+
+  gives_fits : (n : ℕ) (s : ℕ → Type 0) (kind : OpKind) → o.kind n ≡ kind → (ls out : Bag) → AllByRecursion (IsWithin fields s) ls → Gives o kind n ls out → AllByRecursion (IsWithin fields (Over n s)) out
+  gives_fits n s Source e ls out h p = absurd p
+  gives_fits n s Map e ls out h p =
+      subst (AllByRecursion (IsWithin fields (Over n s))) (sym p) (AllByRecursion-flat_map (IsWithin fields s) (IsWithin fields (Over n s)) (o.of_record n) ls h (λ r fr. map_fits n s e r fr))
+  gives_fits n s Reduce e ls out h p =
+      grouped_fits s (Over n s) (o.left_keys n) (o.of_group n) ls h
+      (λ k group fg kg some. call_fits_one n s (of_group k group) (IsCallOf-group (o.kind n) (o.left_keys n) (o.right_keys n) k group e some kg) fg tt)
+      (keys_in (o.left_keys n) ls) (keys_some (o.left_keys n) ls) out p
+  gives_fits n s Match e ls out h p = absurd p
+  gives_fits n s Cross e ls out h p = absurd p
+  gives_fits n s CoGroup e ls out h p = absurd p
+
+  both_fits : (n : ℕ) (s t : ℕ → Type 0) (kind : OpKind) → o.kind n ≡ kind → (ls rs out : Bag) → AllByRecursion (IsWithin fields s) ls → AllByRecursion (IsWithin fields t) rs → GivesBoth o kind n ls rs out
+      → AllByRecursion (IsWithin fields (OverBoth n s t)) out
+  both_fits n s t Source e ls rs out h j p = absurd p
+  both_fits n s t Map e ls rs out h j p = absurd p
+  both_fits n s t Reduce e ls rs out h j p = absurd p
+  both_fits n s t Match e ls rs out h j p =
+      subst (AllByRecursion (IsWithin fields (OverBoth n s t))) (sym p) (crossed_fits s t (OverBoth n s t) (matched (o.of_pair n) (o.left_keys n) (o.right_keys n)) ls rs h j
+      (λ l r fl fr. AllByRecursion-cond (IsWithin fields (OverBoth n s t)) (is_same_key (key_of (o.left_keys n) l) (key_of (o.right_keys n) r)) (o.of_pair n l r) [] (match_fits n s t e l r fl fr) tt))
+  both_fits n s t Cross e ls rs out h j p =
+      subst (AllByRecursion (IsWithin fields (OverBoth n s t))) (sym p) (crossed_fits s t (OverBoth n s t) (o.of_pair n) ls rs h j (λ l r fl fr. cross_fits n s t e l r fl fr))
+  both_fits n s t CoGroup e ls rs out h j p =
+      cogrouped_fits s t (OverBoth n s t) (o.left_keys n) (o.right_keys n) (o.of_groups n) ls rs h j
+      (λ k left right fl fr kl kr some. call_fits n s t (of_groups k left right) (IsCallOf-groups (o.kind n) (o.left_keys n) (o.right_keys n) k left right e some kl kr) fl fr)
+      (keys_in_either (o.left_keys n) (o.right_keys n) ls rs) (either_some (o.left_keys n) (o.right_keys n) ls rs) out p
+
+  pub lawful_bags : (t : PlanTree) (bag : Bag) → Allows o t bag → AllByRecursion (IsWithin fields (HasAttribute v ops t)) bag
+  lawful_bags (leaf n) bag h = each_perm (IsWithin fields (Owns v ops n)) (from_permutation (o.rows n) bag h.0.permuted) (good.rows n h.0.source)
+  lawful_bags (over n t) bag h =
+      let e = h.0 in
+      each_perm (IsWithin fields (HasAttribute v ops (over n t))) (from_permutation e.out bag e.permuted)
+      (gives_fits n (HasAttribute v ops t) (o.kind n) refl e.rows e.out (lawful_bags t e.rows e.below) e.given)
+  lawful_bags (both n t u) bag h =
+      let e = h.0 in
+      each_perm (IsWithin fields (HasAttribute v ops (both n t u))) (from_permutation e.out bag e.permuted)
+      (both_fits n (HasAttribute v ops t) (HasAttribute v ops u) (o.kind n) refl e.left_rows e.right_rows e.out
+      (lawful_bags t e.left_rows e.left_below) (lawful_bags u e.right_rows e.right_below) e.given)
