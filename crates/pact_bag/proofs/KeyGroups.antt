@@ -42,10 +42,10 @@ key_itself a = ap is_eq (tied_itself records_total a)
 
 -- ---- each key once
 
-abbrev other_than : List Value → List Value → Bool
+abbrev pub other_than : List Value → List Value → Bool
 other_than j k = not (is_same_key j k)
 
-abbrev occurs : List Value → List (List Value) → Bool
+abbrev pub occurs : List Value → List (List Value) → Bool
 occurs k ks = list_any (λ j. is_same_key j k) ks
 
 -- a key that was taken out is none that is another than that for which it was

@@ -1,3 +1,5 @@
 pub mod Fronts
 pub mod KeyGroups
+pub mod KeyLists
+pub mod KeysOfBags
 pub mod Widths

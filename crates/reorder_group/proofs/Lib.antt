@@ -1,0 +1,12 @@
+pub mod KeptGroups
+pub mod SideGroups
+pub mod Chosen
+pub mod SideLaws
+pub mod GroupBags
+pub mod PermittedGroups
+pub mod MapsPastReduces
+pub mod MapsPastCoGroups
+pub mod GroupLaws
+pub mod FoundGroups
+pub mod LegalExchanges
+pub mod JudgedGroups

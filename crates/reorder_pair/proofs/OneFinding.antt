@@ -1,0 +1,87 @@
+-- What is found of an operator is one thing, and a condition that fails excludes that all hold.
+use Rattle.std.proofs.Common.{◌≡◌, ◌↔◌, inl, inr, ℕ, Bool, true, false, List, [], ◌∷◌, Some, refl, sym, ap, subst, ◌∙◌}
+use Rattle.pact_record.specs.FieldSets.{has_field}
+use Rattle.tac_syntax.specs.Contexts.{FieldSet, Has}
+use Rattle.tac_syntax.specs.declared.contexts.Context.{Context}
+use Rattle.tac_syntax.specs.EmitBounds.{least_emits, most_emits}
+use Rattle.tac_syntax.specs.Valid.{WithFields}
+use Rattle.tac_flow.specs.Results.{FoundSets, IsTouched, sets_of}
+use Rattle.tac_flow.specs.Steps.{Scope}
+use Rattle.tac_flow.specs.Views.{found_of, scope_in, sets_in}
+use Rattle.plan_trees.specs.Plans.{PlanTree, root_of, subtree_of}
+use Rattle.pact_operators.specs.Programs.{ProgramData}
+use Rattle.reorder_pair.specs.declared.finding.Found.{Found}
+use Rattle.reorder_pair.specs.declared.legality.NotLegal.{NotLegal}
+use Rattle.reorder_pair.specs.declared.rules.Rule.{Rule}
+use Rattle.reorder_pair.specs.Conditions.{AllPass, Fails, FirstFails, Line, Passes, Uses, anchored, keeps_groups, lines, no_common, uses_of}
+use Rattle.reorder_pair.specs.Legal.{IsLegal, IsRefusal, lines_at}
+use Rattle.reorder_pair.specs.Places.{IsFound, IsUnionOf}
+use Rattle.reorder_pair.specs.Rules.{exchanged_by}
+
+-- ---- sets of the same fields
+
+same_bool : (a b : Bool) → (a ≡ true ↔ b ≡ true) → a ≡ b
+same_bool true true h = refl
+same_bool false false h = refl
+same_bool true false h = sym (h.0 refl)
+same_bool false true h = h.1 refl
+
+same_set : (s t : FieldSet) → ((k : ℕ) → Has s k ↔ Has t k) → s ≡ t
+same_set s t h = λ i k. same_bool (s k) (t k) (h k) i
+
+both_by : {A B C : Type 0} → A ↔ C → B ↔ C → A ↔ B
+both_by h g = ((λ a. g.1 (h.0 a)), (λ b. h.1 (g.0 b)))
+
+same_some : {A : Type 0} (a b : A) → Some a ≡ Some b → a ≡ b
+same_some a b e = cc
+
+-- ---- what is found
+
+module _ (p : ProgramData) (n : ℕ) (before after : PlanTree) where
+  scope_one : (f : WithFields) (c d : Context) → IsUnionOf p n before after c → IsUnionOf p n before after d → scope_in f.function f.fields c ≡ scope_in f.function f.fields d
+  scope_one f c d h g =
+      let left = same_set (has_field c.left) (has_field d.left) (λ k. both_by (h.left k) (g.left k)) in
+      let right = same_set (has_field c.right) (has_field d.right) (λ k. both_by (h.right k) (g.right k)) in
+      let left_keys = h.left_keys ∙ sym g.left_keys in
+      let right_keys = h.right_keys ∙ sym g.right_keys in
+      λ i. record { kind = f.function.kind; fields = f.fields; left = left i; right = right i; left_keys = left_keys i; right_keys = right_keys i }
+
+  sets_one : (f : WithFields) (c d : Context) → IsUnionOf p n before after c → IsUnionOf p n before after d → sets_in f c ≡ sets_in f d
+  sets_one f c d h g = ap (λ (s : Scope). sets_of s f.function.body) (scope_one f c d h g)
+
+  pub uses_one : (s r : Found) → IsFound p n before after s → IsFound p n before after r → uses_of s ≡ uses_of r
+  uses_one s r h g =
+      let f = same_some h.called g.called (sym h.function ∙ g.function) in
+      let sets : found_of s.sets ≡ found_of r.sets =
+      h.sets ∙ sets_one h.called h.context g.context h.union g.union ∙ ap (λ (w : WithFields). sets_in w g.context) f ∙ sym g.sets in
+      let touches = λ (k : ℕ). subst (λ (x : FoundSets). Has (has_field s.sets.touched) k ↔ IsTouched x g.called.function.body k) sets
+      (subst (λ (w : WithFields). Has (has_field s.sets.touched) k ↔ IsTouched (found_of s.sets) w.function.body k) f (h.touched k)) in
+      let touched = same_set (has_field s.sets.touched) (has_field r.sets.touched) (λ k. both_by (touches k) (g.touched k)) in
+      let low = h.least ∙ ap (λ (w : WithFields). least_emits w.function.body) f ∙ sym g.least in
+      let high = h.most ∙ ap (λ (w : WithFields). most_emits w.function.body) f ∙ sym g.most in
+      λ i. record { sets = sets i; touched = touched i; low = low i; high = high i }
+
+-- ---- conditions
+
+passes_or_fails : (line : Line) (why : NotLegal) → Passes line → Fails line why → ⊥
+passes_or_fails (no_common ours theirs refusal) why p f = p f.0 f.1.one f.1.other
+passes_or_fails (anchored true) why p f = let e = f.0 in cc
+passes_or_fails (anchored false) why p f = cc
+passes_or_fails (keeps_groups mover keys) why p f = f.0 p
+
+pass_or_first : (rest : List Line) (why : NotLegal) → AllPass rest → FirstFails rest why → ⊥
+pass_or_first [] why p f = f
+pass_or_first (line ∷ rest) why p (inl f) = passes_or_fails line why p.0 f
+pass_or_first (line ∷ rest) why p (inr f) = pass_or_first rest why p.1 f.1
+
+-- A legal exchange has no refusal.
+pub legal_or_refused : (p : ProgramData) (plan : PlanTree) (at : ℕ) (rule : Rule) (why : NotLegal) → IsLegal p plan at rule → IsRefusal p plan at rule why → ⊥
+legal_or_refused p plan at rule why l (inl r) = r.0 l.2.found.place
+legal_or_refused p plan at rule why l (inr r) =
+    let legal = l.2 in
+    let before = subtree_of at plan in
+    let after = exchanged_by rule before in
+    let upper = uses_one p (root_of before) before after l.0 r.0 legal.found.found.of_upper r.2.found.of_upper in
+    let lower = uses_one p (root_of after) before after l.1 r.1 legal.found.found.of_lower r.2.found.of_lower in
+    pass_or_first (lines_at p plan at rule r.0 r.1) why
+    (subst (λ (u : Uses). AllPass (lines p rule before after u (uses_of r.1))) upper (subst (λ (u : Uses). AllPass (lines p rule before after (uses_of l.0) u)) lower legal.passes)) r.3

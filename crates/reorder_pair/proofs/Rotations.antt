@@ -1,0 +1,98 @@
+-- A pair operator over another one, and the two with their three inputs grouped the other way, allow the same bags.
+use Rattle.std.proofs.Common.{◌⊎◌, inl, inr, ℕ, List}
+use Rattle.pact_record.proofs.Permutations.{Perm, chains, same, turned}
+use Rattle.tac_syntax.specs.Contexts.{Ports}
+use Rattle.tac_syntax.specs.Forms.{AreApart}
+use Rattle.tac_syntax.specs.Valid.{WithFields}
+use Rattle.plan_trees.specs.Plans.{PlanTree, both}
+use Rattle.pact_operators.specs.declared.operators.Op.{Op}
+use Rattle.pact_operators.specs.Allowed.{Allows, Bag, crossed}
+use Rattle.pact_operators.specs.PlanOps.{PlanOps}
+use Rattle.pact_operators.specs.Programs.{HasAttribute, Owns}
+use Rattle.pact_operators.specs.SoundOps.{AreOpsOf}
+use Rattle.pact_operators.proofs.LawfulBags.{lawful_bags}
+use Rattle.pact_operators.proofs.WithinFields.{all_within_larger}
+use Rattle.reorder_pair.proofs.Cells.{AreExchangeable}
+use Rattle.reorder_pair.proofs.CrossedBags.{crossed_left, crossed_right, rotated_bags}
+use Rattle.reorder_pair.proofs.FunctionForms.{Row}
+use Rattle.reorder_pair.proofs.Pairs.{bag_of_pair, pair_bag, pair_fits, pair_form, pair_of}
+use Rattle.reorder_pair.proofs.PermittedExchanges.{PermitsRotate, joint, used_touched}
+
+module _ (fields : ℕ) (v : List WithFields) (ops : List Op) (o : PlanOps) (good : AreOpsOf fields v ops o) where
+  module _ (h g : ℕ) (t u w : PlanTree) (x : PermitsRotate fields v ops o h g t u w) (apart : AreApart (HasAttribute v ops t) (HasAttribute v ops u))
+      (outer_apart : AreApart (HasAttribute v ops t) (HasAttribute v ops w)) (inner_apart : AreApart (HasAttribute v ops u) (HasAttribute v ops w)) where
+    -- what the two may be called for, before and after
+    abbrev ch : Ports
+    ch = joint v ops o h (both h (both g t u) w) (both h u w)
+
+    abbrev cg : Ports
+    cg = joint v ops o g (both g t u) (both g t (both h u w))
+
+    -- what they give for a pair
+    abbrev hs : Row → Row → Bag
+    hs = pair_of o (o.kind h) h
+
+    abbrev gs : Row → Row → Bag
+    gs = pair_of o (o.kind g) g
+
+    g_sides : AreApart cg.left cg.right
+    g_sides k l r = elim l as (λ _. ⊥) [ inl a ↦ one a | inr a ↦ one a ] where
+      one : HasAttribute v ops t k → ⊥
+      one a = elim r as (λ _. ⊥) [
+        | inl b ↦ apart k a b
+        | inr q ↦ elim q as (λ _. ⊥) [
+          | inl own ↦ x.side k (x.found.upper_sets.owned k own) a
+          | inr s ↦ elim s as (λ _. ⊥) [ inl b ↦ apart k a b | inr c ↦ outer_apart k a c ]
+        ]
+      ]
+
+    h_sides : AreApart ch.left ch.right
+    h_sides k l r = elim r as (λ _. ⊥) [ inl c ↦ one c | inr c ↦ one c ] where
+      one : HasAttribute v ops w k → ⊥
+      one c = elim l as (λ _. ⊥) [
+        | inl q ↦ elim q as (λ _. ⊥) [
+          | inl own ↦ x.other_side k (x.found.lower_sets.owned k own) c
+          | inr s ↦ elim s as (λ _. ⊥) [ inl a ↦ outer_apart k a c | inr b ↦ inner_apart k b c ]
+        ]
+        | inr b ↦ inner_apart k b c
+      ]
+
+    rotate_exchangeable : AreExchangeable fields (HasAttribute v ops t) (HasAttribute v ops u) (HasAttribute v ops w) cg.left cg.right ch.left ch.right x.lower x.upper gs hs
+    rotate_exchangeable =
+        let A = HasAttribute v ops t in
+        let B = HasAttribute v ops u in
+        let C = HasAttribute v ops w in
+        record {
+          form_g = pair_form fields v ops o good g cg x.lower x.lower_kind g_sides x.found.lower_sets;
+          form_h = pair_form fields v ops o good h ch x.upper x.upper_kind h_sides x.found.upper_sets;
+          no_conflict = x.found.no_conflict;
+          side = λ i used a. x.side i (used_touched x.found.upper_sets i used) a;
+          other_side = λ i used c. x.other_side i (used_touched x.found.lower_sets i used) c;
+          left = λ k out a. out (inl a);
+          middle_g = λ k out b. out (inl b);
+          middle_h = λ k out b. out (inr b);
+          right = λ k out c. out (inl c);
+          out_g = λ l m fl fm. all_within_larger fields (λ k. Owns v ops g k ⊎ A k ⊎ B k) ch.left (gs l m) (λ k out a. out (inl a)) (pair_fits fields v ops o good g A B x.lower_kind l m fl fm);
+          out_h = λ m r fm fr. all_within_larger fields (λ k. Owns v ops h k ⊎ B k ⊎ C k) cg.right (hs m r) (λ k out a. out (inr a)) (pair_fits fields v ops o good h B C x.upper_kind m r fm fr);
+        }
+
+    rotate_bags : (ls ms rs : Bag) → Allows o t ls → Allows o u ms → Allows o w rs → Perm (crossed hs (crossed gs ls ms) rs) (crossed gs ls (crossed hs ms rs))
+    rotate_bags ls ms rs p q r =
+        rotated_bags fields (HasAttribute v ops t) (HasAttribute v ops u) (HasAttribute v ops w) cg.left cg.right ch.left ch.right x.lower x.upper gs hs rotate_exchangeable
+        ms rs (lawful_bags fields v ops o good u ms q) (lawful_bags fields v ops o good w rs r) ls (lawful_bags fields v ops o good t ls p)
+
+    pub rotate : (bag : Bag) → Allows o (both h (both g t u) w) bag → Allows o (both g t (both h u w)) bag
+    rotate bag k =
+        let m = pair_bag o h (both g t u) w bag x.upper_kind k in
+        let n = pair_bag o g t u m.left_rows x.lower_kind m.left_below in
+        let now = crossed hs n.right_rows m.right_rows in
+        bag_of_pair o g t (both h u w) n.left_rows now bag x.lower_kind n.left_below (bag_of_pair o h u w n.right_rows m.right_rows now x.upper_kind n.right_below m.right_below (same now))
+        (chains (turned (rotate_bags n.left_rows n.right_rows m.right_rows n.left_below n.right_below m.right_below)) (chains (crossed_left hs (crossed gs n.left_rows n.right_rows) m.left_rows m.right_rows n.perm) m.perm))
+
+    pub rotate_up : (bag : Bag) → Allows o (both g t (both h u w)) bag → Allows o (both h (both g t u) w) bag
+    rotate_up bag k =
+        let m = pair_bag o g t (both h u w) bag x.lower_kind k in
+        let n = pair_bag o h u w m.right_rows x.upper_kind m.right_below in
+        let now = crossed gs m.left_rows n.left_rows in
+        bag_of_pair o h (both g t u) w now n.right_rows bag x.upper_kind (bag_of_pair o g t u m.left_rows n.left_rows now x.lower_kind m.left_below n.left_below (same now)) n.right_below
+        (chains (rotate_bags m.left_rows n.left_rows n.right_rows m.left_below n.left_below n.right_below) (chains (crossed_right gs m.left_rows (crossed hs n.left_rows n.right_rows) m.right_rows n.perm) m.perm))

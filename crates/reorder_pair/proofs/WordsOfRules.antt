@@ -1,0 +1,85 @@
+-- Each rule stands at its place among all rules, so a word that is none of theirs is no rule's.
+use Rattle.std.proofs.Common.{◌≡◌, ◌<◌, ◌≤◌, ◌+◌, ◌⊎◌, inl, inr, ℕ, true, false, nat_eq, nat_lt, List, [], ◌∷◌, get_or, refl, sym, ap, subst, ◌∙◌, arith}
+use Rattle.std.proofs.lemmas.Bool.{cases_Bool}
+use Rattle.std.proofs.lemmas.Bool.Decides.{nat_tests}
+use Rattle.std.specs.Cmp.Lexicographic.{pointwise}
+use Rattle.reorder_pair.specs.declared.rules.Rule.{Rule}
+use Rattle.reorder_pair.specs.declared.rules.Rule.TheVariants.{MapMap, MapLeft, MapLeftUp, MapRight, MapRightUp, Rotate, RotateUp, MapReduce, MapReduceUp, MapCoGroupLeft, MapCoGroupLeftUp, MapCoGroupRight, MapCoGroupRightUp}
+use Rattle.reorder_pair.specs.declared.rules.TheConstants.{RULES}
+use Rattle.reorder_pair.specs.Rules.{word_of}
+
+abbrev pub place_of : Rule → ℕ
+place_of MapMap = 0
+place_of MapLeft = 1
+place_of MapLeftUp = 2
+place_of MapRight = 3
+place_of MapRightUp = 4
+place_of Rotate = 5
+place_of RotateUp = 6
+place_of MapReduce = 7
+place_of MapReduceUp = 8
+place_of MapCoGroupLeft = 9
+place_of MapCoGroupLeftUp = 10
+place_of MapCoGroupRight = 11
+place_of MapCoGroupRightUp = 12
+
+place_of-below : (rule : Rule) → place_of rule < 13
+place_of-below MapMap = omega arith
+place_of-below MapLeft = omega arith
+place_of-below MapLeftUp = omega arith
+place_of-below MapRight = omega arith
+place_of-below MapRightUp = omega arith
+place_of-below Rotate = omega arith
+place_of-below RotateUp = omega arith
+place_of-below MapReduce = omega arith
+place_of-below MapReduceUp = omega arith
+place_of-below MapCoGroupLeft = omega arith
+place_of-below MapCoGroupLeftUp = omega arith
+place_of-below MapCoGroupRight = omega arith
+place_of-below MapCoGroupRightUp = omega arith
+
+at_place : (rule d : Rule) → get_or RULES (place_of rule) d ≡ rule
+at_place MapMap d = refl
+at_place MapLeft d = refl
+at_place MapLeftUp d = refl
+at_place MapRight d = refl
+at_place MapRightUp d = refl
+at_place Rotate d = refl
+at_place RotateUp d = refl
+at_place MapReduce d = refl
+at_place MapReduceUp d = refl
+at_place MapCoGroupLeft d = refl
+at_place MapCoGroupLeftUp d = refl
+at_place MapCoGroupRight d = refl
+at_place MapCoGroupRightUp d = refl
+
+itself : (n : ℕ) → nat_eq n n ≡ true
+itself n = grind arith
+
+pointwise-itself : (a : List ℕ) → pointwise nat_eq a a ≡ true
+pointwise-itself [] = refl
+pointwise-itself (x ∷ a) = rw (itself x) (pointwise-itself a)
+
+pub other_word : (a b : List ℕ) → false ≡ pointwise nat_eq a b → a ≡ b → ⊥
+other_word a b differ same = let e = differ ∙ ap (λ (l : List ℕ). pointwise nat_eq a l) (sym same) ∙ pointwise-itself a in cc
+
+-- the rules at the first places have other words
+abbrev pub AreOthers : List ℕ → ℕ → Type 0
+AreOthers word n = (rule : Rule) → place_of rule < n → word_of rule ≡ word → ⊥
+
+pub others_next : (word : List ℕ) (n : ℕ) (found d : Rule) → found ≡ get_or RULES n d → (word_of found ≡ word → ⊥) → AreOthers word n → AreOthers word (n + 1)
+others_next word n found d is other h rule below same = by (lt_or_is (place_of rule) n below) where
+  lt_or_is : (a b : ℕ) → a < b + 1 → (a < b) ⊎ (a ≡ b)
+  lt_or_is a b lt = elim (cases_Bool (nat_lt a b)) as (λ _. (a < b) ⊎ (a ≡ b)) [
+    | inl e ↦ inl (grind (arith, nat_tests))
+    | inr e ↦ inr (grind (arith, nat_tests))
+  ]
+
+  by : (place_of rule < n) ⊎ (place_of rule ≡ n) → ⊥
+  by (inl lt) = h rule lt same
+  by (inr e) = other (subst (λ (r : Rule). word_of r ≡ word) (sym (is ∙ subst (λ (m : ℕ). get_or RULES m d ≡ rule) e (at_place rule d))) same)
+
+pub others_all : (word : List ℕ) (n : ℕ) → 13 ≤ n → AreOthers word n → (rule : Rule) → word_of rule ≡ word → ⊥
+others_all word n end h rule same = h rule (below n end) same where
+  below : (n : ℕ) → 13 ≤ n → place_of rule < n
+  below n end = let lt = place_of-below rule in omega (arith, lt, end)

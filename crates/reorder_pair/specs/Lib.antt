@@ -1,0 +1,4 @@
+pub mod Rules
+pub mod Places
+pub mod Conditions
+pub mod Legal

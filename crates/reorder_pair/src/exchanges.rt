@@ -1,0 +1,112 @@
+//! Exchanges of neighbouring operators of a plan.
+
+ghost use Rattle.std.specs.Prelude.{◌≡◌, true, IfErr, IfNone, IfOk, IfSome, IsOk};
+ghost use Rattle.plan_trees.specs.Plans.{has, subtree_of};
+ghost use Rattle.plan_trees.specs.Shapes.{HasShape};
+ghost use Rattle.pact_operators.specs.Programs.{IsPlanOf};
+ghost use Rattle.reorder_pair.specs.Conditions.{AllPass};
+ghost use Rattle.reorder_pair.specs.Legal.{IsConditionOf, IsFoundAt, IsLegal, IsRefusal, IsRefusedBy, KeepAnswers, shared_at};
+ghost use Rattle.reorder_pair.specs.Places.{IsPlace};
+ghost use Rattle.reorder_pair.specs.Rules.{IsPairRule, exchange_of, exchanged_by, swapped};
+
+use crate::finding::{Found, both_found};
+use crate::legality::{Condition, NotLegal, judged};
+use crate::rules::Rule;
+use crate::trees::trees_of;
+use pact_operators::{Plan, Program};
+
+/// What is found of the operator at a place of a plan and of the one below it that the rule exchanges with it: of each, in all that its inputs may
+/// hold before the exchange or after it. None where the rule has no place there.
+pub fn found(program: &Program, plan: &Plan, at: u32, rule: Rule) -> Option<(Found, Found)>
+    requires plan { IsPlanOf program.now.functions program.now.ops plan.now }
+    ensures found { IfSome result (λ both. IsFoundAt program.now plan.now at rule both.0 both.1) }
+    ensures none { IfNone result (IsPlace program.now plan.now at rule → ⊥) }
+{
+    let trees = trees_of(program, plan, at, rule)?;
+    Some(both_found(program, plan, at, rule, &trees))
+}
+
+/// The conditions that all rules have: that the rule has a place there, that the two don't conflict, and that neither touches a side that it is moved
+/// past. Where they hold, what the exchange is told as.
+pub fn legal_but_for_groups(
+    program: &Program,
+    plan: &Plan,
+    at: u32,
+    rule: Rule,
+) -> Result<Condition, NotLegal>
+    requires plan { IsPlanOf program.now.functions program.now.ops plan.now }
+    ensures same_rule { IfOk result (λ c. c.rule ≡ rule) }
+    ensures place { IfOk result (λ c. c.at ≡ at) }
+    ensures found { IfOk result (λ c. IsFoundAt program.now plan.now at rule c.upper c.lower) }
+    ensures passes { IfOk result (λ c. AllPass (shared_at program.now plan.now at rule c.upper c.lower)) }
+    ensures refused { IfErr result (IsRefusedBy (shared_at program.now plan.now at rule) program.now plan.now at rule) }
+{
+    let Some(trees) = trees_of(program, plan, at, rule) else {
+        return Err(NotLegal::NoPlace);
+    };
+    let (upper, lower) = both_found(program, plan, at, rule, &trees);
+    match judged(program, rule.exchange().shape, &trees, &upper, &lower) {
+        Ok(()) => Ok(Condition {
+            rule,
+            at,
+            upper,
+            lower,
+        }),
+        Err(why) => Err(why),
+    }
+}
+
+/// Whether the operator at a place of a plan and the one below it that the rule exchanges with it may change places. The rule is one of the first
+/// seven.
+pub fn legal_pair(
+    program: &Program,
+    plan: &Plan,
+    at: u32,
+    rule: Rule,
+) -> Result<Condition, NotLegal>
+    requires plan { IsPlanOf program.now.functions program.now.ops plan.now }
+    requires pair { IsPairRule rule }
+    ensures legal { IfOk result (IsConditionOf program.now plan.now at rule) }
+    ensures refused { IfErr result (IsRefusal program.now plan.now at rule) }
+    ensures legal_always { IsLegal program.now plan.now at rule → IsOk result }
+    ensures answers { IfOk result (λ c. KeepAnswers program.now plan.now (swapped rule at plan.now)) }
+{
+    // Its clause says that the program keeps every rule.
+    let _fields = program.fields();
+    legal_but_for_groups(program, plan, at, rule)
+}
+
+/// The tree of the operator at the place, after it and the one below it have changed places.
+pub fn exchanged_tree(plan: &Plan, at: u32, rule: Rule) -> Plan
+    requires node { has at plan.now ≡ true }
+    requires shape { HasShape (exchange_of rule).shape (subtree_of at plan.now) }
+    ensures { result ≡ exchanged_by rule (subtree_of at plan.now) }
+{
+    let tree = plan.subtree(at);
+    tree.exchanged(rule.exchange().shape).unwrap_or(tree)
+}
+
+/// The plan with that tree.
+pub fn swapped_plan(plan: &Plan, at: u32, rule: Rule) -> Plan
+    requires node { has at plan.now ≡ true }
+    requires shape { HasShape (exchange_of rule).shape (subtree_of at plan.now) }
+    ensures { result ≡ swapped rule at plan.now }
+{
+    // Its clause says that the numbers of a plan differ.
+    let _root = plan.root();
+    plan.with_subtree(at, &exchanged_tree(plan, at, rule))
+}
+
+/// The plan in which the operator at the place and the one below it have changed places. The rule is one of the first seven, and legal there.
+pub fn apply_pair(program: &Program, plan: &Plan, at: u32, rule: Rule) -> Plan
+    requires plan { IsPlanOf program.now.functions program.now.ops plan.now }
+    requires pair { IsPairRule rule }
+    requires legal { IsLegal program.now plan.now at rule }
+    ensures swapped { result ≡ swapped rule at plan.now }
+    ensures answers { KeepAnswers program.now plan.now result }
+    ensures plan { IsPlanOf program.now.functions program.now.ops result }
+{
+    // Its clause says that the program keeps every rule.
+    let _fields = program.fields();
+    swapped_plan(plan, at, rule)
+}
