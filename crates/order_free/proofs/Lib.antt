@@ -1,0 +1,17 @@
+pub mod RegisterSets
+pub mod StatementsInTurn
+pub mod ValueOrder
+pub mod Accumulated
+pub mod LiveSets
+pub mod ReorderedInputs
+pub mod AgreeingStores
+pub mod KeptRegisters
+pub mod AgreeAfter
+pub mod Effects
+pub mod SameEffects
+pub mod SameEffectsOfBodies
+pub mod SwappedTurns
+pub mod ReorderedRuns
+pub mod PermutedOutputs
+pub mod FreeLoops
+pub mod OrderTest

@@ -1,0 +1,79 @@
+-- Laws of liveness. Whether a register is live before a body is one of three functions of whether it is live behind it, so few facts are needed.
+use Rattle.std.proofs.Common.{◌≡◌, ◌==◌, ◌⊎◌, inl, inr, ℕ, Bool, true, false, not, ◌&&◌, ◌||◌, refl, subst}
+use Rattle.std.proofs.lemmas.Bool.{cases_Bool, or_cases, or_left, or_right, and_parts, and_from, eq-eqb}
+use Rattle.tac_syntax.specs.Code.{Code, stop, plain, branch, again, each}
+use Rattle.order_free.specs.Registers.{Register, value_at, RegisterSet, is_value, has_operand, assigns}
+use Rattle.order_free.specs.Liveness.{is_live, live, live_at_end}
+
+pub or_weaker : (x y z w : Bool) → (x ≡ true → z ≡ true) → (y ≡ true → w ≡ true) → (x || y) ≡ true → (z || w) ≡ true
+or_weaker x y z w f g h = elim (or_cases x y h) as (λ _. (z || w) ≡ true) [
+  | inl e ↦ or_left z w (f e)
+  | inr e ↦ or_right z w (g e)
+]
+
+and_weaker : (x y z w : Bool) → (x ≡ true → z ≡ true) → (y ≡ true → w ≡ true) → (x && y) ≡ true → (z && w) ≡ true
+and_weaker x y z w f g h = let p = and_parts x y h in and_from z w (f p.0) (g p.1)
+
+-- where more is live behind a body, more is live before it
+is_live-more : (c : Code) (r : Register) (a b : Bool) → (a ≡ true → b ≡ true) → is_live c r a ≡ true → is_live c r b ≡ true
+is_live-more stop r a b f h = f h
+is_live-more (plain s next) r a b f h =
+    let kept = not (assigns s r) in
+    or_weaker (has_operand s r) (is_live next r a && kept) (has_operand s r) (is_live next r b && kept) (λ e. e)
+    (and_weaker (is_live next r a) kept (is_live next r b) kept (is_live-more next r a b f) (λ e. e)) h
+is_live-more (branch on body other next) r a b f h =
+    let p = is_live next r a in
+    let q = is_live next r b in
+    let more = is_live-more next r a b f in
+    or_weaker (is_value on r) (is_live body r p || is_live other r p) (is_value on r) (is_live body r q || is_live other r q) (λ e. e)
+    (or_weaker (is_live body r p) (is_live other r p) (is_live body r q) (is_live other r q) (is_live-more body r p q more) (is_live-more other r p q more)) h
+is_live-more (again count body next) r a b f h = is_live-more body r (is_live next r a) (is_live next r b) (is_live-more next r a b f) h
+is_live-more (each name list body next) r a b f h =
+    let p = is_live next r a in
+    let q = is_live next r b in
+    let more = is_live-more next r a b f in
+    or_weaker p (is_live body r p) q (is_live body r q) more (is_live-more body r p q more) h
+
+-- what is live before a body is so whatever is live behind it, or else is live behind it
+pub is_live-from : (c : Code) (r : Register) (b : Bool) → is_live c r b ≡ true → (is_live c r false ≡ true) ⊎ (b ≡ true)
+is_live-from c r true h = inr refl
+is_live-from c r false h = inl h
+
+-- a second turn makes no more of it live
+pub is_live-again : (c : Code) (r : Register) (b : Bool) → is_live c r (b || is_live c r b) ≡ true → is_live c r b ≡ true
+is_live-again c r true h = h
+is_live-again c r false h = elim (cases_Bool (is_live c r false)) as (λ _. is_live c r false ≡ true) [
+  | inl e ↦ e
+  | inr e ↦ subst (λ (z : Bool). is_live c r z ≡ true) e h
+]
+
+-- ---- loops
+
+-- what is live before the first turn, is live before the body where these are live at its end
+pub live-first_turn : (body : Code) (behind : RegisterSet) (r : Register) → live body (live_at_end body behind) r ≡ true → live body behind r ≡ true
+live-first_turn body behind r h = is_live-again body r (behind r) h
+
+-- what is live before a turn is live at the end of each
+pub live-at_end : (body : Code) (behind : RegisterSet) (r : Register) → live body (live_at_end body behind) r ≡ true → live_at_end body behind r ≡ true
+live-at_end body behind r h = or_right (behind r) (live body behind r) (is_live-again body r (behind r) h)
+
+-- and so is what is live behind the loop
+pub live_at_end-behind : (body : Code) (behind : RegisterSet) (r : Register) → behind r ≡ true → live_at_end body behind r ≡ true
+live_at_end-behind body behind r h = or_left (behind r) (live body behind r) h
+
+-- ---- branches
+
+pub live-test : (on : ℕ) (body other next : Code) (behind : RegisterSet) → live (branch on body other next) behind (value_at on) ≡ true
+live-test on body other next behind = or_left (on == on) (live body (live next behind) (value_at on) || live other (live next behind) (value_at on)) (eq-eqb on on refl)
+
+pub live-body : (on : ℕ) (body other next : Code) (behind : RegisterSet) (r : Register) → live body (live next behind) r ≡ true → live (branch on body other next) behind r ≡ true
+live-body on body other next behind r h =
+    let p = live body (live next behind) r in
+    let q = live other (live next behind) r in
+    or_right (is_value on r) (p || q) (or_left p q h)
+
+pub live-other : (on : ℕ) (body other next : Code) (behind : RegisterSet) (r : Register) → live other (live next behind) r ≡ true → live (branch on body other next) behind r ≡ true
+live-other on body other next behind r h =
+    let p = live body (live next behind) r in
+    let q = live other (live next behind) r in
+    or_right (is_value on r) (p || q) (or_right p q h)
