@@ -18,7 +18,7 @@ use Rattle.pact_top.specs.Refusal.{AreTold}
 use Rattle.pact_top.specs.Stages.{End, gives, stops, misses, fails, Reading, each}
 use Rattle.pact_top.specs.RefusalLines.{usage_line}
 use Rattle.pact_top.specs.Work.{IsTextOf, FileEnds, command, draft, file, loaded, program, program_file, program_limit, program_of, ready, ready_for, rows, source_file, sources, text_for, valid, valids, work}
-use Rattle.pact_words.specs.Words.{Asked, to_run, AreRefused}
+use Rattle.pact_words.specs.Words.{Asked, to_run, to_tell_sets, AreRefused}
 use Rattle.pact_words.proofs.OneAsked.{asked_not_refused, not_both, one_asked, one_of}
 use Rattle.pact_operators.proofs.OneProgram.{one_program}
 use Rattle.pact_operators.proofs.RefusedOrKept.{refused_not_kept}
@@ -142,6 +142,7 @@ loaded_decided files told name =
 
 ready_for_decided : (files : Option (List NamedFile)) → AreTold files → (asked : Asked) → IsDecided (ready_for files asked)
 ready_for_decided files told (to_run name) = agree_then _ _ (loaded_decided files told name) (λ a b _ _. give_agrees _ _)
+ready_for_decided files told (to_tell_sets name) = agree_then _ _ (program_file_decided files told name) (λ a b _ _. give_agrees _ _)
 
 pub work_decided : (words : List (List ℕ)) (files : Option (List NamedFile)) → AreTold files → IsDecided (work words files)
 work_decided words files told = decided_then _ (command_one words) (command_decided words) (λ c _. agree_then _ _ (ready_for_decided files told c) (λ a b _ _. give_agrees _ _))
@@ -182,6 +183,7 @@ ready_for_known words files (to_run name) =
     stops_then (IsKnown words) _ (stops_then (IsKnown words) _ (program_file_known words files name)
     (λ p. stops_then (IsKnown words) _ (stops_each (IsKnown words) (source_file p.fields files) (source_known words files p.fields) (sources_of p.ops)) (λ inputs. stops_give (IsKnown words) _)))
     (λ l. stops_give (IsKnown words) _)
+ready_for_known words files (to_tell_sets name) = stops_then (IsKnown words) _ (program_file_known words files name) (λ p. stops_give (IsKnown words) _)
 
 pub work_known : (words : List (List ℕ)) (files : Option (List NamedFile)) → StopsSo (IsKnown words) (work words files)
 work_known words files = stops_then (IsKnown words) _ (record { so = λ s l p h. inl h.1 }) (λ c. stops_then (IsKnown words) _ (ready_for_known words files c) (λ r. stops_give (IsKnown words) _))

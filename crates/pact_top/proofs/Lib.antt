@@ -3,9 +3,11 @@ pub mod Decided
 pub mod Files
 pub mod Items
 pub mod NumberedTwice
+pub mod OnlyBag
 pub mod Pieces
 pub mod Progress
 pub mod Running
+pub mod SortedLists
 pub mod Sources
 pub mod SourceNames
 pub mod StageLaws

@@ -1,19 +1,21 @@
 -- The commands, from the words to the text.
-use Rattle.std.proofs.Common.{◌≡◌, inl, inr, ℕ, List, Result, Ok, Err, IfOk, IfErr, refl, arith}
+use Rattle.std.proofs.Common.{◌≡◌, inl, inr, ℕ, List, Result, Ok, Err, IfOk, IfErr, refl, sym, arith}
 use Rattle.pact_operators.specs.Allowed.{Allows, Bag}
 use Rattle.pact_operators.specs.PlanOps.{plan_ops}
-use Rattle.pact_operators.specs.Programs.{ProgramData}
+use Rattle.pact_operators.specs.Programs.{IsProgram, ProgramData}
 use Rattle.pact_outside.specs.Outside.{Feeding}
+use Rattle.plan_printer.specs.SetsText.{IsSetsText}
 use Rattle.pact_top.specs.Lines.{AreLines}
 use Rattle.pact_top.specs.declared.refusals.Refusal.{Refusal}
 use Rattle.pact_top.specs.declared.refusals.Refusal.TheVariants.{OutOfMemory, Usage, CannotRead, CannotWrite, Decided}
 use Rattle.pact_top.specs.Refusal.{Answers, Comes, ComesTo, IsRefused}
 use Rattle.pact_top.specs.Stages.{and_then, give, gives, stops}
 use Rattle.pact_top.specs.RefusalLines.{usage_line}
-use Rattle.pact_top.specs.Work.{IsTextOf, Loaded, Ready, loaded, program_file, ready_for, sources, text_for, to_evaluate, work}
-use Rattle.pact_words.specs.Words.{AreRefused, to_run}
+use Rattle.pact_top.specs.Work.{IsTextOf, Loaded, Ready, loaded, program_file, ready_for, sources, text_for, to_analyse, to_evaluate, work}
+use Rattle.pact_words.specs.Words.{AreRefused, to_run, to_tell_sets}
 use Rattle.pact_top.proofs.Comings.{comes_decided, comes_err, comes_then}
 use Rattle.pact_top.proofs.Decided.{IsKnown, work_known}
+use Rattle.pact_top.proofs.OnlyBag.{one_text, only_bag}
 use Rattle.pact_top.proofs.SourceNames.{work_fails}
 
 -- ---- run
@@ -32,15 +34,35 @@ run_inputs name p r h g =
     (comes_then (λ f q. and_then (sources q f) (λ inputs. give (λ all. all ≡ record { program = q; inputs = inputs }))) p (Err r) h (comes_err (λ f inputs. give (λ all. all ≡ record { program = p; inputs = inputs })) r g)))
 
 pub run_text : {before mid now : Feeding} (name : List ℕ) (p : ProgramData) (inputs : List Bag) (bag : Bag) (text : List ℕ) → Comes (λ f. program_file f name) before mid (Ok p)
-    → Comes (sources p) mid now (Ok inputs) → Allows (plan_ops p inputs) p.plan bag → AreLines p.sink bag text → Comes (λ f. text_for f (to_run name)) before now (Ok text)
-run_text {before} {mid} {now} name p inputs bag text h g allowed lines =
+    → Comes (sources p) mid now (Ok inputs) → IsProgram p → Allows (plan_ops p inputs) p.plan bag → AreLines p.sink bag text → Comes (λ f. text_for f (to_run name)) before now (Ok text)
+run_text {before} {mid} {now} name p inputs bag text h g program allowed lines =
     let l : Loaded = record { program = p; inputs = inputs } in
     comes_decided {A = Ready} {s = λ f. ready_for f (to_run name)} (λ y. give (IsTextOf y)) (to_evaluate l) (Ok text)
     (comes_decided {A = Loaded} {s = λ f. loaded f name} (λ x. give (λ y. y ≡ to_evaluate x)) l (Ok (to_evaluate l))
     (comes_then (λ f q. and_then (sources q f) (λ read. give (λ all. all ≡ record { program = q; inputs = read }))) p (Ok l) h
     (comes_decided {s = sources p} (λ read. give (λ all. all ≡ record { program = p; inputs = read })) inputs (Ok l) g (refl, refl)))
-    (refl, refl))
-    (refl, record { bag = bag; allowed = allowed; lines = lines })
+    (refl, refl)) (
+      refl,
+      record {
+        bag = bag;
+        allowed = allowed;
+        lines = lines;
+        only = λ free other also. only_bag p program free inputs p.plan bag other allowed also;
+        only_text = λ free other spelled also its. sym (one_text p.sink bag other text spelled (only_bag p program free inputs p.plan bag other allowed also) lines its);
+      },
+    )
+
+-- ---- sets
+
+pub sets_program : {before now : Feeding} (name : List ℕ) (r : Refusal) → Comes (λ f. program_file f name) before now (Err r) → Comes (λ f. text_for f (to_tell_sets name)) before now (Err r)
+sets_program {before} {now} name r h =
+    comes_err {A = Ready} {s = λ f. ready_for f (to_tell_sets name)} (λ f y. give (IsTextOf y)) r (comes_err (λ f p. give (λ y. y ≡ to_analyse p)) r h)
+
+pub sets_told : {before now : Feeding} (name : List ℕ) (p : ProgramData) (text : List ℕ) → Comes (λ f. program_file f name) before now (Ok p) → IsSetsText p text → Comes (λ f. text_for f (to_tell_sets name)) before now (Ok text)
+sets_told {before} {now} name p text h told =
+    comes_decided {A = Ready} {s = λ f. ready_for f (to_tell_sets name)} (λ y. give (IsTextOf y)) (to_analyse p) (Ok text)
+    (comes_decided {s = λ f. program_file f name} (λ q. give (λ y. y ≡ to_analyse q)) p (Ok (to_analyse p)) h (refl, refl))
+    (refl, told)
 
 -- ---- all commands
 

@@ -12,7 +12,7 @@ use Rattle.pact_operators.specs.PlanOps.{is_source_kind, sources_of}
 use Rattle.pact_operators.specs.Programs.{ProgramData}
 use Rattle.pact_operators.specs.Resolved.{function_names, ops_of}
 use Rattle.pact_outside.specs.declared.files.NamedFile.{NamedFile}
-use Rattle.pact_words.specs.Words.{Asked, to_run, IsAsked}
+use Rattle.pact_words.specs.Words.{Asked, to_run, to_tell_sets, IsAsked}
 use Rattle.tac_syntax.specs.declared.functions.Function.{Function as FunctionValue}
 use Rattle.tac_syntax.specs.Names.{is_file_name}
 use Rattle.pact_top.specs.Refusal.{IsNamed, named_by}
@@ -103,6 +103,8 @@ ready_for_fails files (to_run name) =
     (sources_fail (NamedFor (to_run name)) p.fields files (sources_of p.ops) (may_name (to_run name) (sources_of p.ops) (sources_named p.ops (file_sources_named files name p given.readings given.ends))))
     (λ inputs _. fails_plain (NamedFor (to_run name)) _ _)))
     (λ l _. fails_plain (NamedFor (to_run name)) _ _)
+ready_for_fails files (to_tell_sets name) =
+    fails_then (NamedFor (to_tell_sets name)) _ (program_file_fails (NamedFor (to_tell_sets name)) files name (inl refl)) (λ p _. fails_plain (NamedFor (to_tell_sets name)) _ _)
 
 pub work_fails : (words : List (List ℕ)) (files : Option (List NamedFile)) → FailsSo (IsNamed words) (work words files)
 work_fails words files =

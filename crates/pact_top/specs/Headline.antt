@@ -14,7 +14,8 @@ use Rattle.pact_top.specs.Stages.{CanEnd, gives, stops, misses}
 use Rattle.pact_top.specs.Transfer.{Gains, GainsFront, Tells}
 use Rattle.pact_top.specs.Work.{Ready, ready, work}
 
--- Status 0: the text was written whole. Of `run` it is the sorted rows of a bag that the program as written allows.
+-- Status 0: the text was written whole. Of `run` it is the sorted rows of a bag that the program as written allows, which is the only such
+-- bag where each function that a Reduce or a CoGroup calls passes the order test. Of `sets` it is what the analysis finds of each operator.
 abbrev pub Answered : List (List ℕ) → Feeding → Feeding → Option (List ℕ) → Option (List ℕ) → ℕ → Type 0
 Answered words before now old new status = status ≡ 0 → (text : List ℕ) × ComesTo (work words before.files) before now (gives text) × Gains old new text
 

@@ -1,5 +1,6 @@
 pub mod Headline
 pub mod Lines
+pub mod OrderFreePrograms
 pub mod Readings
 pub mod Refusal
 pub mod RefusalLines

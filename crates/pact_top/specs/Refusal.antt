@@ -2,7 +2,7 @@
 use Rattle.std.specs.Prelude.{◌≡◌, ◌≤◌, ◌⊎◌, ℕ, false, List, [], Option, Some, None, Result, Ok, Err, IsTrue}
 use Rattle.pact_outside.specs.declared.files.NamedFile.{NamedFile}
 use Rattle.pact_outside.specs.Outside.{Feeding, Rose}
-use Rattle.pact_words.specs.Words.{Asked, to_run, AreRefused, IsAsked}
+use Rattle.pact_words.specs.Words.{Asked, to_run, to_tell_sets, AreRefused, IsAsked}
 use Rattle.pact_operators.specs.declared.checking.NotProgram.{NotProgram}
 use Rattle.pact_operators.specs.declared.checking.NotProgram.TheVariants as nots
 use Rattle.text_lines.specs.declared.lines.TextFault.{TextFault}
@@ -92,6 +92,7 @@ Decides stage (Err refusal) = ⊥
 -- the file that a command names
 abbrev pub named_by : Asked → List ℕ
 named_by (to_run program) = program
+named_by (to_tell_sets program) = program
 
 -- the words name this file, or a program may
 abbrev pub IsNamed : List (List ℕ) → List ℕ → Type 0

@@ -1,5 +1,6 @@
 -- The order of work: what the words and the files come to, one stage behind another.
 use Rattle.std.specs.Prelude.{◌≡◌, ◌≤◌, ◌<◌, ℕ, List, length, Option}
+use Rattle.std.specs.List.Sorted.{IsPermutation}
 use Rattle.csv_source.specs.CsvRows.{CsvRows, HasBadRow}
 use Rattle.pact_operators.specs.declared.operators.Op.{Op}
 use Rattle.pact_operators.specs.declared.program_rules.ProgramRule.{ProgramRule}
@@ -9,13 +10,15 @@ use Rattle.pact_operators.specs.PlanOps.{plan_ops, sources_of}
 use Rattle.pact_operators.specs.Programs.{IsProgramOf, ProgramData}
 use Rattle.pact_operators.specs.ProgramRules.{IsRefused, Keeps}
 use Rattle.pact_outside.specs.declared.files.NamedFile.{NamedFile}
-use Rattle.pact_words.specs.Words.{Asked, to_run, AreRefused, IsAsked}
+use Rattle.plan_printer.specs.SetsText.{IsSetsText}
+use Rattle.pact_words.specs.Words.{Asked, to_run, to_tell_sets, AreRefused, IsAsked}
 use Rattle.program_text.specs.ProgramTexts.{IsProgramText, ProgramText, program_fault, program_missing}
 use Rattle.tac_syntax.specs.declared.functions.Function.{Function}
 use Rattle.tac_syntax.specs.Valid.{IsRefusal, IsValid, WithFields}
 use Rattle.text_lines.specs.FirstFaults.{IsFirstFault}
 use Rattle.text_lines.specs.TextLines.{lines_of}
 use Rattle.pact_top.specs.Lines.{AreLines}
+use Rattle.pact_top.specs.OrderFreePrograms.{AreGroupsFree}
 use Rattle.pact_top.specs.Readings.{Holds, Lacks, only}
 use Rattle.pact_top.specs.RefusalLines.{function_line, long_line, program_line, source_line, text_line, usage_line}
 use Rattle.pact_top.specs.Stages.{End, gives, stops, misses, fails, Stage, and_then, plain, give, each}
@@ -108,19 +111,29 @@ loaded files name = and_then (program_file files name) (λ p. and_then (sources 
 -- what a command has read, from which its text is made
 pub data Ready : Type 0 where
   to_evaluate : (loaded : Loaded) → Ready
+  to_analyse : (program : ProgramData) → Ready
 
--- the sorted lines of a bag that the program as written allows on the rows of its sources
+-- what the program as written allows on the rows of its sources
+abbrev pub AllowsWritten : Loaded → Bag → Type 0
+AllowsWritten l bag = Allows (plan_ops l.program l.inputs) l.program.plan bag
+
+-- The sorted lines of a bag that the program as written allows. Where each function that a Reduce or a CoGroup calls passes the order
+-- test, each such bag is this one, up to order, and its lines are these.
 pub record IsAnswerOf (l : Loaded) (text : List ℕ) : Type 0 where
   pub bag : Bag
-  pub allowed : Allows (plan_ops l.program l.inputs) l.program.plan bag
+  pub allowed : AllowsWritten l bag
   pub lines : AreLines l.program.sink bag text
+  pub only : AreGroupsFree l.program → (other : Bag) → AllowsWritten l other → IsPermutation bag other
+  pub only_text : AreGroupsFree l.program → (other : Bag) (lines : List ℕ) → AllowsWritten l other → AreLines l.program.sink other lines → lines ≡ text
 
 abbrev pub IsTextOf : Ready → List ℕ → Type 0
 IsTextOf (to_evaluate l) text = IsAnswerOf l text
+IsTextOf (to_analyse p) text = IsSetsText p text
 
 -- the order of work of each command
 abbrev pub ready_for : Option (List NamedFile) → Asked → Stage Ready
 ready_for files (to_run name) = and_then (loaded files name) (λ l. give (λ r. r ≡ to_evaluate l))
+ready_for files (to_tell_sets name) = and_then (program_file files name) (λ p. give (λ r. r ≡ to_analyse p))
 
 abbrev pub text_for : Option (List NamedFile) → Asked → Stage (List ℕ)
 text_for files asked = and_then (ready_for files asked) (λ r. give (IsTextOf r))

@@ -7,7 +7,7 @@ ghost use Rattle.pact_operators.specs.PlanOps.{is_source_kind};
 ghost use Rattle.pact_top.specs.Refusal.{Comes, ComesTo, Decides, IsRefused, RowRefused};
 ghost use Rattle.pact_top.specs.Stages.{gives};
 ghost use Rattle.pact_top.specs.Work as work;
-ghost use Rattle.pact_words.specs.Words.{AreRefused, asked, texts_of, to_run};
+ghost use Rattle.pact_words.specs.Words.{AreRefused, asked, texts_of, to_run, to_tell_sets};
 
 use crate::lines::sorted_lines;
 use crate::loading::{PROGRAM_LIMIT, SOURCE_LIMIT, read_file};
@@ -21,6 +21,7 @@ use pact_operators::{Op, OpKind, Program};
 use pact_outside::Feed;
 use pact_record::{Bytes, MAX_FIELDS, OutOfMemory};
 use pact_words::{Command, read_words};
+use plan_printer::sets_text;
 use slow_eval::evaluate;
 use std::alloc::Global;
 
@@ -136,12 +137,22 @@ fn run<F: Feed>(alloc: Global, feed: &mut F, name: &[u8]) -> Result<Bytes, Refus
     Ok(text)
 }
 
+// `sets PROGRAM`.
+fn sets<F: Feed>(alloc: Global, feed: &mut F, name: &[u8]) -> Result<Bytes, Refusal>
+    ensures { Comes (λ files. work.text_for files (to_tell_sets name.now)) (F.shows feed.old) (F.shows feed.new) result }
+{
+    let program = load_program(alloc, feed, name)?;
+    let text = sets_text(alloc, &program)?;
+    Ok(text)
+}
+
 // The text of a command.
 fn text_for<F: Feed>(alloc: Global, command: Command, feed: &mut F) -> Result<Bytes, Refusal>
     ensures { Comes (λ files. work.text_for files (asked command.entry)) (F.shows feed.old) (F.shows feed.new) result }
 {
     match command {
         Command::Run { program } => run(alloc, feed, program.as_bytes()),
+        Command::Sets { program } => sets(alloc, feed, program.as_bytes()),
     }
 }
 

@@ -24,8 +24,9 @@ fn refuse<E: Sink>(err: &mut E, refusal: &Refusal) -> u8
 /// Does what the command line's words ask for, and answers the exit status.
 ///
 /// `words` are without the program's own name. Of `run PROGRAM`, the program's file and then those
-/// of its sources are opened and read, in text order, and the sorted rows are written on `out`;
-/// nothing is written before all of the text is made. What goes wrong is told on `err` in one line.
+/// of its sources are opened and read, in text order, and the sorted rows are written on `out`. Of
+/// `sets PROGRAM`, its file alone is read, and what the analysis finds of each operator is written.
+/// Nothing is written before all of the text is made. What goes wrong is told on `err` in one line.
 /// `specs/Headline.antt` has the clauses, with what each says.
 ///
 /// The statuses: 0 the text was written whole, 1 out of memory, 2 the words are no command, 3 a

@@ -13,13 +13,16 @@ texts_of words = map (λ word. word.now) words
 pub data Asked : Type 0 where
   -- `run PROGRAM`
   to_run : (program : List ℕ) → Asked
+  -- `sets PROGRAM`
+  to_tell_sets : (program : List ℕ) → Asked
 
 abbrev pub asked : Command → Asked
 asked (commands.Run program) = to_run program.now
+asked (commands.Sets program) = to_tell_sets program.now
 
 -- the command that the words ask for, where they ask for one
 abbrev pub asked_of : List (List ℕ) → Option Asked
-asked_of (word ∷ program ∷ []) = cond (bytes_eq word (codes "run")) (Some (to_run program)) None
+asked_of (word ∷ program ∷ []) = cond (bytes_eq word (codes "run")) (Some (to_run program)) (cond (bytes_eq word (codes "sets")) (Some (to_tell_sets program)) None)
 asked_of words = None
 
 abbrev pub IsAsked : List (List ℕ) → Asked → Type 0

@@ -5,6 +5,8 @@ ghost use Rattle.pact_words.specs.Words.{Answers, texts_of};
 pub enum Command<'a> {
     /// `run PROGRAM`: the program in the file of that name is run, and its rows are written.
     Run { program: &'a str },
+    /// `sets PROGRAM`: what the analysis finds of each operator of that program is written.
+    Sets { program: &'a str },
 }
 
 /// The command that the words ask for, without the program's own name. None where the first of them is
@@ -14,6 +16,7 @@ pub fn read_words<'a>(words: &[&'a str]) -> Option<Command<'a>>
 {
     match words {
         [word, program] if *word == "run" => Some(Command::Run { program: *program }),
+        [word, program] if *word == "sets" => Some(Command::Sets { program: *program }),
         _ => None,
     }
 }

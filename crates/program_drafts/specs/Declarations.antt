@@ -1,14 +1,23 @@
 -- Declarations that a text can spell.
-use Rattle.std.specs.Prelude.{◌≡◌, ◌≤◌, ℕ, IsTrue, List, [], length}
+use Rattle.std.specs.Prelude.{◌≡◌, ◌≤◌, ℕ, IsTrue, List, [], length, codes}
 use Rattle.std.specs.List.{AllByRecursion}
 use Rattle.pact_bag.specs.declared.columns.Column.{Column}
 use Rattle.program_drafts.specs.declared.declarations.OpKind.{OpKind}
-use Rattle.program_drafts.specs.declared.declarations.OpKind.TheVariants.{Map, Reduce, Match, Cross, CoGroup}
+use Rattle.program_drafts.specs.declared.declarations.OpKind.TheVariants.{Source as SourceKind, Map, Reduce, Match, Cross, CoGroup}
 use Rattle.program_drafts.specs.declared.declarations.Decl.{Decl}
 use Rattle.program_drafts.specs.declared.declarations.Decl.TheVariants.{Source, Op, Sink}
 use Rattle.tac_syntax.specs.Functions.{key_limit}
 use Rattle.tac_syntax.specs.Grammar.{IsNumber}
 use Rattle.tac_syntax.specs.Names.{is_name, is_file_name}
+
+-- the word by which texts tell what a source or an operator does
+abbrev pub kind_word : OpKind → List ℕ
+kind_word SourceKind = codes "source"
+kind_word Map = codes "map"
+kind_word Reduce = codes "reduce"
+kind_word Match = codes "match"
+kind_word Cross = codes "cross"
+kind_word CoGroup = codes "cogroup"
 
 -- a source has at most so many columns, a sink so many fields
 abbrev pub field_list_limit : ℕ

@@ -1,5 +1,8 @@
 //! What programs declare.
 
+ghost use Rattle.std.specs.Prelude.{◌≡◌};
+ghost use Rattle.program_drafts.specs.Declarations.{kind_word};
+
 use crate::numbers::Numbers;
 use pact_bag::Columns;
 use pact_record::Word;
@@ -13,6 +16,22 @@ pub enum OpKind {
     Match,
     Cross,
     CoGroup,
+}
+
+impl OpKind {
+    /// The word by which texts tell the kind.
+    pub fn word(self) -> &'static [u8]
+        ensures { result.now ≡ kind_word self }
+    {
+        match self {
+            OpKind::Source => b"source",
+            OpKind::Map => b"map",
+            OpKind::Reduce => b"reduce",
+            OpKind::Match => b"match",
+            OpKind::Cross => b"cross",
+            OpKind::CoGroup => b"cogroup",
+        }
+    }
 }
 
 /// One declaration of a program. What it refers to is given by its name, and may not be there.

@@ -12,15 +12,6 @@ use Rattle.program_text.specs.DeclarationWords.{key_pair_words, number_words}
 abbrev pub words_text : List LineWord → List ℕ
 words_text words = flat_map (λ v. 32 ∷ v) (map word_text words)
 
--- the word that an operator's line begins with
-abbrev pub op_text : OpKind → List ℕ
-op_text SourceKind = codes "source"
-op_text Map = codes "map"
-op_text Reduce = codes "reduce"
-op_text Match = codes "match"
-op_text Cross = codes "cross"
-op_text CoGroup = codes "cogroup"
-
 abbrev pub right_words : OpKind → List ℕ → List LineWord
 right_words kind right = if has_right kind then plain_word right ∷ [] else []
 

@@ -2,10 +2,10 @@
 
 ghost use Rattle.std.specs.Prelude.{◌≡◌, ◌++◌, ◌∷◌, [], IfOk, OnOk, codes, decimal, map};
 ghost use Rattle.program_drafts.specs.declared.declarations.OpKind.TheVariants.{Match};
-ghost use Rattle.program_drafts.specs.Declarations.{IsSpelledDecl};
+ghost use Rattle.program_drafts.specs.Declarations.{IsSpelledDecl, kind_word};
 ghost use Rattle.text_lines.specs.CanonicalLines.{canonical_line};
 ghost use Rattle.program_text.specs.DeclarationWords.{column_word, number_words, plain_words, words_of_decl};
-ghost use Rattle.program_text.specs.DeclarationWriting.{keys_words, op_text, right_words, words_text};
+ghost use Rattle.program_text.specs.DeclarationWriting.{keys_words, right_words, words_text};
 
 use crate::declaration_parts::has_right;
 use pact_bag::Columns;
@@ -45,19 +45,6 @@ fn put_columns(alloc: Global, line: &mut Bytes, columns: &Columns) -> Result<(),
         put_number(alloc, line, front, column.field)?;
     }
     Ok(())
-}
-
-fn op_text(kind: OpKind) -> &'static [u8]
-    ensures { result.now ≡ op_text kind }
-{
-    match kind {
-        OpKind::Source => b"source",
-        OpKind::Map => b"map",
-        OpKind::Reduce => b"reduce",
-        OpKind::Match => b"match",
-        OpKind::Cross => b"cross",
-        OpKind::CoGroup => b"cogroup",
-    }
 }
 
 fn put_right(line: &mut Bytes, kind: OpKind, right: &Word) -> Result<(), OutOfMemory>
@@ -110,9 +97,9 @@ fn op_front(
     function: &Word,
     left: &Word,
 ) -> Result<Bytes, OutOfMemory>
-    ensures { IfOk result (λ line. line ≡ op_text kind ++ words_text (plain_words (name.now ∷ function.now ∷ left.now ∷ []))) }
+    ensures { IfOk result (λ line. line ≡ kind_word kind ++ words_text (plain_words (name.now ∷ function.now ∷ left.now ∷ []))) }
 {
-    let mut line = Bytes::from_slice(alloc, op_text(kind))?;
+    let mut line = Bytes::from_slice(alloc, kind.word())?;
     put_word(&mut line, name.bytes())?;
     put_word(&mut line, function.bytes())?;
     put_word(&mut line, left.bytes())?;

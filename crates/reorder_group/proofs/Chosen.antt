@@ -22,7 +22,7 @@ AreChosen-weaker P Q f (k ∷ ks) out h = (h.0, h.1, f k h.0 h.2, h.3, AreChosen
 parts_swapped : (a b c : Bag) → Perm (a ++ (b ++ c)) (b ++ (a ++ c))
 parts_swapped a b c = chains (is_same (sym (append_assoc a b c))) (chains (after c (crossed_over a b)) (is_same (append_assoc b a c)))
 
-AreChosen-permuted : (P : Key → Bag → Type 0) {ks js : List Key} → Perm ks js → (out : Bag) → AreChosen P ks out → (now : Bag) × AreChosen P js now × Perm out now
+pub AreChosen-permuted : (P : Key → Bag → Type 0) {ks js : List Key} → Perm ks js → (out : Bag) → AreChosen P ks out → (now : Bag) × AreChosen P js now × Perm out now
 AreChosen-permuted P nothing out h = (out, h, same out)
 AreChosen-permuted P (keeps p) out h =
     let rest = AreChosen-permuted P p h.1 h.4 in
@@ -51,7 +51,7 @@ pub record Carries (f : Row → Bag) (P Q : Key → Bag → Type 0) (ks js : Lis
   pub has_all : HasAll ks js
 
 -- the first key of a list, and those behind it
-first_occurs : (k : Key) (ks : List Key) → occurs k (k ∷ ks) ≡ true
+pub first_occurs : (k : Key) (ks : List Key) → occurs k (k ∷ ks) ≡ true
 first_occurs k ks = or_left (is_same_key k k) (occurs k ks) (key_itself k)
 
 later_occurs : (j k : Key) (ks : List Key) → occurs k ks ≡ true → occurs k (j ∷ ks) ≡ true

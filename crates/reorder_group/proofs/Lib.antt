@@ -10,3 +10,4 @@ pub mod GroupLaws
 pub mod FoundGroups
 pub mod LegalExchanges
 pub mod JudgedGroups
+pub mod OneBag

@@ -50,6 +50,19 @@ fn found_in(program: &Program, at: u32, trees: &Trees) -> Found
     }
 }
 
+/// What is found of an operator in the context that it has in the plan.
+pub fn found_in_plan(program: &Program, plan: &Plan, at: u32) -> Found
+    requires operator { kind_at program.now.ops at ≡ Source → ⊥ }
+    requires place { has at plan.now ≡ true }
+    ensures { IsFound program.now at plan.now plan.now result }
+{
+    let trees = Trees {
+        before: *plan,
+        after: *plan,
+    };
+    found_in(program, at, &trees)
+}
+
 // What is found of the upper and of the lower operator.
 pub(crate) fn both_found(
     program: &Program,

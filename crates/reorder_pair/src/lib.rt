@@ -15,6 +15,6 @@ mod trees;
 pub use exchanges::{
     apply_pair, exchanged_tree, found, legal_but_for_groups, legal_pair, swapped_plan,
 };
-pub use finding::Found;
+pub use finding::{Found, found_in_plan};
 pub use legality::{Clash, Condition, NotLegal};
 pub use rules::{Exchange, Role, Rule};

@@ -18,5 +18,5 @@ sorted_lines-requires-clause-within g c = rw c.sink.ensures.sink (sink_within c.
 
 pub returns : goal.returns
 returns g c =
-    run_text c.args.name.now c.in_ok-program.program c.in_ok-inputs.inputs c.in_ok-outcome.outcome.rows c.in_ok-text.text c.in_ok-program.ensures c.in_ok-inputs.ensures.comes
+    run_text c.args.name.now c.in_ok-program.program c.in_ok-inputs.inputs c.in_ok-outcome.outcome.rows c.in_ok-text.text c.in_ok-program.ensures c.in_ok-inputs.ensures.comes c.plan.ensures.keeps
     (rw (← c.plan.ensures.plan) c.in_ok-outcome.ensures.allowed) (rw (← c.sink.ensures.sink) c.in_ok-text.ensures)

@@ -1,15 +1,13 @@
-use Rattle.std.proofs.Common.{◌≡◌, ℕ, List, Bor, refl, sym, ap, ◌∙◌}
-use Rattle.pact_words.specs.declared.commands.Command.{Command}
-use Rattle.pact_words.specs.declared.commands.Command.TheVariants as commands
-use Rattle.pact_words.specs.Words.{asked, to_run}
+use Rattle.std.proofs.Common.{◌≡◌, sym, ap, ◌∙◌}
+use Rattle.pact_words.specs.Words.{asked, to_run, to_tell_sets}
 use Rattle.pact_top.proofs.answering.text_for.Goals as goal
 
-pub returns : goal.returns
-returns g c =
-    let r = is_run c.args.command in
-    let name : c.as_bytes.result.now ≡ r.0.now = rw r.1 at c.as_bytes.ensures.value in
-    let same : to_run c.as_bytes.result.now ≡ asked c.args.command = ap to_run name ∙ ap asked (sym r.1) in
+pub returns-in-Run : goal.returns-in-Run
+returns-in-Run g c =
+    let same : to_run c.as_bytes.result.now ≡ asked c.args.command = ap to_run c.as_bytes.ensures.value ∙ ap asked (sym c.in-Run.is) in
     rw (← same) c.run.ensures
-  where
-    is_run : (command : Command) → (p : Bor (List ℕ)) × (command ≡ commands.Run p)
-    is_run (commands.Run p) = (p, refl)
+
+pub returns-in-Sets : goal.returns-in-Sets
+returns-in-Sets g c =
+    let same : to_tell_sets c.as_bytes-in-Sets.result.now ≡ asked c.args.command = ap to_tell_sets c.as_bytes-in-Sets.ensures.value ∙ ap asked (sym c.in-Sets.is) in
+    rw (← same) c.sets.ensures

@@ -1,0 +1,11 @@
+use Rattle.std.proofs.lemmas.Result.{err_from_is_err_and}
+use Rattle.pact_top.proofs.Running.{sets_program, sets_told}
+use Rattle.pact_top.proofs.answering.sets.Goals as goal
+
+pub returns-in_err-program : goal.returns-in_err-program
+returns-in_err-program g c =
+    let p = err_from_is_err_and c.from_residual.result c.from_residual.ensures.1 in
+    rw (p.1, p.2) (sets_program c.args.name.now c.in_err-program.field-0.0 c.in_err-program.ensures)
+
+pub returns : goal.returns
+returns g c = sets_told c.args.name.now c.in_ok-program.program c.in_ok-text.text c.in_ok-program.ensures c.in_ok-text.ensures

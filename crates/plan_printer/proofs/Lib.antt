@@ -1,0 +1,2 @@
+pub mod ListedFields
+pub mod LinesSoFar

@@ -1,0 +1,74 @@
+-- Fields with commas between them, one more at the end.
+use Rattle.std.proofs.Common.{◌≡◌, ◌≤◌, ◌<◌, ◌+◌, ◌++◌, ℕ, zero, suc, Bool, true, false, cond, List, [], ◌∷◌, length, refl, ap, subst, sym, ◌∙◌, append_assoc, append-nil, length-append, ne_eqb, arith}
+use Rattle.std.specs.List.{AllByRecursion}
+use Rattle.std.specs.Prelude.{◌==◌, if◌then◌else◌, codes, decimal}
+use Rattle.std.proofs.lemmas.Fmt.{decimal_nonempty}
+use Rattle.pact_record.specs.declared.records.TheConstants.{MAX_FIELDS}
+use Rattle.pact_record.specs.FieldSets.{has_field}
+use Rattle.pact_record.proofs.Lists.{AllByRecursion-last}
+use Rattle.plan_printer.specs.FoundText.{behind_commas, fields_below, with_commas}
+
+-- ---- one number more
+
+behind_commas-last : (ns : List ℕ) (n : ℕ) → behind_commas (ns ++ n ∷ []) ≡ behind_commas ns ++ (codes "," ++ decimal n)
+behind_commas-last [] n = ap (λ (t : List ℕ). 44 ∷ t) (append-nil (decimal n))
+behind_commas-last (m ∷ ns) n =
+    ap (λ (t : List ℕ). 44 ∷ (decimal m ++ t)) (behind_commas-last ns n)
+    ∙ ap (λ (t : List ℕ). 44 ∷ t) (sym (append_assoc (decimal m) (behind_commas ns) (codes "," ++ decimal n)))
+
+-- what stands before the next number
+abbrev comma_behind : List ℕ → List ℕ
+comma_behind text = if length text == 0 then [] else codes ","
+
+comma_behind-some : (text : List ℕ) → 0 < length text → comma_behind text ≡ codes ","
+comma_behind-some text h = ap (λ (none : Bool). cond none [] (codes ",")) (ne_eqb (length text) 0 (λ e. omega (arith, h, e)))
+
+some_text : (m : ℕ) (ns : List ℕ) → m < MAX_FIELDS → 0 < length (with_commas (m ∷ ns))
+some_text m ns h = omega (arith, decimal_nonempty m (omega (arith, h)), length-append (decimal m) (behind_commas ns))
+
+with_commas-last : (ns : List ℕ) (n : ℕ) → AllByRecursion (λ k. k < MAX_FIELDS) ns → with_commas (ns ++ n ∷ []) ≡ with_commas ns ++ (comma_behind (with_commas ns) ++ decimal n)
+with_commas-last [] n h = append-nil (decimal n)
+with_commas-last (m ∷ ns) n h =
+    ap (λ (t : List ℕ). decimal m ++ t) (behind_commas-last ns n)
+    ∙ sym (append_assoc (decimal m) (behind_commas ns) (codes "," ++ decimal n))
+    ∙ ap (λ (t : List ℕ). with_commas (m ∷ ns) ++ (t ++ decimal n)) (sym (comma_behind-some (with_commas (m ∷ ns)) (some_text m ns h.0)))
+
+-- ---- the fields of a set
+
+maybe_last : (has : Bool) (ns : List ℕ) (n : ℕ) → AllByRecursion (λ k. k < MAX_FIELDS) ns → n < MAX_FIELDS → AllByRecursion (λ k. k < MAX_FIELDS) (ns ++ cond has (n ∷ []) [])
+maybe_last true ns n h lt = AllByRecursion-last (λ k. k < MAX_FIELDS) ns n h lt
+maybe_last false ns n h lt = subst (AllByRecursion (λ k. k < MAX_FIELDS)) (sym (append-nil ns)) h
+
+fields_below-within : (set n : ℕ) → n ≤ MAX_FIELDS → AllByRecursion (λ k. k < MAX_FIELDS) (fields_below set n)
+unfolding fields_below
+fields_below-within set zero le = tt
+fields_below-within set (suc n) le = maybe_last (has_field set n) (fields_below set n) n (fields_below-within set n (omega (arith, le))) (omega (arith, le))
+
+-- before the first
+pub fields_below-zero : (set : ℕ) → with_commas (fields_below set 0) ≡ []
+unfolding fields_below
+fields_below-zero set = refl
+
+fields_below-without : (set n m : ℕ) → m ≡ suc n → has_field set n ≡ false → with_commas (fields_below set m) ≡ with_commas (fields_below set n)
+unfolding fields_below
+fields_below-without set n m e h =
+    ap (λ (k : ℕ). with_commas (fields_below set k)) e
+    ∙ ap (λ (has : Bool). with_commas (fields_below set n ++ cond has (n ∷ []) [])) h
+    ∙ ap with_commas (append-nil (fields_below set n))
+
+fields_below-with : (set n m : ℕ) → n < MAX_FIELDS → m ≡ suc n → has_field set n ≡ true
+    → with_commas (fields_below set m) ≡ with_commas (fields_below set n) ++ (comma_behind (with_commas (fields_below set n)) ++ decimal n)
+unfolding fields_below
+fields_below-with set n m lt e h =
+    ap (λ (k : ℕ). with_commas (fields_below set k)) e
+    ∙ ap (λ (has : Bool). with_commas (fields_below set n ++ cond has (n ∷ []) [])) h
+    ∙ with_commas-last (fields_below set n) n (fields_below-within set n (omega (arith, lt)))
+
+-- the text behind a field that the set doesn't have, and behind one that it has
+pub passed_over : (set n : ℕ) (text next : List ℕ) → has_field set n ≡ false → text ≡ with_commas (fields_below set n) → next ≡ text → next ≡ with_commas (fields_below set (n + 1))
+passed_over set n text next h e same = same ∙ e ∙ sym (fields_below-without set n (n + 1) (omega arith) h)
+
+pub listed : (set n : ℕ) (text next : List ℕ) → n < MAX_FIELDS → has_field set n ≡ true → text ≡ with_commas (fields_below set n) → next ≡ text ++ (comma_behind text ++ decimal n)
+    → next ≡ with_commas (fields_below set (n + 1))
+listed set n text next lt h e more =
+    more ∙ ap (λ (t : List ℕ). t ++ (comma_behind t ++ decimal n)) e ∙ sym (fields_below-with set n (n + 1) lt (omega arith) h)

@@ -1,0 +1,44 @@
+-- What the analysis finds of a program's operators, a line for each.
+use Rattle.std.specs.Prelude.{◌≡◌, ◌++◌, ◌↔◌, ◌+◌, ℕ, Bool, true, false, List, [], ◌∷◌, IsTrue, codes, Some, slice_get}
+use Rattle.program_drafts.specs.declared.declarations.OpKind.{OpKind}
+use Rattle.program_drafts.specs.declared.declarations.OpKind.TheVariants.{Source}
+use Rattle.program_drafts.specs.Declarations.{kind_word}
+use Rattle.pact_operators.specs.declared.operators.Op.{Op}
+use Rattle.pact_operators.specs.Programs.{ProgramData}
+use Rattle.tac_syntax.specs.Valid.{WithFields}
+use Rattle.order_free.specs.OrderFree.{IsOrderFree}
+use Rattle.reorder_pair.specs.declared.finding.Found.{Found}
+use Rattle.reorder_pair.specs.Places.{IsFound}
+use Rattle.plan_printer.specs.FoundText.{found_text}
+
+abbrev pub yes_or_no : Bool → List ℕ
+yes_or_no true = codes "yes"
+yes_or_no false = codes "no"
+
+-- whether the function passes the order test
+pub record IsJudged (p : ProgramData) (op : Op) (passes : Bool) : Type 0 where
+  pub called : WithFields
+  pub function : slice_get p.functions op.function ≡ Some called
+  pub test : IsTrue passes ↔ IsOrderFree called.function.kind called.function.body
+
+-- An operator's line: its name, its kind, what is found of it in the plan as written, and whether its function passes the order test.
+pub record IsOperatorLine (p : ProgramData) (n : ℕ) (op : Op) (line : List ℕ) : Type 0 where
+  pub found : Found
+  pub is_found : IsFound p n p.plan p.plan found
+  pub passes : Bool
+  pub judged : IsJudged p op passes
+  pub spelled : line ≡ op.name ++ (codes " " ++ (kind_word op.kind ++ (codes " " ++ (found_text found ++ (codes " order " ++ (yes_or_no passes ++ codes "\n"))))))
+
+-- A source has none.
+abbrev pub IsLineOf : ProgramData → ℕ → OpKind → Op → List ℕ → Type 0
+IsLineOf p n Source op line = line ≡ []
+IsLineOf p n kind op line = IsOperatorLine p n op line
+
+-- the lines of sources and operators that are numbered from `n` on, one behind the other
+abbrev pub AreLinesFrom : ProgramData → ℕ → List Op → List ℕ → Type 0
+AreLinesFrom p n [] text = text ≡ []
+AreLinesFrom p n (op ∷ ops) text = (line : List ℕ) × (rest : List ℕ) × IsLineOf p n op.kind op line × AreLinesFrom p (n + 1) ops rest × (text ≡ line ++ rest)
+
+-- in text order
+abbrev pub IsSetsText : ProgramData → List ℕ → Type 0
+IsSetsText p text = AreLinesFrom p 0 p.ops text
