@@ -4,6 +4,3 @@
 mod writing;
 
 pub use writing::write_rows;
-
-#[cfg(test)]
-mod tests;

@@ -12,6 +12,3 @@ pub use counts::Counts;
 pub use outcomes::Outcome;
 pub use projecting::project;
 pub use rows::{Inputs, NoRoom, Rows, sort_rows};
-
-#[cfg(test)]
-mod tests;

@@ -28,6 +28,3 @@ pub use plan_trees::{MAX_NODES, Parts, Physical, Plan, Shape, Ship};
 pub use program_drafts::{Decl, Draft, Numbers, OpKind, ValidList, functions_of};
 pub use program_rules::ProgramRule;
 pub use programs::Program;
-
-#[cfg(test)]
-mod tests;

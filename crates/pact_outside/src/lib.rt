@@ -29,6 +29,3 @@ pub use stream_sink::StreamSink;
 /// A feed or a sink failed. Its count of faults says how often it did.
 #[derive(Clone, Copy, Debug, PartialEq, Eq)]
 pub struct Failed;
-
-#[cfg(test)]
-mod tests;

@@ -5,3 +5,4 @@ pub mod Lists
 pub mod SideBySide
 pub mod Members
 pub mod Permutations
+pub mod SortedLists

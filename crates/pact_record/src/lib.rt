@@ -25,12 +25,3 @@ pub use std::alloc::AllocError as OutOfMemory;
 pub use texts::{MAX_TEXT, NotText, Text};
 pub use values::Value;
 pub use words::{MAX_WORD, Word};
-
-#[cfg(test)]
-mod field_tests;
-#[cfg(test)]
-mod operations_tests;
-#[cfg(test)]
-mod pair_tests;
-#[cfg(test)]
-mod tests;

@@ -7,7 +7,6 @@ pub mod OnlyBag
 pub mod Pieces
 pub mod Progress
 pub mod Running
-pub mod SortedLists
 pub mod Sources
 pub mod SourceNames
 pub mod StageLaws

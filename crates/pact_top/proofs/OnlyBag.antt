@@ -6,6 +6,7 @@ use Rattle.pact_record.specs.Order.{records_total}
 use Rattle.pact_record.specs.Record.{record_cmp}
 use Rattle.pact_record.proofs.Lists.{AllByRecursion-slice_get}
 use Rattle.pact_record.proofs.Permutations.{chains, from_permutation, map_perm, to_permutation, turned}
+use Rattle.pact_record.proofs.SortedLists.{one_sorted}
 use Rattle.pact_bag.specs.Rows.{cut}
 use Rattle.pact_bag.proofs.KeyGroups.{same_keys}
 use Rattle.csv_sink.specs.CsvText.{csv_text}
@@ -28,7 +29,6 @@ use Rattle.pact_operators.proofs.SoundPrograms.{function_kind-for}
 use Rattle.reorder_group.proofs.OneBag.{AllPermute, PermutesAt, one_bag}
 use Rattle.pact_top.specs.Lines.{AreLines}
 use Rattle.pact_top.specs.OrderFreePrograms.{AreGroupsFree, IsGrouping}
-use Rattle.pact_top.proofs.SortedLists.{one_sorted}
 
 -- ---- one bag
 

@@ -47,7 +47,7 @@ run_text {before} {mid} {now} name p inputs bag text h g program allowed lines =
         bag = bag;
         allowed = allowed;
         lines = lines;
-        only = λ free other also. only_bag p program free inputs p.plan bag other allowed also;
+        only_bag = λ free other also. only_bag p program free inputs p.plan bag other allowed also;
         only_text = λ free other spelled also its. sym (one_text p.sink bag other text spelled (only_bag p program free inputs p.plan bag other allowed also) lines its);
       },
     )

@@ -123,7 +123,7 @@ pub record IsAnswerOf (l : Loaded) (text : List ℕ) : Type 0 where
   pub bag : Bag
   pub allowed : AllowsWritten l bag
   pub lines : AreLines l.program.sink bag text
-  pub only : AreGroupsFree l.program → (other : Bag) → AllowsWritten l other → IsPermutation bag other
+  pub only_bag : AreGroupsFree l.program → (other : Bag) → AllowsWritten l other → IsPermutation bag other
   pub only_text : AreGroupsFree l.program → (other : Bag) (lines : List ℕ) → AllowsWritten l other → AreLines l.program.sink other lines → lines ≡ text
 
 abbrev pub IsTextOf : Ready → List ℕ → Type 0

@@ -7,6 +7,3 @@
 pub mod commands;
 
 pub use commands::{Command, read_words};
-
-#[cfg(test)]
-mod tests;

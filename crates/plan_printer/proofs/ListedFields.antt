@@ -6,7 +6,7 @@ use Rattle.std.proofs.lemmas.Fmt.{decimal_nonempty}
 use Rattle.pact_record.specs.declared.records.TheConstants.{MAX_FIELDS}
 use Rattle.pact_record.specs.FieldSets.{has_field}
 use Rattle.pact_record.proofs.Lists.{AllByRecursion-last}
-use Rattle.plan_printer.specs.FoundText.{behind_commas, fields_below, with_commas}
+use Rattle.plan_printer.specs.FoundText.{behind_commas, rising_fields, with_commas}
 
 -- ---- one number more
 
@@ -39,36 +39,36 @@ maybe_last : (has : Bool) (ns : List ℕ) (n : ℕ) → AllByRecursion (λ k. k 
 maybe_last true ns n h lt = AllByRecursion-last (λ k. k < MAX_FIELDS) ns n h lt
 maybe_last false ns n h lt = subst (AllByRecursion (λ k. k < MAX_FIELDS)) (sym (append-nil ns)) h
 
-fields_below-within : (set n : ℕ) → n ≤ MAX_FIELDS → AllByRecursion (λ k. k < MAX_FIELDS) (fields_below set n)
-unfolding fields_below
-fields_below-within set zero le = tt
-fields_below-within set (suc n) le = maybe_last (has_field set n) (fields_below set n) n (fields_below-within set n (omega (arith, le))) (omega (arith, le))
+rising_fields-within : (set n : ℕ) → n ≤ MAX_FIELDS → AllByRecursion (λ k. k < MAX_FIELDS) (rising_fields set n)
+unfolding rising_fields
+rising_fields-within set zero le = tt
+rising_fields-within set (suc n) le = maybe_last (has_field set n) (rising_fields set n) n (rising_fields-within set n (omega (arith, le))) (omega (arith, le))
 
 -- before the first
-pub fields_below-zero : (set : ℕ) → with_commas (fields_below set 0) ≡ []
-unfolding fields_below
-fields_below-zero set = refl
+pub rising_fields-zero : (set : ℕ) → with_commas (rising_fields set 0) ≡ []
+unfolding rising_fields
+rising_fields-zero set = refl
 
-fields_below-without : (set n m : ℕ) → m ≡ suc n → has_field set n ≡ false → with_commas (fields_below set m) ≡ with_commas (fields_below set n)
-unfolding fields_below
-fields_below-without set n m e h =
-    ap (λ (k : ℕ). with_commas (fields_below set k)) e
-    ∙ ap (λ (has : Bool). with_commas (fields_below set n ++ cond has (n ∷ []) [])) h
-    ∙ ap with_commas (append-nil (fields_below set n))
+rising_fields-without : (set n m : ℕ) → m ≡ suc n → has_field set n ≡ false → with_commas (rising_fields set m) ≡ with_commas (rising_fields set n)
+unfolding rising_fields
+rising_fields-without set n m e h =
+    ap (λ (k : ℕ). with_commas (rising_fields set k)) e
+    ∙ ap (λ (has : Bool). with_commas (rising_fields set n ++ cond has (n ∷ []) [])) h
+    ∙ ap with_commas (append-nil (rising_fields set n))
 
-fields_below-with : (set n m : ℕ) → n < MAX_FIELDS → m ≡ suc n → has_field set n ≡ true
-    → with_commas (fields_below set m) ≡ with_commas (fields_below set n) ++ (comma_behind (with_commas (fields_below set n)) ++ decimal n)
-unfolding fields_below
-fields_below-with set n m lt e h =
-    ap (λ (k : ℕ). with_commas (fields_below set k)) e
-    ∙ ap (λ (has : Bool). with_commas (fields_below set n ++ cond has (n ∷ []) [])) h
-    ∙ with_commas-last (fields_below set n) n (fields_below-within set n (omega (arith, lt)))
+rising_fields-with : (set n m : ℕ) → n < MAX_FIELDS → m ≡ suc n → has_field set n ≡ true
+    → with_commas (rising_fields set m) ≡ with_commas (rising_fields set n) ++ (comma_behind (with_commas (rising_fields set n)) ++ decimal n)
+unfolding rising_fields
+rising_fields-with set n m lt e h =
+    ap (λ (k : ℕ). with_commas (rising_fields set k)) e
+    ∙ ap (λ (has : Bool). with_commas (rising_fields set n ++ cond has (n ∷ []) [])) h
+    ∙ with_commas-last (rising_fields set n) n (rising_fields-within set n (omega (arith, lt)))
 
 -- the text behind a field that the set doesn't have, and behind one that it has
-pub passed_over : (set n : ℕ) (text next : List ℕ) → has_field set n ≡ false → text ≡ with_commas (fields_below set n) → next ≡ text → next ≡ with_commas (fields_below set (n + 1))
-passed_over set n text next h e same = same ∙ e ∙ sym (fields_below-without set n (n + 1) (omega arith) h)
+pub passed_over : (set n : ℕ) (text next : List ℕ) → has_field set n ≡ false → text ≡ with_commas (rising_fields set n) → next ≡ text → next ≡ with_commas (rising_fields set (n + 1))
+passed_over set n text next h e same = same ∙ e ∙ sym (rising_fields-without set n (n + 1) (omega arith) h)
 
-pub listed : (set n : ℕ) (text next : List ℕ) → n < MAX_FIELDS → has_field set n ≡ true → text ≡ with_commas (fields_below set n) → next ≡ text ++ (comma_behind text ++ decimal n)
-    → next ≡ with_commas (fields_below set (n + 1))
+pub listed : (set n : ℕ) (text next : List ℕ) → n < MAX_FIELDS → has_field set n ≡ true → text ≡ with_commas (rising_fields set n) → next ≡ text ++ (comma_behind text ++ decimal n)
+    → next ≡ with_commas (rising_fields set (n + 1))
 listed set n text next lt h e more =
-    more ∙ ap (λ (t : List ℕ). t ++ (comma_behind t ++ decimal n)) e ∙ sym (fields_below-with set n (n + 1) lt (omega arith) h)
+    more ∙ ap (λ (t : List ℕ). t ++ (comma_behind t ++ decimal n)) e ∙ sym (rising_fields-with set n (n + 1) lt (omega arith) h)

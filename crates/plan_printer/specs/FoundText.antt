@@ -6,9 +6,9 @@ use Rattle.tac_syntax.specs.EmitBounds.{many}
 use Rattle.reorder_pair.specs.declared.finding.Found.{Found}
 
 -- the fields of a set below a number, rising
-unfoldable pub fields_below : ℕ → ℕ → List ℕ
-fields_below set zero = []
-fields_below set (suc n) = fields_below set n ++ cond (has_field set n) (n ∷ []) []
+unfoldable pub rising_fields : ℕ → ℕ → List ℕ
+rising_fields set zero = []
+rising_fields set (suc n) = rising_fields set n ++ cond (has_field set n) (n ∷ []) []
 
 -- numbers, each behind a comma
 abbrev pub behind_commas : List ℕ → List ℕ
@@ -22,7 +22,7 @@ with_commas (n ∷ numbers) = decimal n ++ behind_commas numbers
 
 -- a set as its fields between braces: `{}`, `{0,1}`
 abbrev pub set_text : ℕ → List ℕ
-set_text set = codes "{" ++ (with_commas (fields_below set MAX_FIELDS) ++ codes "}")
+set_text set = codes "{" ++ (with_commas (rising_fields set MAX_FIELDS) ++ codes "}")
 
 -- How many records a call gives; a number at which counting stops is no bound, and told as such.
 abbrev pub bound_text : ℕ → List ℕ

@@ -21,13 +21,16 @@ pub record IsJudged (p : ProgramData) (op : Op) (passes : Bool) : Type 0 where
   pub function : slice_get p.functions op.function ≡ Some called
   pub test : IsTrue passes ↔ IsOrderFree called.function.kind called.function.body
 
+abbrev pub line_text : List ℕ → OpKind → Found → Bool → List ℕ
+line_text name kind found passes = name ++ (codes " " ++ (kind_word kind ++ (codes " " ++ (found_text found ++ (codes " order " ++ (yes_or_no passes ++ codes "\n"))))))
+
 -- An operator's line: its name, its kind, what is found of it in the plan as written, and whether its function passes the order test.
 pub record IsOperatorLine (p : ProgramData) (n : ℕ) (op : Op) (line : List ℕ) : Type 0 where
   pub found : Found
   pub is_found : IsFound p n p.plan p.plan found
   pub passes : Bool
   pub judged : IsJudged p op passes
-  pub spelled : line ≡ op.name ++ (codes " " ++ (kind_word op.kind ++ (codes " " ++ (found_text found ++ (codes " order " ++ (yes_or_no passes ++ codes "\n"))))))
+  pub spelled : line ≡ line_text op.name op.kind found passes
 
 -- A source has none.
 abbrev pub IsLineOf : ProgramData → ℕ → OpKind → Op → List ℕ → Type 0

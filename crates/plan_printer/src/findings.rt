@@ -28,7 +28,7 @@ fn push_listed(alloc: Global, text: &mut Bytes, number: u32) -> Result<(), OutOf
 
 // The fields of a set, without its braces.
 fn fields_text(alloc: Global, set: Fields) -> Result<Bytes, OutOfMemory>
-    ensures { IfOk result (λ text. text ≡ texts.with_commas (texts.fields_below set MAX_FIELDS)) }
+    ensures { IfOk result (λ text. text ≡ texts.with_commas (texts.rising_fields set MAX_FIELDS)) }
 {
     let mut text = Bytes::new(alloc);
     for field in 0..MAX_FIELDS {

@@ -2,9 +2,7 @@
 
 ghost use Rattle.std.specs.Prelude.{◌≡◌, ◌++◌, IfOk, OnOk, Some, codes, slice_get};
 ghost use Rattle.program_drafts.specs.declared.declarations.OpKind.TheVariants.{Source};
-ghost use Rattle.program_drafts.specs.Declarations.{kind_word};
-ghost use Rattle.plan_printer.specs.FoundText.{found_text};
-ghost use Rattle.plan_printer.specs.SetsText.{IsLineOf, IsOperatorLine, IsSetsText, yes_or_no};
+ghost use Rattle.plan_printer.specs.SetsText.{IsLineOf, IsOperatorLine, IsSetsText, line_text, yes_or_no};
 
 use crate::findings::found_text;
 use order_free::order_test;
@@ -34,7 +32,7 @@ fn spelled_line(
     found: &Found,
     passes: bool,
 ) -> Result<Bytes, OutOfMemory>
-    ensures { IfOk result (λ line. line ≡ name.now ++ (codes " " ++ (kind_word kind ++ (codes " " ++ (found_text found.now ++ (codes " order " ++ (yes_or_no passes ++ codes "\n"))))))) }
+    ensures { IfOk result (λ line. line ≡ line_text name.now kind found.now passes) }
 {
     let mut line = Bytes::from_slice(alloc, name)?;
     push_spaced(&mut line, kind.word())?;

@@ -14,6 +14,3 @@ pub use physicals::{Physical, Ship};
 pub use plans::{Parts, Plan};
 pub use preorders::MAX_NODES;
 pub use shapes::Shape;
-
-#[cfg(test)]
-mod plan_tests;

@@ -4,10 +4,11 @@ ghost use Rattle.std.specs.Prelude.{◌≡◌, ◌<◌, ◌↔◌, true, IsTrue}
 ghost use Rattle.std.specs.Cmp.{partial_equiv_from_equiv};
 ghost use Rattle.plan_trees.specs.Distinct.{IsAbsent};
 ghost use Rattle.plan_trees.specs.Plans.{leaf, over, both, node_limit, root_of, nodes, has, subtree_of, replaced, input_of, IsPlan};
-ghost use Rattle.plan_trees.specs.PlanEquality.{same_plan, same_plan_laws};
+ghost use Rattle.plan_trees.specs.PlanEquality.{plan_writes, plan_writes-Alike, same_plan, same_plan_laws};
 ghost use Rattle.plan_trees.specs.PlanParts.{parts_of};
 
 use crate::preorders::{Node, Preorder};
+use std::hash::{Hash, Hasher};
 use std::marker::Model;
 
 /// A tree of operators and sources, each at most once. It is copied without memory.
@@ -50,6 +51,16 @@ impl PartialEq for Plan {
 
 impl Eq for Plan {
     ghost laws = { same_plan_laws };
+}
+
+impl Hash for Plan {
+    ghost hash_input = { plan_writes };
+
+    ghost respects_eq = { plan_writes-Alike.fed };
+
+    fn hash<H: Hasher>(&self, state: &mut H) {
+        self.nodes.nodes().hash(state);
+    }
 }
 
 /// The root of a plan and the plans of its inputs.

@@ -10,7 +10,7 @@ use std::marker::Model;
 pub const MAX_NODES: usize = 33;
 
 /// An operator or a source in its place in a plan.
-#[derive(Clone, Copy, Debug, PartialEq, Eq)]
+#[derive(Clone, Copy, Debug, PartialEq, Eq, Hash)]
 pub struct Node {
     /// Its number.
     pub at: u32,
@@ -67,6 +67,12 @@ impl Preorder {
         ensures { slice_get self.now n ≡ Some result }
     {
         self.held[n as usize]
+    }
+
+    pub fn nodes(&self) -> &[Node]
+        ensures { result.now ≡ self.now }
+    {
+        &self.held[..self.count as usize]
     }
 
     /// Puts all nodes of another list behind these.

@@ -19,6 +19,3 @@ pub use declaration_writing::write_declaration;
 pub use first_lines::{read_field_count, read_version};
 pub use program_reading::read_program;
 pub use program_writing::write_program;
-
-#[cfg(test)]
-mod program_tests;

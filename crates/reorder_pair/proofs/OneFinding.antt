@@ -1,5 +1,8 @@
--- What is found of an operator is one thing, and a condition that fails excludes that all hold.
-use Rattle.std.proofs.Common.{◌≡◌, ◌↔◌, inl, inr, ℕ, Bool, true, false, List, [], ◌∷◌, Some, refl, sym, ap, subst, ◌∙◌}
+-- What is found of an operator is one thing, also as the code keeps it, and a condition that fails excludes that all hold.
+use Rattle.std.proofs.Common.{◌≡◌, ◌<◌, ◌==◌, ◌↔◌, inl, inr, ℕ, Bool, true, false, List, [], ◌∷◌, Some, refl, sym, ap, subst, ◌∙◌, arith}
+use Rattle.std.proofs.lemmas.Bool.Decides.{nat_tests}
+use Rattle.std.proofs.lemmas.Nat.Bits.{bit_at-lt, same_from_bits}
+use Rattle.std.specs.Int.{bit_at}
 use Rattle.pact_record.specs.FieldSets.{has_field}
 use Rattle.tac_syntax.specs.Contexts.{FieldSet, Has}
 use Rattle.tac_syntax.specs.declared.contexts.Context.{Context}
@@ -11,10 +14,11 @@ use Rattle.tac_flow.specs.Views.{found_of, scope_in, sets_in}
 use Rattle.plan_trees.specs.Plans.{PlanTree, root_of, subtree_of}
 use Rattle.pact_operators.specs.Programs.{ProgramData}
 use Rattle.reorder_pair.specs.declared.finding.Found.{Found}
+use Rattle.reorder_pair.specs.declared.legality.Condition.{Condition}
 use Rattle.reorder_pair.specs.declared.legality.NotLegal.{NotLegal}
 use Rattle.reorder_pair.specs.declared.rules.Rule.{Rule}
 use Rattle.reorder_pair.specs.Conditions.{AllPass, Fails, FirstFails, Line, Passes, Uses, anchored, keeps_groups, lines, no_common, uses_of}
-use Rattle.reorder_pair.specs.Legal.{IsLegal, IsRefusal, lines_at}
+use Rattle.reorder_pair.specs.Legal.{IsConditionOf, IsLegal, IsRefusal, lines_at}
 use Rattle.reorder_pair.specs.Places.{IsFound, IsUnionOf}
 use Rattle.reorder_pair.specs.Rules.{exchanged_by}
 
@@ -60,6 +64,43 @@ module _ (p : ProgramData) (n : ℕ) (before after : PlanTree) where
       let low = h.least ∙ ap (λ (w : WithFields). least_emits w.function.body) f ∙ sym g.least in
       let high = h.most ∙ ap (λ (w : WithFields). most_emits w.function.body) f ∙ sym g.most in
       λ i. record { sets = sets i; touched = touched i; low = low i; high = high i }
+
+-- ---- as the code keeps it
+
+same_test : (a b : ℕ) → a < 2 → b < 2 → (a == 1) ≡ (b == 1) → a ≡ b
+same_test a b h k e = grind (arith, nat_tests)
+
+-- a set is the number of its bits
+same_bits : (a b : ℕ) → has_field a ≡ has_field b → a ≡ b
+unfolding has_field
+same_bits a b e = same_from_bits a b (λ i. same_test (bit_at a i) (bit_at b i) (bit_at-lt a i) (bit_at-lt b i) (ap (λ (s : FieldSet). s i) e))
+
+same_found : (s r : Found) → uses_of s ≡ uses_of r → s ≡ r
+same_found s r e =
+    let reads = same_bits s.sets.reads r.sets.reads (ap (λ (u : Uses). u.sets.reads) e) in
+    let writes = same_bits s.sets.writes r.sets.writes (ap (λ (u : Uses). u.sets.writes) e) in
+    let control = same_bits s.sets.control r.sets.control (ap (λ (u : Uses). u.sets.control) e) in
+    let touched = same_bits s.sets.touched r.sets.touched (ap (λ (u : Uses). u.touched) e) in
+    let anchor_left : s.sets.anchor_left ≡ r.sets.anchor_left = ap (λ (u : Uses). u.sets.anchor_left) e in
+    let anchor_right : s.sets.anchor_right ≡ r.sets.anchor_right = ap (λ (u : Uses). u.sets.anchor_right) e in
+    let low : s.lo ≡ r.lo = ap (λ (u : Uses). u.low) e in
+    let high : s.hi ≡ r.hi = ap (λ (u : Uses). u.high) e in
+    λ i. record {
+      sets = record { reads = reads i; writes = writes i; control = control i; touched = touched i; anchor_left = anchor_left i; anchor_right = anchor_right i };
+      lo = low i;
+      hi = high i;
+    }
+
+-- A legal exchange is told as one condition.
+pub one_condition : (p : ProgramData) (plan : PlanTree) (at : ℕ) (rule : Rule) (c d : Condition) → IsConditionOf p plan at rule c → IsConditionOf p plan at rule d → c ≡ d
+one_condition p plan at rule c d h k =
+    let before = subtree_of at plan in
+    let after = exchanged_by rule before in
+    let upper = same_found c.upper d.upper (uses_one p (root_of before) before after c.upper d.upper h.legal.found.found.of_upper k.legal.found.found.of_upper) in
+    let lower = same_found c.lower d.lower (uses_one p (root_of after) before after c.lower d.lower h.legal.found.found.of_lower k.legal.found.found.of_lower) in
+    let same_rule = h.same_rule ∙ sym k.same_rule in
+    let place = h.place ∙ sym k.place in
+    λ i. record { rule = same_rule i; at = place i; upper = upper i; lower = lower i }
 
 -- ---- conditions
 

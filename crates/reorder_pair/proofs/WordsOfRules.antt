@@ -1,12 +1,13 @@
 -- Each rule stands at its place among all rules, so a word that is none of theirs is no rule's.
-use Rattle.std.proofs.Common.{◌≡◌, ◌<◌, ◌≤◌, ◌+◌, ◌⊎◌, inl, inr, ℕ, true, false, nat_eq, nat_lt, List, [], ◌∷◌, get_or, refl, sym, ap, subst, ◌∙◌, arith}
+use Rattle.std.proofs.Common.{◌≡◌, ◌<◌, ◌≤◌, ◌+◌, ◌⊎◌, inl, inr, ℕ, true, false, nat_eq, nat_lt, List, [], ◌∷◌, get_or, slice_get, Some, refl, sym, ap, subst, ◌∙◌, arith}
 use Rattle.std.proofs.lemmas.Bool.{cases_Bool}
 use Rattle.std.proofs.lemmas.Bool.Decides.{nat_tests}
+use Rattle.std.proofs.lemmas.Option.{slice_get-get_or}
 use Rattle.std.specs.Cmp.Lexicographic.{pointwise}
 use Rattle.reorder_pair.specs.declared.rules.Rule.{Rule}
 use Rattle.reorder_pair.specs.declared.rules.Rule.TheVariants.{MapMap, MapLeft, MapLeftUp, MapRight, MapRightUp, Rotate, RotateUp, MapReduce, MapReduceUp, MapCoGroupLeft, MapCoGroupLeftUp, MapCoGroupRight, MapCoGroupRightUp}
 use Rattle.reorder_pair.specs.declared.rules.TheConstants.{RULES}
-use Rattle.reorder_pair.specs.Rules.{word_of}
+use Rattle.reorder_pair.specs.Rules.{all_rules, word_of}
 
 abbrev pub place_of : Rule → ℕ
 place_of MapMap = 0
@@ -52,6 +53,9 @@ at_place MapCoGroupLeft d = refl
 at_place MapCoGroupLeftUp d = refl
 at_place MapCoGroupRight d = refl
 at_place MapCoGroupRightUp d = refl
+
+pub all_rules-place_of : (rule : Rule) → slice_get all_rules (place_of rule) ≡ Some rule
+all_rules-place_of rule = slice_get-get_or all_rules (place_of rule) rule (place_of-below rule) ∙ ap Some (at_place rule rule)
 
 itself : (n : ℕ) → nat_eq n n ≡ true
 itself n = grind arith

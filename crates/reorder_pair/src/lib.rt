@@ -2,19 +2,22 @@
 //!
 //! A legal exchange keeps what the plan allows over every input. `specs/Rules` has the rules, `specs/Conditions` what is asked of the two
 //! operators, in the order in which a refusal is told, and `specs/Legal` when an exchange is legal. All of it is said of every
-//! rule; `legal_pair` and `apply_pair` serve those in which no group is made. They and `reorder_group` stand on
+//! rule; `legal_pair` and `apply_pair` serve those in which no group is made, and `found_in_plan` tells what is found of one operator. They and `reorder_group` stand on
 //! `legal_but_for_groups` and `swapped_plan`.
 #![tactic(auto)]
 
+pub mod condition_lists;
 mod exchanges;
 pub mod finding;
 pub mod legality;
 pub mod rules;
 mod trees;
 
+pub use condition_lists::ConditionList;
 pub use exchanges::{
     apply_pair, exchanged_tree, found, legal_but_for_groups, legal_pair, swapped_plan,
 };
 pub use finding::{Found, found_in_plan};
 pub use legality::{Clash, Condition, NotLegal};
 pub use rules::{Exchange, Role, Rule};
+pub use trees::kind_of;

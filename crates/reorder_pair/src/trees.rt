@@ -16,8 +16,8 @@ pub(crate) struct Trees {
     pub after: Plan,
 }
 
-// The kind of the operator or source of a number.
-fn kind_of(program: &Program, at: u32) -> OpKind
+/// The kind of the operator or source of a number. One that the program doesn't have is taken for a source.
+pub fn kind_of(program: &Program, at: u32) -> OpKind
     ensures { result ≡ kind_at program.now.ops at }
 {
     match program.ops().get(at as usize) {

@@ -17,6 +17,3 @@ mod walks;
 
 pub use analysis::sets;
 pub use found_sets::Sets;
-
-#[cfg(test)]
-mod tests;

@@ -12,6 +12,3 @@ mod registers;
 mod runs;
 
 pub use calls::{call_cogroup, call_group, call_map, call_pair};
-
-#[cfg(test)]
-mod tests;

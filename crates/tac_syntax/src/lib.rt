@@ -22,6 +22,3 @@ pub use statements::{
     Body, LoopList, MAX_NESTING, NotPushed, RECORD_REGISTERS, Rec, Stmt, VALUE_REGISTERS,
 };
 pub use valids::Valid;
-
-#[cfg(test)]
-mod tests;

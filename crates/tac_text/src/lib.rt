@@ -25,6 +25,3 @@ pub use function_reading::read_function;
 pub use function_writing::write_function;
 pub use open_functions::{OpenFunction, read_header};
 pub use statement_reading::NotLine;
-
-#[cfg(test)]
-mod tests;

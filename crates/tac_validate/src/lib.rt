@@ -10,6 +10,3 @@ mod validation;
 mod walks;
 
 pub use validation::{Refused, validate};
-
-#[cfg(test)]
-mod tests;

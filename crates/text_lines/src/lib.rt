@@ -17,6 +17,3 @@ pub use line_words::{LineWord, LineWords, is_word};
 pub use lines::{TextFault, first_line, line_at, trim_line};
 pub use numbers::{read_number, read_number_behind, read_signed};
 pub use word_reading::{NotWords, read_words};
-
-#[cfg(test)]
-mod tests;

@@ -1,10 +1,10 @@
 use Rattle.std.proofs.Common.{sym, ◌∙◌}
-use Rattle.plan_printer.proofs.ListedFields.{fields_below-zero, listed, passed_over}
+use Rattle.plan_printer.proofs.ListedFields.{rising_fields-zero, listed, passed_over}
 use Rattle.plan_printer.proofs.findings.fields_text.Goals as goal
 use Rattle.plan_printer.proofs.findings.fields_text.Goals.{then-has+in_ok-push_listed, else-has}
 
 pub loop-field-init : goal.loop-field-init
-loop-field-init c = c.new-text.ensures ∙ sym (fields_below-zero c.args.set)
+loop-field-init c = c.new-text.ensures ∙ sym (rising_fields-zero c.args.set)
 
 pub loop-field-preserved : goal.loop-field-preserved
 loop-field-preserved c = elim c.if-has.branch [

@@ -1,0 +1,123 @@
+//! Calls of the program over files in memory.
+
+ghost use Rattle.pact_outside.specs.Memory.{shown_from_memory};
+
+use pact_outside::{FailList, Failed, Feed, MemFeed, MemFiles, MemSink, NamedFile};
+use pact_record::{Bytes, OutOfMemory};
+use pact_top::pact_main;
+use std::alloc::Global;
+
+/// What a call left.
+#[derive(Drop)]
+pub struct Outcome {
+    pub status: u8,
+    pub out: MemSink,
+    pub err: MemSink,
+    pub feed_faults: u64,
+}
+
+impl Outcome {
+    /// Whether it is this status, with these bytes written and told. The feed fails exactly with status 3.
+    pub fn is(&self, status: u8, out: &str, err: &str) -> bool {
+        self.status == status
+            && self.out.taken() == out.as_bytes()
+            && self.err.taken() == err.as_bytes()
+            && (self.feed_faults > 0) == (status == 3)
+    }
+}
+
+pub fn add_file(
+    alloc: Global,
+    files: &mut MemFiles,
+    name: &str,
+    bytes: Bytes,
+) -> Result<(), OutOfMemory> {
+    files.push(NamedFile {
+        name: Bytes::from_slice(alloc, name.as_bytes())?,
+        bytes,
+    })?;
+    Ok(())
+}
+
+pub fn add_text(
+    alloc: Global,
+    files: &mut MemFiles,
+    name: &str,
+    text: &str,
+) -> Result<(), OutOfMemory> {
+    add_file(
+        alloc,
+        files,
+        name,
+        Bytes::from_slice(alloc, text.as_bytes())?,
+    )
+}
+
+pub fn fail_at(alloc: Global, call: u64) -> Result<FailList, OutOfMemory> {
+    let mut fail = FailList::new(alloc);
+    fail.push(call)?;
+    Ok(fail)
+}
+
+/// A feed that writes down how it is called.
+#[derive(Drop)]
+pub struct NotingFeed {
+    pub feed: MemFeed,
+    /// A line for each file that was opened: its name, and a `.` for each read.
+    pub calls: Bytes,
+}
+
+// A call that can't be written down leaves a text that no test expects.
+fn note(calls: &mut Bytes, what: &[u8]) {
+    let _ = calls.extend_from_slice(what);
+}
+
+impl Feed for NotingFeed {
+    ghost shows = { λ f. shown_from_memory f.feed };
+
+    fn open(&mut self, name: Bytes) -> Result<(), Failed> {
+        note(&mut self.calls, b"\n");
+        note(&mut self.calls, name.bytes());
+        self.feed.open(name)
+    }
+
+    fn read(&mut self, buf: &mut [u8]) -> Result<usize, Failed> {
+        note(&mut self.calls, b".");
+        self.feed.read(buf)
+    }
+}
+
+/// A sink that takes at most four bytes at a time, and fails at the call of this number; 0 for none.
+pub fn sink(alloc: Global, fail: u64) -> Result<MemSink, OutOfMemory> {
+    let mut sink = MemSink::new(alloc, 4, fail_at(alloc, fail)?)?;
+    sink.reserve(65536)?;
+    Ok(sink)
+}
+
+/// The words over these files, with the calls of the feed and of the output that fail; 0 for none.
+pub fn call(
+    alloc: Global,
+    words: &[&str],
+    files: MemFiles,
+    feed_fails: u64,
+    out_fails: u64,
+) -> Result<Outcome, OutOfMemory> {
+    let mut feed = MemFeed::new(files, 65536, fail_at(alloc, feed_fails)?);
+    let mut out = sink(alloc, out_fails)?;
+    let mut err = sink(alloc, 0)?;
+    let status = pact_main(alloc, words, &mut feed, &mut out, &mut err);
+    Ok(Outcome {
+        status,
+        out,
+        err,
+        feed_faults: feed.faults(),
+    })
+}
+
+/// `run p.pact`, of this program and this `s.csv`.
+pub fn run(alloc: Global, program: &str, rows: &str) -> Result<Outcome, OutOfMemory> {
+    let mut files = MemFiles::new(alloc);
+    add_text(alloc, &mut files, "p.pact", program)?;
+    add_text(alloc, &mut files, "s.csv", rows)?;
+    call(alloc, &["run", "p.pact"], files, 0, 0)
+}

@@ -1,0 +1,99 @@
+use crate::programs::{inputs, program};
+use slow_eval::evaluate;
+use std::alloc::Global;
+use std::test::Fail;
+
+// The sums of the keys, of which the Map lets one pass.
+const ONE_SUM: &str = "pact 1
+fields 4
+source s s.csv int:0 int:1
+function sum reduce 1
+  v0 = int 0
+  each x1 of group
+    v1 = get x1 1
+    v0 = addw v0 v1
+  end
+  r0 = new
+  v2 = key 0
+  set r0 0 v2
+  set r0 2 v0
+  emit r0
+end
+function one map
+  v0 = get in 0
+  v1 = int 1
+  v2 = eq v0 v1
+  if v2
+    r0 = copy in
+    emit r0
+  end
+end
+reduce r sum s by 0
+map m one r
+sink m 0 2
+";
+
+// The Cross gives each pair of equal numbers twice; the CoGroup gives the records of both groups.
+const PAIRS: &str = "pact 1
+fields 6
+source l l.csv int:0 int:1
+source r r.csv int:2 int:3
+source t t.csv int:4 int:5
+function equal cross
+  v0 = get left 0
+  v1 = get right 2
+  v2 = eq v0 v1
+  if v2
+    r0 = copy join
+    emit r0
+    emit r0
+  end
+end
+function all cogroup 1
+  each x1 of left
+    r0 = copy x1
+    emit r0
+  end
+  each x1 of right
+    r0 = copy x1
+    emit r0
+  end
+end
+cross x equal l r
+cogroup g all x t by 0 = 4
+sink g 0 1
+";
+
+// How many rows each source and operator gave, in the order of the text, and how many rows the root gave.
+fn counts_of(alloc: Global, text: &str, rows: &[&str]) -> Result<(Vec<u64>, usize), Fail> {
+    let program = program(alloc, text.as_bytes())?;
+    let inputs = inputs(alloc, &program, rows)?;
+    let outcome = evaluate(alloc, &program, program.plan(), &inputs)?;
+    let mut counts = Vec::new(alloc);
+    for at in 0..outcome.counts.len() {
+        counts.push(outcome.counts.at(at))?;
+    }
+    Ok((counts, outcome.rows.len()))
+}
+
+#[test]
+fn counts_groups(rt: HostRuntime) -> Result<(), Fail> {
+    let alloc = rt.alloc();
+    let mut rows = String::new(alloc);
+    for _ in 0..10 {
+        rows.push_str("1,1\n2,1\n3,1\n4,1\n5,1\n6,1\n7,1\n8,1\n9,1\n10,1\n")?;
+    }
+    let (counts, root) = counts_of(alloc, ONE_SUM, &[rows.as_str()])?;
+    assert_eq!(rt; counts.as_slice(), [100, 10, 1].as_slice());
+    assert_eq!(rt; root, 1);
+    Ok(())
+}
+
+#[test]
+fn counts_pairs(rt: HostRuntime) -> Result<(), Fail> {
+    let rows = ["1,10\n2,20\n1,10\n", "1,5\n4,5\n1,6\n9,9\n", "1,0\n7,0\n"];
+    let (counts, root) = counts_of(rt.alloc(), PAIRS, &rows)?;
+    assert_eq!(rt; counts.as_slice(), [3, 4, 2, 8, 10].as_slice());
+    assert_eq!(rt; root, 10);
+    Ok(())
+}

@@ -1,0 +1,6 @@
+pub mod Reach
+pub mod Listing
+pub mod Steps
+pub mod EntryTable
+pub mod ListedCode
+pub mod Walks
