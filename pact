@@ -19,10 +19,24 @@ is_current() {
     [ -z "$changed" ]
 }
 
+# How many crates the program stands on, itself counted.
+count_crates() {
+    awk -F: '
+        /^[a-z0-9_]+.*:/ { split($1, words, " "); below[words[1]] = $2 }
+        function visit(name, names, count, i) {
+            if (!(name in below) || name in visited) return
+            visited[name] = 1
+            total++
+            count = split(below[name], names, " ")
+            for (i = 1; i <= count; i++) visit(names[i])
+        }
+        END { visit("pact_program"); print total }' "$root/crates.txt"
+}
+
 # Of the toolchain's lines, tells which crate is being proved, and how many may come behind it.
 tell_crates() {
     local line name left
-    left=$(grep -cE '^[a-z0-9_]+.*:' "$root/crates.txt")
+    left=$(count_crates)
     while IFS= read -r line; do
         case $line in
         'rt: chose --jobs '*' for '*)

@@ -3,7 +3,6 @@ use Rattle.std.proofs.Common.{◌≡◌, inl, inr, ℕ, List, Option, Some, None
 use Rattle.std.specs.List.Sorted.{IsPermutation}
 use Rattle.std.specs.Ordering.{is_eq}
 use Rattle.pact_record.specs.Order.{records_total}
-use Rattle.pact_record.specs.Record.{record_cmp}
 use Rattle.pact_record.proofs.Lists.{AllByRecursion-slice_get}
 use Rattle.pact_record.proofs.Permutations.{chains, from_permutation, map_perm, to_permutation, turned}
 use Rattle.pact_record.proofs.SortedLists.{one_sorted}

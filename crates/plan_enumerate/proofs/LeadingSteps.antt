@@ -7,7 +7,7 @@ use Rattle.pact_operators.specs.Programs.{ProgramData}
 use Rattle.reorder_pair.specs.declared.legality.Condition.{Condition}
 use Rattle.plan_enumerate.specs.declared.entries.Entry.{Entry}
 use Rattle.plan_enumerate.specs.Listing.{AreEntries, Grows, IsAt, begins, first_entry, goes_on}
-use Rattle.plan_enumerate.specs.Reach.{IsLegalIn, Lead, after}
+use Rattle.plan_enumerate.specs.ToldExchanges.{IsLegalIn, Lead, after}
 use Rattle.plan_enumerate.specs.Steps.{AreStepsTo, behind, none}
 use Rattle.plan_enumerate.proofs.LongerLists.{IsAt-entry, IsAt-one_more, old_or_last_entry}
 

@@ -13,7 +13,7 @@ use Rattle.reorder_pair.specs.Rules.{all_rules, swapped}
 use Rattle.reorder_pair.proofs.WordsOfRules.{all_rules-place_of, place_of}
 use Rattle.plan_enumerate.specs.declared.entries.Entry.{Entry}
 use Rattle.plan_enumerate.specs.Listing.{AreListedBefore, Gives, IsAt, IsBefore, IsClosed, IsListed, IsNext, IsOpen, IsRuleAt, begins, first_entry, goes_on}
-use Rattle.plan_enumerate.specs.Reach.{IsLegalIn}
+use Rattle.plan_enumerate.specs.ToldExchanges.{IsLegalIn}
 use Rattle.plan_enumerate.specs.Walks.{Adds, GoesTo, IsFull, IsNeighbour, IsWalked}
 use Rattle.plan_enumerate.proofs.LongerLists.{IsAt-one_more, IsAt-within, IsListed-last, IsListed-one_more, one_plan, plan_stays}
 

@@ -5,12 +5,15 @@ use Rattle.plan_trees.specs.Plans.{PlanTree}
 use Rattle.pact_operators.specs.Allowed.{AllowSame, Bag}
 use Rattle.pact_operators.specs.PlanOps.{plan_ops}
 use Rattle.pact_operators.specs.Programs.{IsPlanOf, IsProgram, ProgramData}
+use Rattle.reorder_pair.specs.declared.legality.Condition.{Condition}
 use Rattle.reorder_pair.specs.Legal.{KeepAnswers}
+use Rattle.reorder_pair.specs.Rules.{swapped}
 use Rattle.reorder_pair.proofs.PlacedExchanges.{legal-IsPlanOf}
 use Rattle.reorder_group.proofs.LegalExchanges.{legal-KeepAnswers}
 use Rattle.plan_enumerate.specs.declared.entries.Entry.{Entry}
 use Rattle.plan_enumerate.specs.Listing.{AreEntries, ComesFrom, Ends, Grows, IsClosed, IsListed, IsListing, IsOpen, ListedPlans, begins, entry_limit, first_entry, goes_on}
-use Rattle.plan_enumerate.specs.Reach.{IsLegalIn, Reach, after, as_written, exchanged}
+use Rattle.plan_enumerate.specs.Reach.{Reach, as_written, exchanged}
+use Rattle.plan_enumerate.specs.ToldExchanges.{after}
 use Rattle.plan_enumerate.specs.Walks.{IsFull, IsWalked}
 use Rattle.plan_enumerate.proofs.LongerLists.{IsAt-within, IsListed-one_more, length-one_more, old_or_last_entry, old_or_last_plan}
 use Rattle.plan_enumerate.proofs.PastExchanges.{past_entries}
@@ -20,16 +23,15 @@ use Rattle.plan_enumerate.proofs.PastExchanges.{past_entries}
 module _ (p : ProgramData) (program : IsProgram p) where
   pub reached-IsPlanOf : (t : PlanTree) → Reach p t → IsPlanOf p.functions p.ops t
   reached-IsPlanOf _ as_written = program.plan
-  reached-IsPlanOf _ (exchanged t c r legal) = legal-IsPlanOf p program t (reached-IsPlanOf t r) c.at c.rule (c.upper, c.lower, legal)
+  reached-IsPlanOf _ (exchanged t at rule r legal) = legal-IsPlanOf p program t (reached-IsPlanOf t r) at rule legal
 
   same_on : (inputs : List Bag) (s t u : PlanTree) → AllowSame (plan_ops p inputs) s t → AllowSame (plan_ops p inputs) t u → AllowSame (plan_ops p inputs) s u
   same_on inputs s t u h k bag = ((λ a. (k bag).0 ((h bag).0 a)), (λ a. (h bag).1 ((k bag).1 a)))
 
   pub reached-KeepAnswers : (t : PlanTree) → Reach p t → KeepAnswers p p.plan t
   reached-KeepAnswers _ as_written = λ inputs of_inputs bag. ((λ a. a), (λ a. a))
-  reached-KeepAnswers _ (exchanged t c r legal) = λ inputs of_inputs.
-      same_on inputs p.plan t (after c t) (reached-KeepAnswers t r inputs of_inputs)
-      (legal-KeepAnswers p program t (reached-IsPlanOf t r) c.at c.rule (c.upper, c.lower, legal) inputs of_inputs)
+  reached-KeepAnswers _ (exchanged t at rule r legal) = λ inputs of_inputs.
+      same_on inputs p.plan t (swapped rule at t) (reached-KeepAnswers t r inputs of_inputs) (legal-KeepAnswers p program t (reached-IsPlanOf t r) at rule legal inputs of_inputs)
 
 -- ---- listed plans
 
@@ -51,12 +53,15 @@ module _ (p : ProgramData) (limit : ℕ) where
     | inl old ↦ listed-Reach es g t (i, old)
     | inr last ↦
         let new = next.gives.0 in
-        subst (Reach p) (sym (last.1 ∙ new.3)) (exchanged new.0 next.by (listed-Reach es g new.0 (e.from, new.1)) new.2)
+        subst (Reach p) (sym (last.1 ∙ new.3)) (exchanged new.0 next.by.at next.by.rule (listed-Reach es g new.0 (e.from, new.1)) (next.by.upper, next.by.lower, new.2))
   ]
 
   reached-IsListed : (es : List Entry) → Grows p limit es → IsClosed p es → (t : PlanTree) → Reach p t → IsListed t es
   reached-IsListed es g closed _ as_written = as_written_listed es g
-  reached-IsListed es g closed _ (exchanged t c r legal) = let at = reached-IsListed es g closed t r in closed at.0 c (after c t) (t, at.1, legal, refl)
+  reached-IsListed es g closed _ (exchanged t at rule r legal) =
+      let place = reached-IsListed es g closed t r in
+      let c : Condition = record { rule = rule; at = at; upper = legal.0; lower = legal.1 } in
+      closed place.0 c (after c t) (t, place.1, legal.2, refl)
 
   pub complete-Reach : (l : ListedPlans) → IsListing p limit l → l.complete ≡ true → (t : PlanTree) → IsListed t l.entries ↔ Reach p t
   complete-Reach l h all t = (listed-Reach l.entries h.grows t, reached-IsListed l.entries h.grows (subst (Ends p limit l.entries) all h.ends) t)

@@ -1,4 +1,5 @@
 pub mod Reach
+pub mod ToldExchanges
 pub mod Listing
 pub mod Steps
 pub mod EntryTable

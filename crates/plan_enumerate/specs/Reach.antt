@@ -1,25 +1,12 @@
 -- The plans that legal exchanges lead to.
-use Rattle.std.specs.Prelude.{◌≡◌, List, [], ◌∷◌}
+use Rattle.std.specs.Prelude.{ℕ}
 use Rattle.plan_trees.specs.Plans.{PlanTree}
 use Rattle.pact_operators.specs.Programs.{ProgramData}
-use Rattle.reorder_pair.specs.declared.legality.Condition.{Condition}
-use Rattle.reorder_pair.specs.Legal.{IsLegalFor}
+use Rattle.reorder_pair.specs.declared.rules.Rule.{Rule}
+use Rattle.reorder_pair.specs.Legal.{IsLegal}
 use Rattle.reorder_pair.specs.Rules.{swapped}
-
--- the exchange that a condition tells of is legal in the plan, for what the condition says of the two operators
-abbrev pub IsLegalIn : ProgramData → PlanTree → Condition → Type 0
-IsLegalIn p t c = IsLegalFor p t c.at c.rule c.upper c.lower
-
--- the plan behind it
-abbrev pub after : Condition → PlanTree → PlanTree
-after c t = swapped c.rule c.at t
 
 -- The smallest set of plans that has the plan as written and, with each plan, what every legal exchange of it gives.
 pub data Reach (p : ProgramData) : PlanTree → Type 0 where
   as_written : Reach p p.plan
-  exchanged : (t : PlanTree) (c : Condition) → Reach p t → IsLegalIn p t c → Reach p (after c t)
-
--- exchanges that lead from one plan to another, each legal where it is made
-abbrev pub Lead : ProgramData → PlanTree → List Condition → PlanTree → Type 0
-Lead p t [] u = t ≡ u
-Lead p t (c ∷ cs) u = IsLegalIn p t c × Lead p (after c t) cs u
+  exchanged : (t : PlanTree) (at : ℕ) (rule : Rule) → Reach p t → IsLegal p t at rule → Reach p (swapped rule at t)

@@ -6,7 +6,7 @@ ghost use Rattle.pact_operators.specs.PlanOps.{kind_at};
 ghost use Rattle.pact_operators.specs.Programs.{IsPlanOf};
 ghost use Rattle.reorder_pair.specs.Legal.{IsLegal, KeepAnswers};
 ghost use Rattle.reorder_pair.specs.Rules.{Plays, all_rules, exchange_of};
-ghost use Rattle.plan_enumerate.specs.Listing.{IsAt, IsListed, IsListing, IsOpen, entry_limit};
+ghost use Rattle.plan_enumerate.specs.Listing.{IsAt, IsListed, IsListing, IsOpen, ListedPlans, entry_limit};
 ghost use Rattle.plan_enumerate.specs.Reach.{Reach};
 ghost use Rattle.plan_enumerate.specs.Walks.{GoesTo, IsNeighbour, IsWalked};
 
@@ -136,13 +136,14 @@ fn walk(alloc: Global, program: &Program, limit: u32) -> Result<Listed, OutOfMem
     Ok(Listed::of(entries, true))
 }
 
-/// The plans that legal exchanges lead to from the plan as written, which is the first entry. Entries are taken in their order, and of each the
-/// exchanges by the number of the upper operator and then by the rules' order; what they give is listed once, as long as there are fewer entries than
-/// `limit`. Memory is asked for entries that are made, not for as many as there may be.
+/// The plans that legal exchanges lead to from the plan as written, as many as there is room for: from 1 to 1,000. Want of memory is the only error,
+/// and memory is asked for entries that are made, not for as many as there may be. Time grows with the plans, and for each with the exchanges that have
+/// a place there, whose operators are analysed anew; a function that takes long to analyse is analysed as often.
 pub fn enumerate(alloc: Global, program: &Program, limit: u32) -> Result<Listed, OutOfMemory>
     requires some { 1 ≤ limit }
     requires few { limit ≤ entry_limit }
     ensures listing { IfOk result (IsListing program.now limit) }
+    ensures only { IfOk result (λ l. (other : ListedPlans) → IsListing program.now limit other → l ≡ other) }
     ensures incomplete { IfOk result (λ l. (l.complete ≡ false) ↔ ((length l.entries ≡ limit) × IsOpen program.now l.entries)) }
     ensures complete { IfOk result (λ l. l.complete ≡ true → (t : PlanTree) → IsListed t l.entries ↔ Reach program.now t) }
     ensures reached { IfOk result (λ l. (t : PlanTree) → IsListed t l.entries → Reach program.now t) }

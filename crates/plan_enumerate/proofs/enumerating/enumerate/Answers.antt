@@ -1,6 +1,10 @@
 use Rattle.std.proofs.lemmas.Result.{IfOk-weaker}
+use Rattle.plan_enumerate.proofs.OneListing.{listing_is_one}
 use Rattle.plan_enumerate.proofs.ReachedPlans.{complete-Reach, incomplete-IsOpen, listed-Reach, reached-IsPlanOf, reached-KeepAnswers}
 use Rattle.plan_enumerate.proofs.enumerating.enumerate.Goals as goal
+
+pub returns-clause-only : goal.returns-clause-only
+returns-clause-only c = IfOk-weaker c.walk.result _ _ (λ l h other k. listing_is_one c.args.program.now c.args.limit l other h k) c.walk.ensures
 
 pub returns-clause-incomplete : goal.returns-clause-incomplete
 returns-clause-incomplete c = IfOk-weaker c.walk.result _ _ (λ l h. incomplete-IsOpen c.args.program.now c.args.limit l h) c.walk.ensures
