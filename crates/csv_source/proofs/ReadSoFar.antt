@@ -2,7 +2,7 @@
 use Rattle.std.proofs.Common.{◌≡◌, ◌+◌, ◌++◌, ◌∷◌, [], ℕ, Bool, true, false, List, length, Option, ap, sym, ◌∙◌, subst, append-nil, append_assoc, arith}
 use Rattle.std.proofs.lemmas.List.{length-append}
 use Rattle.csv.specs.declared.reader.Reader.{Reader}
-use Rattle.pact_bag.specs.declared.columns.Column.{Column}
+use Rattle.pact_record.specs.declared.columns.Column.{Column}
 use Rattle.pact_record.specs.declared.values.Value.{Value}
 use Rattle.csv_source.specs.CsvRows.{AreRows, CsvRows, IsRow, records_of}
 use Rattle.csv_source.specs.RecordsLeft.{Gives, HasLeft}

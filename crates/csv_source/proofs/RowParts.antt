@@ -4,7 +4,7 @@ use Rattle.std.proofs.lemmas.List.{length-replicate, take_more}
 use Rattle.std.proofs.lemmas.Str.{IsUtf8-nil}
 use Rattle.std.specs.Str.{IsUtf8}
 use Rattle.pact_bag.specs.SourceRows.{AreSourceRows, IsColumnField}
-use Rattle.pact_bag.specs.declared.columns.Column.{Column}
+use Rattle.pact_record.specs.declared.columns.Column.{Column}
 use Rattle.pact_record.specs.declared.values.Value.{Value}
 use Rattle.pact_record.specs.declared.values.Value.TheVariants.{Null, Int, Text}
 use Rattle.pact_record.specs.Record.{at_field}

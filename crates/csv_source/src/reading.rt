@@ -13,8 +13,8 @@ ghost use Rattle.csv_source.specs.declared.reading.NotRow.TheVariants as nots;
 
 use crate::fields::{NotValue, value_at};
 use csv::{ByteRecord, Reader, ReaderBuilder};
-use pact_bag::{Column, Columns, NoRoom, Rows};
-use pact_record::{MAX_FIELDS, OutOfMemory, Record};
+use pact_bag::{NoRoom, Rows};
+use pact_record::{Column, Columns, MAX_FIELDS, OutOfMemory, Record};
 use std::alloc::Global;
 use std::io::Read;
 

@@ -9,14 +9,14 @@ use Rattle.tac_syntax.specs.Trees.{Statement, one_line, choice, turning, going_t
 use Rattle.tac_syntax.proofs.Bodies.{code_of-drop}
 use Rattle.tac_syntax.specs.EmitBounds.{many, capped, at_least_one, least_emits, most_emits}
 
-least-capped : (c : Code) → least_emits c ≤ many
+pub least-capped : (c : Code) → least_emits c ≤ many
 least-capped stop = omega arith
 least-capped (plain a next) = omega arith
 least-capped (branch on body other next) = omega arith
 least-capped (again count body next) = omega arith
 least-capped (each name list body next) = omega arith
 
-most-capped : (c : Code) → most_emits c ≤ many
+pub most-capped : (c : Code) → most_emits c ≤ many
 most-capped stop = omega arith
 most-capped (plain a next) = omega arith
 most-capped (branch on body other next) = omega arith

@@ -5,12 +5,12 @@ use Rattle.std.specs.Option.{IfNone, IfSome, is_some}
 use Rattle.std.proofs.lemmas.Bool.{cases_Bool, or_cases, or_left, or_right, both_ways, and_from, and_parts, not-true, not_from_false}
 use Rattle.pact_record.specs.FieldSets.{has_field, IsEmpty, IsLeast}
 use Rattle.tac_syntax.specs.Valid.{WithFields}
-use Rattle.program_drafts.specs.declared.declarations.OpKind.{OpKind}
-use Rattle.program_drafts.specs.declared.declarations.OpKind.TheVariants.{Source, Map, Reduce, Match, Cross, CoGroup}
+use Rattle.tac_syntax.specs.declared.declarations.OpKind.{OpKind}
+use Rattle.tac_syntax.specs.declared.declarations.OpKind.TheVariants.{Source, Map, Reduce, Match, Cross, CoGroup}
 use Rattle.pact_operators.specs.declared.operators.Op.{Op}
 use Rattle.plan_trees.specs.declared.plans.Parts.{Parts}
 use Rattle.plan_trees.specs.declared.plans.Parts.TheVariants.{OverOne, OverTwo}
-use Rattle.program_drafts.specs.Drafts.{DraftData}
+use Rattle.tac_syntax.specs.Drafts.{DraftData}
 use Rattle.plan_trees.specs.PlanParts.{parts_of}
 use Rattle.plan_trees.specs.Plans.{PlanTree, leaf, over, both}
 use Rattle.pact_operators.specs.ProgramRules.{LacksKey, SidesLackKey, SidesShare}

@@ -1,12 +1,12 @@
 -- Attributes are fields of the program.
 use Rattle.std.proofs.Common.{◌≡◌, ◌<◌, inl, inr, ℕ, zero, suc, List, [], ◌∷◌, arith}
 use Rattle.std.specs.List.{AllByRecursion}
-use Rattle.pact_bag.specs.declared.columns.Column.{Column}
+use Rattle.pact_record.specs.declared.columns.Column.{Column}
 use Rattle.tac_syntax.specs.Bounded.{Names}
 use Rattle.tac_syntax.specs.Valid.{IsValid, WithFields}
 use Rattle.tac_syntax.proofs.Naming.{NamesBelow-valid}
-use Rattle.program_drafts.specs.declared.declarations.OpKind.{OpKind}
-use Rattle.program_drafts.specs.declared.declarations.OpKind.TheVariants.{Source, Map, Reduce, Match, Cross, CoGroup}
+use Rattle.tac_syntax.specs.declared.declarations.OpKind.{OpKind}
+use Rattle.tac_syntax.specs.declared.declarations.OpKind.TheVariants.{Source, Map, Reduce, Match, Cross, CoGroup}
 use Rattle.pact_operators.specs.declared.operators.Op.{Op}
 use Rattle.plan_trees.specs.Plans.{PlanTree, leaf, over, both}
 use Rattle.pact_bag.specs.SourceRows.{IsColumnField}

@@ -4,7 +4,7 @@ use Rattle.std.proofs.lemmas.Option.{same_Some, slice_get_read, slice_get_within
 use Rattle.pact_record.specs.Widths.{AreBelow}
 use Rattle.pact_record.proofs.Lists.{AllByRecursion-slice_get}
 use Rattle.tac_syntax.specs.Valid.{IsValid, WithFields}
-use Rattle.program_drafts.specs.declared.declarations.OpKind.TheVariants.{Source}
+use Rattle.tac_syntax.specs.declared.declarations.OpKind.TheVariants.{Source}
 use Rattle.pact_operators.specs.declared.operators.Op.{Op}
 use Rattle.pact_operators.specs.PlanOps.{body_at, function_in, kind_at, kind_in}
 use Rattle.pact_operators.specs.Programs.{HasKeyLists, IsKindFor, IsOpOf, IsOperatorOf, IsProgram, ProgramData, body_of}

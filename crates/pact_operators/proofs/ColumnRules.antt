@@ -4,12 +4,12 @@ use Rattle.std.specs.List.{AllByRecursion, list_any}
 use Rattle.std.proofs.lemmas.Bool.{cases_Bool, eqb-false, eq-eqb, false_from_ne_true, leb-false, or_parts}
 use Rattle.pact_record.proofs.Lists.{AllByRecursion-append}
 use Rattle.tac_syntax.specs.Valid.{WithFields}
-use Rattle.program_drafts.specs.declared.declarations.Decl.{Decl}
-use Rattle.program_drafts.specs.declared.declarations.Decl.TheVariants.{Source, Function as FunctionDecl, Op as OpDecl, Sink}
+use Rattle.tac_syntax.specs.declared.declarations.Decl.{Decl}
+use Rattle.tac_syntax.specs.declared.declarations.Decl.TheVariants.{Source, Function as FunctionDecl, Op as OpDecl, Sink}
 use Rattle.pact_operators.specs.declared.operators.Op.{Op}
 use Rattle.pact_operators.specs.declared.program_rules.ProgramRule.TheVariants.{WrongField}
 use Rattle.plan_trees.specs.Distinct.{AreDifferent, IsAbsent}
-use Rattle.program_drafts.specs.Drafts.{AreDeclared, DraftData}
+use Rattle.tac_syntax.specs.Drafts.{AreDeclared, DraftData}
 use Rattle.pact_operators.specs.ProgramRules.{NoneBreaks, all_columns, column_fields, some_too_large, times_in}
 use Rattle.pact_operators.specs.Programs.{IsFieldList, fields_of, source_fields}
 use Rattle.pact_operators.specs.Resolved.{ops_of, sink_fields, sink_inputs}

@@ -3,13 +3,13 @@ use Rattle.std.proofs.Common.{◌≡◌, ◌≤◌, ◌+◌, ◌++◌, ℕ, zero
 use Rattle.std.specs.List.{AllByRecursion}
 use Rattle.pact_record.specs.Keys.{key_limit}
 use Rattle.tac_syntax.specs.Valid.{WithFields}
-use Rattle.program_drafts.specs.declared.declarations.OpKind.{OpKind}
-use Rattle.program_drafts.specs.declared.declarations.OpKind.TheVariants.{Source as SourceKind, Map, Reduce, Match, Cross, CoGroup}
-use Rattle.program_drafts.specs.declared.declarations.Decl.{Decl}
-use Rattle.program_drafts.specs.declared.declarations.Decl.TheVariants.{Source, Function as FunctionDecl, Op as OpDecl, Sink}
+use Rattle.tac_syntax.specs.declared.declarations.OpKind.{OpKind}
+use Rattle.tac_syntax.specs.declared.declarations.OpKind.TheVariants.{Source as SourceKind, Map, Reduce, Match, Cross, CoGroup}
+use Rattle.tac_syntax.specs.declared.declarations.Decl.{Decl}
+use Rattle.tac_syntax.specs.declared.declarations.Decl.TheVariants.{Source, Function as FunctionDecl, Op as OpDecl, Sink}
 use Rattle.pact_operators.specs.declared.program_rules.ProgramRule.{ProgramRule}
-use Rattle.program_drafts.specs.Declarations.{HasInputs, IsSpelledDecl}
-use Rattle.program_drafts.specs.Drafts.{AreDeclared, DraftData}
+use Rattle.tac_syntax.specs.Declarations.{HasInputs, IsSpelledDecl}
+use Rattle.tac_syntax.specs.Drafts.{AreDeclared, DraftData}
 use Rattle.pact_operators.specs.ProgramRules.{Breaks, NoneBreaks}
 use Rattle.pact_operators.specs.WrittenOps.{HasFewKeys}
 

@@ -2,12 +2,12 @@
 use Rattle.std.proofs.Common.{◌≡◌, ◌≤◌, ◌+◌, ◌++◌, ◌||◌, ◌&&◌, nat_le, inl, inr, ℕ, suc, Bool, false, List, [], ◌∷◌, length, ap, refl, subst, sym, arith, append_assoc, append-nil}
 use Rattle.std.proofs.lemmas.Bool.{cases_Bool, and_cases, false_from_ne_true, leb-false, or_parts}
 use Rattle.tac_syntax.specs.Valid.{WithFields}
-use Rattle.program_drafts.specs.declared.declarations.OpKind.TheVariants.{Source as SourceKind, Map, Reduce, Match, Cross, CoGroup}
-use Rattle.program_drafts.specs.declared.declarations.Decl.{Decl}
-use Rattle.program_drafts.specs.declared.declarations.Decl.TheVariants.{Source, Function as FunctionDecl, Op as OpDecl, Sink}
+use Rattle.tac_syntax.specs.declared.declarations.OpKind.TheVariants.{Source as SourceKind, Map, Reduce, Match, Cross, CoGroup}
+use Rattle.tac_syntax.specs.declared.declarations.Decl.{Decl}
+use Rattle.tac_syntax.specs.declared.declarations.Decl.TheVariants.{Source, Function as FunctionDecl, Op as OpDecl, Sink}
 use Rattle.pact_operators.specs.declared.operators.Op.{Op}
 use Rattle.pact_operators.specs.declared.program_rules.ProgramRule.TheVariants.{TooMany}
-use Rattle.program_drafts.specs.Drafts.{AreDeclared, DraftData}
+use Rattle.tac_syntax.specs.Drafts.{AreDeclared, DraftData}
 use Rattle.pact_operators.specs.ProgramRules.{NoneBreaks, is_function, is_one_too_many, is_operator, is_pair, times_so}
 use Rattle.pact_operators.specs.Programs.{function_limit, is_operator_kind, is_pair_kind, operator_limit, pair_limit, times_of_kind}
 use Rattle.pact_operators.specs.Resolved.{node_names, ops_of, place_among}

@@ -31,3 +31,4 @@ pub mod SoundPrograms
 pub mod SmallerContexts
 pub mod CalledFunctions
 pub mod LawfulBags
+pub mod DifferentNames

@@ -2,10 +2,10 @@
 use Rattle.std.proofs.Common.{◌≡◌, ◌≤◌, ◌+◌, ◌⊎◌, ◌||◌, inl, inr, ℕ, zero, suc, true, false, Some, None, List, [], ◌∷◌, ◌++◌, length, slice_get, bytes_eq, refl, ap, sym, subst, ◌∙◌, arith}
 use Rattle.std.proofs.lemmas.Bool.{both_ways, cases_Bool, or_cases, or_right}
 use Rattle.std.proofs.lemmas.Slice.Eq.{bytes_eq-Decides}
-use Rattle.program_drafts.specs.declared.declarations.OpKind.{OpKind}
-use Rattle.program_drafts.specs.declared.declarations.OpKind.TheVariants.{Source as SourceKind, Map, Reduce, Match, Cross, CoGroup}
-use Rattle.program_drafts.specs.declared.declarations.Decl.{Decl}
-use Rattle.program_drafts.specs.declared.declarations.Decl.TheVariants.{Source, Function as FunctionDecl, Op as OpDecl, Sink}
+use Rattle.tac_syntax.specs.declared.declarations.OpKind.{OpKind}
+use Rattle.tac_syntax.specs.declared.declarations.OpKind.TheVariants.{Source as SourceKind, Map, Reduce, Match, Cross, CoGroup}
+use Rattle.tac_syntax.specs.declared.declarations.Decl.{Decl}
+use Rattle.tac_syntax.specs.declared.declarations.Decl.TheVariants.{Source, Function as FunctionDecl, Op as OpDecl, Sink}
 use Rattle.pact_operators.specs.ProgramRules.{all_inputs}
 use Rattle.pact_operators.specs.Resolved.{Inputs, no_input, one_input, two_inputs, inputs_of, inputs_read, is_among, names_read, node_names, place_among, sink_inputs, times_among}
 use Rattle.pact_operators.proofs.FlowsMakeTrees.{IsInput, Reads}
@@ -32,10 +32,10 @@ place_here name n names e = rw e refl
 place_later : (name n : List ℕ) (names : List (List ℕ)) → bytes_eq name n ≡ false → place_among name (n ∷ names) ≡ suc (place_among name names)
 place_later name n names e = rw e (omega arith)
 
-times_here : (name n : List ℕ) (names : List (List ℕ)) → bytes_eq name n ≡ true → times_among name (n ∷ names) ≡ suc (times_among name names)
+pub times_here : (name n : List ℕ) (names : List (List ℕ)) → bytes_eq name n ≡ true → times_among name (n ∷ names) ≡ suc (times_among name names)
 times_here name n names e = rw e (omega arith)
 
-times_later : (name n : List ℕ) (names : List (List ℕ)) → bytes_eq name n ≡ false → times_among name (n ∷ names) ≡ times_among name names
+pub times_later : (name n : List ℕ) (names : List (List ℕ)) → bytes_eq name n ≡ false → times_among name (n ∷ names) ≡ times_among name names
 times_later name n names e = rw e refl
 
 -- what is among the names stands at its place

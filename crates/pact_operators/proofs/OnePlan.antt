@@ -2,7 +2,7 @@
 use Rattle.std.proofs.Common.{◌≡◌, ◌<◌, ℕ, Some, List, [], ◌∷◌, length, slice_get, ap, sym, ◌∙◌, subst}
 use Rattle.std.proofs.lemmas.Option.{slice_get_within}
 use Rattle.plan_trees.specs.Plans.{PlanTree, leaf, over, both, root_of}
-use Rattle.program_drafts.specs.Drafts.{DraftData}
+use Rattle.tac_syntax.specs.Drafts.{DraftData}
 use Rattle.pact_operators.specs.Programs.{Follows, IsWrittenPlan}
 use Rattle.pact_operators.specs.Resolved.{Inputs, no_input, one_input, two_inputs, inputs_of, node_names}
 

@@ -2,14 +2,14 @@
 use Rattle.std.proofs.Common.{◌≡◌, ◌≤◌, ◌<◌, ℕ, zero, suc, true, Some, None, List, [], ◌∷◌, get_or, length, slice_get, bytes_eq, refl, subst, sym, arith}
 use Rattle.std.proofs.lemmas.Bool.{or_left, or_right}
 use Rattle.std.proofs.lemmas.Option.{slice_get_read, slice_get_within}
-use Rattle.program_drafts.specs.declared.declarations.OpKind.{OpKind}
-use Rattle.program_drafts.specs.declared.declarations.Decl.{Decl}
-use Rattle.program_drafts.specs.declared.declarations.Decl.TheVariants.{Source, Function as FunctionDecl, Op as OpDecl, Sink}
+use Rattle.tac_syntax.specs.declared.declarations.OpKind.{OpKind}
+use Rattle.tac_syntax.specs.declared.declarations.Decl.{Decl}
+use Rattle.tac_syntax.specs.declared.declarations.Decl.TheVariants.{Source, Function as FunctionDecl, Op as OpDecl, Sink}
 use Rattle.pact_operators.specs.declared.program_rules.ProgramRule.{ProgramRule}
 use Rattle.pact_operators.specs.declared.program_rules.ProgramRule.TheVariants.{Undeclared, DeclaredTwice, NoSingleSink, TooMany, NotATree, OtherKind, OtherKeyCount, WrongField, NoAttribute, SharedAttribute}
 use Rattle.pact_operators.specs.AttributeTests.{BreaksIn, HasPlace}
 use Rattle.pact_operators.specs.Candidates.{CandidateData}
-use Rattle.program_drafts.specs.Drafts.{DraftData}
+use Rattle.tac_syntax.specs.Drafts.{DraftData}
 use Rattle.plan_trees.specs.Plans.{PlanTree}
 use Rattle.pact_operators.specs.ProgramRules.{Breaks, LacksAttribute, SharesAttribute, order_of}
 use Rattle.pact_operators.specs.Programs.{IsWrittenPlan}

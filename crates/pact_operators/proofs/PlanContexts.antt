@@ -5,7 +5,7 @@ use Rattle.std.proofs.lemmas.Bool.{false_from_ne_true}
 use Rattle.pact_record.specs.FieldSets.{has_field}
 use Rattle.pact_record.specs.Widths.{AreBelow}
 use Rattle.plan_trees.specs.Plans.{PlanTree, leaf, over, both}
-use Rattle.program_drafts.specs.declared.declarations.OpKind.TheVariants.{Source}
+use Rattle.tac_syntax.specs.declared.declarations.OpKind.TheVariants.{Source}
 use Rattle.tac_syntax.specs.Contexts.{IsBelow, IsContextOf}
 use Rattle.tac_syntax.specs.declared.contexts.Context.{Context}
 use Rattle.tac_syntax.specs.Valid.{WithFields}

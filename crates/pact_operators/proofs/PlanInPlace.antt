@@ -2,9 +2,9 @@
 use Rattle.std.proofs.Common.{◌≡◌, ℕ, true, List}
 use Rattle.pact_record.proofs.Permutations.{Perm}
 use Rattle.tac_syntax.specs.Valid.{WithFields}
-use Rattle.plan_trees.specs.Plans.{PlanTree, has, subtree_of, replaced, nodes, IsPlan}
+use Rattle.plan_trees.specs.Plans.{PlanTree, has, subtree_of, replaced, nodes}
 use Rattle.plan_trees.proofs.InPlace.{in_place}
-use Rattle.plan_trees.proofs.PermutedNodes.{different_perm, has_perm, nodes_kept, plan_perm}
+use Rattle.plan_trees.proofs.PermutedNodes.{different_perm, has_perm, nodes_kept}
 use Rattle.pact_operators.specs.declared.operators.Op.{Op}
 use Rattle.pact_operators.specs.Programs.{HasArity, IsPlanOf}
 use Rattle.pact_operators.proofs.KeptInPlace.{StaysApart, apart_kept, arity_kept}

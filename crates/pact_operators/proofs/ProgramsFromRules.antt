@@ -7,9 +7,9 @@ use Rattle.pact_record.specs.declared.records.TheConstants.{MAX_FIELDS}
 use Rattle.pact_record.proofs.Lists.{AllByRecursion-slice_get}
 use Rattle.tac_syntax.specs.declared.functions.Function.{Function}
 use Rattle.tac_syntax.specs.Valid.{WithFields}
-use Rattle.program_drafts.specs.declared.declarations.OpKind.TheVariants.{Source as SourceKind}
-use Rattle.program_drafts.specs.declared.declarations.Decl.{Decl}
-use Rattle.program_drafts.specs.declared.declarations.Decl.TheVariants.{Source, Function as FunctionDecl, Op as OpDecl, Sink}
+use Rattle.tac_syntax.specs.declared.declarations.OpKind.TheVariants.{Source as SourceKind}
+use Rattle.tac_syntax.specs.declared.declarations.Decl.{Decl}
+use Rattle.tac_syntax.specs.declared.declarations.Decl.TheVariants.{Source, Function as FunctionDecl, Op as OpDecl, Sink}
 use Rattle.pact_operators.specs.declared.operators.Op.{Op}
 use Rattle.pact_operators.specs.declared.program_rules.ProgramRule.{ProgramRule}
 use Rattle.pact_operators.specs.declared.program_rules.ProgramRule.TheVariants.{Undeclared, DeclaredTwice, NoSingleSink, TooMany, NotATree, OtherKind, OtherKeyCount, WrongField, NoAttribute, SharedAttribute}
@@ -17,7 +17,7 @@ use Rattle.pact_operators.specs.AttributeTests.{AreAttributesKnown}
 use Rattle.pact_operators.specs.Candidates.{CandidateData}
 use Rattle.pact_operators.specs.Checks.{KeepsBefore}
 use Rattle.plan_trees.specs.Distinct.{AreDifferent}
-use Rattle.program_drafts.specs.Drafts.{DraftData, IsSpelledDraft}
+use Rattle.tac_syntax.specs.Drafts.{DraftData, IsSpelledDraft}
 use Rattle.plan_trees.specs.Plans.{PlanTree}
 use Rattle.pact_operators.specs.ProgramRules.{Keeps, NoneBreaks, order_of}
 use Rattle.pact_operators.specs.Programs.{AreValidated, IsOpOf, IsOperatorOf, IsProgram, IsProgramOf, IsWrittenPlan, ProgramData, function_limit, source_fields}

@@ -4,10 +4,10 @@ use Rattle.std.proofs.lemmas.Bool.{both_ways}
 use Rattle.tac_syntax.specs.Valid.{WithFields}
 use Rattle.pact_operators.specs.declared.checking.NotProgram.{NotProgram}
 use Rattle.pact_operators.specs.declared.checking.NotProgram.TheVariants.{Bad, Memory}
-use Rattle.program_drafts.specs.declared.declarations.Decl.{Decl}
+use Rattle.tac_syntax.specs.declared.declarations.Decl.{Decl}
 use Rattle.pact_operators.specs.declared.program_rules.ProgramRule.{ProgramRule}
 use Rattle.pact_operators.specs.Checks.{IsToldBy}
-use Rattle.program_drafts.specs.Drafts.{DraftData}
+use Rattle.tac_syntax.specs.Drafts.{DraftData}
 use Rattle.pact_operators.specs.ProgramRules.{Breaks, IsBrokenAt, IsRefused, Keeps, NoneBreaks, has_no_single_sink}
 
 pub none_breaks : (rule : ProgramRule) (d : DraftData) (v : List WithFields) (before front : List Decl) (decl : Decl) (later : List Decl) → NoneBreaks rule d v before (front ++ decl ∷ later)

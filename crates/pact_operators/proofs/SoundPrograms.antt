@@ -4,7 +4,7 @@ use Rattle.std.proofs.lemmas.Bool.{both_ways}
 use Rattle.std.proofs.lemmas.List.{length-map}
 use Rattle.std.specs.List.{AllByRecursion}
 use Rattle.pact_bag.specs.SourceRows.{IsSourceRow, AreSourceRows, IsColumnField}
-use Rattle.pact_bag.specs.declared.columns.Column.{Column}
+use Rattle.pact_record.specs.declared.columns.Column.{Column}
 use Rattle.pact_record.specs.Widths.{AreWide}
 use Rattle.pact_record.specs.declared.values.Value.{Value}
 use Rattle.pact_record.specs.Record.{at_field}
@@ -17,8 +17,8 @@ use Rattle.tac_syntax.specs.CallInputs.{HasKeys, HasSome, HasWidth, IsInputOf}
 use Rattle.tac_syntax.specs.Forms.{AreKeyed, HaveKey, IsWithin, left_records, right_records}
 use Rattle.tac_syntax.specs.Valid.{WithFields, IsValid}
 use Rattle.tac_syntax.proofs.Bounds.{AreBounded-Out}
-use Rattle.program_drafts.specs.declared.declarations.OpKind.{OpKind}
-use Rattle.program_drafts.specs.declared.declarations.OpKind.TheVariants.{Source, Map, Reduce, Match, Cross, CoGroup}
+use Rattle.tac_syntax.specs.declared.declarations.OpKind.{OpKind}
+use Rattle.tac_syntax.specs.declared.declarations.OpKind.TheVariants.{Source, Map, Reduce, Match, Cross, CoGroup}
 use Rattle.pact_operators.specs.declared.operators.Op.{Op}
 use Rattle.pact_operators.specs.Allowed.{Bag}
 use Rattle.pact_operators.specs.Inputs.{HaveRows, AreInputsOf}

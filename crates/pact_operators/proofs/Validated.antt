@@ -4,8 +4,8 @@ use Rattle.std.proofs.lemmas.List.{map-append}
 use Rattle.pact_record.proofs.Lists.{AllByRecursion-last}
 use Rattle.tac_syntax.specs.declared.functions.Function.{Function}
 use Rattle.tac_syntax.specs.Valid.{IsValid, WithFields}
-use Rattle.program_drafts.specs.declared.declarations.Decl.{Decl}
-use Rattle.program_drafts.specs.Drafts.{DraftData}
+use Rattle.tac_syntax.specs.declared.declarations.Decl.{Decl}
+use Rattle.tac_syntax.specs.Drafts.{DraftData}
 use Rattle.pact_operators.specs.Programs.{AreValidated}
 
 validated-push : (d : DraftData) (v : List WithFields) (w : WithFields) (decls : List Decl) → AreValidated d v → w.fields ≡ d.fields → IsValid w.function w.fields

@@ -5,12 +5,12 @@ use Rattle.std.proofs.lemmas.Bool.{and_parts, both_ways, eqb-true, false_from_ne
 use Rattle.std.proofs.lemmas.List.Elements.{filter-append}
 use Rattle.std.proofs.lemmas.Option.{slice_get_within}
 use Rattle.tac_syntax.specs.Valid.{WithFields}
-use Rattle.program_drafts.specs.declared.declarations.OpKind.{OpKind}
-use Rattle.program_drafts.specs.declared.declarations.OpKind.TheVariants.{Source as SourceKind, Map, Reduce, Match, Cross, CoGroup}
-use Rattle.program_drafts.specs.declared.declarations.Decl.{Decl}
-use Rattle.program_drafts.specs.declared.declarations.Decl.TheVariants.{Source, Function as FunctionDecl, Op as OpDecl, Sink}
+use Rattle.tac_syntax.specs.declared.declarations.OpKind.{OpKind}
+use Rattle.tac_syntax.specs.declared.declarations.OpKind.TheVariants.{Source as SourceKind, Map, Reduce, Match, Cross, CoGroup}
+use Rattle.tac_syntax.specs.declared.declarations.Decl.{Decl}
+use Rattle.tac_syntax.specs.declared.declarations.Decl.TheVariants.{Source, Function as FunctionDecl, Op as OpDecl, Sink}
 use Rattle.pact_operators.specs.declared.program_rules.ProgramRule.TheVariants.{Undeclared, DeclaredTwice, NoSingleSink, TooMany, NotATree}
-use Rattle.program_drafts.specs.Drafts.{DraftData}
+use Rattle.tac_syntax.specs.Drafts.{DraftData}
 use Rattle.plan_trees.specs.Plans.{PlanTree, IsPlan, nodes, node_limit}
 use Rattle.pact_operators.specs.ProgramRules.{Keeps, NoneBreaks, all_inputs, is_one_too_many, is_operator, is_out_of_tree, is_reached, is_reader, name_at, some_missing, times_so}
 use Rattle.pact_operators.specs.Programs.{IsWrittenPlan, operator_limit}

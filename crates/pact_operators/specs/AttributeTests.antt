@@ -2,13 +2,13 @@
 use Rattle.std.specs.Prelude.{◌≡◌, ◌<◌, true, List}
 use Rattle.std.specs.List.{AllByRecursion}
 use Rattle.pact_record.specs.declared.records.TheConstants.{MAX_FIELDS}
-use Rattle.program_drafts.specs.declared.declarations.Decl.{Decl}
-use Rattle.program_drafts.specs.declared.declarations.Decl.TheVariants.{Op as OpDecl}
+use Rattle.tac_syntax.specs.declared.declarations.Decl.{Decl}
+use Rattle.tac_syntax.specs.declared.declarations.Decl.TheVariants.{Op as OpDecl}
 use Rattle.pact_operators.specs.declared.operators.Op.{Op}
 use Rattle.pact_operators.specs.declared.program_rules.ProgramRule.{ProgramRule}
 use Rattle.pact_operators.specs.declared.program_rules.ProgramRule.TheVariants.{NoAttribute, SharedAttribute}
 use Rattle.pact_operators.specs.Candidates.{CandidateData}
-use Rattle.program_drafts.specs.Drafts.{DraftData}
+use Rattle.tac_syntax.specs.Drafts.{DraftData}
 use Rattle.plan_trees.specs.Plans.{PlanTree, has}
 use Rattle.pact_operators.specs.ProgramRules.{LacksAttribute, SharesAttribute}
 use Rattle.pact_operators.specs.Programs.{source_fields}

@@ -2,12 +2,12 @@
 use Rattle.std.specs.Prelude.{◌≡◌, ℕ, List, refl}
 use Rattle.std.specs.Coded.{Coded, code_by, coded×}
 use Rattle.tac_syntax.specs.Valid.{WithFields}
-use Rattle.program_drafts.specs.DraftCode.{coded_draft}
-use Rattle.program_drafts.specs.Drafts.{DraftData}
+use Rattle.tac_syntax.specs.DraftCode.{coded_draft}
+use Rattle.tac_syntax.specs.Drafts.{DraftData}
 use Rattle.pact_operators.specs.ProgramRules.{all_columns, all_inputs}
 use Rattle.pact_operators.specs.Programs.{AreValidated}
 use Rattle.pact_operators.specs.Resolved.{function_names, node_names, sink_inputs}
-use Rattle.program_drafts.specs.ValidLists.{coded_valids}
+use Rattle.tac_syntax.specs.ValidLists.{coded_valids}
 
 pub record CandidateData : Type 0 where
   pub draft : DraftData

@@ -1,8 +1,8 @@
 -- What the sources and operators of a plan do, by their numbers.
 use Rattle.std.specs.Prelude.{ℕ, Bool, true, false, List, [], Option, Some, None, filter, get_or, length, slice_get, take}
 use Rattle.pact_record.specs.declared.values.Value.{Value}
-use Rattle.program_drafts.specs.declared.declarations.OpKind.{OpKind}
-use Rattle.program_drafts.specs.declared.declarations.OpKind.TheVariants.{Source}
+use Rattle.tac_syntax.specs.declared.declarations.OpKind.{OpKind}
+use Rattle.tac_syntax.specs.declared.declarations.OpKind.TheVariants.{Source}
 use Rattle.pact_operators.specs.declared.operators.Op.{Op}
 use Rattle.pact_operators.specs.Programs.{ProgramData, body_of}
 use Rattle.tac_syntax.specs.Code.{Code}

@@ -1,20 +1,21 @@
 -- Programs: what a text declares, with each name resolved to a number.
-use Rattle.std.specs.Prelude.{◌≡◌, ◌<◌, ◌≤◌, ◌⊎◌, ℕ, zero, suc, Bool, true, false, List, [], ◌∷◌, length, map, filter, flat_map, slice_get, Some}
+use Rattle.std.specs.Prelude.{◌≡◌, ◌<◌, ◌≤◌, ◌⊎◌, ℕ, zero, suc, Bool, true, false, List, [], ◌∷◌, length, map, filter, flat_map, slice_get, Some, IsTrue}
 use Rattle.std.specs.List.{AllByRecursion}
 use Rattle.tac_syntax.specs.declared.functions.Kind.{Kind}
 use Rattle.tac_syntax.specs.declared.functions.Kind.TheVariants as kinds
 use Rattle.tac_syntax.specs.Bounded.{Names}
 use Rattle.tac_syntax.specs.Code.{Code, stop}
 use Rattle.tac_syntax.specs.Forms.{AreApart}
+use Rattle.tac_syntax.specs.Names.{is_name}
 use Rattle.tac_syntax.specs.Valid.{WithFields, IsValid}
-use Rattle.pact_bag.specs.declared.columns.Column.{Column}
+use Rattle.pact_record.specs.declared.columns.Column.{Column}
 use Rattle.pact_bag.specs.SourceRows.{IsColumnField}
-use Rattle.program_drafts.specs.declared.declarations.OpKind.{OpKind}
-use Rattle.program_drafts.specs.declared.declarations.OpKind.TheVariants.{Source, Map, Reduce, Match, Cross, CoGroup}
+use Rattle.tac_syntax.specs.declared.declarations.OpKind.{OpKind}
+use Rattle.tac_syntax.specs.declared.declarations.OpKind.TheVariants.{Source, Map, Reduce, Match, Cross, CoGroup}
 use Rattle.pact_operators.specs.declared.operators.Op.{Op}
-use Rattle.program_drafts.specs.Declarations.{field_list_limit}
+use Rattle.tac_syntax.specs.Declarations.{field_list_limit}
 use Rattle.plan_trees.specs.Distinct.{AreDifferent}
-use Rattle.program_drafts.specs.Drafts.{DraftData, field_limit}
+use Rattle.tac_syntax.specs.Drafts.{DraftData, field_limit}
 use Rattle.plan_trees.specs.Plans.{PlanTree, leaf, over, both, root_of, nodes, has}
 use Rattle.pact_operators.specs.Resolved.{Inputs, no_input, one_input, two_inputs, function_names, inputs_of, node_names, ops_of, place_among, sink_fields, sink_inputs}
 
@@ -25,6 +26,14 @@ pub record ProgramData : Type 0 where
   pub ops : List Op
   pub plan : PlanTree
   pub sink : List ℕ
+
+-- no two sources or operators have the same name
+abbrev pub NamesDiffer : List Op → Type 0
+NamesDiffer ops = (m n : ℕ) (a b : Op) → slice_get ops m ≡ Some a → slice_get ops n ≡ Some b → a.name ≡ b.name → m ≡ n
+
+-- each is named as a text names it
+abbrev pub AreNames : List Op → Type 0
+AreNames ops = (n : ℕ) (op : Op) → slice_get ops n ≡ Some op → IsTrue (is_name op.name)
 
 -- ---- the plan as written
 

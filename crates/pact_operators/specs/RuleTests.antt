@@ -1,10 +1,10 @@
 -- The rules that are told from the declarations alone, as tests.
 use Rattle.std.specs.Prelude.{◌≡◌, ◌&&◌, ◌||◌, nat_le, ℕ, zero, suc, Bool, false, List, ◌∷◌, map}
 use Rattle.pact_operators.specs.declared.counts.Counts.{Counts}
-use Rattle.program_drafts.specs.declared.declarations.Decl.{Decl}
+use Rattle.tac_syntax.specs.declared.declarations.Decl.{Decl}
 use Rattle.pact_operators.specs.declared.program_rules.ProgramRule.{ProgramRule}
 use Rattle.pact_operators.specs.declared.program_rules.ProgramRule.TheVariants.{Undeclared, DeclaredTwice, TooMany, NotATree, OtherKind, OtherKeyCount, WrongField}
-use Rattle.program_drafts.specs.Drafts.{DraftData}
+use Rattle.tac_syntax.specs.Drafts.{DraftData}
 use Rattle.pact_operators.specs.ProgramRules.{has_other_key_count, has_other_kind, has_wrong_field, is_declared_twice, is_function, is_not_in_tree, is_operator, is_pair, is_reached, is_reader, is_undeclared, times_so, name_at}
 use Rattle.pact_operators.specs.Programs.{function_limit, operator_limit, pair_limit}
 

@@ -2,10 +2,10 @@
 use Rattle.std.specs.Prelude.{◌≤◌, nat_lt, ℕ, List, length, filter, map}
 use Rattle.pact_record.specs.declared.records.TheConstants.{MAX_FIELDS}
 use Rattle.pact_record.specs.Keys.{key_limit}
-use Rattle.program_drafts.specs.declared.declarations.Decl.{Decl}
-use Rattle.program_drafts.specs.declared.declarations.Decl.TheVariants.{Op as OpDecl}
+use Rattle.tac_syntax.specs.declared.declarations.Decl.{Decl}
+use Rattle.tac_syntax.specs.declared.declarations.Decl.TheVariants.{Op as OpDecl}
 use Rattle.pact_operators.specs.declared.operators.Op.{Op}
-use Rattle.program_drafts.specs.Drafts.{DraftData}
+use Rattle.tac_syntax.specs.Drafts.{DraftData}
 use Rattle.pact_operators.specs.Resolved.{function_names, ops_of}
 
 -- those of the numbers that can be fields

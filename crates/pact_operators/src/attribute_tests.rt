@@ -15,7 +15,7 @@ use crate::operators::Op;
 use crate::program_rules::ProgramRule;
 use pact_record::{Fields, MAX_FIELDS, Word};
 use plan_trees::{Parts, Plan};
-use program_drafts::Decl;
+use tac_syntax::Decl;
 
 fn has_field(fields: Fields, field: u32) -> bool
     ensures { result ≡ has_field fields field }

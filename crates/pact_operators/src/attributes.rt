@@ -8,17 +8,15 @@ ghost use Rattle.pact_record.specs.FieldSets.{has_field};
 ghost use Rattle.plan_trees.specs.Plans.{has, subtree_of};
 ghost use Rattle.tac_syntax.specs.Bounded.{Names};
 ghost use Rattle.tac_syntax.specs.Contexts.{IsContextOf};
-ghost use Rattle.program_drafts.specs.declared.declarations.OpKind.TheVariants.{Source};
+ghost use Rattle.tac_syntax.specs.declared.declarations.OpKind.TheVariants.{Source};
 ghost use Rattle.pact_operators.specs.PlanOps.{kind_at, left_keys_in, right_keys_in};
 ghost use Rattle.pact_operators.specs.Programs.{HasAttribute, HasLeftAttribute, Owns, OwnsBy, HasRightAttribute, body_of, fields_of, source_fields};
 
 use crate::operators::Op;
 use crate::programs::Program;
-use pact_bag::Column;
-use pact_record::{Fields, Keys};
+use pact_record::{Column, Fields, Keys};
 use plan_trees::{Parts, Plan};
-use program_drafts::OpKind;
-use tac_syntax::{Context, Valid};
+use tac_syntax::{Context, OpKind, Valid};
 
 fn column_fields(columns: &[Column]) -> Fields
     requires { AllByRecursion (λ k. k < MAX_FIELDS) (fields_of columns.now) }

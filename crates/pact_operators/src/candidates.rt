@@ -3,17 +3,16 @@
 ghost use Rattle.std.specs.Prelude.{◌≡◌, ◌≤◌, length, get_or, [], IfOk};
 ghost use Rattle.pact_record.specs.declared.words.TheConstants.{MAX_WORD};
 ghost use Rattle.pact_operators.specs.Candidates.{CandidateData};
-ghost use Rattle.program_drafts.specs.Drafts.{IsSpelledDraft};
+ghost use Rattle.tac_syntax.specs.Drafts.{IsSpelledDraft};
 ghost use Rattle.pact_operators.specs.ProgramRules.{all_columns, all_inputs, name_at};
 ghost use Rattle.pact_operators.specs.Programs.{AreValidated};
 ghost use Rattle.pact_operators.specs.Resolved.{function_names, node_names, sink_inputs};
 
 use crate::gathering;
 use pact_record::{OutOfMemory, Word};
-use program_drafts::{Decl, Draft, functions_of};
 use std::alloc::Global;
 use std::marker::Model;
-use tac_syntax::Valid;
+use tac_syntax::{Decl, Draft, Valid, functions_of};
 
 /// A draft and its valid functions, with the names and columns of its declarations gathered once.
 #[derive(Debug, Drop)]

@@ -7,7 +7,7 @@ ghost use Rattle.pact_operators.specs.declared.checking.NotProgram.TheVariants.{
 ghost use Rattle.pact_operators.specs.AttributeTests.{AreAttributesKnown};
 ghost use Rattle.pact_operators.specs.Checks.{BreaksFirstAt, IsToldBy, KeepsBefore};
 ghost use Rattle.pact_operators.specs.ProgramRules.{Keeps, code_of_rule, order_of};
-ghost use Rattle.pact_operators.specs.Programs.{AreValidated, IsProgram, IsProgramOf, IsWrittenPlan};
+ghost use Rattle.pact_operators.specs.Programs.{AreNames, AreValidated, IsProgram, IsProgramOf, IsWrittenPlan, NamesDiffer};
 ghost use Rattle.pact_operators.specs.RuleTests.{AreReached};
 
 use crate::candidates::Candidate;
@@ -20,9 +20,8 @@ use crate::resolving::{sink_fields, small_ops};
 use crate::written_plans::written_plan;
 use pact_record::{OutOfMemory, Word};
 use plan_trees::Plan;
-use program_drafts::{Draft, ValidList};
 use std::alloc::Global;
-use tac_syntax::Valid;
+use tac_syntax::{Draft, Valid, ValidList};
 
 /// Why a draft is no program.
 #[derive(Debug, Drop)]
@@ -179,9 +178,13 @@ pub fn check_program(
     requires { AreValidated draft.now functions }
     ensures program { IfOk result (λ p. IsProgramOf draft.now functions p) }
     ensures kept { IfOk result (λ _. (rule : ProgramRule) → Keeps rule draft.now functions) }
+    ensures names_differ { IfOk result (λ p. NamesDiffer p.ops) }
+    ensures names { IfOk result (λ p. AreNames p.ops) }
     ensures refused { IfErr result (λ e. IsToldBy draft.now functions e) }
     ensures complete { ((rule : ProgramRule) → Keeps rule draft.now functions) → IfErr result (λ e. e ≡ Memory) }
 {
+    // Its clause says that some text spells the draft.
+    let _decls = draft.decls();
     let resolved = resolve(alloc, draft, functions.functions())?;
     Ok(Program::of(
         draft.fields(),

@@ -4,7 +4,7 @@ ghost use Rattle.std.specs.Prelude.{◌≡◌, ◌+◌, ◌<◌, ◌^◌, ◌∷
 ghost use Rattle.pact_operators.specs.ProgramRules.{is_function, is_operator, is_pair, times_so};
 ghost use Rattle.pact_operators.specs.RuleTests.{is_past_limit};
 
-use program_drafts::{Decl, OpKind};
+use tac_syntax::{Decl, OpKind};
 
 // A program has at most so many functions, operators, and operators that are a Match or a Cross.
 const MAX_FUNCTIONS: usize = 64;

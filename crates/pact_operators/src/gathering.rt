@@ -5,11 +5,9 @@ ghost use Rattle.pact_operators.specs.ProgramRules.{all_columns, all_inputs, col
 ghost use Rattle.pact_operators.specs.Resolved.{function_names, inputs_named, names_read, node_names, sink_inputs};
 
 use crate::name_lists::with_name;
-use pact_bag::Column;
-use pact_record::{OutOfMemory, Word};
-use program_drafts::{Decl, OpKind};
+use pact_record::{Column, OutOfMemory, Word};
 use std::alloc::Global;
-use tac_syntax::Function;
+use tac_syntax::{Decl, Function, OpKind};
 
 pub fn function_names(alloc: Global, functions: &[Function]) -> Result<Vec<Word>, OutOfMemory>
     ensures { IfOk result (λ names. names.items ≡ function_names functions.now) }

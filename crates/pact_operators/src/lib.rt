@@ -25,6 +25,6 @@ pub use attributes::{attrs, context};
 pub use checking::{NotProgram, check_program};
 pub use operators::Op;
 pub use plan_trees::{MAX_NODES, Parts, Physical, Plan, Shape, Ship};
-pub use program_drafts::{Decl, Draft, Numbers, OpKind, ValidList, functions_of};
 pub use program_rules::ProgramRule;
 pub use programs::Program;
+pub use tac_syntax::{Decl, Draft, Numbers, OpKind, ValidList, functions_of};

@@ -1,8 +1,7 @@
 //! The sources and operators of a program.
 
-use pact_bag::Columns;
-use pact_record::{Keys, Word};
-use program_drafts::OpKind;
+use pact_record::{Columns, Keys, Word};
+use tac_syntax::OpKind;
 
 /// A source or an operator. A source has no function and no keys; an operator has no file and no columns. What a
 /// kind doesn't have is empty or 0.

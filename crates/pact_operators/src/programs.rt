@@ -5,9 +5,8 @@ ghost use Rattle.pact_operators.specs.Programs.{IsProgram};
 
 use crate::operators::Op;
 use plan_trees::Plan;
-use program_drafts::ValidList;
 use std::marker::Model;
-use tac_syntax::Valid;
+use tac_syntax::{Valid, ValidList};
 
 /// A program that keeps every rule. Its functions, and its sources and operators, are named by
 /// their places among them.

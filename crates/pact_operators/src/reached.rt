@@ -7,8 +7,8 @@ ghost use Rattle.pact_operators.specs.RuleTests.{AreReached, is_reached_reader, 
 use crate::candidates::Candidate;
 use crate::name_lists::{is_among, times_among};
 use pact_record::OutOfMemory;
-use program_drafts::{Decl, OpKind};
 use std::alloc::Global;
+use tac_syntax::{Decl, OpKind};
 
 // Whether the declaration is an operator that reads what has this name.
 fn is_reader(name: &[u8], decl: &Decl) -> bool

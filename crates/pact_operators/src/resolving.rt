@@ -5,15 +5,14 @@ ghost use Rattle.std.specs.List.{AllByRecursion};
 ghost use Rattle.pact_record.specs.Keys.{key_limit};
 ghost use Rattle.pact_operators.specs.Programs.{function_limit};
 ghost use Rattle.pact_operators.specs.Resolved.{ops_of, sink_fields};
-ghost use Rattle.program_drafts.specs.declared.declarations.OpKind.TheVariants.{Source as SourceKind};
+ghost use Rattle.tac_syntax.specs.declared.declarations.OpKind.TheVariants.{Source as SourceKind};
 ghost use Rattle.pact_operators.specs.WrittenOps.{HasFewKeys, small_keys, with_small_keys};
 
 use crate::name_lists::place_among;
 use crate::operators::Op;
-use pact_bag::Columns;
-use pact_record::{Keys, MAX_FIELDS, OutOfMemory, Word};
-use program_drafts::{Decl, OpKind};
+use pact_record::{Columns, Keys, MAX_FIELDS, OutOfMemory, Word};
 use std::alloc::Global;
+use tac_syntax::{Decl, OpKind};
 
 // Those of the numbers that can be fields.
 fn small_keys(numbers: &[u32]) -> Keys

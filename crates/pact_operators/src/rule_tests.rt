@@ -12,10 +12,8 @@ use crate::counts::Counts;
 use crate::name_lists::{is_among, times_among, times_in};
 use crate::program_rules::ProgramRule;
 use crate::reached::is_not_in_tree;
-use pact_bag::Column;
-use pact_record::Word;
-use program_drafts::{Decl, OpKind, functions_of};
-use tac_syntax::{Function, Kind};
+use pact_record::{Column, Word};
+use tac_syntax::{Decl, Function, Kind, OpKind, functions_of};
 
 // Whether a name that an operator of this kind reads isn't among the names.
 fn is_some_missing(kind: OpKind, left: &Word, right: &Word, nodes: &[Word]) -> bool

@@ -13,8 +13,8 @@ use crate::candidates::Candidate;
 use crate::name_lists::place_among;
 use pact_record::{OutOfMemory, Word};
 use plan_trees::{MAX_NODES, Plan};
-use program_drafts::{Decl, OpKind};
 use std::alloc::Global;
+use tac_syntax::{Decl, OpKind};
 
 /// What a source or an operator reads.
 #[derive(Clone, Copy, Debug)]

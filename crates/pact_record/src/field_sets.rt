@@ -7,7 +7,7 @@ use crate::records::MAX_FIELDS;
 use std::marker::Model;
 
 /// A set of fields.
-#[derive(Clone, Copy, Debug, PartialEq, Eq)]
+#[derive(Clone, Copy, Debug, PartialEq, Eq, Hash)]
 pub struct Fields(u64);
 
 impl Model for Fields {

@@ -2,11 +2,12 @@
 //!
 //! A value is Null, a whole number or a text; `apply1` and `apply2` are the operations on values.
 //! A record is a list of values, one for each field of the program, so a field number is a place
-//! in that list. `Fields` is a set of field numbers, `Keys` the list of those of a key. `Bytes` is a
-//! text of any length, `Word` a short one, such as a name.
+//! in that list. `Fields` is a set of field numbers, `Keys` the list of those of a key, `Columns` those to which a
+//! source's columns go. `Bytes` is a text of any length, `Word` a short one, such as a name.
 #![tactic(auto)]
 
 pub mod bytes;
+pub mod columns;
 pub mod field_sets;
 pub mod keys;
 pub mod operations;
@@ -17,6 +18,7 @@ pub mod values;
 pub mod words;
 
 pub use bytes::Bytes;
+pub use columns::{Column, Columns};
 pub use field_sets::Fields;
 pub use keys::{Keys, MAX_KEYS};
 pub use operations::{Op1, Op2, apply1, apply2};

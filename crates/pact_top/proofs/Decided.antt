@@ -1,5 +1,5 @@
 -- Each stage of the order of work is decided where the files are told, and what it gives is one.
-use Rattle.std.proofs.Common.{◌≡◌, ◌≤◌, ◌<◌, ◌⊎◌, inl, inr, ℕ, List, [], ◌∷◌, length, map, Option, Some, None, refl, ap, subst, sym, ◌∙◌, arith}
+use Rattle.std.proofs.Common.{◌≡◌, ◌≤◌, ◌<◌, ◌⊎◌, inl, inr, ℕ, List, [], ◌∷◌, length, map, Option, Some, None, Ok, Err, refl, ap, subst, sym, ◌∙◌, arith}
 use Rattle.std.specs.List.{AllByRecursion}
 use Rattle.csv_source.specs.CsvRows.{records_of}
 use Rattle.csv_source.proofs.RowParts.{rows_or_bad_row}
@@ -7,8 +7,15 @@ use Rattle.pact_outside.specs.declared.files.NamedFile.{NamedFile}
 use Rattle.pact_outside.specs.Outside.{file_named}
 use Rattle.pact_operators.specs.declared.operators.Op.{Op}
 use Rattle.pact_operators.specs.PlanOps.{sources_of}
-use Rattle.program_drafts.specs.Drafts.{DraftData}
-use Rattle.pact_operators.specs.Programs.{AreValidated, ProgramData}
+use Rattle.tac_syntax.specs.Drafts.{DraftData}
+use Rattle.plan_trees.specs.Plans.{PlanTree}
+use Rattle.pact_operators.specs.declared.program_rules.ProgramRule.TheVariants.{DeclaredTwice}
+use Rattle.pact_operators.specs.Programs.{AreValidated, NamesDiffer, ProgramData}
+use Rattle.swap_certificate.specs.declared.certificates.CertFault.{CertFault}
+use Rattle.swap_certificate.specs.declared.certificates.Certificate.{Certificate}
+use Rattle.swap_certificate.specs.Checks.{Checks}
+use Rattle.swap_certificate.proofs.OneResult.{checks-one}
+use Rattle.swap_certificate.proofs.OneShape.{text_one}
 use Rattle.program_text.proofs.ReadLoop.{faulty_is_none, same_draft}
 use Rattle.tac_syntax.specs.declared.functions.Function.{Function}
 use Rattle.tac_syntax.specs.Valid.{IsValid, WithFields}
@@ -17,9 +24,10 @@ use Rattle.text_lines.specs.TextLines.{lines_of}
 use Rattle.pact_top.specs.Refusal.{AreTold}
 use Rattle.pact_top.specs.Stages.{End, gives, stops, misses, fails, Reading, each}
 use Rattle.pact_top.specs.RefusalLines.{usage_line}
-use Rattle.pact_top.specs.Work.{IsTextOf, FileEnds, command, draft, file, loaded, program, program_file, program_limit, program_of, ready, ready_for, rows, source_file, sources, text_for, valid, valids, work}
-use Rattle.pact_words.specs.Words.{Asked, to_run, to_tell_sets, AreRefused}
+use Rattle.pact_top.specs.Work.{IsTextOf, FileEnds, accepted, certificate, certificate_file, certificate_limit, command, draft, file, loaded, program, program_file, program_limit, program_of, ready, ready_for, rechecked, rows, source_file, sources, text_for, valid, valids, work}
+use Rattle.pact_words.specs.Words.{Asked, to_run, to_tell_sets, to_check, AreRefused}
 use Rattle.pact_words.proofs.OneAsked.{asked_not_refused, not_both, one_asked, one_of}
+use Rattle.pact_operators.proofs.DifferentNames.{kept-NamesDiffer}
 use Rattle.pact_operators.proofs.OneProgram.{one_program}
 use Rattle.pact_operators.proofs.RefusedOrKept.{refused_not_kept}
 use Rattle.pact_top.proofs.StageLaws.{AreAlike, Agree, GivesOne, IsDecided, StopsSo, agree_then, decided_then, each_decided, each_one, gave_cons, give_agrees, give_alike, one_then, plain_decided, stops_each, stops_give, stops_then}
@@ -134,7 +142,49 @@ sources_decided : (files : Option (List NamedFile)) → AreTold files → (p : P
 sources_decided files told p =
     each_decided (source_file p.fields files) (λ s. decided_then _ (file_one files told s.file _) (file_decided files told s.file _) (λ bytes _. rows_decided p.fields s bytes)) (sources_of p.ops)
 
+-- ---- certificates
+
+certificate_decided : (text : List ℕ) → IsDecided (certificate text)
+certificate_decided text = plain_decided _ _ (λ c s l h g. g.0 c h) (λ s t l m h g. h.1 ∙ sym g.1)
+
+certificate_one : (text : List ℕ) → GivesOne (certificate text)
+certificate_one text = record { one = λ a b p q h g. sym (text_one text a b h.1 g.1) }
+
+certificate_file_decided : (files : Option (List NamedFile)) → AreTold files → (name : List ℕ) → IsDecided (certificate_file files name)
+certificate_file_decided files told name = decided_then _ (file_one files told name certificate_limit) (file_decided files told name certificate_limit) (λ text _. certificate_decided text)
+
+certificate_file_one : (files : Option (List NamedFile)) → AreTold files → (name : List ℕ) → GivesOne (certificate_file files name)
+certificate_file_one files told name = one_then _ (file_one files told name certificate_limit) (λ text _. certificate_one text)
+
+accepted_or_refused : (p : ProgramData) → NamesDiffer p.ops → (c : Certificate) (plan : PlanTree) (fault : CertFault) → Checks p c (Ok plan) → Checks p c (Err fault) → ⊥
+accepted_or_refused p names c plan fault h g = let same = checks-one p names c (Ok plan) (Err fault) h g in absurd (cc)
+
+rechecked_decided : (p : ProgramData) → NamesDiffer p.ops → (c : Certificate) → IsDecided (rechecked p c)
+rechecked_decided p names c = plain_decided _ _ (λ plan s l h g. accepted_or_refused p names c plan g.0 h g.1) (λ s t l m h g. h.2 ∙ sym g.2)
+
+-- the program that a text spells has no name twice
+program-NamesDiffer : (name text : List ℕ) (p : ProgramData) (r : List Reading) → (program_of name text).Ends r (gives p) → NamesDiffer p.ops
+program-NamesDiffer name text p r (gives d, r1, r2, e, h, (gives vs, r3, r4, e2, v, k)) = kept-NamesDiffer d vs p k.1.program (k.1.kept DeclaredTwice)
+program-NamesDiffer name text p r (gives d, r1, r2, e, h, (stops s l, r3, r4, e2, v, k)) = absurd cc
+program-NamesDiffer name text p r (gives d, r1, r2, e, h, (misses n, r3, r4, e2, v, k)) = absurd cc
+program-NamesDiffer name text p r (gives d, r1, r2, e, h, (fails n, r3, r4, e2, v, k)) = absurd cc
+program-NamesDiffer name text p r (stops s l, r1, r2, e, h, k) = absurd cc
+program-NamesDiffer name text p r (misses n, r1, r2, e, h, k) = absurd cc
+program-NamesDiffer name text p r (fails n, r1, r2, e, h, k) = absurd cc
+
+pub file-NamesDiffer : (files : Option (List NamedFile)) (name : List ℕ) (p : ProgramData) (r : List Reading) → (program_file files name).Ends r (gives p) → NamesDiffer p.ops
+file-NamesDiffer files name p r (gives text, r1, r2, e, f, h) = program-NamesDiffer name text p r2 h
+file-NamesDiffer files name p r (stops s l, r1, r2, e, f, h) = absurd cc
+file-NamesDiffer files name p r (misses n, r1, r2, e, f, h) = absurd cc
+file-NamesDiffer files name p r (fails n, r1, r2, e, f, h) = absurd cc
+
 -- ---- the commands
+
+accepted_decided : (files : Option (List NamedFile)) → AreTold files → (name other : List ℕ) → IsDecided (accepted files name other)
+accepted_decided files told name other =
+    decided_then _ (program_file_one files told name) (program_file_decided files told name)
+    (λ p from. decided_then _ (certificate_file_one files told other) (certificate_file_decided files told other)
+    (λ c _. agree_then _ _ (rechecked_decided p (file-NamesDiffer files name p from.readings from.ends) c) (λ a b _ _. give_agrees _ _)))
 
 loaded_decided : (files : Option (List NamedFile)) → AreTold files → (name : List ℕ) → IsDecided (loaded files name)
 loaded_decided files told name =
@@ -143,6 +193,7 @@ loaded_decided files told name =
 ready_for_decided : (files : Option (List NamedFile)) → AreTold files → (asked : Asked) → IsDecided (ready_for files asked)
 ready_for_decided files told (to_run name) = agree_then _ _ (loaded_decided files told name) (λ a b _ _. give_agrees _ _)
 ready_for_decided files told (to_tell_sets name) = agree_then _ _ (program_file_decided files told name) (λ a b _ _. give_agrees _ _)
+ready_for_decided files told (to_check name other) = agree_then _ _ (accepted_decided files told name other) (λ a b _ _. give_agrees _ _)
 
 pub work_decided : (words : List (List ℕ)) (files : Option (List NamedFile)) → AreTold files → IsDecided (work words files)
 work_decided words files told = decided_then _ (command_one words) (command_decided words) (λ c _. agree_then _ _ (ready_for_decided files told c) (λ a b _ _. give_agrees _ _))
@@ -158,9 +209,9 @@ ready_agrees words files told =
 
 -- the words are no command, or the files decide it
 abbrev pub IsKnown : List (List ℕ) → ℕ → List ℕ → Type 0
-IsKnown words status line = (AreRefused words × (status ≡ 2) × (line ≡ usage_line)) ⊎ ((5 ≤ status) × (status ≤ 8))
+IsKnown words status line = (AreRefused words × (status ≡ 2) × (line ≡ usage_line)) ⊎ ((5 ≤ status) × (status ≤ 9))
 
-between : (n status : ℕ) → status ≡ n → 5 ≤ n → n ≤ 8 → (5 ≤ status) × (status ≤ 8)
+between : (n status : ℕ) → status ≡ n → 5 ≤ n → n ≤ 9 → (5 ≤ status) × (status ≤ 9)
 between n status e l k = (omega (arith, e, l), omega (arith, e, k))
 
 file_known : (words : List (List ℕ)) (files : Option (List NamedFile)) (name : List ℕ) (limit : ℕ) → StopsSo (IsKnown words) (file files name limit)
@@ -178,12 +229,24 @@ program_file_known words files name = stops_then (IsKnown words) _ (file_known w
 source_known : (words : List (List ℕ)) (files : Option (List NamedFile)) (fields : ℕ) (s : Op) → StopsSo (IsKnown words) (source_file fields files s)
 source_known words files fields s = stops_then (IsKnown words) _ (file_known words files s.file _) (λ bytes. record { so = λ st l p h. inr (between 7 st h.1.4 (omega arith) (omega arith)) })
 
+certificate_file_known : (words : List (List ℕ)) (files : Option (List NamedFile)) (name : List ℕ) → StopsSo (IsKnown words) (certificate_file files name)
+certificate_file_known words files name =
+    stops_then (IsKnown words) _ (file_known words files name certificate_limit) (λ text. record { so = λ s l p h. inr (between 9 s h.1.1 (omega arith) (omega arith)) })
+
+rechecked_known : (words : List (List ℕ)) (p : ProgramData) (c : Certificate) → StopsSo (IsKnown words) (rechecked p c)
+rechecked_known words p c = record { so = λ s l r h. inr (between 9 s h.1.2 (omega arith) (omega arith)) }
+
 ready_for_known : (words : List (List ℕ)) (files : Option (List NamedFile)) (asked : Asked) → StopsSo (IsKnown words) (ready_for files asked)
 ready_for_known words files (to_run name) =
     stops_then (IsKnown words) _ (stops_then (IsKnown words) _ (program_file_known words files name)
     (λ p. stops_then (IsKnown words) _ (stops_each (IsKnown words) (source_file p.fields files) (source_known words files p.fields) (sources_of p.ops)) (λ inputs. stops_give (IsKnown words) _)))
     (λ l. stops_give (IsKnown words) _)
 ready_for_known words files (to_tell_sets name) = stops_then (IsKnown words) _ (program_file_known words files name) (λ p. stops_give (IsKnown words) _)
+ready_for_known words files (to_check name other) =
+    stops_then (IsKnown words) _ (stops_then (IsKnown words) _ (program_file_known words files name)
+    (λ p. stops_then (IsKnown words) _ (certificate_file_known words files other)
+    (λ c. stops_then (IsKnown words) _ (rechecked_known words p c) (λ plan. stops_give (IsKnown words) _))))
+    (λ a. stops_give (IsKnown words) _)
 
 pub work_known : (words : List (List ℕ)) (files : Option (List NamedFile)) → StopsSo (IsKnown words) (work words files)
 work_known words files = stops_then (IsKnown words) _ (record { so = λ s l p h. inl h.1 }) (λ c. stops_then (IsKnown words) _ (ready_for_known words files c) (λ r. stops_give (IsKnown words) _))

@@ -12,3 +12,4 @@ pub mod SourceNames
 pub mod StageLaws
 pub mod Told
 pub mod WrittenParts
+pub mod CertificateEnds

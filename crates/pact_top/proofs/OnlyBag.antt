@@ -15,8 +15,8 @@ use Rattle.tac_syntax.specs.Code.{Code}
 use Rattle.tac_syntax.specs.Valid.{IsValid}
 use Rattle.order_free.specs.Permutes.{AreReordered}
 use Rattle.order_free.proofs.PermutedOutputs.{valid-permutes}
-use Rattle.program_drafts.specs.declared.declarations.OpKind.{OpKind}
-use Rattle.program_drafts.specs.declared.declarations.OpKind.TheVariants.{Reduce, CoGroup}
+use Rattle.tac_syntax.specs.declared.declarations.OpKind.{OpKind}
+use Rattle.tac_syntax.specs.declared.declarations.OpKind.TheVariants.{Reduce, CoGroup}
 use Rattle.plan_trees.specs.Plans.{PlanTree, leaf, over, both}
 use Rattle.pact_operators.specs.declared.operators.Op.{Op}
 use Rattle.pact_operators.specs.Allowed.{Allows, Bag}

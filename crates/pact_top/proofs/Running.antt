@@ -1,19 +1,22 @@
 -- The commands, from the words to the text.
-use Rattle.std.proofs.Common.{◌≡◌, inl, inr, ℕ, List, Result, Ok, Err, IfOk, IfErr, refl, sym, arith}
+use Rattle.std.proofs.Common.{◌≡◌, inl, inr, ℕ, List, Option, Result, Ok, Err, IfOk, IfErr, refl, sym, arith}
 use Rattle.pact_operators.specs.Allowed.{Allows, Bag}
 use Rattle.pact_operators.specs.PlanOps.{plan_ops}
 use Rattle.pact_operators.specs.Programs.{IsProgram, ProgramData}
+use Rattle.pact_outside.specs.declared.files.NamedFile.{NamedFile}
 use Rattle.pact_outside.specs.Outside.{Feeding}
+use Rattle.plan_trees.specs.Plans.{PlanTree}
+use Rattle.swap_certificate.specs.declared.certificates.Certificate.{Certificate}
 use Rattle.plan_printer.specs.SetsText.{IsSetsText}
 use Rattle.pact_top.specs.Lines.{AreLines}
 use Rattle.pact_top.specs.declared.refusals.Refusal.{Refusal}
 use Rattle.pact_top.specs.declared.refusals.Refusal.TheVariants.{OutOfMemory, Usage, CannotRead, CannotWrite, Decided}
-use Rattle.pact_top.specs.Refusal.{Answers, Comes, ComesTo, IsRefused}
-use Rattle.pact_top.specs.Stages.{and_then, give, gives, stops}
+use Rattle.pact_top.specs.Refusal.{Answers, Comes, ComesTo, Decides, IsRefused}
+use Rattle.pact_top.specs.Stages.{Stage, and_then, give, gives, stops}
 use Rattle.pact_top.specs.RefusalLines.{usage_line}
-use Rattle.pact_top.specs.Work.{IsTextOf, Loaded, Ready, loaded, program_file, ready_for, sources, text_for, to_analyse, to_evaluate, work}
-use Rattle.pact_words.specs.Words.{AreRefused, to_run, to_tell_sets}
-use Rattle.pact_top.proofs.Comings.{comes_decided, comes_err, comes_then}
+use Rattle.pact_top.specs.Work.{Accepted, IsAcceptance, IsTextOf, Loaded, Ready, accepted, certificate_file, loaded, program_file, ready_for, rechecked, sources, text_for, to_accept, to_analyse, to_evaluate, work}
+use Rattle.pact_words.specs.Words.{AreRefused, to_check, to_run, to_tell_sets}
+use Rattle.pact_top.proofs.Comings.{comes_decided, comes_err, comes_then, decides_err, decides_then}
 use Rattle.pact_top.proofs.Decided.{IsKnown, work_known}
 use Rattle.pact_top.proofs.OnlyBag.{one_text, only_bag}
 use Rattle.pact_top.proofs.SourceNames.{work_fails}
@@ -63,6 +66,47 @@ sets_told {before} {now} name p text h told =
     comes_decided {A = Ready} {s = λ f. ready_for f (to_tell_sets name)} (λ y. give (IsTextOf y)) (to_analyse p) (Ok text)
     (comes_decided {s = λ f. program_file f name} (λ q. give (λ y. y ≡ to_analyse q)) p (Ok (to_analyse p)) h (refl, refl))
     (refl, told)
+
+-- ---- check
+
+-- what stands behind the certificate, and behind the program
+abbrev behind_certificate : ProgramData → Certificate → Stage Accepted
+behind_certificate p c = and_then (rechecked p c) (λ plan. give (λ all. all ≡ record { program = p; certificate = c; plan = plan }))
+
+abbrev behind_program : List ℕ → Option (List NamedFile) → ProgramData → Stage Accepted
+behind_program other files p = and_then (certificate_file files other) (behind_certificate p)
+
+module _ {before now : Feeding} (name other : List ℕ) where
+  -- a refusal of the command's own stages is one of the command
+  to_check_err : (r : Refusal) → Comes (λ f. accepted f name other) before now (Err r) → Comes (λ f. text_for f (to_check name other)) before now (Err r)
+  to_check_err r h =
+      comes_err {A = Ready} {s = λ f. ready_for f (to_check name other)} (λ f y. give (IsTextOf y)) r (comes_err {A = Accepted} {s = λ f. accepted f name other} (λ f a. give (λ y. y ≡ to_accept a)) r h)
+
+  pub check_program : (r : Refusal) → Comes (λ f. program_file f name) before now (Err r) → Comes (λ f. text_for f (to_check name other)) before now (Err r)
+  check_program r h = to_check_err r (comes_err (behind_program other) r h)
+
+  module _ {mid : Feeding} (p : ProgramData) (h : Comes (λ f. program_file f name) before mid (Ok p)) where
+    pub check_certificate : (r : Refusal) → Comes (λ f. certificate_file f other) mid now (Err r) → Comes (λ f. text_for f (to_check name other)) before now (Err r)
+    check_certificate r g = to_check_err r (comes_then (behind_program other) p (Err r) h (comes_err (λ f. behind_certificate p) r g))
+
+    module _ (c : Certificate) (g : Comes (λ f. certificate_file f other) mid now (Ok c)) where
+      pub check_refused : (r : Refusal) → Decides (rechecked p c) (Err r) → Comes (λ f. text_for f (to_check name other)) before now (Err r)
+      check_refused r d =
+          to_check_err r
+          (comes_then (behind_program other) p (Err r) h
+          (comes_decided {s = λ f. certificate_file f other} (behind_certificate p) c (Err r) g (decides_err (rechecked p c) (λ plan. give (λ all. all ≡ record { program = p; certificate = c; plan = plan })) r d)))
+
+      pub check_told : (plan : PlanTree) (text : List ℕ) → Decides (rechecked p c) (Ok plan) → IsAcceptance (record { program = p; certificate = c; plan = plan }) text
+          → Comes (λ f. text_for f (to_check name other)) before now (Ok text)
+      check_told plan text d acceptance =
+          let a : Accepted = record { program = p; certificate = c; plan = plan } in
+          comes_decided {A = Ready} {s = λ f. ready_for f (to_check name other)} (λ y. give (IsTextOf y)) (to_accept a) (Ok text)
+          (comes_decided {A = Accepted} {s = λ f. accepted f name other} (λ x. give (λ y. y ≡ to_accept x)) a (Ok (to_accept a))
+          (comes_then (behind_program other) p (Ok a) h
+          (comes_decided {s = λ f. certificate_file f other} (behind_certificate p) c (Ok a) g
+          (decides_then (rechecked p c) (λ reached. give (λ all. all ≡ record { program = p; certificate = c; plan = reached })) plan (Ok a) d (refl, refl))))
+          (refl, refl))
+          (refl, acceptance)
 
 -- ---- all commands
 

@@ -1,23 +1,23 @@
 -- Each file that the work opens is the program's, or has the name of a file.
 use Rattle.std.proofs.Common.{◌≡◌, ◌+◌, ◌⊎◌, inl, inr, ℕ, true, false, Bool, List, [], ◌∷◌, length, cond, Option, IsTrue, sym, subst, refl}
 use Rattle.std.specs.List.{AllByRecursion}
-use Rattle.program_drafts.specs.declared.declarations.Decl.{Decl}
-use Rattle.program_drafts.specs.declared.declarations.Decl.TheVariants.{Source, Function, Op as OpDecl, Sink}
-use Rattle.program_drafts.specs.declared.declarations.OpKind.{OpKind}
-use Rattle.program_drafts.specs.declared.declarations.OpKind.TheVariants.{Source as SourceKind, Map, Reduce, Match, Cross, CoGroup}
+use Rattle.tac_syntax.specs.declared.declarations.Decl.{Decl}
+use Rattle.tac_syntax.specs.declared.declarations.Decl.TheVariants.{Source, Function, Op as OpDecl, Sink}
+use Rattle.tac_syntax.specs.declared.declarations.OpKind.{OpKind}
+use Rattle.tac_syntax.specs.declared.declarations.OpKind.TheVariants.{Source as SourceKind, Map, Reduce, Match, Cross, CoGroup}
 use Rattle.pact_operators.specs.declared.operators.Op.{Op}
-use Rattle.program_drafts.specs.Declarations.{HasInputs}
-use Rattle.program_drafts.specs.Drafts.{AreDeclared}
+use Rattle.tac_syntax.specs.Declarations.{HasInputs}
+use Rattle.tac_syntax.specs.Drafts.{AreDeclared}
 use Rattle.pact_operators.specs.PlanOps.{is_source_kind, sources_of}
 use Rattle.pact_operators.specs.Programs.{ProgramData}
 use Rattle.pact_operators.specs.Resolved.{function_names, ops_of}
 use Rattle.pact_outside.specs.declared.files.NamedFile.{NamedFile}
-use Rattle.pact_words.specs.Words.{Asked, to_run, to_tell_sets, IsAsked}
+use Rattle.pact_words.specs.Words.{Asked, to_run, to_tell_sets, to_check, IsAsked}
 use Rattle.tac_syntax.specs.declared.functions.Function.{Function as FunctionValue}
 use Rattle.tac_syntax.specs.Names.{is_file_name}
-use Rattle.pact_top.specs.Refusal.{IsNamed, named_by}
+use Rattle.pact_top.specs.Refusal.{IsNamed, Names}
 use Rattle.pact_top.specs.Stages.{each, fails, gives, misses, stops, Reading}
-use Rattle.pact_top.specs.Work.{file, program_file, program_limit, program_of, ready_for, source_file, source_limit, valid, work}
+use Rattle.pact_top.specs.Work.{certificate_limit, file, program_file, program_limit, program_of, ready_for, source_file, source_limit, valid, work}
 use Rattle.pact_top.proofs.StageLaws.{FailsSo, fails_plain, fails_then}
 
 -- a source's file has a name that a program may give it
@@ -87,9 +87,9 @@ sources_fail P fields files (s ∷ ops) h =
     fails_then P _ (fails_then P _ (file_fails P files s.file source_limit h.0) (λ bytes _. fails_plain P _ _))
     (λ rows _. fails_then P _ (sources_fail P fields files ops h.1) (λ all _. fails_plain P _ _))
 
--- the name of the command's file, or one that a program may name
+-- the command names it, or a program may
 abbrev NamedFor : Asked → List ℕ → Type 0
-NamedFor asked name = (name ≡ named_by asked) ⊎ IsTrue (is_file_name name)
+NamedFor asked name = Names asked name ⊎ IsTrue (is_file_name name)
 
 may_name : (asked : Asked) (sources : List Op) → AllByRecursion (λ s. IsTrue (is_file_name s.file)) sources → AllByRecursion (λ s. NamedFor asked s.file) sources
 may_name asked [] h = tt
@@ -105,6 +105,13 @@ ready_for_fails files (to_run name) =
     (λ l _. fails_plain (NamedFor (to_run name)) _ _)
 ready_for_fails files (to_tell_sets name) =
     fails_then (NamedFor (to_tell_sets name)) _ (program_file_fails (NamedFor (to_tell_sets name)) files name (inl refl)) (λ p _. fails_plain (NamedFor (to_tell_sets name)) _ _)
+ready_for_fails files (to_check name other) =
+    fails_then (NamedFor (to_check name other)) _
+    (fails_then (NamedFor (to_check name other)) _ (program_file_fails (NamedFor (to_check name other)) files name (inl (inl refl)))
+    (λ p _. fails_then (NamedFor (to_check name other)) _
+    (fails_then (NamedFor (to_check name other)) _ (file_fails (NamedFor (to_check name other)) files other certificate_limit (inl (inr refl))) (λ text _. fails_plain (NamedFor (to_check name other)) _ _))
+    (λ c _. fails_then (NamedFor (to_check name other)) _ (fails_plain (NamedFor (to_check name other)) _ _) (λ plan _. fails_plain (NamedFor (to_check name other)) _ _))))
+    (λ a _. fails_plain (NamedFor (to_check name other)) _ _)
 
 pub work_fails : (words : List (List ℕ)) (files : Option (List NamedFile)) → FailsSo (IsNamed words) (work words files)
 work_fails words files =

@@ -6,7 +6,7 @@ use Rattle.std.specs.List.{AllByRecursion}
 use Rattle.csv_source.specs.CsvRows.{records_of}
 use Rattle.csv_source.proofs.RowParts.{source_rows}
 use Rattle.pact_bag.specs.SourceRows.{AreSourceRows}
-use Rattle.pact_bag.specs.declared.columns.Column.{Column}
+use Rattle.pact_record.specs.declared.columns.Column.{Column}
 use Rattle.pact_operators.specs.declared.operators.Op.{Op}
 use Rattle.pact_operators.specs.Allowed.{Bag}
 use Rattle.pact_operators.specs.Inputs.{HaveRows}

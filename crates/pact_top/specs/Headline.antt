@@ -16,6 +16,8 @@ use Rattle.pact_top.specs.Work.{Ready, ready, work}
 
 -- Status 0: the text was written whole. Of `run` it is the sorted rows of a bag that the program as written allows, which is the only such
 -- bag where each function that a Reduce or a CoGroup calls passes the order test. Of `sets` it is what the analysis finds of each operator.
+-- Of `check` it tells that the certificate is accepted: legal exchanges lead to the plan that it states, which over every input allows the
+-- bags of the plan as written.
 abbrev pub Answered : List (List ℕ) → Feeding → Feeding → Option (List ℕ) → Option (List ℕ) → ℕ → Type 0
 Answered words before now old new status = status ≡ 0 → (text : List ℕ) × ComesTo (work words before.files) before now (gives text) × Gains old new text
 
@@ -29,7 +31,7 @@ abbrev pub Usage : List (List ℕ) → ℕ → Type 0
 Usage words status = (status ≡ 2) ↔ AreRefused words
 
 -- Status 3: only where a fault of the feed rose, at the file opened last, which the order of work opens there; no file is open then
--- (`unread`, `unread_closed`). It is the command's file or one that a program may name. A file that is missing comes to nothing else.
+-- (`unread`, `unread_closed`). The command names it, or a program may. A file that is missing comes to nothing else.
 abbrev pub UnreadOpened : List (List ℕ) → Feeding → Feeding → ℕ → Type 0
 UnreadOpened words before now status = status ≡ 3 → HasFailed (work words before.files) before now now.opened
 
@@ -43,7 +45,7 @@ MissingFile words before status = AreTold before.files → (name : List ℕ) →
 abbrev pub UnwrittenPrefix : List (List ℕ) → Feeding → Feeding → Option (List ℕ) → Option (List ℕ) → ℕ → Type 0
 UnwrittenPrefix words before now old new status = status ≡ 4 → (text : List ℕ) × ComesTo (work words before.files) before now (gives text) × GainsFront old new text
 
--- Statuses 5 to 8: only where the order of work stops with this status and line, which is told. Where it stops, the status is that one,
+-- Statuses 5 to 9: only where the order of work stops with this status and line, which is told. Where it stops, the status is that one,
 -- unless memory is wanting or reading fails.
 abbrev pub Refused : List (List ℕ) → Feeding → Feeding → Option (List ℕ) → Option (List ℕ) → ℕ → ℕ → ℕ → Type 0
 Refused words before now old new first last status = 5 ≤ status → (line : List ℕ) × ComesTo (work words before.files) before now (stops status line) × Tells old new first last line
@@ -63,4 +65,4 @@ Told now old new first last status = status ≢ 0 → status ≤ 4 → Tells old
 
 -- There are no others.
 abbrev pub NoOther : ℕ → Type 0
-NoOther status = status ≤ 8
+NoOther status = status ≤ 9

@@ -2,7 +2,7 @@
 use Rattle.std.specs.Prelude.{◌≡◌, ◌≤◌, ◌⊎◌, ℕ, false, List, [], Option, Some, None, Result, Ok, Err, IsTrue}
 use Rattle.pact_outside.specs.declared.files.NamedFile.{NamedFile}
 use Rattle.pact_outside.specs.Outside.{Feeding, Rose}
-use Rattle.pact_words.specs.Words.{Asked, to_run, to_tell_sets, AreRefused, IsAsked}
+use Rattle.pact_words.specs.Words.{Asked, to_run, to_tell_sets, to_check, AreRefused, IsAsked}
 use Rattle.pact_operators.specs.declared.checking.NotProgram.{NotProgram}
 use Rattle.pact_operators.specs.declared.checking.NotProgram.TheVariants as nots
 use Rattle.text_lines.specs.declared.lines.TextFault.{TextFault}
@@ -10,6 +10,12 @@ use Rattle.text_lines.specs.declared.lines.TextFault.TheVariants as faults
 use Rattle.tac_syntax.specs.Names.{is_file_name}
 use Rattle.csv_source.specs.declared.reading.BadRow.{BadRow}
 use Rattle.csv_source.specs.declared.reading.BadRow.TheVariants as bads
+use Rattle.swap_certificate.specs.declared.certificates.CertFault.{CertFault}
+use Rattle.swap_certificate.specs.declared.certificates.CertFault.TheVariants as cert_faults
+use Rattle.swap_certificate.specs.declared.certificates.Certificate.{Certificate}
+use Rattle.swap_certificate.specs.declared.certificates.NotCertificate.{NotCertificate}
+use Rattle.swap_certificate.specs.declared.certificates.NotCertificate.TheVariants as unread
+use Rattle.swap_certificate.specs.FaultTexts.{fault_text, not_certificate_text}
 use Rattle.pact_top.specs.Readings.{HasOpened, HasRead}
 use Rattle.pact_top.specs.Stages.{End, gives, stops, fails, Reading, Stage}
 use Rattle.pact_top.specs.RefusalLines.{line_of, program_line, source_line, text_line, usage_line}
@@ -37,7 +43,8 @@ Says status line OutOfMemory = Unit {0}
 Says status line (Decided s l) = (s ≡ status) × (l ≡ line)
 Says status line refusal = ⊥
 
--- what is told of a text that wasn't read, of a draft that is no program, and of bytes that have no rows
+-- what is told of a text that wasn't read, of a draft that is no program, of bytes that have no rows, of a text that is no certificate, and of a certificate
+-- with a fault
 abbrev pub TextRefused : List ℕ → TextFault → Refusal → Type 0
 TextRefused name (faults.At line what) r = Says 5 (text_line name line what) r
 TextRefused name faults.Memory r = r ≡ OutOfMemory
@@ -49,6 +56,14 @@ ProgramRefused nots.Memory r = r ≡ OutOfMemory
 abbrev pub RowRefused : List ℕ → BadRow → Refusal → Type 0
 RowRefused name (bads.At row column why) r = Says 7 (source_line name row column why) r
 RowRefused name bads.Memory r = r ≡ OutOfMemory
+
+abbrev pub CertificateUnread : NotCertificate → Refusal → Type 0
+CertificateUnread unread.Shape r = Says 9 not_certificate_text r
+CertificateUnread unread.Memory r = r ≡ OutOfMemory
+
+abbrev pub CertificateRefused : Certificate → CertFault → Refusal → Type 0
+CertificateRefused c cert_faults.Memory r = r ≡ OutOfMemory
+CertificateRefused c fault r = Says 9 (fault_text c fault) r
 
 -- ---- answers
 
@@ -89,14 +104,15 @@ Decides stage (Err OutOfMemory) = Unit {0}
 Decides stage (Err (Decided status line)) = stage.Ends [] (stops status line)
 Decides stage (Err refusal) = ⊥
 
--- the file that a command names
-abbrev pub named_by : Asked → List ℕ
-named_by (to_run program) = program
-named_by (to_tell_sets program) = program
+-- the command names the file
+abbrev pub Names : Asked → List ℕ → Type 0
+Names (to_run program) name = name ≡ program
+Names (to_tell_sets program) name = name ≡ program
+Names (to_check program certificate) name = (name ≡ program) ⊎ (name ≡ certificate)
 
 -- the words name this file, or a program may
 abbrev pub IsNamed : List (List ℕ) → List ℕ → Type 0
-IsNamed words name = ((command : Asked) × IsAsked words command × (name ≡ named_by command)) ⊎ IsTrue (is_file_name name)
+IsNamed words name = ((command : Asked) × IsAsked words command × Names command name) ⊎ IsTrue (is_file_name name)
 
 -- the feed tells its files
 abbrev pub AreTold : Option (List NamedFile) → Type 0
@@ -109,4 +125,4 @@ IsRefused words before now OutOfMemory = Unit {0}
 IsRefused words before now Usage = AreRefused words × ComesTo (work words before.files) before now (stops 2 usage_line)
 IsRefused words before now (CannotRead name) = HasFailed (work words before.files) before now name × IsNamed words name
 IsRefused words before now CannotWrite = ⊥
-IsRefused words before now (Decided status line) = (5 ≤ status) × (status ≤ 8) × ComesTo (work words before.files) before now (stops status line)
+IsRefused words before now (Decided status line) = (5 ≤ status) × (status ≤ 9) × ComesTo (work words before.files) before now (stops status line)

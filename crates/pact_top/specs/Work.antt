@@ -1,17 +1,26 @@
 -- The order of work: what the words and the files come to, one stage behind another.
-use Rattle.std.specs.Prelude.{◌≡◌, ◌≤◌, ◌<◌, ℕ, List, length, Option}
+use Rattle.std.specs.Prelude.{◌≡◌, ◌≤◌, ◌<◌, ℕ, List, length, Option, Ok, Err, codes}
 use Rattle.std.specs.List.Sorted.{IsPermutation}
 use Rattle.csv_source.specs.CsvRows.{CsvRows, HasBadRow}
 use Rattle.pact_operators.specs.declared.operators.Op.{Op}
 use Rattle.pact_operators.specs.declared.program_rules.ProgramRule.{ProgramRule}
 use Rattle.pact_operators.specs.Allowed.{Allows, Bag}
-use Rattle.program_drafts.specs.Drafts.{DraftData}
+use Rattle.tac_syntax.specs.Drafts.{DraftData}
 use Rattle.pact_operators.specs.PlanOps.{plan_ops, sources_of}
 use Rattle.pact_operators.specs.Programs.{IsProgramOf, ProgramData}
 use Rattle.pact_operators.specs.ProgramRules.{IsRefused, Keeps}
 use Rattle.pact_outside.specs.declared.files.NamedFile.{NamedFile}
 use Rattle.plan_printer.specs.SetsText.{IsSetsText}
-use Rattle.pact_words.specs.Words.{Asked, to_run, to_tell_sets, AreRefused, IsAsked}
+use Rattle.pact_words.specs.Words.{Asked, to_run, to_tell_sets, to_check, AreRefused, IsAsked}
+use Rattle.plan_trees.specs.Plans.{PlanTree}
+use Rattle.reorder_pair.specs.Legal.{KeepAnswers}
+use Rattle.reorder_pair.specs.Reach.{Reach}
+use Rattle.swap_certificate.specs.declared.certificates.CertFault.{CertFault}
+use Rattle.swap_certificate.specs.declared.certificates.Certificate.{Certificate}
+use Rattle.swap_certificate.specs.Checks.{Checks}
+use Rattle.swap_certificate.specs.FaultTexts.{fault_text, not_certificate_text}
+use Rattle.swap_certificate.specs.PlanLines.{line_of}
+use Rattle.swap_certificate.specs.Shape.{IsCertificateText}
 use Rattle.program_text.specs.ProgramTexts.{IsProgramText, ProgramText, program_fault, program_missing}
 use Rattle.tac_syntax.specs.declared.functions.Function.{Function}
 use Rattle.tac_syntax.specs.Valid.{IsRefusal, IsValid, WithFields}
@@ -98,6 +107,23 @@ source_file fields files source = and_then (file files source.file source_limit)
 abbrev pub sources : ProgramData → Option (List NamedFile) → Stage (List Bag)
 sources p files = each (source_file p.fields files) (sources_of p.ops)
 
+-- ---- certificates
+
+-- a certificate file has at most so many bytes
+abbrev pub certificate_limit : ℕ
+certificate_limit = 1048576
+
+-- the certificate that a text is
+abbrev pub certificate : List ℕ → Stage Certificate
+certificate text = plain (IsCertificateText text) (λ status line. ((c : Certificate) → IsCertificateText text c → ⊥) × (status ≡ 9) × (line ≡ not_certificate_text))
+
+abbrev pub certificate_file : Option (List NamedFile) → List ℕ → Stage Certificate
+certificate_file files name = and_then (file files name certificate_limit) certificate
+
+-- the plan that a certificate leads to
+abbrev pub rechecked : ProgramData → Certificate → Stage PlanTree
+rechecked p c = plain (λ plan. Checks p c (Ok plan)) (λ status line. (fault : CertFault) × Checks p c (Err fault) × (status ≡ 9) × (line ≡ fault_text c fault))
+
 -- ---- commands
 
 -- a program and the rows of its sources
@@ -108,10 +134,21 @@ pub record Loaded : Type 0 where
 abbrev pub loaded : Option (List NamedFile) → List ℕ → Stage Loaded
 loaded files name = and_then (program_file files name) (λ p. and_then (sources p files) (λ inputs. give (λ all. all ≡ record { program = p; inputs = inputs })))
 
+-- a program, a certificate, and the plan that this one leads to
+pub record Accepted : Type 0 where
+  pub program : ProgramData
+  pub certificate : Certificate
+  pub plan : PlanTree
+
+abbrev pub accepted : Option (List NamedFile) → List ℕ → List ℕ → Stage Accepted
+accepted files name other =
+    and_then (program_file files name) (λ p. and_then (certificate_file files other) (λ c. and_then (rechecked p c) (λ plan. give (λ all. all ≡ record { program = p; certificate = c; plan = plan }))))
+
 -- what a command has read, from which its text is made
 pub data Ready : Type 0 where
   to_evaluate : (loaded : Loaded) → Ready
   to_analyse : (program : ProgramData) → Ready
+  to_accept : (accepted : Accepted) → Ready
 
 -- what the program as written allows on the rows of its sources
 abbrev pub AllowsWritten : Loaded → Bag → Type 0
@@ -126,14 +163,24 @@ pub record IsAnswerOf (l : Loaded) (text : List ℕ) : Type 0 where
   pub only_bag : AreGroupsFree l.program → (other : Bag) → AllowsWritten l other → IsPermutation bag other
   pub only_text : AreGroupsFree l.program → (other : Bag) (lines : List ℕ) → AllowsWritten l other → AreLines l.program.sink other lines → lines ≡ text
 
+-- It is told that the certificate is accepted. Then the plan is the one whose line the certificate states, legal exchanges lead to it from the plan as
+-- written, and over every input of the program both allow the same bags.
+pub record IsAcceptance (a : Accepted) (text : List ℕ) : Type 0 where
+  pub told : text ≡ codes "accepted\n"
+  pub line : a.certificate.plan ≡ line_of a.program.ops a.plan
+  pub reached : Reach a.program a.plan
+  pub answers : KeepAnswers a.program a.program.plan a.plan
+
 abbrev pub IsTextOf : Ready → List ℕ → Type 0
 IsTextOf (to_evaluate l) text = IsAnswerOf l text
 IsTextOf (to_analyse p) text = IsSetsText p text
+IsTextOf (to_accept a) text = IsAcceptance a text
 
 -- the order of work of each command
 abbrev pub ready_for : Option (List NamedFile) → Asked → Stage Ready
 ready_for files (to_run name) = and_then (loaded files name) (λ l. give (λ r. r ≡ to_evaluate l))
 ready_for files (to_tell_sets name) = and_then (program_file files name) (λ p. give (λ r. r ≡ to_analyse p))
+ready_for files (to_check name other) = and_then (accepted files name other) (λ a. give (λ r. r ≡ to_accept a))
 
 abbrev pub text_for : Option (List NamedFile) → Asked → Stage (List ℕ)
 text_for files asked = and_then (ready_for files asked) (λ r. give (IsTextOf r))

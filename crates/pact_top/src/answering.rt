@@ -7,10 +7,11 @@ ghost use Rattle.pact_operators.specs.PlanOps.{is_source_kind};
 ghost use Rattle.pact_top.specs.Refusal.{Comes, ComesTo, Decides, IsRefused, RowRefused};
 ghost use Rattle.pact_top.specs.Stages.{gives};
 ghost use Rattle.pact_top.specs.Work as work;
-ghost use Rattle.pact_words.specs.Words.{AreRefused, asked, texts_of, to_run, to_tell_sets};
+ghost use Rattle.pact_words.specs.Words.{AreRefused, asked, texts_of, to_check, to_run, to_tell_sets};
 
+use crate::certificates::{certificate_in, rechecked};
 use crate::lines::sorted_lines;
-use crate::loading::{PROGRAM_LIMIT, SOURCE_LIMIT, read_file};
+use crate::loading::{CERTIFICATE_LIMIT, PROGRAM_LIMIT, SOURCE_LIMIT, read_file};
 use crate::programs::program_of;
 use crate::refusal_lines::{bad_row, too_long};
 use crate::refusals::Refusal;
@@ -24,6 +25,7 @@ use pact_words::{Command, read_words};
 use plan_printer::sets_text;
 use slow_eval::evaluate;
 use std::alloc::Global;
+use swap_certificate::Certificate;
 
 fn load_text<F: Feed>(
     alloc: Global,
@@ -146,6 +148,28 @@ fn sets<F: Feed>(alloc: Global, feed: &mut F, name: &[u8]) -> Result<Bytes, Refu
     Ok(text)
 }
 
+fn load_certificate<F: Feed>(
+    alloc: Global,
+    feed: &mut F,
+    name: &[u8],
+) -> Result<Certificate, Refusal>
+    ensures { Comes (λ files. work.certificate_file files name.now) (F.shows feed.old) (F.shows feed.new) result }
+{
+    let text = load_text(alloc, feed, name, CERTIFICATE_LIMIT)?;
+    certificate_in(alloc, text.bytes())
+}
+
+// `check PROGRAM CERT`.
+fn check<F: Feed>(alloc: Global, feed: &mut F, name: &[u8], other: &[u8]) -> Result<Bytes, Refusal>
+    ensures { Comes (λ files. work.text_for files (to_check name.now other.now)) (F.shows feed.old) (F.shows feed.new) result }
+{
+    let program = load_program(alloc, feed, name)?;
+    let certificate = load_certificate(alloc, feed, other)?;
+    let _plan = rechecked(alloc, &program, &certificate)?;
+    let text = Bytes::from_slice(alloc, b"accepted\n")?;
+    Ok(text)
+}
+
 // The text of a command.
 fn text_for<F: Feed>(alloc: Global, command: Command, feed: &mut F) -> Result<Bytes, Refusal>
     ensures { Comes (λ files. work.text_for files (asked command.entry)) (F.shows feed.old) (F.shows feed.new) result }
@@ -153,6 +177,10 @@ fn text_for<F: Feed>(alloc: Global, command: Command, feed: &mut F) -> Result<By
     match command {
         Command::Run { program } => run(alloc, feed, program.as_bytes()),
         Command::Sets { program } => sets(alloc, feed, program.as_bytes()),
+        Command::Check {
+            program,
+            certificate,
+        } => check(alloc, feed, program.as_bytes(), certificate.as_bytes()),
     }
 }
 

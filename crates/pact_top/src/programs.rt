@@ -1,7 +1,7 @@
 //! From a program's text to the program.
 
 ghost use Rattle.std.specs.Prelude.{◌≡◌, ◌≤◌, ◌++◌, ◌∷◌, [], OnOk};
-ghost use Rattle.program_drafts.specs.Drafts.{field_limit};
+ghost use Rattle.tac_syntax.specs.Drafts.{field_limit};
 ghost use Rattle.pact_operators.specs.Programs.{AreValidated};
 ghost use Rattle.pact_top.specs.Refusal.{Decides, ProgramRefused, TextRefused};
 ghost use Rattle.pact_top.specs.Work as work;

@@ -3,17 +3,13 @@
 ghost use Rattle.std.specs.Prelude.{◌≡◌, ◌++◌, OnOk, IfOk, decimal};
 ghost use Rattle.pact_top.specs.Refusal.{Says};
 ghost use Rattle.pact_top.specs.RefusalLines as lines;
+ghost use Rattle.swap_certificate.specs.FaultTexts as fault_texts;
 
 use crate::refusals::Refusal;
 use pact_record::{Bytes, OutOfMemory};
+use plan_printer::push_number;
 use std::alloc::Global;
-
-fn push_number(alloc: Global, line: &mut Bytes, number: u64) -> Result<(), OutOfMemory>
-    ensures { OnOk result (line.new ≡ line.old ++ decimal number) }
-{
-    let digits = number.to_string(alloc)?;
-    line.extend_from_slice(digits.as_bytes())
-}
+use swap_certificate::{CertFault, Certificate, fault_text as text_of_fault, not_certificate_text};
 
 fn long_line(alloc: Global, name: &[u8], limit: u64) -> Result<Bytes, OutOfMemory>
     ensures { IfOk result (λ line. line ≡ lines.long_line name.now limit) }
@@ -167,6 +163,26 @@ pub fn bad_row(alloc: Global, name: &[u8], row: u64, column: u32, why: u32) -> R
 {
     match source_line(alloc, name, row, column, why) {
         Ok(line) => Refusal::Decided { status: 7, line },
+        Err(OutOfMemory) => Refusal::OutOfMemory,
+    }
+}
+
+/// The text is no certificate.
+pub fn no_certificate(alloc: Global) -> Refusal
+    ensures { Says 9 fault_texts.not_certificate_text result }
+{
+    match Bytes::from_slice(alloc, not_certificate_text()) {
+        Ok(line) => Refusal::Decided { status: 9, line },
+        Err(OutOfMemory) => Refusal::OutOfMemory,
+    }
+}
+
+/// The certificate has this fault.
+pub fn bad_certificate(alloc: Global, certificate: &Certificate, fault: &CertFault) -> Refusal
+    ensures { Says 9 (fault_texts.fault_text certificate.now fault.now) result }
+{
+    match text_of_fault(alloc, certificate, fault) {
+        Ok(line) => Refusal::Decided { status: 9, line },
         Err(OutOfMemory) => Refusal::OutOfMemory,
     }
 }

@@ -18,7 +18,7 @@ pub enum Refusal {
     /// The file of this name can't be read.
     CannotRead(Bytes),
     CannotWrite,
-    /// What the files say decides it: the exit status, and the whole line that tells why.
+    /// What the files say decides it: the exit status, and all that tells why, one line or more.
     Decided { status: u8, line: Bytes },
 }
 
@@ -71,7 +71,7 @@ fn tell_unreadable<E: Sink>(err: &mut E, name: &[u8])
     }
 }
 
-/// Tells why, in one line.
+/// Tells why: in one line, and of a certificate's found sets and plan in more.
 pub fn tell<E: Sink>(err: &mut E, refusal: &Refusal)
     ensures { Tells (E.taken err.old) (E.taken err.new) (E.faults err.old) (E.faults err.new) (refusal_line refusal.now) }
 {

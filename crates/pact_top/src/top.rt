@@ -26,12 +26,15 @@ fn refuse<E: Sink>(err: &mut E, refusal: &Refusal) -> u8
 /// `words` are without the program's own name. Of `run PROGRAM`, the program's file and then those
 /// of its sources are opened and read, in text order, and the sorted rows are written on `out`. Of
 /// `sets PROGRAM`, its file alone is read, and what the analysis finds of each operator is written.
-/// Nothing is written before all of the text is made. What goes wrong is told on `err` in one line.
-/// `specs/Headline.antt` has the clauses, with what each says.
+/// Of `check PROGRAM CERT`, the program's file is read and then the certificate's, and `accepted` is
+/// written where each step of it is found again. Nothing is written before all of the text is made.
+/// What goes wrong is told on `err` in one line; of a certificate with other sets or another plan
+/// the lines behind it have both. `specs/Headline.antt` has the clauses, with what each says.
 ///
 /// The statuses: 0 the text was written whole, 1 out of memory, 2 the words are no command, 3 a
 /// file can't be read, 4 `out` failed, 5 the program's text is faulty, 6 a function or a declaration
-/// of it breaks a rule, 7 a row of a source is bad, 8 a file is longer than its limit.
+/// of it breaks a rule, 7 a row of a source is bad, 8 a file is longer than its limit, 9 the
+/// certificate is refused.
 pub fn pact_main<F: Feed, O: Sink, E: Sink>(
     alloc: Global,
     words: &[&str],

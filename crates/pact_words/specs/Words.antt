@@ -15,14 +15,18 @@ pub data Asked : Type 0 where
   to_run : (program : List ℕ) → Asked
   -- `sets PROGRAM`
   to_tell_sets : (program : List ℕ) → Asked
+  -- `check PROGRAM CERT`
+  to_check : (program certificate : List ℕ) → Asked
 
 abbrev pub asked : Command → Asked
 asked (commands.Run program) = to_run program.now
 asked (commands.Sets program) = to_tell_sets program.now
+asked (commands.Check program certificate) = to_check program.now certificate.now
 
 -- the command that the words ask for, where they ask for one
 abbrev pub asked_of : List (List ℕ) → Option Asked
 asked_of (word ∷ program ∷ []) = cond (bytes_eq word (codes "run")) (Some (to_run program)) (cond (bytes_eq word (codes "sets")) (Some (to_tell_sets program)) None)
+asked_of (word ∷ program ∷ certificate ∷ []) = cond (bytes_eq word (codes "check")) (Some (to_check program certificate)) None
 asked_of words = None
 
 abbrev pub IsAsked : List (List ℕ) → Asked → Type 0

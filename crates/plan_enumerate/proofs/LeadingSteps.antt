@@ -7,16 +7,12 @@ use Rattle.pact_operators.specs.Programs.{ProgramData}
 use Rattle.reorder_pair.specs.declared.legality.Condition.{Condition}
 use Rattle.plan_enumerate.specs.declared.entries.Entry.{Entry}
 use Rattle.plan_enumerate.specs.Listing.{AreEntries, Grows, IsAt, begins, first_entry, goes_on}
-use Rattle.plan_enumerate.specs.ToldExchanges.{IsLegalIn, Lead, after}
+use Rattle.reorder_pair.specs.ToldExchanges.{IsLegalIn, Lead, after}
+use Rattle.reorder_group.proofs.PlansInReach.{lead_on}
 use Rattle.plan_enumerate.specs.Steps.{AreStepsTo, behind, none}
 use Rattle.plan_enumerate.proofs.LongerLists.{IsAt-entry, IsAt-one_more, old_or_last_entry}
 
 -- ---- where the steps lead
-
-module _ (p : ProgramData) where
-  lead_on : (t u : PlanTree) (cs : List Condition) (c : Condition) → Lead p t cs u → IsLegalIn p u c → Lead p t (cs ++ c ∷ []) (after c u)
-  lead_on t u [] c h legal = (subst (λ (s : PlanTree). IsLegalIn p s c) (sym h) legal, ap (after c) h)
-  lead_on t u (d ∷ cs) c h legal = (h.0, lead_on (after d t) u cs c h.1 legal)
 
 module _ (p : ProgramData) (limit : ℕ) where
   none_led_first : (n : ℕ) (e : Entry) (c : Condition) → slice_get (first_entry p.plan ∷ []) n ≡ Some e → e.by ≡ Some c → ⊥

@@ -4,3 +4,4 @@ pub mod PastExchanges
 pub mod ReachedPlans
 pub mod LeadingSteps
 pub mod OneListing
+pub mod KeptFindings

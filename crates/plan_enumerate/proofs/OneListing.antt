@@ -9,7 +9,7 @@ use Rattle.reorder_pair.specs.Legal.{IsLegalFor}
 use Rattle.reorder_pair.proofs.OneFinding.{one_condition}
 use Rattle.plan_enumerate.specs.declared.entries.Entry.{Entry}
 use Rattle.plan_enumerate.specs.Listing.{Ends, Grows, IsAt, IsBefore, IsListing, IsNext, IsRuleAt, ListedPlans, begins, goes_on}
-use Rattle.plan_enumerate.specs.ToldExchanges.{IsLegalIn, after}
+use Rattle.reorder_pair.specs.ToldExchanges.{IsLegalIn, after}
 use Rattle.plan_enumerate.proofs.LongerLists.{length-one_more, one_plan}
 use Rattle.plan_enumerate.proofs.PastExchanges.{one_rule}
 use Rattle.plan_enumerate.proofs.ReachedPlans.{some_entry}

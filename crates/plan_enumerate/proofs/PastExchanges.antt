@@ -1,6 +1,6 @@
 -- The walk goes past an exchange that isn't legal, one whose plan is listed, and one whose plan is added; past all of an operator, of an entry, and
 -- of all entries.
-use Rattle.std.proofs.Common.{◌≡◌, ◌<◌, ◌≤◌, ◌+◌, ◌⊎◌, inl, inr, ℕ, Bool, true, false, List, [], ◌∷◌, ◌++◌, length, get_or, sym, ap, subst, ◌∙◌, arith}
+use Rattle.std.proofs.Common.{◌≡◌, ◌<◌, ◌≤◌, ◌+◌, ◌⊎◌, inl, inr, ℕ, Bool, true, false, List, [], ◌∷◌, ◌++◌, length, get_or, Option, Some, None, IfNone, sym, ap, subst, ◌∙◌, arith}
 use Rattle.std.proofs.lemmas.Bool.{cases_lt}
 use Rattle.std.proofs.lemmas.Option.{same_Some, slice_get-get_or, slice_get_within}
 use Rattle.plan_trees.specs.Plans.{PlanTree, IsPlan, has, node_limit}
@@ -13,7 +13,7 @@ use Rattle.reorder_pair.specs.Rules.{all_rules, swapped}
 use Rattle.reorder_pair.proofs.WordsOfRules.{all_rules-place_of, place_of}
 use Rattle.plan_enumerate.specs.declared.entries.Entry.{Entry}
 use Rattle.plan_enumerate.specs.Listing.{AreListedBefore, Gives, IsAt, IsBefore, IsClosed, IsListed, IsNext, IsOpen, IsRuleAt, begins, first_entry, goes_on}
-use Rattle.plan_enumerate.specs.ToldExchanges.{IsLegalIn}
+use Rattle.reorder_pair.specs.ToldExchanges.{IsLegalIn}
 use Rattle.plan_enumerate.specs.Walks.{Adds, GoesTo, IsFull, IsNeighbour, IsWalked}
 use Rattle.plan_enumerate.proofs.LongerLists.{IsAt-one_more, IsAt-within, IsListed-last, IsListed-one_more, one_plan, plan_stays}
 
@@ -27,6 +27,10 @@ IsRuleAt-get_or rules n d same within = subst (λ (rs : List Rule). IsRuleAt n (
 
 place_of-within : (rule : Rule) → place_of rule < length all_rules
 place_of-within rule = slice_get_within all_rules (place_of rule) rule (all_rules-place_of rule)
+
+pub IfNone-here : {A : Type 0} (o : Option A) (P : Type 0) → o ≡ None → IfNone o P → P
+IfNone-here None P e h = h
+IfNone-here (Some a) P e h = absurd (cc)
 
 module _ (p : ProgramData) where
   -- what a legal exchange is told as is legal

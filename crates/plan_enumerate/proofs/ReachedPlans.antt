@@ -1,37 +1,16 @@
--- The listed plans are plans in reach, and where none is left out they are all of them. What plans in reach keep of the plan as written.
+-- The listed plans are plans in reach, and where none is left out they are all of them.
 use Rattle.std.proofs.Common.{◌≡◌, ◌<◌, ◌≤◌, ◌↔◌, inl, inr, ℕ, zero, suc, Bool, true, false, List, [], ◌∷◌, length, slice_get, Some, refl, sym, subst, ◌∙◌, arith}
 use Rattle.std.proofs.lemmas.Option.{same_Some}
 use Rattle.plan_trees.specs.Plans.{PlanTree}
-use Rattle.pact_operators.specs.Allowed.{AllowSame, Bag}
-use Rattle.pact_operators.specs.PlanOps.{plan_ops}
-use Rattle.pact_operators.specs.Programs.{IsPlanOf, IsProgram, ProgramData}
+use Rattle.pact_operators.specs.Programs.{ProgramData}
 use Rattle.reorder_pair.specs.declared.legality.Condition.{Condition}
-use Rattle.reorder_pair.specs.Legal.{KeepAnswers}
-use Rattle.reorder_pair.specs.Rules.{swapped}
-use Rattle.reorder_pair.proofs.PlacedExchanges.{legal-IsPlanOf}
-use Rattle.reorder_group.proofs.LegalExchanges.{legal-KeepAnswers}
 use Rattle.plan_enumerate.specs.declared.entries.Entry.{Entry}
 use Rattle.plan_enumerate.specs.Listing.{AreEntries, ComesFrom, Ends, Grows, IsClosed, IsListed, IsListing, IsOpen, ListedPlans, begins, entry_limit, first_entry, goes_on}
-use Rattle.plan_enumerate.specs.Reach.{Reach, as_written, exchanged}
-use Rattle.plan_enumerate.specs.ToldExchanges.{after}
+use Rattle.reorder_pair.specs.Reach.{Reach, as_written, exchanged}
+use Rattle.reorder_pair.specs.ToldExchanges.{after}
 use Rattle.plan_enumerate.specs.Walks.{IsFull, IsWalked}
 use Rattle.plan_enumerate.proofs.LongerLists.{IsAt-within, IsListed-one_more, length-one_more, old_or_last_entry, old_or_last_plan}
 use Rattle.plan_enumerate.proofs.PastExchanges.{past_entries}
-
--- ---- plans in reach
-
-module _ (p : ProgramData) (program : IsProgram p) where
-  pub reached-IsPlanOf : (t : PlanTree) → Reach p t → IsPlanOf p.functions p.ops t
-  reached-IsPlanOf _ as_written = program.plan
-  reached-IsPlanOf _ (exchanged t at rule r legal) = legal-IsPlanOf p program t (reached-IsPlanOf t r) at rule legal
-
-  same_on : (inputs : List Bag) (s t u : PlanTree) → AllowSame (plan_ops p inputs) s t → AllowSame (plan_ops p inputs) t u → AllowSame (plan_ops p inputs) s u
-  same_on inputs s t u h k bag = ((λ a. (k bag).0 ((h bag).0 a)), (λ a. (h bag).1 ((k bag).1 a)))
-
-  pub reached-KeepAnswers : (t : PlanTree) → Reach p t → KeepAnswers p p.plan t
-  reached-KeepAnswers _ as_written = λ inputs of_inputs bag. ((λ a. a), (λ a. a))
-  reached-KeepAnswers _ (exchanged t at rule r legal) = λ inputs of_inputs.
-      same_on inputs p.plan t (swapped rule at t) (reached-KeepAnswers t r inputs of_inputs) (legal-KeepAnswers p program t (reached-IsPlanOf t r) at rule legal inputs of_inputs)
 
 -- ---- listed plans
 

@@ -6,7 +6,7 @@ use Rattle.reorder_pair.specs.declared.legality.Condition.{Condition}
 use Rattle.reorder_pair.specs.declared.rules.Rule.{Rule}
 use Rattle.reorder_pair.specs.Rules.{all_rules}
 use Rattle.plan_enumerate.specs.declared.entries.Entry.{Entry}
-use Rattle.plan_enumerate.specs.ToldExchanges.{IsLegalIn, after}
+use Rattle.reorder_pair.specs.ToldExchanges.{IsLegalIn, after}
 
 -- a list of entries, and whether no plan is left out
 pub record ListedPlans : Type 0 where

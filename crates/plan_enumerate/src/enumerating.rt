@@ -4,49 +4,71 @@ ghost use Rattle.std.specs.Prelude.{◌≡◌, ◌≤◌, ◌<◌, ◌+◌, ◌�
 ghost use Rattle.plan_trees.specs.Plans.{PlanTree};
 ghost use Rattle.pact_operators.specs.PlanOps.{kind_at};
 ghost use Rattle.pact_operators.specs.Programs.{IsPlanOf};
-ghost use Rattle.reorder_pair.specs.Legal.{IsLegal, KeepAnswers};
+ghost use Rattle.reorder_pair.specs.Legal.{IsConditionOf, IsLegal, KeepAnswers};
 ghost use Rattle.reorder_pair.specs.Rules.{Plays, all_rules, exchange_of};
+ghost use Rattle.plan_enumerate.specs.FindingTable.{AreFindings};
 ghost use Rattle.plan_enumerate.specs.Listing.{IsAt, IsListed, IsListing, IsOpen, ListedPlans, entry_limit};
-ghost use Rattle.plan_enumerate.specs.Reach.{Reach};
+ghost use Rattle.reorder_pair.specs.Reach.{Reach};
 ghost use Rattle.plan_enumerate.specs.Walks.{GoesTo, IsNeighbour, IsWalked};
 
 use crate::entries::{Entries, Entry};
+use crate::findings::Findings;
 use crate::listings::Listed;
 use pact_operators::{MAX_NODES, Plan, Program};
 use pact_record::OutOfMemory;
-use reorder_group::{apply, legal};
-use reorder_pair::{Rule, kind_of};
+use reorder_group::{apply, legal_for};
+use reorder_pair::{Condition, Rule, kind_of, neighbours};
 use std::alloc::Global;
 
-// Whether an operator may be the upper one of an exchange by the rule. This is asked first, since `legal` takes the plan apart.
+// Whether an operator may be the upper one of an exchange by the rule. This is asked first, since `neighbours` takes the plan apart.
 fn may_be_upper(program: &Program, at: u32, rule: Rule) -> bool
     ensures { IsTrue result ↔ Plays (exchange_of rule).upper (kind_at program.now.ops at) }
 {
     rule.exchange().upper.is_played_by(kind_of(program, at))
 }
 
-// The entry of what an exchange of a listed plan gives, where the exchange is legal. `from` is the number of the plan's entry.
-fn neighbour(program: &Program, plan: &Plan, from: u32, at: u32, rule: Rule) -> Option<Entry>
+// The exchange of a listed plan as it is told, where it is legal.
+fn legal_exchange(
+    program: &Program,
+    findings: &mut Findings,
+    plan: &Plan,
+    at: u32,
+    rule: Rule,
+) -> Result<Option<Condition>, OutOfMemory>
     requires plan { IsPlanOf program.now.functions program.now.ops plan.now }
-    ensures some { IfSome result (IsNeighbour program.now plan.now from at rule) }
-    ensures none { IfNone result (IsLegal program.now plan.now at rule → ⊥) }
+    requires findings { AreFindings program.now findings.old }
+    ensures some { IfOk result (λ told. IfSome told (IsConditionOf program.now plan.now at rule)) }
+    ensures none { IfOk result (λ told. IfNone told (IsLegal program.now plan.now at rule → ⊥)) }
+    ensures findings { OnOk result (AreFindings program.now findings.new) }
 {
     if !may_be_upper(program, at, rule) {
-        return None;
+        return Ok(None);
     }
-    match legal(program, plan, at, rule) {
-        Ok(condition) => Some(Entry {
-            plan: apply(program, plan, at, rule),
-            from,
-            by: Some(condition),
-        }),
-        Err(_) => None,
+    let Some(both) = neighbours(program, plan, at, rule) else {
+        return Ok(None);
+    };
+    let upper = findings.found(program, both.upper, &both.upper_context)?;
+    let lower = findings.found(program, both.lower, &both.lower_context)?;
+    Ok(legal_for(program, plan, at, rule, &upper, &lower).ok())
+}
+
+// The entry of what a legal exchange of a listed plan gives. `from` is the number of the plan's entry.
+fn neighbour(program: &Program, plan: &Plan, from: u32, at: u32, rule: Rule, by: Condition) -> Entry
+    requires plan { IsPlanOf program.now.functions program.now.ops plan.now }
+    requires legal { IsConditionOf program.now plan.now at rule by }
+    ensures { IsNeighbour program.now plan.now from at rule result }
+{
+    Entry {
+        plan: apply(program, plan, at, rule),
+        from,
+        by: Some(by),
     }
 }
 
 // Adds what the exchange by the rule at place `n` gives, where it is legal and not listed; false where there is no room for it.
 fn add_neighbour(
     program: &Program,
+    findings: &mut Findings,
     entries: &mut Entries,
     from: u32,
     plan: &Plan,
@@ -58,20 +80,23 @@ fn add_neighbour(
     requires entry { IsAt entries.old from plan.now }
     requires plan { IsPlanOf program.now.functions program.now.ops plan.now }
     requires rule { n < length all_rules }
+    requires findings { AreFindings program.now findings.old }
     requires walked { IsWalked program.now limit entries.old from at n }
     ensures walked { IfOk result (GoesTo program.now limit entries.new from at (n + 1)) }
     ensures entry { OnOk result (IsAt entries.new from plan.now) }
+    ensures findings { OnOk result (AreFindings program.now findings.new) }
 {
     let rule = Rule::all()[n];
-    let Some(entry) = neighbour(program, plan, from, at, rule) else {
+    let Some(by) = legal_exchange(program, findings, plan, at, rule)? else {
         return Ok(true);
     };
-    entries.add(entry, limit)
+    entries.add(neighbour(program, plan, from, at, rule, by), limit)
 }
 
 // Adds what the exchanges give that have the operator as the upper one.
 fn add_by_rules(
     program: &Program,
+    findings: &mut Findings,
     entries: &mut Entries,
     from: u32,
     plan: &Plan,
@@ -81,12 +106,14 @@ fn add_by_rules(
     requires some { 1 ≤ limit }
     requires entry { IsAt entries.old from plan.now }
     requires plan { IsPlanOf program.now.functions program.now.ops plan.now }
+    requires findings { AreFindings program.now findings.old }
     requires walked { IsWalked program.now limit entries.old from at 0 }
     ensures walked { IfOk result (GoesTo program.now limit entries.new from (at + 1) 0) }
     ensures entry { OnOk result (IsAt entries.new from plan.now) }
+    ensures findings { OnOk result (AreFindings program.now findings.new) }
 {
     for n in 0..Rule::all().len() {
-        if !add_neighbour(program, entries, from, plan, at, n, limit)? {
+        if !add_neighbour(program, findings, entries, from, plan, at, n, limit)? {
             return Ok(false);
         }
     }
@@ -96,15 +123,18 @@ fn add_by_rules(
 // Adds what all exchanges of an entry's plan give.
 fn add_neighbours(
     program: &Program,
+    findings: &mut Findings,
     entries: &mut Entries,
     from: u32,
     limit: u32,
 ) -> Result<bool, OutOfMemory>
     requires some { 1 ≤ limit }
     requires within { from < length entries.old }
+    requires findings { AreFindings program.now findings.old }
     requires walked { IsWalked program.now limit entries.old from 0 0 }
     ensures walked { IfOk result (GoesTo program.now limit entries.new (from + 1) 0 0) }
     ensures within { OnOk result (from < length entries.new) }
+    ensures findings { OnOk result (AreFindings program.now findings.new) }
 {
     // Its clause says that the program keeps every rule.
     let _fields = program.fields();
@@ -112,7 +142,7 @@ fn add_neighbours(
     // Its clause says that the numbers of a plan are small.
     let _root = plan.root();
     for at in 0..MAX_NODES as u32 {
-        if !add_by_rules(program, entries, from, &plan, at, limit)? {
+        if !add_by_rules(program, findings, entries, from, &plan, at, limit)? {
             return Ok(false);
         }
     }
@@ -125,10 +155,11 @@ fn walk(alloc: Global, program: &Program, limit: u32) -> Result<Listed, OutOfMem
     requires few { limit ≤ entry_limit }
     ensures { IfOk result (IsListing program.now limit) }
 {
+    let mut findings = Findings::new(alloc);
     let mut entries = Entries::of(alloc, *program.plan())?;
     let mut from = 0;
     while (from as usize) < entries.len() {
-        if !add_neighbours(program, &mut entries, from, limit)? {
+        if !add_neighbours(program, &mut findings, &mut entries, from, limit)? {
             return Ok(Listed::of(entries, false));
         }
         from += 1;
@@ -138,7 +169,8 @@ fn walk(alloc: Global, program: &Program, limit: u32) -> Result<Listed, OutOfMem
 
 /// The plans that legal exchanges lead to from the plan as written, as many as there is room for: from 1 to 1,000. Want of memory is the only error,
 /// and memory is asked for entries that are made, not for as many as there may be. Time grows with the plans, and for each with the exchanges that have
-/// a place there, whose operators are analysed anew; a function that takes long to analyse is analysed as often.
+/// a place there. An operator is analysed once for each context that it comes to have in them; what was found is kept until the list is made, in memory
+/// of its own.
 pub fn enumerate(alloc: Global, program: &Program, limit: u32) -> Result<Listed, OutOfMemory>
     requires some { 1 ≤ limit }
     requires few { limit ≤ entry_limit }

@@ -1,12 +1,14 @@
 //! The plans that legal exchanges lead to, as a list.
 //!
 //! `enumerate` lists the plan as written, and then, as long as there is room, what the exchanges of listed plans give. Each plan is listed once,
-//! with the exchange that led to it, so `steps_of` tells how it came about. `specs/Reach` has the plans that there are to list, and
-//! `specs/Listing` the list in its order.
+//! with the exchange that led to it, so `steps_of` tells how it came about. What is found of an operator is kept for each context that listed plans give
+//! it, in `findings`. `reorder_pair` has in `specs/Reach` the plans that there are to list, and
+//! `specs/Listing` here the list in its order.
 #![tactic(auto)]
 
 pub mod entries;
 mod enumerating;
+mod findings;
 mod listings;
 mod steps;
 

@@ -4,7 +4,7 @@ ghost use Rattle.std.specs.Prelude.{◌<◌, ℕ, length, IfOk};
 ghost use Rattle.plan_trees.specs.Plans.{PlanTree};
 ghost use Rattle.pact_operators.specs.Programs.{ProgramData};
 ghost use Rattle.plan_enumerate.specs.Listing.{IsAt, IsListing};
-ghost use Rattle.plan_enumerate.specs.ToldExchanges.{Lead};
+ghost use Rattle.reorder_pair.specs.ToldExchanges.{Lead};
 ghost use Rattle.plan_enumerate.specs.Steps.{AreStepsTo};
 
 use crate::listings::Listed;

@@ -1,8 +1,8 @@
 -- What the analysis finds of a program's operators, a line for each.
 use Rattle.std.specs.Prelude.{◌≡◌, ◌++◌, ◌↔◌, ◌+◌, ℕ, Bool, true, false, List, [], ◌∷◌, IsTrue, codes, Some, slice_get}
-use Rattle.program_drafts.specs.declared.declarations.OpKind.{OpKind}
-use Rattle.program_drafts.specs.declared.declarations.OpKind.TheVariants.{Source}
-use Rattle.program_drafts.specs.Declarations.{kind_word}
+use Rattle.tac_syntax.specs.declared.declarations.OpKind.{OpKind}
+use Rattle.tac_syntax.specs.declared.declarations.OpKind.TheVariants.{Source}
+use Rattle.tac_syntax.specs.Declarations.{kind_word}
 use Rattle.pact_operators.specs.declared.operators.Op.{Op}
 use Rattle.pact_operators.specs.Programs.{ProgramData}
 use Rattle.tac_syntax.specs.Valid.{WithFields}

@@ -9,7 +9,8 @@ use pact_record::{Bytes, Fields, MAX_FIELDS, OutOfMemory};
 use reorder_pair::Found;
 use std::alloc::Global;
 
-fn push_number(alloc: Global, text: &mut Bytes, number: u64) -> Result<(), OutOfMemory>
+/// Puts a number behind other bytes, in decimal digits. Want of memory is the only error.
+pub fn push_number(alloc: Global, text: &mut Bytes, number: u64) -> Result<(), OutOfMemory>
     ensures { OnOk result (text.new ≡ text.old ++ decimal number) }
 {
     let digits = number.to_string(alloc)?;
@@ -68,14 +69,15 @@ fn push_bounds(alloc: Global, text: &mut Bytes, found: &Found) -> Result<(), Out
     push_bound(alloc, text, found.hi)
 }
 
-fn anchor_word(left: bool, right: bool) -> &'static [u8]
+/// The word for the sides on which a CoGroup is anchored.
+pub fn anchor_word(left: bool, right: bool) -> &'static str
     ensures { result.now ≡ texts.anchor_word left right }
 {
     match (left, right) {
-        (true, true) => b"both",
-        (true, false) => b"left",
-        (false, true) => b"right",
-        (false, false) => b"none",
+        (true, true) => "both",
+        (true, false) => "left",
+        (false, true) => "right",
+        (false, false) => "none",
     }
 }
 
@@ -92,6 +94,6 @@ pub fn found_text(alloc: Global, found: &Found) -> Result<Bytes, OutOfMemory>
     push_set(alloc, &mut text, b" touched ", sets.touched)?;
     push_bounds(alloc, &mut text, found)?;
     text.extend_from_slice(b" anchor ")?;
-    text.extend_from_slice(anchor_word(sets.anchor_left, sets.anchor_right))?;
+    text.extend_from_slice(anchor_word(sets.anchor_left, sets.anchor_right).as_bytes())?;
     Ok(text)
 }

@@ -6,5 +6,5 @@
 mod findings;
 mod operator_lines;
 
-pub use findings::found_text;
+pub use findings::{anchor_word, found_text, push_number};
 pub use operator_lines::sets_text;

@@ -1,7 +1,7 @@
 //! What the analysis finds of all operators of a program, as text.
 
 ghost use Rattle.std.specs.Prelude.{◌≡◌, ◌++◌, IfOk, OnOk, Some, codes, slice_get};
-ghost use Rattle.program_drafts.specs.declared.declarations.OpKind.TheVariants.{Source};
+ghost use Rattle.tac_syntax.specs.declared.declarations.OpKind.TheVariants.{Source};
 ghost use Rattle.plan_printer.specs.SetsText.{IsLineOf, IsOperatorLine, IsSetsText, line_text, yes_or_no};
 
 use crate::findings::found_text;

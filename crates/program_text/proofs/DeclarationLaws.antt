@@ -2,11 +2,11 @@
 use Rattle.std.proofs.Common.{◌≡◌, ◌≢◌, ◌≤◌, ◌&&◌, ◌++◌, ℕ, Bool, true, false, if◌then◌else◌, nat_le, List, [], ◌∷◌, map, length, None, codes, decimal, refl, ap, sym, ◌∙◌, arith}
 use Rattle.std.specs.List.{AllByRecursion}
 use Rattle.std.proofs.lemmas.Bool.{and_parts, le-leb, leb-true}
-use Rattle.pact_bag.specs.declared.columns.Column.{Column}
-use Rattle.program_drafts.specs.declared.declarations.OpKind.TheVariants.{Source as SourceKind, Map, Reduce, Match, Cross, CoGroup}
-use Rattle.program_drafts.specs.declared.declarations.Decl.{Decl}
-use Rattle.program_drafts.specs.declared.declarations.Decl.TheVariants.{Source, Function, Op, Sink}
-use Rattle.program_drafts.specs.Declarations.{AreNumbers, IsSpelledDecl}
+use Rattle.pact_record.specs.declared.columns.Column.{Column}
+use Rattle.tac_syntax.specs.declared.declarations.OpKind.TheVariants.{Source as SourceKind, Map, Reduce, Match, Cross, CoGroup}
+use Rattle.tac_syntax.specs.declared.declarations.Decl.{Decl}
+use Rattle.tac_syntax.specs.declared.declarations.Decl.TheVariants.{Source, Function, Op, Sink}
+use Rattle.tac_syntax.specs.Declarations.{AreNumbers, IsSpelledDecl}
 use Rattle.pact_record.specs.declared.words.TheConstants.{MAX_WORD}
 use Rattle.tac_syntax.specs.Grammar.{IsNumber}
 use Rattle.tac_syntax.specs.Names.{all_bytes, is_file_name, is_name, is_name_byte}

@@ -1,7 +1,7 @@
 -- Numbers and columns as words.
 use Rattle.std.proofs.Common.{◌≡◌, ◌++◌, ℕ, Bool, true, false, List, take, drop, None, codes, decimal, take-append-drop, refl, ap, sym, subst, ◌∙◌, arith}
 use Rattle.std.proofs.lemmas.Fmt.{decimal_is_IsNumeral}
-use Rattle.pact_bag.specs.declared.columns.Column.{Column}
+use Rattle.pact_record.specs.declared.columns.Column.{Column}
 use Rattle.tac_syntax.specs.Grammar.{IsNumber}
 use Rattle.text_lines.proofs.DigitWords.{is_in_range-decimal, number_spelled}
 use Rattle.program_text.specs.DeclarationFaults.{begins_with, column_fault, is_number}

@@ -2,8 +2,8 @@
 use Rattle.std.proofs.Common.{◌≡◌, ◌≤◌, ◌-◌, ◌==◌, ℕ, suc, Bool, true, false, List, [], ◌∷◌, map, length, None, codes, bytes_eq, decimal, refl, ap, subst, arith}
 use Rattle.std.specs.List.{AllByRecursion}
 use Rattle.std.proofs.lemmas.Bool.Decides.{nat_tests}
-use Rattle.pact_bag.specs.declared.columns.Column.{Column}
-use Rattle.program_drafts.specs.Declarations.{AreColumns, AreNumbers, AreSinkFields, IsKeyList, field_list_limit}
+use Rattle.pact_record.specs.declared.columns.Column.{Column}
+use Rattle.tac_syntax.specs.Declarations.{AreColumns, AreNumbers, AreSinkFields, IsKeyList, field_list_limit}
 use Rattle.program_text.specs.declared.declaration_faults.Item.{Item}
 use Rattle.program_text.specs.declared.declaration_faults.Item.TheVariants.{Column as ColumnItem, Number}
 use Rattle.tac_syntax.specs.Functions.{key_limit}

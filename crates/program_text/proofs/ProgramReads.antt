@@ -1,11 +1,11 @@
 -- The lines of a text lead a reader of programs on exactly where a program's text goes on.
 use Rattle.std.proofs.Common.{◌≡◌, ◌≢◌, inr, ℕ, Bool, true, false, bytes_eq, codes, List, [], ◌∷◌, ◌++◌, map, Some, None, refl, ap, sym, subst, ◌∙◌}
-use Rattle.program_drafts.specs.declared.declarations.OpKind.{OpKind}
-use Rattle.program_drafts.specs.declared.declarations.OpKind.TheVariants.{Source as SourceKind, Map, Reduce, Match, Cross, CoGroup}
-use Rattle.program_drafts.specs.declared.declarations.Decl.{Decl}
-use Rattle.program_drafts.specs.declared.declarations.Decl.TheVariants.{Source, Function as FunctionDecl, Op, Sink}
-use Rattle.program_drafts.specs.Declarations.{IsSpelledDecl}
-use Rattle.program_drafts.specs.Drafts.{DraftData}
+use Rattle.tac_syntax.specs.declared.declarations.OpKind.{OpKind}
+use Rattle.tac_syntax.specs.declared.declarations.OpKind.TheVariants.{Source as SourceKind, Map, Reduce, Match, Cross, CoGroup}
+use Rattle.tac_syntax.specs.declared.declarations.Decl.{Decl}
+use Rattle.tac_syntax.specs.declared.declarations.Decl.TheVariants.{Source, Function as FunctionDecl, Op, Sink}
+use Rattle.tac_syntax.specs.Declarations.{IsSpelledDecl}
+use Rattle.tac_syntax.specs.Drafts.{DraftData}
 use Rattle.tac_syntax.specs.declared.functions.Kind.{Kind}
 use Rattle.tac_text.specs.FunctionFaults.{header_fault}
 use Rattle.tac_text.specs.FunctionLines.{FunctionLine, header, header_words}

@@ -3,11 +3,11 @@ use Rattle.std.proofs.Common.{◌≡◌, ◌≤◌, ◌+◌, ℕ, true, false, L
 use Rattle.std.specs.List.{AllByRecursion}
 use Rattle.std.proofs.lemmas.List.{map-append}
 use Rattle.pact_record.proofs.Lists.{AllByRecursion-last}
-use Rattle.program_drafts.specs.declared.declarations.Decl.{Decl}
-use Rattle.program_drafts.specs.declared.declarations.Decl.TheVariants.{Source, Function as FunctionDecl, Op, Sink}
-use Rattle.program_drafts.specs.Declarations.{IsSpelledDecl}
-use Rattle.program_drafts.specs.Drafts.{AreDeclared, DraftData}
-use Rattle.program_drafts.proofs.Declared.{IsSpelledDraft-decl, IsSpelledDraft-function}
+use Rattle.tac_syntax.specs.declared.declarations.Decl.{Decl}
+use Rattle.tac_syntax.specs.declared.declarations.Decl.TheVariants.{Source, Function as FunctionDecl, Op, Sink}
+use Rattle.tac_syntax.specs.Declarations.{IsSpelledDecl}
+use Rattle.tac_syntax.specs.Drafts.{AreDeclared, DraftData}
+use Rattle.tac_syntax.proofs.Declared.{IsSpelledDraft-decl, IsSpelledDraft-function}
 use Rattle.tac_syntax.specs.declared.functions.Function.{Function}
 use Rattle.tac_syntax.specs.Code.{Code, Line, simple, test, turns, over, otherwise, close, nesting}
 use Rattle.tac_syntax.specs.Functions.{IsSpelledFunction}

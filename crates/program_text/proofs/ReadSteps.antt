@@ -1,6 +1,6 @@
 -- One step of the reader of programs.
 use Rattle.std.proofs.Common.{◌≡◌, inl, inr, ℕ, Bool, true, false, Result, Ok, Err, IfOk, List, [], ◌∷◌, refl, ap, sym, subst, ◌∙◌}
-use Rattle.program_drafts.specs.Drafts.{DraftData}
+use Rattle.tac_syntax.specs.Drafts.{DraftData}
 use Rattle.tac_syntax.specs.Code.{close}
 use Rattle.tac_text.specs.declared.building.Block.{Block}
 use Rattle.tac_text.specs.FunctionAnswers.{OpenData, TakesWords, function_of}

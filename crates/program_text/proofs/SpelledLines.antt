@@ -1,9 +1,9 @@
 -- Words without a fault are those of a declaration.
 use Rattle.std.proofs.Common.{◌≡◌, ◌≢◌, ◌||◌, ◌++◌, ℕ, true, IsTrue, List, [], ◌∷◌, None, codes, bytes_eq, refl, ap, ◌∙◌}
-use Rattle.program_drafts.specs.declared.declarations.OpKind.TheVariants.{Map, Reduce, Match, Cross, CoGroup}
-use Rattle.program_drafts.specs.declared.declarations.Decl.{Decl}
-use Rattle.program_drafts.specs.declared.declarations.Decl.TheVariants.{Source, Op, Sink}
-use Rattle.program_drafts.specs.Declarations.{IsKeyList, IsSpelledDecl}
+use Rattle.tac_syntax.specs.declared.declarations.OpKind.TheVariants.{Map, Reduce, Match, Cross, CoGroup}
+use Rattle.tac_syntax.specs.declared.declarations.Decl.{Decl}
+use Rattle.tac_syntax.specs.declared.declarations.Decl.TheVariants.{Source, Op, Sink}
+use Rattle.tac_syntax.specs.Declarations.{IsKeyList, IsSpelledDecl}
 use Rattle.program_text.specs.declared.declaration_faults.Slot.{Slot}
 use Rattle.program_text.specs.declared.declaration_faults.Slot.TheVariants.{Name, FileName, By}
 use Rattle.program_text.specs.declared.declaration_faults.Tail.{Tail}

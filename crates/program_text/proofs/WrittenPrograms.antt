@@ -3,10 +3,10 @@ use Rattle.std.proofs.Common.{◌≡◌, ◌≢◌, ◌≤◌, ◌<◌, ◌+◌,
 use Rattle.std.specs.List.{AllByRecursion}
 use Rattle.std.proofs.Math.Seq.{drop-append_seam}
 use Rattle.std.proofs.lemmas.List.{drop_all}
-use Rattle.program_drafts.specs.declared.declarations.Decl.{Decl}
-use Rattle.program_drafts.specs.declared.declarations.Decl.TheVariants.{Source, Function as FunctionDecl, Op, Sink}
-use Rattle.program_drafts.specs.Declarations.{IsSpelledDecl}
-use Rattle.program_drafts.specs.Drafts.{AreDeclared, DraftData, IsSpelledDraft}
+use Rattle.tac_syntax.specs.declared.declarations.Decl.{Decl}
+use Rattle.tac_syntax.specs.declared.declarations.Decl.TheVariants.{Source, Function as FunctionDecl, Op, Sink}
+use Rattle.tac_syntax.specs.Declarations.{IsSpelledDecl}
+use Rattle.tac_syntax.specs.Drafts.{AreDeclared, DraftData, IsSpelledDraft}
 use Rattle.tac_syntax.specs.declared.functions.Function.{Function}
 use Rattle.tac_syntax.specs.Code.{nesting}
 use Rattle.tac_syntax.specs.Functions.{IsSpelledFunction}

@@ -1,6 +1,6 @@
 -- What reading the words of one declaration answers.
 use Rattle.std.specs.Prelude.{◌≡◌, ℕ, Option, Some, Result, Ok, Err}
-use Rattle.program_drafts.specs.declared.declarations.Decl.{Decl}
+use Rattle.tac_syntax.specs.declared.declarations.Decl.{Decl}
 use Rattle.program_text.specs.declared.declaration_reading.NotDeclaration.{NotDeclaration}
 use Rattle.program_text.specs.declared.declaration_reading.NotDeclaration.TheVariants.{Fault, Memory}
 

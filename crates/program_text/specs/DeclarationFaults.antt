@@ -1,6 +1,6 @@
 -- What is wrong with a line that should be a declaration's: the first fault from the left.
 use Rattle.std.specs.Prelude.{ℕ, ◌-◌, ◌==◌, Bool, ◌||◌, if◌then◌else◌, Option, Some, None, List, [], ◌∷◌, length, take, drop, codes, bytes_eq}
-use Rattle.program_drafts.specs.Declarations.{field_list_limit}
+use Rattle.tac_syntax.specs.Declarations.{field_list_limit}
 use Rattle.program_text.specs.declared.declaration_faults.Slot.{Slot}
 use Rattle.program_text.specs.declared.declaration_faults.Slot.TheVariants.{Name, FileName, By}
 use Rattle.program_text.specs.declared.declaration_faults.Item.{Item}

@@ -1,6 +1,6 @@
 -- What reading a program answers, line by line and as a whole.
 use Rattle.std.specs.Prelude.{◌≡◌, ℕ, Bool, false, max, List, ◌∷◌, Some, Result, Ok, Err, codes, bytes_eq}
-use Rattle.program_drafts.specs.Drafts.{DraftData}
+use Rattle.tac_syntax.specs.Drafts.{DraftData}
 use Rattle.tac_text.specs.declared.statement_reading.NotLine.{NotLine}
 use Rattle.tac_text.specs.declared.statement_reading.NotLine.TheVariants as line
 use Rattle.text_lines.specs.declared.lines.TextFault.{TextFault}

@@ -1,9 +1,9 @@
 -- The text of a program, and what is wrong with a text that is none.
 use Rattle.std.specs.Prelude.{◌≡◌, ◌≤◌, ℕ, Option, Some, None, List, [], ◌∷◌, ◌++◌, flat_map, slice_get, codes, bytes_eq, if◌then◌else◌}
 use Rattle.std.specs.List.{AllByRecursion}
-use Rattle.program_drafts.specs.declared.declarations.Decl.{Decl}
-use Rattle.program_drafts.specs.declared.declarations.Decl.TheVariants.{Source, Function as FunctionDecl, Op, Sink}
-use Rattle.program_drafts.specs.Drafts.{DraftData, IsSpelledDraft}
+use Rattle.tac_syntax.specs.declared.declarations.Decl.{Decl}
+use Rattle.tac_syntax.specs.declared.declarations.Decl.TheVariants.{Source, Function as FunctionDecl, Op, Sink}
+use Rattle.tac_syntax.specs.Drafts.{DraftData, IsSpelledDraft}
 use Rattle.tac_syntax.specs.declared.functions.Function.{Function}
 use Rattle.tac_syntax.specs.Code.{nesting}
 use Rattle.tac_syntax.specs.Limits.{nesting_limit}

@@ -5,10 +5,9 @@ ghost use Rattle.tac_syntax.specs.Grammar.{IsNumber};
 ghost use Rattle.program_text.specs.DeclarationReading.{behind_equals, column_in, columns_in, has_right, name_at, number_in, numbers_in, plain_at, plain_text};
 
 use crate::declaration_faults::is_number;
-use pact_bag::{Column, Columns};
-use pact_record::{MAX_WORD, OutOfMemory, Word};
-use program_drafts::{Numbers, OpKind};
+use pact_record::{Column, Columns, MAX_WORD, OutOfMemory, Word};
 use std::alloc::Global;
+use tac_syntax::{Numbers, OpKind};
 use text_lines::{LineWord, read_number};
 
 fn plain_text(word: &LineWord) -> &[u8]

@@ -1,8 +1,8 @@
 //! The lines of declarations, read from their words.
 
 ghost use Rattle.std.specs.Prelude.{◌≡◌, ◌<◌, ℕ, None, Some, IfErr, IfOk, length};
-ghost use Rattle.program_drafts.specs.Declarations.{IsSpelledDecl};
-ghost use Rattle.program_drafts.specs.declared.declarations.Decl.{Decl as DeclData};
+ghost use Rattle.tac_syntax.specs.Declarations.{IsSpelledDecl};
+ghost use Rattle.tac_syntax.specs.declared.declarations.Decl.{Decl as DeclData};
 ghost use Rattle.program_text.specs.DeclarationAnswers.{GivesDecl, GivesSomeDecl, IsFaultOf, TellsFault};
 ghost use Rattle.program_text.specs.DeclarationFaults.{declaration_fault};
 ghost use Rattle.program_text.specs.DeclarationReading.{decl_in, keys_at, kind_in, op_in, right_in};
@@ -13,8 +13,8 @@ use crate::declaration_parts::{
     behind_equals, columns_in, has_right, name_at, numbers_in, plain_at, words_from,
 };
 use pact_record::{OutOfMemory, Word};
-use program_drafts::{Decl, OpKind};
 use std::alloc::Global;
+use tac_syntax::{Decl, OpKind};
 use text_lines::{LineWord, is_word};
 
 /// Why words declare nothing.

@@ -1,17 +1,16 @@
 //! The canonical lines of declarations.
 
 ghost use Rattle.std.specs.Prelude.{◌≡◌, ◌++◌, ◌∷◌, [], IfOk, OnOk, codes, decimal, map};
-ghost use Rattle.program_drafts.specs.declared.declarations.OpKind.TheVariants.{Match};
-ghost use Rattle.program_drafts.specs.Declarations.{IsSpelledDecl, kind_word};
+ghost use Rattle.tac_syntax.specs.declared.declarations.OpKind.TheVariants.{Match};
+ghost use Rattle.tac_syntax.specs.Declarations.{IsSpelledDecl, kind_word};
 ghost use Rattle.text_lines.specs.CanonicalLines.{canonical_line};
 ghost use Rattle.program_text.specs.DeclarationWords.{column_word, number_words, plain_words, words_of_decl};
 ghost use Rattle.program_text.specs.DeclarationWriting.{keys_words, right_words, words_text};
 
 use crate::declaration_parts::has_right;
-use pact_bag::Columns;
-use pact_record::{Bytes, OutOfMemory, Word};
-use program_drafts::{Decl, Numbers, OpKind};
+use pact_record::{Bytes, Columns, OutOfMemory, Word};
 use std::alloc::Global;
+use tac_syntax::{Decl, Numbers, OpKind};
 
 fn put_word(line: &mut Bytes, word: &[u8]) -> Result<(), OutOfMemory>
     ensures { OnOk result (line.new ≡ line.old ++ 32 ∷ word.now) }

@@ -1,7 +1,7 @@
 //! Programs, read from their text.
 
 ghost use Rattle.std.specs.Prelude.{◌≡◌, ◌<◌, ◌∷◌, [], true, false, length, IfErr, IfOk};
-ghost use Rattle.program_drafts.specs.Drafts.{DraftData};
+ghost use Rattle.tac_syntax.specs.Drafts.{DraftData};
 ghost use Rattle.program_text.specs.DeclarationAnswers.{IsFaultOf};
 ghost use Rattle.program_text.specs.ProgramReading as reading;
 ghost use Rattle.program_text.specs.ProgramReading.{EndsWith, GivesDraft, IsLineFault, LeadsOn, TellsFirstFault, begins_function, state_of};
@@ -15,8 +15,8 @@ ghost use Rattle.text_lines.specs.CanonicalLines.{AreLineWords};
 use crate::declaration_reading::{NotDeclaration, read_declaration};
 use crate::first_lines::{read_field_count, read_version};
 use pact_record::OutOfMemory;
-use program_drafts::Draft;
 use std::alloc::Global;
+use tac_syntax::Draft;
 use tac_text::{NotLine, OpenFunction, read_header};
 use text_lines::{LineWord, NotWords, TextFault, first_line, is_word, read_words, trim_line};
 

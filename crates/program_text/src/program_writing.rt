@@ -11,9 +11,8 @@ ghost use Rattle.text_lines.specs.TextLines.{lines_of};
 
 use crate::declaration_writing::write_declaration;
 use pact_record::{Bytes, OutOfMemory};
-use program_drafts::{Decl, Draft, functions_of};
 use std::alloc::Global;
-use tac_syntax::Function;
+use tac_syntax::{Decl, Draft, Function, functions_of};
 use tac_text::write_function;
 
 // The version, and the number of fields.

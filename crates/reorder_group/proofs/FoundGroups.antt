@@ -10,7 +10,7 @@ use Rattle.tac_syntax.specs.Forms.{KeepsGroups}
 use Rattle.tac_flow.specs.Results.{IsBoundToKeys}
 use Rattle.tac_flow.specs.Views.{found_of}
 use Rattle.tac_flow.proofs.FoundSets.{answered_groups}
-use Rattle.program_drafts.specs.declared.declarations.OpKind.TheVariants.{Map}
+use Rattle.tac_syntax.specs.declared.declarations.OpKind.TheVariants.{Map}
 use Rattle.plan_trees.specs.Plans.{PlanTree}
 use Rattle.pact_operators.specs.Allowed.{Bag}
 use Rattle.pact_operators.specs.PlanOps.{kind_at, plan_ops}

@@ -3,8 +3,8 @@ use Rattle.std.proofs.Common.{◌≡◌, ℕ, List, [], ◌∷◌, ◌++◌, ref
 use Rattle.pact_record.proofs.Permutations.{Perm, from_permutation, nothing, to_permutation}
 use Rattle.pact_bag.specs.Groups.{group_of_key}
 use Rattle.pact_bag.proofs.KeyLists.{Key}
-use Rattle.program_drafts.specs.declared.declarations.OpKind.{OpKind}
-use Rattle.program_drafts.specs.declared.declarations.OpKind.TheVariants.{Reduce, CoGroup}
+use Rattle.tac_syntax.specs.declared.declarations.OpKind.{OpKind}
+use Rattle.tac_syntax.specs.declared.declarations.OpKind.TheVariants.{Reduce, CoGroup}
 use Rattle.plan_trees.specs.Plans.{PlanTree, over, both}
 use Rattle.pact_operators.specs.Allowed.{Allows, Bag, CoGrouped, Gives, GivesBoth, Grouped, keys_in, keys_in_either}
 use Rattle.pact_operators.specs.PlanOps.{PlanOps}

@@ -6,8 +6,8 @@ use Rattle.tac_syntax.specs.Contexts.{Has}
 use Rattle.tac_syntax.specs.Valid.{WithFields}
 use Rattle.tac_flow.specs.Results.{IsAnchoredOn}
 use Rattle.tac_flow.specs.Views.{found_of}
-use Rattle.program_drafts.specs.declared.declarations.OpKind.{OpKind}
-use Rattle.program_drafts.specs.declared.declarations.OpKind.TheVariants.{Map, Reduce, CoGroup}
+use Rattle.tac_syntax.specs.declared.declarations.OpKind.{OpKind}
+use Rattle.tac_syntax.specs.declared.declarations.OpKind.TheVariants.{Map, Reduce, CoGroup}
 use Rattle.plan_trees.specs.Plans.{PlanTree, over, both}
 use Rattle.pact_operators.specs.Allowed.{AllowSame, Bag}
 use Rattle.pact_operators.specs.PlanOps.{PlanOps, kind_at, left_keys_in, plan_ops, right_keys_in}

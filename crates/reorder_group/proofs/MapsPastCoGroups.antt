@@ -10,7 +10,7 @@ use Rattle.tac_syntax.specs.Contexts.{Ports}
 use Rattle.tac_syntax.specs.declared.contexts.Side.TheVariants.{Left as on_left, Right as on_right}
 use Rattle.tac_syntax.specs.Forms.{AreApart, HasForm, IsWithin}
 use Rattle.tac_syntax.specs.Valid.{WithFields}
-use Rattle.program_drafts.specs.declared.declarations.OpKind.{OpKind}
+use Rattle.tac_syntax.specs.declared.declarations.OpKind.{OpKind}
 use Rattle.plan_trees.specs.Plans.{PlanTree, over, both}
 use Rattle.pact_operators.specs.declared.operators.Op.{Op}
 use Rattle.pact_operators.specs.Allowed.{Allows, Bag, keys_in_either}

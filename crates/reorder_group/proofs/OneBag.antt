@@ -8,8 +8,8 @@ use Rattle.pact_bag.specs.Groups.{group_of_key, is_same_key}
 use Rattle.pact_bag.proofs.KeyGroups.{occurs}
 use Rattle.pact_bag.proofs.KeyLists.{AreOnce, HasAll, Key, beyond}
 use Rattle.pact_bag.proofs.KeysOfBags.{AreKeysOf, keys_alone, keys_of_either}
-use Rattle.program_drafts.specs.declared.declarations.OpKind.{OpKind}
-use Rattle.program_drafts.specs.declared.declarations.OpKind.TheVariants.{Map, Reduce, Match, Cross, CoGroup}
+use Rattle.tac_syntax.specs.declared.declarations.OpKind.{OpKind}
+use Rattle.tac_syntax.specs.declared.declarations.OpKind.TheVariants.{Map, Reduce, Match, Cross, CoGroup}
 use Rattle.plan_trees.specs.Plans.{PlanTree, leaf, over, both}
 use Rattle.pact_operators.specs.Allowed.{Allows, Bag, Gives, GivesBoth, keys_in, keys_in_either}
 use Rattle.pact_operators.specs.PlanOps.{PlanOps}

@@ -2,12 +2,14 @@
 
 ghost use Rattle.std.specs.Prelude.{◌≡◌, IfErr, IfOk, IsOk};
 ghost use Rattle.pact_operators.specs.Programs.{IsPlanOf};
-ghost use Rattle.reorder_pair.specs.Legal.{IsConditionOf, IsLegal, IsRefusal, KeepAnswers};
+ghost use Rattle.reorder_pair.specs.Legal.{IsConditionOf, IsFoundAt, IsLegal, IsRefusal, KeepAnswers};
 ghost use Rattle.reorder_pair.specs.Rules.{swapped};
 
 use crate::group_conditions::past_groups;
 use pact_operators::{Plan, Program};
-use reorder_pair::{Condition, NotLegal, Rule, exchanged_tree, legal_but_for_groups, swapped_plan};
+use reorder_pair::{
+    Condition, Found, NotLegal, Rule, exchanged_tree, found, legal_but_for_groups, swapped_plan,
+};
 
 /// Whether the operator at a place of a plan and the one below it that the rule exchanges with it may change places.
 pub fn legal(program: &Program, plan: &Plan, at: u32, rule: Rule) -> Result<Condition, NotLegal>
@@ -17,15 +19,43 @@ pub fn legal(program: &Program, plan: &Plan, at: u32, rule: Rule) -> Result<Cond
     ensures legal_always { IsLegal program.now plan.now at rule → IsOk result }
     ensures answers { IfOk result (λ c. KeepAnswers program.now plan.now (swapped rule at plan.now)) }
 {
+    match found(program, plan, at, rule) {
+        Some((upper, lower)) => legal_for(program, plan, at, rule, &upper, &lower),
+        None => Err(NotLegal::NoPlace),
+    }
+}
+
+/// Whether they may, where the rule has a place. `upper` and `lower` are what is found of the two.
+pub fn legal_for(
+    program: &Program,
+    plan: &Plan,
+    at: u32,
+    rule: Rule,
+    upper: &Found,
+    lower: &Found,
+) -> Result<Condition, NotLegal>
+    requires plan { IsPlanOf program.now.functions program.now.ops plan.now }
+    requires found { IsFoundAt program.now plan.now at rule upper.now lower.now }
+    ensures legal { IfOk result (IsConditionOf program.now plan.now at rule) }
+    ensures refused { IfErr result (IsRefusal program.now plan.now at rule) }
+    ensures legal_always { IsLegal program.now plan.now at rule → IsOk result }
+    ensures answers { IfOk result (λ c. KeepAnswers program.now plan.now (swapped rule at plan.now)) }
+    ensures upper { IfOk result (λ c. c.upper ≡ upper.now) }
+    ensures lower { IfOk result (λ c. c.lower ≡ lower.now) }
+{
     // Its clause says that the program keeps every rule.
     let _fields = program.fields();
-    let condition = match legal_but_for_groups(program, plan, at, rule) {
-        Ok(condition) => condition,
-        Err(why) => return Err(why),
-    };
+    if let Err(why) = legal_but_for_groups(program, plan, at, rule, upper, lower) {
+        return Err(why);
+    }
     let below = exchanged_tree(plan, at, rule).root();
-    match past_groups(program, rule, at, below, &condition.upper, &condition.lower) {
-        Ok(()) => Ok(condition),
+    match past_groups(program, rule, at, below, upper, lower) {
+        Ok(()) => Ok(Condition {
+            rule,
+            at,
+            upper: *upper,
+            lower: *lower,
+        }),
         Err(why) => Err(why),
     }
 }

@@ -15,8 +15,8 @@ use Rattle.tac_syntax.specs.Valid.{WithFields}
 use Rattle.tac_flow.specs.Results.{IsAnchoredOn, IsTouched}
 use Rattle.tac_flow.specs.Views.{found_of, sets_in}
 use Rattle.tac_flow.proofs.FoundSets.{answered_form, answered_left_keys, answered_right_keys}
-use Rattle.program_drafts.specs.declared.declarations.OpKind.{OpKind}
-use Rattle.program_drafts.specs.declared.declarations.OpKind.TheVariants.{Source, Map, Reduce, Match, Cross, CoGroup}
+use Rattle.tac_syntax.specs.declared.declarations.OpKind.{OpKind}
+use Rattle.tac_syntax.specs.declared.declarations.OpKind.TheVariants.{Source, Map, Reduce, Match, Cross, CoGroup}
 use Rattle.plan_trees.specs.Plans.{PlanTree, subtree_of}
 use Rattle.pact_operators.specs.declared.operators.Op.{Op}
 use Rattle.pact_operators.specs.Allowed.{Bag}

@@ -6,8 +6,8 @@ use Rattle.tac_syntax.specs.declared.contexts.Side.TheVariants.{Left as on_left}
 use Rattle.tac_syntax.specs.Contexts.{FieldSet, Has}
 use Rattle.tac_flow.specs.Results.{IsAnchoredOn}
 use Rattle.tac_flow.specs.Views.{found_of}
-use Rattle.program_drafts.specs.declared.declarations.OpKind.{OpKind}
-use Rattle.program_drafts.specs.declared.declarations.OpKind.TheVariants.{Map, Match, Cross}
+use Rattle.tac_syntax.specs.declared.declarations.OpKind.{OpKind}
+use Rattle.tac_syntax.specs.declared.declarations.OpKind.TheVariants.{Map, Match, Cross}
 use Rattle.plan_trees.specs.Plans.{PlanTree, over, both}
 use Rattle.pact_operators.specs.Allowed.{AllowSame, Bag}
 use Rattle.pact_operators.specs.PlanOps.{PlanOps, kind_at, plan_ops}
@@ -28,6 +28,9 @@ use Rattle.reorder_pair.proofs.PlacesOfRules.{plays-operator}
 
 pub turned_same : (o : PlanOps) (t u : PlanTree) → AllowSame o t u → AllowSame o u t
 turned_same o t u e bag = ((e bag).1, (e bag).0)
+
+pub same_through : (o : PlanOps) (s t u : PlanTree) → AllowSame o s t → AllowSame o t u → AllowSame o s u
+same_through o s t u h k bag = ((λ a. (k bag).0 ((h bag).0 a)), (λ a. (h bag).1 ((k bag).1 a)))
 
 -- all but a CoGroup are anchored
 pub map_anchored : (q : OpKind) (s : Found) → q ≡ Map → IsAnchoredOn (function_kind q) on_left (found_of s.sets)

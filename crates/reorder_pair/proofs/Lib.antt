@@ -16,4 +16,5 @@ pub mod PlacedExchanges
 pub mod LegalExchanges
 pub mod JudgedExchanges
 pub mod OneFinding
+pub mod FoundInContexts
 pub mod WordsOfRules

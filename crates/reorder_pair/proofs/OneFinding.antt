@@ -18,7 +18,7 @@ use Rattle.reorder_pair.specs.declared.legality.Condition.{Condition}
 use Rattle.reorder_pair.specs.declared.legality.NotLegal.{NotLegal}
 use Rattle.reorder_pair.specs.declared.rules.Rule.{Rule}
 use Rattle.reorder_pair.specs.Conditions.{AllPass, Fails, FirstFails, Line, Passes, Uses, anchored, keeps_groups, lines, no_common, uses_of}
-use Rattle.reorder_pair.specs.Legal.{IsConditionOf, IsLegal, IsRefusal, lines_at}
+use Rattle.reorder_pair.specs.Legal.{IsConditionOf, IsFoundAt, IsLegal, IsRefusal, lines_at}
 use Rattle.reorder_pair.specs.Places.{IsFound, IsUnionOf}
 use Rattle.reorder_pair.specs.Rules.{exchanged_by}
 
@@ -50,7 +50,7 @@ module _ (p : ProgramData) (n : ℕ) (before after : PlanTree) where
       let right_keys = h.right_keys ∙ sym g.right_keys in
       λ i. record { kind = f.function.kind; fields = f.fields; left = left i; right = right i; left_keys = left_keys i; right_keys = right_keys i }
 
-  sets_one : (f : WithFields) (c d : Context) → IsUnionOf p n before after c → IsUnionOf p n before after d → sets_in f c ≡ sets_in f d
+  pub sets_one : (f : WithFields) (c d : Context) → IsUnionOf p n before after c → IsUnionOf p n before after d → sets_in f c ≡ sets_in f d
   sets_one f c d h g = ap (λ (s : Scope). sets_of s f.function.body) (scope_one f c d h g)
 
   pub uses_one : (s r : Found) → IsFound p n before after s → IsFound p n before after r → uses_of s ≡ uses_of r
@@ -71,11 +71,11 @@ same_test : (a b : ℕ) → a < 2 → b < 2 → (a == 1) ≡ (b == 1) → a ≡ 
 same_test a b h k e = grind (arith, nat_tests)
 
 -- a set is the number of its bits
-same_bits : (a b : ℕ) → has_field a ≡ has_field b → a ≡ b
+pub same_bits : (a b : ℕ) → has_field a ≡ has_field b → a ≡ b
 unfolding has_field
 same_bits a b e = same_from_bits a b (λ i. same_test (bit_at a i) (bit_at b i) (bit_at-lt a i) (bit_at-lt b i) (ap (λ (s : FieldSet). s i) e))
 
-same_found : (s r : Found) → uses_of s ≡ uses_of r → s ≡ r
+pub same_found : (s r : Found) → uses_of s ≡ uses_of r → s ≡ r
 same_found s r e =
     let reads = same_bits s.sets.reads r.sets.reads (ap (λ (u : Uses). u.sets.reads) e) in
     let writes = same_bits s.sets.writes r.sets.writes (ap (λ (u : Uses). u.sets.writes) e) in
@@ -91,20 +91,26 @@ same_found s r e =
       hi = high i;
     }
 
+-- One thing is found of the two operators of an exchange.
+pub found_one : (p : ProgramData) (plan : PlanTree) (at : ℕ) (rule : Rule) (u l v m : Found) → IsFoundAt p plan at rule u l → IsFoundAt p plan at rule v m → (u ≡ v) × (l ≡ m)
+found_one p plan at rule u l v m h k =
+    let before = subtree_of at plan in
+    let after = exchanged_by rule before in (
+      same_found u v (uses_one p (root_of before) before after u v h.found.of_upper k.found.of_upper),
+      same_found l m (uses_one p (root_of after) before after l m h.found.of_lower k.found.of_lower),
+    )
+
 -- A legal exchange is told as one condition.
 pub one_condition : (p : ProgramData) (plan : PlanTree) (at : ℕ) (rule : Rule) (c d : Condition) → IsConditionOf p plan at rule c → IsConditionOf p plan at rule d → c ≡ d
 one_condition p plan at rule c d h k =
-    let before = subtree_of at plan in
-    let after = exchanged_by rule before in
-    let upper = same_found c.upper d.upper (uses_one p (root_of before) before after c.upper d.upper h.legal.found.found.of_upper k.legal.found.found.of_upper) in
-    let lower = same_found c.lower d.lower (uses_one p (root_of after) before after c.lower d.lower h.legal.found.found.of_lower k.legal.found.found.of_lower) in
+    let sets = found_one p plan at rule c.upper c.lower d.upper d.lower h.legal.found k.legal.found in
     let same_rule = h.same_rule ∙ sym k.same_rule in
     let place = h.place ∙ sym k.place in
-    λ i. record { rule = same_rule i; at = place i; upper = upper i; lower = lower i }
+    λ i. record { rule = same_rule i; at = place i; upper = sets.0 i; lower = sets.1 i }
 
 -- ---- conditions
 
-passes_or_fails : (line : Line) (why : NotLegal) → Passes line → Fails line why → ⊥
+pub passes_or_fails : (line : Line) (why : NotLegal) → Passes line → Fails line why → ⊥
 passes_or_fails (no_common ours theirs refusal) why p f = p f.0 f.1.one f.1.other
 passes_or_fails (anchored true) why p f = let e = f.0 in cc
 passes_or_fails (anchored false) why p f = cc

@@ -11,8 +11,8 @@ use Rattle.tac_syntax.specs.CallInputs.{IsInputOf}
 use Rattle.tac_syntax.specs.Contexts.{FieldSet, Ports}
 use Rattle.tac_syntax.specs.Forms.{AreApart, HasForm, IsLawful, IsWithin}
 use Rattle.tac_syntax.specs.Valid.{WithFields}
-use Rattle.program_drafts.specs.declared.declarations.OpKind.{OpKind}
-use Rattle.program_drafts.specs.declared.declarations.OpKind.TheVariants.{Match, Cross}
+use Rattle.tac_syntax.specs.declared.declarations.OpKind.{OpKind}
+use Rattle.tac_syntax.specs.declared.declarations.OpKind.TheVariants.{Match, Cross}
 use Rattle.plan_trees.specs.Plans.{PlanTree, both}
 use Rattle.pact_operators.specs.declared.operators.Op.{Op}
 use Rattle.pact_operators.specs.Allowed.{Bag, Allows, GivesBoth, crossed, matched}

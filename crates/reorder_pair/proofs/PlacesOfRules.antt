@@ -1,7 +1,7 @@
 -- Where a rule has a place, its two operators are operators, and both stand in the trees before and after.
 use Rattle.std.proofs.Common.{◌≡◌, inl, inr, ℕ, true, sym, subst, ◌∙◌}
-use Rattle.program_drafts.specs.declared.declarations.OpKind.{OpKind}
-use Rattle.program_drafts.specs.declared.declarations.OpKind.TheVariants.{Source, Map, Reduce, Match, Cross, CoGroup}
+use Rattle.tac_syntax.specs.declared.declarations.OpKind.{OpKind}
+use Rattle.tac_syntax.specs.declared.declarations.OpKind.TheVariants.{Source, Map, Reduce, Match, Cross, CoGroup}
 use Rattle.plan_trees.specs.Plans.{PlanTree, has, root_of, subtree_of}
 use Rattle.plan_trees.proofs.ExchangedTrees.{exchanged-has_root, has-exchanged_root}
 use Rattle.plan_trees.proofs.SubtreesOfPlans.{root_of-subtree}

@@ -2,3 +2,5 @@ pub mod Rules
 pub mod Places
 pub mod Conditions
 pub mod Legal
+pub mod Reach
+pub mod ToldExchanges

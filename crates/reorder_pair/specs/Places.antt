@@ -2,7 +2,8 @@
 use Rattle.std.specs.Prelude.{◌≡◌, ◌↔◌, ◌⊎◌, ℕ, true, Some, slice_get}
 use Rattle.pact_record.specs.FieldSets.{has_field}
 use Rattle.tac_syntax.specs.declared.contexts.Context.{Context}
-use Rattle.tac_syntax.specs.Contexts.{Has}
+use Rattle.tac_syntax.specs.declared.declarations.OpKind.TheVariants.{Source}
+use Rattle.tac_syntax.specs.Contexts.{Has, IsContextOf}
 use Rattle.tac_syntax.specs.EmitBounds.{least_emits, most_emits}
 use Rattle.tac_syntax.specs.Valid.{WithFields}
 use Rattle.tac_flow.specs.Results.{IsTouched}
@@ -12,6 +13,7 @@ use Rattle.plan_trees.specs.Shapes.{HasShape}
 use Rattle.pact_operators.specs.PlanOps.{function_in, kind_at, left_keys_in, right_keys_in}
 use Rattle.pact_operators.specs.Programs.{HasLeftAttribute, HasRightAttribute, ProgramData}
 use Rattle.reorder_pair.specs.declared.finding.Found.{Found}
+use Rattle.reorder_pair.specs.declared.finding.Neighbours.{Neighbours}
 use Rattle.reorder_pair.specs.declared.rules.Rule.{Rule}
 use Rattle.reorder_pair.specs.Rules.{Plays, exchange_of, exchanged_by}
 
@@ -31,7 +33,16 @@ pub record IsUnionOf (p : ProgramData) (n : ℕ) (before after : PlanTree) (c : 
   pub left_keys : c.left_keys ≡ left_keys_in (slice_get p.ops n)
   pub right_keys : c.right_keys ≡ right_keys_in (slice_get p.ops n)
 
--- the sets of the operator's function in that context, and its bounds
+-- the sets of an operator's function in a context, and its bounds
+pub record IsFoundFor (p : ProgramData) (n : ℕ) (context : Context) (s : Found) : Type 0 where
+  pub called : WithFields
+  pub function : slice_get p.functions (function_in (slice_get p.ops n)) ≡ Some called
+  pub sets : found_of s.sets ≡ sets_in called context
+  pub touched : (k : ℕ) → Has (has_field s.sets.touched) k ↔ IsTouched (found_of s.sets) called.function.body k
+  pub least : s.lo ≡ least_emits called.function.body
+  pub most : s.hi ≡ most_emits called.function.body
+
+-- those in what its inputs may hold in the one tree or in the other
 pub record IsFound (p : ProgramData) (n : ℕ) (before after : PlanTree) (s : Found) : Type 0 where
   pub context : Context
   pub union : IsUnionOf p n before after context
@@ -46,3 +57,21 @@ pub record IsFound (p : ProgramData) (n : ℕ) (before after : PlanTree) (s : Fo
 pub record AreFound (p : ProgramData) (before after : PlanTree) (upper lower : Found) : Type 0 where
   pub of_upper : IsFound p (root_of before) before after upper
   pub of_lower : IsFound p (root_of after) before after lower
+
+-- ---- the two operators there
+
+-- the operator calls a function, and the context is one of the program's fields
+pub record IsOperatorIn (p : ProgramData) (n : ℕ) (c : Context) : Type 0 where
+  pub operator : kind_at p.ops n ≡ Source → ⊥
+  pub fields : IsContextOf p.fields c
+
+-- The rule has a place there. These are the numbers of the upper and of the lower operator, and what the inputs of each may hold before the exchange or
+-- after it.
+pub record AreNeighbours (p : ProgramData) (plan : PlanTree) (at : ℕ) (rule : Rule) (n : Neighbours) : Type 0 where
+  pub place : IsPlace p plan at rule
+  pub upper : n.upper ≡ root_of (subtree_of at plan)
+  pub lower : n.lower ≡ root_of (exchanged_by rule (subtree_of at plan))
+  pub upper_context : IsUnionOf p n.upper (subtree_of at plan) (exchanged_by rule (subtree_of at plan)) n.upper_context
+  pub lower_context : IsUnionOf p n.lower (subtree_of at plan) (exchanged_by rule (subtree_of at plan)) n.lower_context
+  pub upper_operator : IsOperatorIn p n.upper n.upper_context
+  pub lower_operator : IsOperatorIn p n.lower n.lower_context

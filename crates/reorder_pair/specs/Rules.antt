@@ -1,7 +1,7 @@
 -- The rules of exchanges: their words, the kinds of the two operators, and how their trees change.
 use Rattle.std.specs.Prelude.{◌≡◌, ◌⊎◌, ℕ, List, [], ◌∷◌, codes}
-use Rattle.program_drafts.specs.declared.declarations.OpKind.{OpKind}
-use Rattle.program_drafts.specs.declared.declarations.OpKind.TheVariants.{Map, Reduce, Match, Cross, CoGroup}
+use Rattle.tac_syntax.specs.declared.declarations.OpKind.{OpKind}
+use Rattle.tac_syntax.specs.declared.declarations.OpKind.TheVariants.{Map, Reduce, Match, Cross, CoGroup}
 use Rattle.plan_trees.specs.Plans.{PlanTree, replaced, subtree_of}
 use Rattle.plan_trees.specs.Shapes.{exchanged}
 use Rattle.plan_trees.specs.declared.shapes.Shape.TheVariants.{OneOverOne, IntoLeft, OutOfLeft, IntoRight, OutOfRight, ToRight, ToLeft}

@@ -4,16 +4,25 @@ ghost use Rattle.std.specs.Prelude.{◌≡◌, true, IfErr, IfNone, IfOk, IfSome
 ghost use Rattle.plan_trees.specs.Plans.{has, subtree_of};
 ghost use Rattle.plan_trees.specs.Shapes.{HasShape};
 ghost use Rattle.pact_operators.specs.Programs.{IsPlanOf};
-ghost use Rattle.reorder_pair.specs.Conditions.{AllPass};
-ghost use Rattle.reorder_pair.specs.Legal.{IsConditionOf, IsFoundAt, IsLegal, IsRefusal, IsRefusedBy, KeepAnswers, shared_at};
-ghost use Rattle.reorder_pair.specs.Places.{IsPlace};
+ghost use Rattle.reorder_pair.specs.Conditions.{AllPass, FirstFails};
+ghost use Rattle.reorder_pair.specs.Legal.{IsConditionOf, IsFoundAt, IsLegal, IsRefusal, KeepAnswers, shared_at};
+ghost use Rattle.reorder_pair.specs.Places.{AreNeighbours, IsPlace};
 ghost use Rattle.reorder_pair.specs.Rules.{IsPairRule, exchange_of, exchanged_by, swapped};
 
-use crate::finding::{Found, both_found};
+use crate::finding::{Found, Neighbours, found_for, neighbours_in};
 use crate::legality::{Condition, NotLegal, judged};
 use crate::rules::Rule;
-use crate::trees::trees_of;
+use crate::trees::{Trees, trees_of};
 use pact_operators::{Plan, Program};
+
+/// The two operators that the rule exchanges at a place of a plan. None where it has no place there.
+pub fn neighbours(program: &Program, plan: &Plan, at: u32, rule: Rule) -> Option<Neighbours>
+    ensures some { IfSome result (AreNeighbours program.now plan.now at rule) }
+    ensures none { IfNone result (IsPlace program.now plan.now at rule → ⊥) }
+{
+    let trees = trees_of(program, plan, at, rule)?;
+    Some(neighbours_in(program, plan, at, rule, &trees))
+}
 
 /// What is found of the operator at a place of a plan and of the one below it that the rule exchanges with it: of each, in all that its inputs may
 /// hold before the exchange or after it. None where the rule has no place there.
@@ -22,38 +31,41 @@ pub fn found(program: &Program, plan: &Plan, at: u32, rule: Rule) -> Option<(Fou
     ensures found { IfSome result (λ both. IsFoundAt program.now plan.now at rule both.0 both.1) }
     ensures none { IfNone result (IsPlace program.now plan.now at rule → ⊥) }
 {
-    let trees = trees_of(program, plan, at, rule)?;
-    Some(both_found(program, plan, at, rule, &trees))
+    let both = neighbours(program, plan, at, rule)?;
+    let upper = found_for(program, both.upper, &both.upper_context);
+    let lower = found_for(program, both.lower, &both.lower_context);
+    Some((upper, lower))
 }
 
-/// The conditions that all rules have: that the rule has a place there, that the two don't conflict, and that neither touches a side that it is moved
-/// past. Where they hold, what the exchange is told as.
+/// The tree of the operator at the place, after it and the one below it have changed places.
+pub fn exchanged_tree(plan: &Plan, at: u32, rule: Rule) -> Plan
+    requires node { has at plan.now ≡ true }
+    requires shape { HasShape (exchange_of rule).shape (subtree_of at plan.now) }
+    ensures { result ≡ exchanged_by rule (subtree_of at plan.now) }
+{
+    let tree = plan.subtree(at);
+    tree.exchanged(rule.exchange().shape).unwrap_or(tree)
+}
+
+/// The conditions that all rules have where they have a place: that the two operators don't conflict, and that neither touches a side that it is moved
+/// past. `upper` and `lower` are what is found of the two.
 pub fn legal_but_for_groups(
     program: &Program,
     plan: &Plan,
     at: u32,
     rule: Rule,
-) -> Result<Condition, NotLegal>
-    requires plan { IsPlanOf program.now.functions program.now.ops plan.now }
-    ensures same_rule { IfOk result (λ c. c.rule ≡ rule) }
-    ensures place { IfOk result (λ c. c.at ≡ at) }
-    ensures found { IfOk result (λ c. IsFoundAt program.now plan.now at rule c.upper c.lower) }
-    ensures passes { IfOk result (λ c. AllPass (shared_at program.now plan.now at rule c.upper c.lower)) }
-    ensures refused { IfErr result (IsRefusedBy (shared_at program.now plan.now at rule) program.now plan.now at rule) }
+    upper: &Found,
+    lower: &Found,
+) -> Result<(), NotLegal>
+    requires found { IsFoundAt program.now plan.now at rule upper.now lower.now }
+    ensures passes { IfOk result (λ x. AllPass (shared_at program.now plan.now at rule upper.now lower.now)) }
+    ensures fails { IfErr result (FirstFails (shared_at program.now plan.now at rule upper.now lower.now)) }
 {
-    let Some(trees) = trees_of(program, plan, at, rule) else {
-        return Err(NotLegal::NoPlace);
+    let trees = Trees {
+        before: plan.subtree(at),
+        after: exchanged_tree(plan, at, rule),
     };
-    let (upper, lower) = both_found(program, plan, at, rule, &trees);
-    match judged(program, rule.exchange().shape, &trees, &upper, &lower) {
-        Ok(()) => Ok(Condition {
-            rule,
-            at,
-            upper,
-            lower,
-        }),
-        Err(why) => Err(why),
-    }
+    judged(program, rule.exchange().shape, &trees, upper, lower)
 }
 
 /// Whether the operator at a place of a plan and the one below it that the rule exchanges with it may change places. The rule is one of the first
@@ -73,17 +85,18 @@ pub fn legal_pair(
 {
     // Its clause says that the program keeps every rule.
     let _fields = program.fields();
-    legal_but_for_groups(program, plan, at, rule)
-}
-
-/// The tree of the operator at the place, after it and the one below it have changed places.
-pub fn exchanged_tree(plan: &Plan, at: u32, rule: Rule) -> Plan
-    requires node { has at plan.now ≡ true }
-    requires shape { HasShape (exchange_of rule).shape (subtree_of at plan.now) }
-    ensures { result ≡ exchanged_by rule (subtree_of at plan.now) }
-{
-    let tree = plan.subtree(at);
-    tree.exchanged(rule.exchange().shape).unwrap_or(tree)
+    let Some((upper, lower)) = found(program, plan, at, rule) else {
+        return Err(NotLegal::NoPlace);
+    };
+    match legal_but_for_groups(program, plan, at, rule, &upper, &lower) {
+        Ok(()) => Ok(Condition {
+            rule,
+            at,
+            upper,
+            lower,
+        }),
+        Err(why) => Err(why),
+    }
 }
 
 /// The plan with that tree.

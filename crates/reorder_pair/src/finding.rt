@@ -1,18 +1,18 @@
 //! What is found of the operators of an exchange.
 
 ghost use Rattle.std.specs.Prelude.{◌≡◌, Some, slice_get, true};
-ghost use Rattle.program_drafts.specs.declared.declarations.OpKind.TheVariants.{Source};
+ghost use Rattle.tac_syntax.specs.declared.declarations.OpKind.TheVariants.{Source};
+ghost use Rattle.tac_syntax.specs.Contexts.{IsContextOf};
 ghost use Rattle.plan_trees.specs.Plans.{has, subtree_of};
 ghost use Rattle.pact_operators.specs.PlanOps.{function_in, kind_at};
-ghost use Rattle.pact_operators.specs.Programs.{IsPlanOf};
-ghost use Rattle.reorder_pair.specs.Places.{AreFound, IsFound, IsPlace};
+ghost use Rattle.reorder_pair.specs.Places.{AreNeighbours, IsFound, IsFoundFor, IsOperatorIn, IsPlace, IsUnionOf};
 ghost use Rattle.reorder_pair.specs.Rules.{exchanged_by};
 
 use crate::rules::Rule;
 use crate::trees::Trees;
 use pact_operators::{Plan, Program, context};
 use tac_flow::Sets;
-use tac_syntax::Valid;
+use tac_syntax::{Context, Valid};
 
 /// What is found of an operator's function: the fields that it reads, writes, decides by and touches, and how many records a call of it gives,
 /// at least and at most; `emit_bounds::MANY` is no bound.
@@ -21,6 +21,15 @@ pub struct Found {
     pub sets: Sets,
     pub lo: u32,
     pub hi: u32,
+}
+
+/// The two operators that a rule exchanges at a place of a plan: their numbers, and what the inputs of each may hold before the exchange or after it.
+#[derive(Clone, Copy, Debug)]
+pub struct Neighbours {
+    pub upper: u32,
+    pub lower: u32,
+    pub upper_context: Context,
+    pub lower_context: Context,
 }
 
 // The function that an operator calls.
@@ -33,18 +42,25 @@ fn function_at(program: &Program, at: u32) -> &Valid
     &program.functions()[op.function as usize]
 }
 
-// What is found of an operator that stands in both trees.
-fn found_in(program: &Program, at: u32, trees: &Trees) -> Found
-    requires operator { kind_at program.now.ops at ≡ Source → ⊥ }
+// What the inputs of an operator that stands in both trees may hold in the one or in the other.
+fn united_context(program: &Program, at: u32, trees: &Trees) -> Context
     requires before { has at trees.now.before ≡ true }
     requires after { has at trees.now.after ≡ true }
-    ensures { IsFound program.now at trees.now.before trees.now.after result }
+    ensures union { IsUnionOf program.now at trees.now.before trees.now.after result }
+    ensures fields { (kind_at program.now.ops at ≡ Source → ⊥) → IsContextOf program.now.fields result }
 {
-    let context = context(program, &trees.before, at).union(&context(program, &trees.after, at));
+    context(program, &trees.before, at).union(&context(program, &trees.after, at))
+}
+
+/// What is found of an operator in a context.
+pub fn found_for(program: &Program, at: u32, context: &Context) -> Found
+    requires operator { IsOperatorIn program.now at context.now }
+    ensures { IsFoundFor program.now at context.now result }
+{
     let function = function_at(program, at);
     let (lo, hi) = emit_bounds::bounds(function);
     Found {
-        sets: tac_flow::sets(function, &context),
+        sets: tac_flow::sets(function, context),
         lo,
         hi,
     }
@@ -60,24 +76,29 @@ pub fn found_in_plan(program: &Program, plan: &Plan, at: u32) -> Found
         before: *plan,
         after: *plan,
     };
-    found_in(program, at, &trees)
+    let context = united_context(program, at, &trees);
+    found_for(program, at, &context)
 }
 
-// What is found of the upper and of the lower operator.
-pub(crate) fn both_found(
+// The upper and the lower operator of an exchange, whose trees these are.
+pub(crate) fn neighbours_in(
     program: &Program,
     plan: &Plan,
     at: u32,
     rule: Rule,
     trees: &Trees,
-) -> (Found, Found)
-    requires plan { IsPlanOf program.now.functions program.now.ops plan.now }
+) -> Neighbours
     requires place { IsPlace program.now plan.now at rule }
     requires before { trees.now.before ≡ subtree_of at plan.now }
     requires after { trees.now.after ≡ exchanged_by rule (subtree_of at plan.now) }
-    ensures { AreFound program.now trees.now.before trees.now.after result.0 result.1 }
+    ensures { AreNeighbours program.now plan.now at rule result }
 {
-    let upper = found_in(program, trees.before.root(), trees);
-    let lower = found_in(program, trees.after.root(), trees);
-    (upper, lower)
+    let upper = trees.before.root();
+    let lower = trees.after.root();
+    Neighbours {
+        upper,
+        lower,
+        upper_context: united_context(program, upper, trees),
+        lower_context: united_context(program, lower, trees),
+    }
 }

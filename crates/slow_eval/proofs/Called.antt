@@ -2,8 +2,8 @@
 use Rattle.std.proofs.Common.{◌≡◌, ◌<◌, ℕ, suc, List, length, get_or, slice_get, ap, sym, ◌∙◌, subst, arith}
 use Rattle.std.specs.Prelude.{flat_map}
 use Rattle.std.proofs.lemmas.Option.{slice_get_within}
-use Rattle.program_drafts.specs.declared.declarations.OpKind.{OpKind}
-use Rattle.program_drafts.specs.declared.declarations.OpKind.TheVariants.{Source, Map, Reduce, Match, Cross, CoGroup}
+use Rattle.tac_syntax.specs.declared.declarations.OpKind.{OpKind}
+use Rattle.tac_syntax.specs.declared.declarations.OpKind.TheVariants.{Source, Map, Reduce, Match, Cross, CoGroup}
 use Rattle.pact_operators.specs.declared.operators.Op.{Op}
 use Rattle.pact_operators.specs.Allowed.{Bag, CoGrouped, Gives, GivesBoth, Grouped, crossed, keys_in, keys_in_either, matched}
 use Rattle.pact_operators.specs.PlanOps.{body_at, kind_at, kind_in, left_keys_in, plan_ops, right_keys_in}

@@ -7,7 +7,7 @@ use Rattle.pact_operators.specs.Allowed.{Allows, Bag, Counted, Gives, GivesBoth,
 use Rattle.plan_trees.specs.Distinct.{AreDifferent, IsAbsent}
 use Rattle.pact_operators.specs.PlanOps.{PlanOps}
 use Rattle.plan_trees.specs.Plans.{PlanTree, leaf, over, both, nodes}
-use Rattle.program_drafts.specs.declared.declarations.OpKind.TheVariants.{Source}
+use Rattle.tac_syntax.specs.declared.declarations.OpKind.TheVariants.{Source}
 use Rattle.plan_trees.proofs.DifferentNumbers.{AreDifferent-absent, IsAbsent-left, IsAbsent-right}
 use Rattle.pact_record.proofs.Lists.{AllByRecursion-left, AllByRecursion-right}
 

@@ -8,3 +8,4 @@ pub mod Bounds
 pub mod WellFormed
 pub mod EmitCounts
 pub mod LawfulExamples
+pub mod Declared

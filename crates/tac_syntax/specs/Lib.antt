@@ -22,3 +22,7 @@ pub mod Contexts
 pub mod Forms
 pub mod EmitBounds
 pub mod WellFormed
+pub mod Declarations
+pub mod Drafts
+pub mod DraftCode
+pub mod ValidLists

@@ -15,7 +15,7 @@ pub enum Side {
 
 /// Which fields of the records of either input may be other than Null, and the key fields of either.
 /// A Map and a Reduce have those of the left input alone.
-#[derive(Clone, Copy, Debug, PartialEq, Eq)]
+#[derive(Clone, Copy, Debug, PartialEq, Eq, Hash)]
 pub struct Context {
     pub left: Fields,
     pub right: Fields,

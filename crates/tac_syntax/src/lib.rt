@@ -1,24 +1,35 @@
-//! Functions in three-address code, and what one call of a function means.
+//! Functions in three-address code, what one call of a function means, and programs as they are declared.
 //!
 //! A function's body is a tree of statements over value registers and record registers. The
 //! meaning of a call is given in small steps, in `specs/Call.antt`: a state holds the registers,
 //! what was emitted and a flat list of the items still to do, and each step takes the first item
 //! away. `specs/Rules.antt` has the rules that a valid function keeps to; a `Valid` is one.
+//!
+//! A `Draft` is what a program's text declares: its functions, and sources, operators and sinks in text order. Nothing of it
+//! is resolved or tested. A reader of texts makes one, and a writer spells it.
 #![tactic(auto)]
 
 pub mod contexts;
+pub mod declarations;
+pub mod drafts;
 pub mod functions;
 mod named_fields;
 pub mod names;
+pub mod numbers;
 pub mod rules;
 pub mod statements;
+pub mod valid_lists;
 pub mod valids;
 
 pub use contexts::{Context, Side};
+pub use declarations::{Decl, OpKind};
+pub use drafts::{Draft, functions_of};
 pub use functions::{Function, Kind};
 pub use names::{is_file_name, is_name};
+pub use numbers::Numbers;
 pub use rules::{MAX_LOOPS, Rule};
 pub use statements::{
     Body, LoopList, MAX_NESTING, NotPushed, RECORD_REGISTERS, Rec, Stmt, VALUE_REGISTERS,
 };
+pub use valid_lists::ValidList;
 pub use valids::Valid;

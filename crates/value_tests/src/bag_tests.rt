@@ -1,8 +1,8 @@
 ghost use Rattle.std.specs.Prelude.{◌≡◌, length, IfOk};
 
 use crate::helpers::pair;
-use pact_bag::{Column, Columns, Counts, Inputs, Rows, sort_rows};
-use pact_record::{OutOfMemory, Record, Value};
+use pact_bag::{Counts, Inputs, Rows, sort_rows};
+use pact_record::{Column, Columns, OutOfMemory, Record, Value};
 use std::alloc::Global;
 use std::test::Fail;
 

@@ -18,5 +18,12 @@ fn words_ask_for_commands(rt: HostRuntime) -> Result<(), Fail> {
     assert_eq!(rt; read_words(&["sets", "p.pact"]), sets);
     assert_eq!(rt; read_words(&["sets"]), None);
     assert_eq!(rt; read_words(&["sets", "p.pact", "d.csv"]), None);
+    let check = Some(Command::Check {
+        program: "p.pact",
+        certificate: "c.json",
+    });
+    assert_eq!(rt; read_words(&["check", "p.pact", "c.json"]), check);
+    assert_eq!(rt; read_words(&["check", "p.pact"]), None);
+    assert_eq!(rt; read_words(&["check", "p.pact", "c.json", "d.csv"]), None);
     Ok(())
 }

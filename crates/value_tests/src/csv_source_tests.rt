@@ -2,8 +2,8 @@ ghost use Rattle.std.specs.Prelude.{◌≡◌, ◌<◌, IfOk};
 ghost use Rattle.std.specs.List.{AllByRecursion};
 
 use csv_source::{BadRow, read_source};
-use pact_bag::{Column, Columns, Rows};
-use pact_record::{OutOfMemory, Record, Value};
+use pact_bag::Rows;
+use pact_record::{Column, Columns, OutOfMemory, Record, Value};
 use std::alloc::Global;
 use std::test::Fail;
 

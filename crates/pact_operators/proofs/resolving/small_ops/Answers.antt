@@ -1,5 +1,5 @@
 use Rattle.std.proofs.Common.{List, map}
-use Rattle.program_drafts.specs.declared.declarations.Decl.{Decl}
+use Rattle.tac_syntax.specs.declared.declarations.Decl.{Decl}
 use Rattle.pact_operators.specs.Resolved.{ops_of}
 use Rattle.pact_operators.specs.WrittenOps.{with_small_keys}
 use Rattle.pact_operators.proofs.Gathered.{joined_more}

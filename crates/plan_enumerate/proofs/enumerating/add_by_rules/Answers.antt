@@ -7,7 +7,7 @@ use Rattle.plan_enumerate.proofs.enumerating.add_by_rules.Goals as goal
 
 pub loop-n-preserved : goal.loop-n-preserved
 loop-n-preserved c =
-    (subst (GoesTo c.args.program.now c.args.limit c.add_neighbour.new.entries c.args.from c.args.at (c.loop-n.n + 1)) c.if-not-branch.false c.in_ok-add_neighbour.ensures.walked, c.in_ok-add_neighbour.ensures.entry)
+    (subst (GoesTo c.args.program.now c.args.limit c.add_neighbour.new.entries c.args.from c.args.at (c.loop-n.n + 1)) c.if-not-branch.false c.in_ok-add_neighbour.ensures.walked, c.in_ok-add_neighbour.ensures.entry, c.in_ok-add_neighbour.ensures.findings)
 
 pub returns-clause-walked : goal.returns-clause-walked
 returns-clause-walked c =

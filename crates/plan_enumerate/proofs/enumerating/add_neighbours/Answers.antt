@@ -1,9 +1,10 @@
 use Rattle.std.proofs.Common.{◌≡◌, subst, arith}
 use Rattle.plan_trees.specs.Plans.{node_limit}
+use Rattle.reorder_group.proofs.PlansInReach.{reached-IsPlanOf}
 use Rattle.plan_enumerate.specs.Walks.{IsWalked}
 use Rattle.plan_enumerate.proofs.LongerLists.{IsAt-within}
 use Rattle.plan_enumerate.proofs.PastExchanges.{past_operators, small_operators}
-use Rattle.plan_enumerate.proofs.ReachedPlans.{listed-Reach, reached-IsPlanOf}
+use Rattle.plan_enumerate.proofs.ReachedPlans.{listed-Reach}
 use Rattle.plan_enumerate.proofs.enumerating.add_neighbours.Goals as goal
 
 pub add_by_rules-requires : goal.add_by_rules-requires
@@ -15,6 +16,7 @@ add_by_rules-requires c =
     record {
       some = c.requires.some;
       entry = entry;
+      findings = c.loop-at.invariant.2;
       plan = reached-IsPlanOf p c.fields-fields.ensures.keeps plan (listed-Reach p c.args.limit c.loop-at.entries walked.grows plan (c.args.from, entry));
       walked = walked;
     }

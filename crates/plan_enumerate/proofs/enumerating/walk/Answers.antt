@@ -1,6 +1,7 @@
 use Rattle.std.proofs.Common.{◌≡◌, ◌+◌, ◌-◌, ◌<◌, [], ◌∷◌, List, ap, sym, subst, ◌∙◌, arith}
 use Rattle.plan_trees.specs.Plans.{PlanTree}
 use Rattle.plan_enumerate.specs.declared.entries.Entry.{Entry}
+use Rattle.plan_enumerate.specs.FindingTable.{AreFindings}
 use Rattle.plan_enumerate.specs.Listing.{first_entry}
 use Rattle.plan_enumerate.specs.Walks.{GoesTo, IsWalked}
 use Rattle.plan_enumerate.proofs.PastExchanges.{walk_begins}
@@ -11,7 +12,7 @@ pub loop-from-init : goal.loop-from-init
 loop-from-init c =
     let p = c.args.program.now in
     let e : c.in_ok-entries.entries ≡ first_entry p.plan ∷ [] = c.in_ok-entries.ensures ∙ ap (λ (t : PlanTree). first_entry t ∷ []) c.plan.ensures.plan in
-    (subst (λ (es : List Entry). IsWalked p c.args.limit es 0 0 0) (sym e) (walk_begins p c.args.limit), omega arith)
+    (subst (λ (es : List Entry). IsWalked p c.args.limit es 0 0 0) (sym e) (walk_begins p c.args.limit), omega arith, subst (AreFindings p) (sym c.new-findings.ensures) tt)
 
 pub of-requires-then-not-branch : goal.of-requires-then-not-branch
 of-requires-then-not-branch c =
@@ -44,7 +45,7 @@ loop-from-smaller c =
 pub loop-from-preserved : goal.loop-from-preserved
 loop-from-preserved c =
     let within = c.in_ok-add_neighbours.ensures.within in
-    (subst (GoesTo c.args.program.now c.args.limit c.add_neighbours.new.entries (c.loop-from.from + 1) 0 0) c.if-not-branch.false c.in_ok-add_neighbours.ensures.walked, omega (arith, within))
+    (subst (GoesTo c.args.program.now c.args.limit c.add_neighbours.new.entries (c.loop-from.from + 1) 0 0) c.if-not-branch.false c.in_ok-add_neighbours.ensures.walked, omega (arith, within), c.in_ok-add_neighbours.ensures.findings)
 
 pub of-requires-2 : goal.of-requires-2
 of-requires-2 c =

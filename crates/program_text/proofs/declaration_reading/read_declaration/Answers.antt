@@ -1,6 +1,6 @@
 use Rattle.std.proofs.Common.{◌≡◌, ◌<◌, List, None, length, ap, sym, subst, ◌∙◌}
-use Rattle.program_drafts.specs.declared.declarations.Decl.{Decl}
-use Rattle.program_drafts.specs.Declarations.{IsSpelledDecl}
+use Rattle.tac_syntax.specs.declared.declarations.Decl.{Decl}
+use Rattle.tac_syntax.specs.Declarations.{IsSpelledDecl}
 use Rattle.text_lines.specs.declared.line_words.LineWord.{LineWord}
 use Rattle.program_text.specs.DeclarationFaults.{declaration_fault}
 use Rattle.program_text.specs.DeclarationReading.{decl_in}

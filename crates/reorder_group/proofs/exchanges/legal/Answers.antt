@@ -1,38 +1,5 @@
-use Rattle.reorder_pair.proofs.JudgedExchanges.{shared-IsRefusal}
-use Rattle.reorder_pair.proofs.OneFinding.{legal_or_refused}
-use Rattle.reorder_group.proofs.JudgedGroups.{judged_legal, judged_refused}
-use Rattle.reorder_group.proofs.LegalExchanges.{legal-KeepAnswers}
+use Rattle.std.proofs.Common.{inl, refl}
 use Rattle.reorder_group.proofs.exchanges.legal.Goals as goal
 
-pub returns-in-Err-clause-refused : goal.returns-in-Err-clause-refused
-returns-in-Err-clause-refused c = shared-IsRefusal c.args.program.now c.args.plan.now c.args.at c.args.rule c.in-Err.why c.in-Err.ensures.refused
-
-pub returns-in-Err-clause-legal_always : goal.returns-in-Err-clause-legal_always
-returns-in-Err-clause-legal_always c legal = absurd (legal_or_refused c.args.program.now c.args.plan.now c.args.at c.args.rule c.in-Err.why legal (returns-in-Err-clause-refused c))
-
-pub returns-in-Ok-past_groups-clause-legal : goal.returns-in-Ok-past_groups-clause-legal
-returns-in-Ok-past_groups-clause-legal c =
-    let a = c.args in
-    let shared = c.in-Ok in
-    record {
-      same_rule = shared.ensures.same_rule;
-      place = shared.ensures.place;
-      legal = judged_legal a.program.now a.plan.now a.at a.rule c.root-below.result c.exchanged_tree.result c.root-below.ensures.root c.exchanged_tree.ensures shared.condition.upper shared.condition.lower
-          shared.ensures.found shared.ensures.passes c.in-Ok-past_groups.ensures.passes;
-    }
-
-pub returns-in-Ok-past_groups-clause-answers : goal.returns-in-Ok-past_groups-clause-answers
-returns-in-Ok-past_groups-clause-answers c =
-    let a = c.args in
-    legal-KeepAnswers a.program.now c.fields-fields.ensures.keeps a.plan.now c.requires.plan a.at a.rule (c.in-Ok.condition.upper, c.in-Ok.condition.lower, (returns-in-Ok-past_groups-clause-legal c).legal)
-
-pub returns-in-Err-past_groups-clause-refused : goal.returns-in-Err-past_groups-clause-refused
-returns-in-Err-past_groups-clause-refused c =
-    let a = c.args in
-    let shared = c.in-Ok in
-    judged_refused a.program.now a.plan.now a.at a.rule c.root-below.result c.exchanged_tree.result c.root-below.ensures.root c.exchanged_tree.ensures shared.condition.upper shared.condition.lower
-    shared.ensures.found shared.ensures.passes c.in-Err-past_groups.why c.in-Err-past_groups.ensures.fails
-
-pub returns-in-Err-past_groups-clause-legal_always : goal.returns-in-Err-past_groups-clause-legal_always
-returns-in-Err-past_groups-clause-legal_always c legal =
-    absurd (legal_or_refused c.args.program.now c.args.plan.now c.args.at c.args.rule c.in-Err-past_groups.why legal (returns-in-Err-past_groups-clause-refused c))
+pub returns-in-None-clause-refused : goal.returns-in-None-clause-refused
+returns-in-None-clause-refused c = inl (c.in-None.ensures.none, refl)

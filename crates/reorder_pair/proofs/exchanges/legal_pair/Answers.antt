@@ -1,28 +1,24 @@
-use Rattle.std.proofs.lemmas.Result.{IfErr-weaker, IfOk-weaker}
-use Rattle.reorder_pair.specs.Legal.{IsConditionOf, IsRefusal, KeepAnswers}
-use Rattle.reorder_pair.specs.Rules.{swapped}
-use Rattle.reorder_pair.proofs.JudgedExchanges.{IsSharedRefusal, answered_always, answered_pair, shared-IsRefusal}
+use Rattle.std.proofs.Common.{inl, refl}
+use Rattle.reorder_pair.proofs.JudgedExchanges.{pair-IsLegalFor, shared-IsRefusal}
 use Rattle.reorder_pair.proofs.LegalExchanges.{legal-KeepAnswers}
+use Rattle.reorder_pair.proofs.OneFinding.{legal_or_refused}
 use Rattle.reorder_pair.proofs.exchanges.legal_pair.Goals as goal
 
-pub returns-clause-refused : goal.returns-clause-refused
-returns-clause-refused c =
-    let a = c.args in
-    let shared = c.legal_but_for_groups in
-    IfErr-weaker shared.result (IsSharedRefusal a.program.now a.plan.now a.at a.rule) (IsRefusal a.program.now a.plan.now a.at a.rule)
-    (λ why h. shared-IsRefusal a.program.now a.plan.now a.at a.rule why h) shared.ensures.refused
+pub returns-in_default-clause-refused : goal.returns-in_default-clause-refused
+returns-in_default-clause-refused c = inl (c.in_default.ensures.none, refl)
 
-pub returns-clause-legal : goal.returns-clause-legal
-returns-clause-legal c =
+pub returns-in-Ok-clause-answers : goal.returns-in-Ok-clause-answers
+returns-in-Ok-clause-answers c =
     let a = c.args in
-    let shared = c.legal_but_for_groups in
-    answered_pair a.program.now a.plan.now a.at a.rule c.requires.pair shared.result shared.ensures.same_rule shared.ensures.place shared.ensures.found shared.ensures.passes
+    let both = c.in-Some in
+    let legal = pair-IsLegalFor a.program.now a.plan.now a.at a.rule both.upper both.lower c.requires.pair both.ensures.found c.in-Ok.ensures.passes in
+    legal-KeepAnswers a.program.now c.fields-fields.ensures.keeps a.plan.now c.requires.plan a.at a.rule c.requires.pair (both.upper, both.lower, legal)
 
-pub returns-clause-legal_always : goal.returns-clause-legal_always
-returns-clause-legal_always c = answered_always c.args.program.now c.args.plan.now c.args.at c.args.rule c.legal_but_for_groups.result (returns-clause-refused c)
-
-pub returns-clause-answers : goal.returns-clause-answers
-returns-clause-answers c =
+pub returns-in-Err-clause-refused : goal.returns-in-Err-clause-refused
+returns-in-Err-clause-refused c =
     let a = c.args in
-    IfOk-weaker c.legal_but_for_groups.result (IsConditionOf a.program.now a.plan.now a.at a.rule) (λ x. KeepAnswers a.program.now a.plan.now (swapped a.rule a.at a.plan.now))
-    (λ x h. legal-KeepAnswers a.program.now c.fields-fields.ensures.keeps a.plan.now c.requires.plan a.at a.rule c.requires.pair (x.upper, x.lower, h.legal)) (returns-clause-legal c)
+    let both = c.in-Some in
+    shared-IsRefusal a.program.now a.plan.now a.at a.rule both.upper both.lower c.in-Err.why both.ensures.found c.in-Err.ensures.fails
+
+pub returns-in-Err-clause-legal_always : goal.returns-in-Err-clause-legal_always
+returns-in-Err-clause-legal_always c legal = absurd (legal_or_refused c.args.program.now c.args.plan.now c.args.at c.args.rule c.in-Err.why legal (returns-in-Err-clause-refused c))

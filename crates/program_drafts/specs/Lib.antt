@@ -1,4 +1,0 @@
-pub mod Declarations
-pub mod Drafts
-pub mod DraftCode
-pub mod ValidLists

@@ -1,0 +1,15 @@
+pub mod RuleWords
+pub mod NamedOperators
+pub mod OneRefusal
+pub mod OneResult
+pub mod CheckedSteps
+pub mod FollowedSteps
+pub mod AcceptedSteps
+pub mod WritableTexts
+pub mod StatedSteps
+pub mod WrittenSteps
+pub mod ToldLines
+pub mod Written
+pub mod OneShape
+pub mod RisingSets
+pub mod ReadBack

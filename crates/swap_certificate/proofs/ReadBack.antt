@@ -1,0 +1,86 @@
+-- What a JSON value is, by what is read of it.
+use Rattle.std.proofs.Common.{◌≡◌, ◌<◌, ℕ, zero, suc, List, [], ◌∷◌, Some, None, map, length, get_or, refl, sym, ap, subst, ◌∙◌, arith}
+use Rattle.std.specs.Prelude.{Err, IfNone, Option, Result}
+use Rattle.std.specs.List.{AllByRecursion}
+use Rattle.pact_record.specs.declared.records.TheConstants.{MAX_FIELDS}
+use Rattle.plan_printer.specs.FoundText.{rising_fields}
+use Rattle.serde_json.specs.Data.{Data, Items, Members, null, boolean, number, string, array, object, member}
+use Rattle.serde_json.specs.Find.{as_array, as_object}
+use Rattle.serde_json.specs.View.{items_of, view}
+use Rattle.serde_json.specs.declared.value.Value.{Value}
+use Rattle.swap_certificate.specs.declared.certificates.Step.{Step}
+use Rattle.swap_certificate.specs.RisingData.{RisesFrom}
+use Rattle.swap_certificate.specs.Shape.{MayBeStep, set_data, step_data, whole}
+use Rattle.swap_certificate.proofs.OneShape.{array_one, item_one}
+use Rattle.swap_certificate.proofs.RisingSets.{rising_fields-rise}
+
+-- ---- values by their kind
+
+is_array : (d : Data) (ds : Items) → as_array d ≡ Some ds → d ≡ array ds
+is_array null ds e = absurd (cc)
+is_array (boolean b) ds e = absurd (cc)
+is_array (number x) ds e = absurd (cc)
+is_array (string s) ds e = absurd (cc)
+is_array (array es) ds e = cc
+is_array (object ms) ds e = absurd (cc)
+
+is_object : (d : Data) (ms : Members) → as_object d ≡ Some ms → d ≡ object ms
+is_object null ms e = absurd (cc)
+is_object (boolean b) ms e = absurd (cc)
+is_object (number x) ms e = absurd (cc)
+is_object (string s) ms e = absurd (cc)
+is_object (array ds) ms e = absurd (cc)
+is_object (object ns) ms e = cc
+
+-- ---- where there is nothing
+
+pub if_none : {T : Type 0} {P : Type 0} (r : Option T) → P → IfNone r P
+if_none None p = p
+if_none (Some x) p = tt
+
+pub if_none-weaker : {T : Type 0} {P Q : Type 0} (r : Option T) → (P → Q) → IfNone r P → IfNone r Q
+if_none-weaker None f p = f p
+if_none-weaker (Some x) f p = tt
+
+pub one_error : {T E : Type 0} (x y : E) (r : Result T E) → r ≡ Err x → r ≡ Err y → x ≡ y
+one_error x y r h k = let same = sym h ∙ k in cc
+
+-- ---- objects
+
+pub object-members : (d : Data) (ms ns : Members) → as_object d ≡ Some ms → d ≡ object ns → ms ≡ ns
+object-members d ms ns h e = let same = sym (is_object d ms h) ∙ e in cc
+
+-- what stands behind a member is the same, however the members are known
+pub next_rest : (ms ns rest : Members) (key : List ℕ) (d e : Data) → ms ≡ member key d ns → ms ≡ member key e rest → ns ≡ rest
+next_rest ms ns rest key d e h k = cc
+
+-- ---- arrays
+
+items_one : (ds es : List Data) → items_of ds ≡ items_of es → ds ≡ es
+items_one [] [] e = refl
+items_one [] (d ∷ es) e = absurd (cc)
+items_one (d ∷ ds) [] e = absurd (cc)
+items_one (d ∷ ds) (c ∷ es) e =
+    let both = item_one d c (items_of ds) (items_of es) e in
+    let rest = items_one ds es both.1 in
+    λ i. both.0 i ∷ rest i
+
+-- the items of an array that is known as one of these
+pub same_items : (d : Data) (ds es : List Data) → as_array d ≡ Some (items_of ds) → d ≡ array (items_of es) → ds ≡ es
+same_items d ds es h e = items_one ds es (array_one _ _ (sym (is_array d (items_of ds) h) ∙ e))
+
+pub set-rises : (d : Data) (ds : List Data) (set : ℕ) → as_array d ≡ Some (items_of ds) → d ≡ set_data set → RisesFrom 0 ds
+set-rises d ds set h e = subst (RisesFrom 0) (sym (same_items d ds (map whole (rising_fields set MAX_FIELDS)) h e)) (rising_fields-rise set)
+
+-- ---- steps
+
+cons_one : (d e : Data) (ds es : List Data) → d ∷ ds ≡ e ∷ es → (d ≡ e) × (ds ≡ es)
+cons_one d e ds es h = (cc, cc)
+
+-- a step at a place of values that all are steps
+pub step-at : (items : List Value) (steps : List Step) (n : ℕ) (x : Value) → map view items ≡ map step_data steps → AllByRecursion MayBeStep steps → n < length items
+    → x ≡ get_or items n x → (s : Step) × MayBeStep s × (view x ≡ step_data s)
+step-at [] steps n x e all lt is = absurd (omega (arith, lt))
+step-at (y ∷ items) [] n x e all lt is = absurd (cc)
+step-at (y ∷ items) (s ∷ steps) zero x e all lt is = (s, all.0, ap view is ∙ (cons_one (view y) (step_data s) (map view items) (map step_data steps) e).0)
+step-at (y ∷ items) (s ∷ steps) (suc n) x e all lt is = step-at items steps n x (cons_one (view y) (step_data s) (map view items) (map step_data steps) e).1 all.1 (omega (arith, lt)) is

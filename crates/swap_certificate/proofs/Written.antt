@@ -1,0 +1,82 @@
+-- Certificates as JSON values: the fields of a set one after another, no float, and few levels.
+use Rattle.std.proofs.Common.{◌≡◌, ◌<◌, ◌≤◌, ◌+◌, ◌++◌, ℕ, Bool, true, false, cond, List, [], ◌∷◌, map, get_or, length, take, refl, ap, ◌∙◌, arith, append-nil, sym}
+use Rattle.std.proofs.Math.Numerals.{suc-eq-add-one}
+use Rattle.std.proofs.lemmas.List.{map-append, take_more}
+use Rattle.pact_record.specs.declared.records.TheConstants.{MAX_FIELDS}
+use Rattle.pact_record.specs.FieldSets.{has_field}
+use Rattle.plan_printer.specs.FoundText.{rising_fields}
+use Rattle.reorder_pair.specs.declared.finding.Found.{Found}
+use Rattle.serde_json.specs.Data.{depth, items_depth}
+use Rattle.serde_json.specs.Read.{max_depth}
+use Rattle.serde_json.specs.View.{items_of, view}
+use Rattle.serde_json.specs.declared.value.Value.{Value}
+use Rattle.serde_json.specs.Written.{has_float, items_have_float}
+use Rattle.swap_certificate.specs.declared.certificates.Certificate.{Certificate}
+use Rattle.swap_certificate.specs.declared.certificates.Step.{Step}
+use Rattle.swap_certificate.specs.Shape.{certificate_data, found_data, step_data, whole}
+
+-- ---- the fields of a set below one number more
+
+pub rising_fields-zero : (set : ℕ) → rising_fields set 0 ≡ []
+unfolding rising_fields
+rising_fields-zero set = refl
+
+rising_fields-suc : (set n : ℕ) → rising_fields set (n + 1) ≡ rising_fields set n ++ cond (has_field set n) (n ∷ []) []
+unfolding rising_fields
+rising_fields-suc set n = ap (rising_fields set) (sym (suc-eq-add-one n))
+
+pub rising_fields-with : (set n : ℕ) → has_field set n ≡ true → rising_fields set (n + 1) ≡ rising_fields set n ++ n ∷ []
+rising_fields-with set n h = rising_fields-suc set n ∙ ap (λ (has : Bool). rising_fields set n ++ cond has (n ∷ []) []) h
+
+pub rising_fields-without : (set n : ℕ) → has_field set n ≡ false → rising_fields set (n + 1) ≡ rising_fields set n
+rising_fields-without set n h =
+    rising_fields-suc set n ∙ ap (λ (has : Bool). rising_fields set n ++ cond has (n ∷ []) []) h ∙ append-nil (rising_fields set n)
+
+pub wholes-with : (set n : ℕ) → has_field set n ≡ true → map whole (rising_fields set (n + 1)) ≡ map whole (rising_fields set n) ++ whole n ∷ []
+wholes-with set n h = ap (map whole) (rising_fields-with set n h) ∙ map-append whole (rising_fields set n) (n ∷ [])
+
+pub wholes-without : (set n : ℕ) → has_field set n ≡ false → map whole (rising_fields set (n + 1)) ≡ map whole (rising_fields set n)
+wholes-without set n h = ap (map whole) (rising_fields-without set n h)
+
+-- ---- no float
+
+wholes-plain : (ns : List ℕ) → items_have_float (items_of (map whole ns)) ≡ false
+wholes-plain [] = refl
+wholes-plain (n ∷ ns) = wholes-plain ns
+
+abbrev fields : ℕ → List ℕ
+fields set = rising_fields set MAX_FIELDS
+
+found-plain : (f : Found) → has_float (found_data f) ≡ false
+found-plain f = rw (wholes-plain (fields f.sets.control), wholes-plain (fields f.sets.reads), wholes-plain (fields f.sets.touched), wholes-plain (fields f.sets.writes)) refl
+
+steps-plain : (steps : List Step) → items_have_float (items_of (map step_data steps)) ≡ false
+steps-plain [] = refl
+steps-plain (s ∷ steps) = rw (found-plain s.lower, found-plain s.upper, steps-plain steps) refl
+
+pub certificate-plain : (c : Certificate) → has_float (certificate_data c) ≡ false
+certificate-plain c = rw (steps-plain c.steps) refl
+
+-- ---- few levels
+
+wholes-flat : (ns : List ℕ) → items_depth (items_of (map whole ns)) ≡ 0
+wholes-flat [] = refl
+wholes-flat (n ∷ ns) = rw (wholes-flat ns) refl
+
+found-depth : (f : Found) → depth (found_data f) ≡ 2
+found-depth f = rw (wholes-flat (fields f.sets.control), wholes-flat (fields f.sets.reads), wholes-flat (fields f.sets.touched), wholes-flat (fields f.sets.writes)) refl
+
+steps-depth : (steps : List Step) → items_depth (items_of (map step_data steps)) ≤ 3
+steps-depth [] = omega arith
+steps-depth (s ∷ steps) = let rest = steps-depth steps in rw (found-depth s.lower, found-depth s.upper) (omega (arith, rest))
+
+pub certificate-depth : (c : Certificate) → depth (certificate_data c) ≤ max_depth
+certificate-depth c = let h = steps-depth c.steps in omega (arith, h)
+
+-- ---- one step's value more
+
+pub one_value_more : (values : List Value) (steps : List Step) (n : ℕ) (v : Value) (s : Step) → map view values ≡ map step_data (take n steps) → n < length steps
+    → s ≡ get_or steps n s → view v ≡ step_data s → map view (values ++ v ∷ []) ≡ map step_data (take (n + 1) steps)
+one_value_more values steps n v s e lt is h =
+    let front : take (n + 1) steps ≡ take n steps ++ s ∷ [] = take_more steps n s lt ∙ ap (λ (t : Step). take n steps ++ t ∷ []) (sym is) in
+    map-append view values (v ∷ []) ∙ (λ i. e i ++ h i ∷ []) ∙ sym (ap (map step_data) front ∙ map-append step_data (take n steps) (s ∷ []))

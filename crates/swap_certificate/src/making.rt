@@ -1,0 +1,77 @@
+//! From exchanges to their certificate.
+
+ghost use Rattle.std.specs.Prelude.{◌≡◌, IfOk, Ok};
+ghost use Rattle.pact_operators.specs.declared.operators.Op.{Op as OpData};
+ghost use Rattle.plan_trees.specs.Plans.{PlanTree};
+ghost use Rattle.reorder_pair.specs.ToldExchanges.{Lead};
+ghost use Rattle.swap_certificate.specs.Checks.{Checks, certificate_of, step_of};
+ghost use Rattle.pact_operators.specs.Programs.{AreNames};
+ghost use Rattle.swap_certificate.specs.PlanLines.{name_at};
+ghost use Rattle.swap_certificate.specs.Shape.{AreSets, MayBeStated};
+ghost use Rattle.swap_certificate.specs.StatedSets.{HasSets};
+
+use crate::certificates::{Certificate, Step, Steps};
+use crate::names::plan_line;
+use pact_operators::{Op, Plan, Program};
+use pact_record::{OutOfMemory, Word};
+use reorder_pair::{Condition, Found};
+use std::alloc::Global;
+
+// The name of an operator, or an empty one where there is none of that number.
+fn name_of(alloc: Global, ops: &[Op], at: u32) -> Result<Word, OutOfMemory>
+    ensures { IfOk result (λ name. name ≡ name_at ops.now at) }
+{
+    match ops.get(at as usize) {
+        Some(op) => Word::from_bytes(alloc, op.name.bytes()),
+        None => Word::from_bytes(alloc, b""),
+    }
+}
+
+// Tells that these are sets of fields which a record may have: of each set the clause of `has` says so.
+fn keeps_sets(found: &Found)
+    ensures { AreSets found.now }
+{
+    let _reads = found.sets.reads.has(0);
+    let _writes = found.sets.writes.has(0);
+    let _control = found.sets.control.has(0);
+    let _touched = found.sets.touched.has(0);
+}
+
+// The step that states an exchange.
+fn stated(alloc: Global, program: &Program, condition: &Condition) -> Result<Step, OutOfMemory>
+    ensures step { IfOk result (λ step. step ≡ step_of program.now condition.now) }
+    ensures sets { IfOk result HasSets }
+{
+    keeps_sets(&condition.upper);
+    keeps_sets(&condition.lower);
+    let rule = Word::from_bytes(alloc, condition.rule.word().as_bytes())?;
+    let at = name_of(alloc, program.ops(), condition.at)?;
+    Ok(Step {
+        rule,
+        at,
+        upper: condition.upper,
+        lower: condition.lower,
+    })
+}
+
+/// The certificate of exchanges, one step for each, and of the plan that they lead to. Where they are legal and lead there from the plan as written,
+/// `recheck` accepts it, and where names are as texts have them, it can be written. Want of memory is the only error.
+pub fn certificate(
+    alloc: Global,
+    program: &Program,
+    by: &[Condition],
+    end: &Plan,
+) -> Result<Certificate, OutOfMemory>
+    ensures certificate { IfOk result (λ c. c ≡ certificate_of program.now by.now end.now) }
+    ensures accepted { IfOk result (λ c. Lead program.now program.now.plan by.now end.now → Checks program.now c (Ok end.now)) }
+    ensures can_be_written { IfOk result (λ c. AreNames program.now.ops → Lead program.now program.now.plan by.now end.now → MayBeStated c) }
+{
+    let mut steps = Steps::new(alloc);
+    for condition in by {
+        steps.push(stated(alloc, program, condition)?)?;
+    }
+    // Its clause says that the numbers of a plan differ, so that they are few.
+    let _root = end.root();
+    let plan = plan_line(alloc, program.ops(), end)?;
+    Ok(Certificate { steps, plan })
+}

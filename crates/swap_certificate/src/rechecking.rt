@@ -1,0 +1,104 @@
+//! Following the steps of a certificate.
+
+ghost use Rattle.std.specs.Prelude.{◌≡◌, ◌↔◌, ◌⊎◌, IfOk, IsTrue, Result, Err};
+ghost use Rattle.plan_trees.specs.Plans.{PlanTree};
+ghost use Rattle.pact_operators.specs.Programs.{IsPlanOf, NamesDiffer};
+ghost use Rattle.reorder_pair.specs.Legal.{KeepAnswers};
+ghost use Rattle.reorder_pair.specs.Reach.{Reach};
+ghost use Rattle.swap_certificate.specs.Checks.{Checks, StepTo};
+ghost use Rattle.swap_certificate.specs.PlanLines.{line_of};
+ghost use Rattle.swap_certificate.specs.declared.certificates.CertFault.{CertFault as FaultData};
+ghost use Rattle.swap_certificate.specs.declared.certificates.CertFault.TheVariants.{Memory};
+
+use crate::certificates::{CertFault, Certificate, Step};
+use crate::names::{operator_named, plan_line};
+use pact_operators::{Plan, Program};
+use reorder_group::{apply, legal_for};
+use reorder_pair::{Found, Rule, found};
+use std::alloc::Global;
+
+// Whether a step states what is found.
+fn are_stated(upper: &Found, lower: &Found, step: &Step) -> bool
+    ensures { IsTrue result ↔ ((upper.now ≡ step.now.upper) × (lower.now ≡ step.now.lower)) }
+{
+    upper == &step.upper && lower == &step.lower
+}
+
+// The plan after a step, or the step's fault.
+fn check_step(program: &Program, plan: &Plan, step: &Step, number: u64) -> Result<Plan, CertFault>
+    requires plan { IsPlanOf program.now.functions program.now.ops plan.now }
+    requires names { NamesDiffer program.now.ops }
+    ensures { StepTo program.now number plan.now step.now result }
+{
+    let Some(rule) = Rule::of_word(step.rule.bytes()) else {
+        return Err(CertFault::C2 { step: number });
+    };
+    // Its clause says that the numbers of a plan are small, and each operator's is one.
+    let _root = plan.root();
+    let Some(at) = operator_named(program.ops(), step.at.bytes()) else {
+        return Err(CertFault::C1 { step: number });
+    };
+    let Some((upper, lower)) = found(program, plan, at, rule) else {
+        return Err(CertFault::C1 { step: number });
+    };
+    if !are_stated(&upper, &lower, step) {
+        return Err(CertFault::C3 {
+            step: number,
+            upper,
+            lower,
+        });
+    }
+    match legal_for(program, plan, at, rule, &upper, &lower) {
+        Ok(_) => Ok(apply(program, plan, at, rule)),
+        Err(why) => Err(CertFault::C4 { step: number, why }),
+    }
+}
+
+fn is_line(line: &[u8], stated: &[u8]) -> bool
+    ensures { IsTrue result ↔ (stated.now ≡ line.now) }
+{
+    line == stated
+}
+
+// The plan that the steps lead to, where its line is the stated one.
+fn followed(alloc: Global, program: &Program, c: &Certificate) -> Result<Plan, CertFault>
+    requires names { NamesDiffer program.now.ops }
+    ensures checked { (result ≡ Err Memory → ⊥) → Checks program.now c.now result }
+    ensures line { IfOk result (λ plan. c.now.plan ≡ line_of program.now.ops plan) }
+    ensures reached { IfOk result (Reach program.now) }
+{
+    let mut plan = *program.plan();
+    let mut number: u64 = 1;
+    for step in c.steps.steps() {
+        plan = match check_step(program, &plan, step, number) {
+            Ok(next) => next,
+            Err(fault) => return Err(fault),
+        };
+        number += 1;
+    }
+    let Ok(line) = plan_line(alloc, program.ops(), &plan) else {
+        return Err(CertFault::Memory);
+    };
+    if is_line(line.bytes(), c.plan.bytes()) {
+        Ok(plan)
+    } else {
+        Err(CertFault::C5 { found: line })
+    }
+}
+
+/// The plan that a certificate leads to, or its first fault. Nothing that it states is believed: each rule and operator is looked up, the sets are found
+/// anew, each exchange is asked for, and the line of the plan is compared. No two sources or operators of the program have the same name, as in
+/// each that `check_program` gives.
+pub fn recheck(alloc: Global, program: &Program, c: &Certificate) -> Result<Plan, CertFault>
+    requires names { NamesDiffer program.now.ops }
+    ensures checked { (result ≡ Err Memory → ⊥) → Checks program.now c.now result }
+    ensures only { (other : Result PlanTree FaultData) → Checks program.now c.now other → (result ≡ other) ⊎ (result ≡ Err Memory) }
+    ensures line { IfOk result (λ plan. c.now.plan ≡ line_of program.now.ops plan) }
+    ensures reached { IfOk result (Reach program.now) }
+    ensures answers { IfOk result (KeepAnswers program.now program.now.plan) }
+    ensures plan { IfOk result (IsPlanOf program.now.functions program.now.ops) }
+{
+    // Its clause says that the program keeps every rule.
+    let _fields = program.fields();
+    followed(alloc, program, c)
+}

@@ -1,0 +1,97 @@
+//! Programs as their text has them.
+
+ghost use Rattle.std.specs.Prelude.{◌≡◌, ◌≤◌, ◌++◌, ◌∷◌, [], length, OnOk, OnErr};
+ghost use Rattle.tac_syntax.specs.Functions.{IsSpelledFunction};
+ghost use Rattle.tac_syntax.specs.declared.declarations.Decl.TheVariants.{Function as FunctionDecl};
+ghost use Rattle.tac_syntax.specs.Declarations.{IsSpelledDecl};
+ghost use Rattle.tac_syntax.specs.Drafts.{field_limit, IsSpelledDraft};
+
+use crate::declarations::Decl;
+use crate::functions::Function;
+use pact_record::OutOfMemory;
+use std::alloc::Global;
+use std::marker::Model;
+
+/// A program that some text spells. What its declarations name may not be there, and its
+/// functions may not be valid.
+#[derive(Debug, Drop)]
+pub struct Draft {
+    fields: u32,
+    functions: Vec<Function>,
+    decls: Vec<Decl>,
+}
+
+impl Model for Draft {
+    ghost use Rattle.tac_syntax.specs.Drafts.{DraftData, IsSpelledDraft};
+    ghost use Rattle.tac_syntax.specs.DraftCode.{coded_draft};
+
+    ghost Value = { DraftData };
+
+    ghost coded = { coded_draft };
+
+    ghost view = { λ d. record { fields = d.fields; functions = d.functions.items; decls = d.decls.items } };
+
+    ghost invariant = { λ d. IsSpelledDraft (record { fields = d.fields; functions = d.functions.items; decls = d.decls.items }) };
+}
+
+impl Draft {
+    /// A program with so many fields and no declaration.
+    pub fn new(alloc: Global, fields: u32) -> Draft
+        requires { (1 ≤ fields) × (fields ≤ field_limit) }
+        ensures { result ≡ record { fields = fields; functions = []; decls = [] } }
+    {
+        Draft {
+            fields,
+            functions: Vec::new(alloc),
+            decls: Vec::new(alloc),
+        }
+    }
+
+    /// Puts a declaration behind the others that isn't one of a function.
+    pub fn push(&mut self, decl: Decl) -> Result<(), OutOfMemory>
+        requires { IsSpelledDecl decl }
+        ensures ok { let d = self.old in
+            OnOk result (self.new ≡ record { fields = d.fields; functions = d.functions; decls = d.decls ++ decl ∷ [] }) }
+        ensures err { OnErr result (self.new ≡ self.old) }
+    {
+        self.decls.push(decl)?;
+        Ok(())
+    }
+
+    /// Puts a function behind the others, and its declaration behind the others.
+    pub fn push_function(&mut self, function: Function) -> Result<(), OutOfMemory>
+        requires { IsSpelledFunction function }
+        ensures ok { let d = self.old in
+            let decl = FunctionDecl (length d.functions) in
+            OnOk result (self.new ≡ record { fields = d.fields; functions = d.functions ++ function ∷ []; decls = d.decls ++ decl ∷ [] }) }
+        ensures err { OnErr result (self.new ≡ self.old) }
+    {
+        let number = self.functions.len();
+        self.decls.reserve(1)?;
+        self.functions.push(function)?;
+        // there is room for it
+        let _ = self.decls.push(Decl::Function { number });
+        Ok(())
+    }
+
+    pub fn fields(&self) -> u32
+        ensures { result ≡ self.now.fields }
+    {
+        self.fields
+    }
+
+    /// The declarations in text order.
+    pub fn decls(&self) -> &[Decl]
+        ensures decls { result.now ≡ self.now.decls }
+        ensures spelled { IsSpelledDraft self.now }
+    {
+        &self.decls
+    }
+}
+
+/// The functions in text order, which is that of their numbers.
+pub fn functions_of(draft: &Draft) -> &[Function]
+    ensures { result.now ≡ draft.now.functions }
+{
+    &draft.functions
+}
