@@ -160,7 +160,7 @@ fn other_step(alloc: Global, step: &Step, upper: bool, part: u32) -> Result<Step
     })
 }
 
-// The certificate with another found set at its only step.
+// The certificate with another found set at each step.
 fn other(
     alloc: Global,
     c: &Certificate,
@@ -181,8 +181,8 @@ fn others_are_told(alloc: Global, text: &str, entry: u32) -> Result<bool, Fail> 
     for part in 0..16 {
         let changed = other(alloc, &c, part < 8, part % 8)?;
         let program = program(alloc, text.as_bytes())?;
-        let found = recheck(alloc, &program, &changed);
-        if !matches!(&found, Err(CertFault::C3 { step: 1, .. })) {
+        let answer = recheck(alloc, &program, &changed);
+        if !matches!(&answer, Err(CertFault::C3 { step: 1, .. })) {
             return Ok(false);
         }
     }

@@ -1,37 +1,8 @@
+use crate::listing_tests::PUSH;
 use crate::programs::{inputs, program};
 use slow_eval::evaluate;
 use std::alloc::Global;
 use std::test::Fail;
-
-// The sums of the keys, of which the Map lets one pass.
-const ONE_SUM: &str = "pact 1
-fields 4
-source s s.csv int:0 int:1
-function sum reduce 1
-  v0 = int 0
-  each x1 of group
-    v1 = get x1 1
-    v0 = addw v0 v1
-  end
-  r0 = new
-  v2 = key 0
-  set r0 0 v2
-  set r0 2 v0
-  emit r0
-end
-function one map
-  v0 = get in 0
-  v1 = int 1
-  v2 = eq v0 v1
-  if v2
-    r0 = copy in
-    emit r0
-  end
-end
-reduce r sum s by 0
-map m one r
-sink m 0 2
-";
 
 // The Cross gives each pair of equal numbers twice; the CoGroup gives the records of both groups.
 const PAIRS: &str = "pact 1
@@ -83,7 +54,7 @@ fn counts_groups(rt: HostRuntime) -> Result<(), Fail> {
     for _ in 0..10 {
         rows.push_str("1,1\n2,1\n3,1\n4,1\n5,1\n6,1\n7,1\n8,1\n9,1\n10,1\n")?;
     }
-    let (counts, root) = counts_of(alloc, ONE_SUM, &[rows.as_str()])?;
+    let (counts, root) = counts_of(alloc, PUSH, &[rows.as_str()])?;
     assert_eq!(rt; counts.as_slice(), [100, 10, 1].as_slice());
     assert_eq!(rt; root, 1);
     Ok(())

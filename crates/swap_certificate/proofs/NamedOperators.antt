@@ -8,7 +8,7 @@ use Rattle.swap_certificate.specs.PlanLines.{IsNamed}
 
 module _ (ops : List Op) (name : List ℕ) where
   -- none of the first operators has the name
-  abbrev pub AreUnnamed : ℕ → Type 0
+  abbrev AreUnnamed : ℕ → Type 0
   AreUnnamed count = (n : ℕ) → n < count → IsNamed ops name n → ⊥
 
   pub unnamed-next : (count : ℕ) (op : Op) → op ≡ get_or ops count op → ((op.kind ≡ Source → ⊥) × (op.name ≡ name) → ⊥) → AreUnnamed count → AreUnnamed (count + 1)

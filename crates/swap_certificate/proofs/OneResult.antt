@@ -102,7 +102,7 @@ module _ (p : ProgramData) (differ : NamesDiffer p.ops) where
   ends_one line t _ _ (other_line h) (same_line g) = absurd (h g)
   ends_one line t _ _ (other_line h) (other_line g) = refl
 
-  pub follow_one : (line : List ℕ) (n : ℕ) (t : PlanTree) (steps : List Step) (q r : Result PlanTree CertFault) → Follow p line n t steps q → Follow p line n t steps r → q ≡ r
+  follow_one : (line : List ℕ) (n : ℕ) (t : PlanTree) (steps : List Step) (q r : Result PlanTree CertFault) → Follow p line n t steps q → Follow p line n t steps r → q ≡ r
   follow_one line n t [] q r h g = ends_one line t q r h g
   follow_one line n t (s ∷ steps) q r (inl h) (inl g) = h.2 ∙ step_one n t s (Err h.0) (Err g.0) h.1 g.1 ∙ sym g.2
   follow_one line n t (s ∷ steps) q r (inl h) (inr g) = absurd (ok_or_err (step_one n t s (Ok g.0) (Err h.0) g.1 h.1))

@@ -43,7 +43,7 @@ text-IsUtf8 bytes h = IsUtf8-from_ascii bytes (all_ascii-IsAscii bytes h)
 
 -- ---- words of rules
 
-pub word_of-short : (rule : Rule) → length (word_of rule) ≤ word_limit
+word_of-short : (rule : Rule) → length (word_of rule) ≤ word_limit
 word_of-short MapMap = omega arith
 word_of-short MapLeft = omega arith
 word_of-short MapLeftUp = omega arith
@@ -112,7 +112,7 @@ module _ (ops : List Op) (names : AreNames ops) where
   name_in-IsShortText n None e = (IsUtf8-nil, omega arith)
   name_in-IsShortText n (Some op) e = name-IsShortText op.name (names n op e)
 
-  pub name_at-IsShortText : (n : ℕ) → IsShortText name_limit (name_at ops n)
+  name_at-IsShortText : (n : ℕ) → IsShortText name_limit (name_at ops n)
   name_at-IsShortText n = name_in-IsShortText n (slice_get ops n) refl
 
   pub name_at-IsWord : (n : ℕ) → IsShortText word_limit (name_at ops n)

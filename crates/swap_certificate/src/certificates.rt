@@ -1,6 +1,6 @@
 //! What a certificate states, and why it may be refused.
 
-ghost use Rattle.std.specs.Prelude.{◌≡◌, ◌++◌, ◌∷◌, [], IfErr, OnErr, OnOk};
+ghost use Rattle.std.specs.Prelude.{◌≡◌, ◌<◌, ◌++◌, ◌∷◌, [], IfErr, OnErr, OnOk, Some, length, slice_get};
 
 use pact_record::{Bytes, OutOfMemory, Word};
 use reorder_pair::{Found, NotLegal};
@@ -57,6 +57,19 @@ impl Steps {
         ensures handed_back { IfErr result (λ e. e.value ≡ step) }
     {
         self.held.push(step)
+    }
+
+    pub fn len(&self) -> usize
+        ensures { result ≡ length self.now }
+    {
+        self.held.len()
+    }
+
+    pub fn at(&self, n: usize) -> &Step
+        requires { n < length self.now }
+        ensures { slice_get self.now n ≡ Some result.now }
+    {
+        &self.held[n]
     }
 
     pub fn steps(&self) -> &[Step]

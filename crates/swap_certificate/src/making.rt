@@ -1,8 +1,6 @@
 //! From exchanges to their certificate.
 
 ghost use Rattle.std.specs.Prelude.{◌≡◌, IfOk, Ok};
-ghost use Rattle.pact_operators.specs.declared.operators.Op.{Op as OpData};
-ghost use Rattle.plan_trees.specs.Plans.{PlanTree};
 ghost use Rattle.reorder_pair.specs.ToldExchanges.{Lead};
 ghost use Rattle.swap_certificate.specs.Checks.{Checks, certificate_of, step_of};
 ghost use Rattle.pact_operators.specs.Programs.{AreNames};

@@ -1,6 +1,6 @@
 //! From a text to the certificate that it is.
 
-ghost use Rattle.std.specs.Prelude.{◌≡◌, ◌↔◌, ◌≤◌, Bool, ℕ, IfNone, IfOk, IfSome, IsTrue, List, length, map, ◌++◌, ◌∷◌, [], OnOk};
+ghost use Rattle.std.specs.Prelude.{◌≡◌, ◌↔◌, ◌≤◌, Bool, ℕ, IfNone, IfOk, IfSome, IsTrue, List, map, ◌++◌, ◌∷◌, [], OnOk};
 ghost use Rattle.std.specs.List.{AllByRecursion};
 ghost use Rattle.pact_record.specs.Limits.{word_limit};
 ghost use Rattle.plan_printer.specs.FoundText.{anchor_word, rising_fields};
