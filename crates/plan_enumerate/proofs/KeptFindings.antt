@@ -13,13 +13,13 @@ use Rattle.tac_syntax.specs.declared.contexts.Context.{Context}
 use Rattle.pact_operators.specs.Programs.{ProgramData}
 use Rattle.reorder_pair.specs.declared.finding.Found.{Found}
 use Rattle.reorder_pair.specs.Places.{IsFoundFor}
-use Rattle.plan_enumerate.specs.contracts.findings.PlacedPartialEq.TheImpl as placed_eq
-use Rattle.plan_enumerate.specs.declared.findings.Placed.{Placed}
+use Rattle.plan_enumerate.specs.contracts.findings.OperatorInPartialEq.TheImpl as placed_eq
+use Rattle.plan_enumerate.specs.declared.findings.OperatorIn.{OperatorIn}
 use Rattle.plan_enumerate.specs.FindingTable.{AreFindings, IsFinding}
 
 -- ---- equal keys of the table are one
 
-abbrev pub same_placed : Placed → Placed → Bool
+abbrev same_placed : OperatorIn → OperatorIn → Bool
 same_placed = (placed_eq.eq-value).it
 
 abbrev same_keys : List ℕ → List ℕ → Bool
@@ -51,7 +51,7 @@ one_context c d h =
     let right_keys = one_list c.right_keys d.right_keys ks.1 in
     λ i. record { left = left i; right = right i; left_keys = left_keys i; right_keys = right_keys i }
 
-one_placed : (x y : Placed) → same_placed x y ≡ true → x ≡ y
+one_placed : (x y : OperatorIn) → same_placed x y ≡ true → x ≡ y
 one_placed x y h =
     let tests = both (x.at == y.at) _ h in
     let at = one_number x.at y.at tests.0 in
@@ -61,23 +61,23 @@ one_placed x y h =
 -- ---- rows
 
 module _ (p : ProgramData) where
-  same_row : (k j : Placed) (s : Found) → same_placed k j ≡ true → IsFinding p (j, s) → IsFinding p (k, s)
-  same_row k j s same h = subst (λ (x : Placed). IsFinding p (x, s)) (sym (one_placed k j same)) h
+  same_row : (k j : OperatorIn) (s : Found) → same_placed k j ≡ true → IsFinding p (j, s) → IsFinding p (k, s)
+  same_row k j s same h = subst (λ (x : OperatorIn). IsFinding p (x, s)) (sym (one_placed k j same)) h
 
-  kept-IsFoundFor : (rows : List (Placed × Found)) (k : Placed) (s : Found) → AreFindings p rows → lookup (same_placed k) rows ≡ Some s → IsFoundFor p k.at k.context s
+  kept-IsFoundFor : (rows : List (OperatorIn × Found)) (k : OperatorIn) (s : Found) → AreFindings p rows → lookup (same_placed k) rows ≡ Some s → IsFoundFor p k.at k.context s
   kept-IsFoundFor [] k s h e = absurd (cc)
   kept-IsFoundFor (row ∷ rows) k s h e = elim (cases_Bool (same_placed k row.0)) as (λ _. IsFoundFor p k.at k.context s) [
     | inl same ↦ same_row k row.0 s same (subst (λ (x : Found). IsFinding p (row.0, x)) (same_Some row.1 s (simp same at e)) h.0)
     | inr other ↦ kept-IsFoundFor rows k s h.1 (simp other at e)
   ]
 
-  pub kept-IfSome : (rows : List (Placed × Found)) (k : Placed) (s : Option Found) → s ≡ lookup (same_placed k) rows → AreFindings p rows → IfSome s (IsFoundFor p k.at k.context)
+  pub kept-IfSome : (rows : List (OperatorIn × Found)) (k : OperatorIn) (s : Option Found) → s ≡ lookup (same_placed k) rows → AreFindings p rows → IfSome s (IsFoundFor p k.at k.context)
   kept-IfSome rows k None e h = tt
   kept-IfSome rows k (Some s) e h = kept-IsFoundFor rows k s h (sym e)
 
-  pub insert_entry-AreFindings : (rows : List (Placed × Found)) (k : Placed) (s : Found) → AreFindings p rows → IsFoundFor p k.at k.context s → AreFindings p (insert_entry same_placed rows k s)
+  pub insert_entry-AreFindings : (rows : List (OperatorIn × Found)) (k : OperatorIn) (s : Found) → AreFindings p rows → IsFoundFor p k.at k.context s → AreFindings p (insert_entry same_placed rows k s)
   insert_entry-AreFindings [] k s h found = (found, tt)
   insert_entry-AreFindings (row ∷ rows) k s h found = elim (cases_Bool (same_placed k row.0)) as (λ _. AreFindings p (insert_entry same_placed (row ∷ rows) k s)) [
-    | inl same ↦ rw same (subst (λ (x : Placed). IsFinding p (x, s)) (one_placed k row.0 same) found, h.1)
+    | inl same ↦ rw same (subst (λ (x : OperatorIn). IsFinding p (x, s)) (one_placed k row.0 same) found, h.1)
     | inr other ↦ rw other (h.0, insert_entry-AreFindings rows k s h.1 found)
   ]

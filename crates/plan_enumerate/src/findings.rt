@@ -15,7 +15,7 @@ use tac_syntax::Context;
 
 /// An operator by its number, in a context.
 #[derive(Clone, Copy, Debug, PartialEq, Eq, Hash)]
-struct Placed {
+struct OperatorIn {
     at: u32,
     context: Context,
 }
@@ -23,18 +23,18 @@ struct Placed {
 /// What was found of operators, each in the contexts in which it was asked for. Listed plans have an operator in far fewer contexts than places.
 #[derive(Drop)]
 pub(crate) struct Findings {
-    table: IndexMap<Placed, Found>,
+    table: IndexMap<OperatorIn, Found>,
 }
 
 impl Model for Findings {
     ghost use Rattle.std.specs.Prelude.{List};
     ghost use Rattle.std.specs.Coded.{coded_list, coded×};
-    ghost use Rattle.plan_enumerate.specs.contracts.findings.Placed as placed;
-    ghost use Rattle.plan_enumerate.specs.declared.findings.Placed.{Placed};
+    ghost use Rattle.plan_enumerate.specs.contracts.findings.OperatorIn as placed;
+    ghost use Rattle.plan_enumerate.specs.declared.findings.OperatorIn.{OperatorIn};
     ghost use Rattle.reorder_pair.specs.contracts.finding.Found as found;
     ghost use Rattle.reorder_pair.specs.declared.finding.Found.{Found};
 
-    ghost Value = { List (Placed × Found) };
+    ghost Value = { List (OperatorIn × Found) };
 
     ghost coded = { coded_list (coded× placed.the_row.coded found.the_row.coded) };
 
@@ -51,14 +51,14 @@ impl Findings {
     }
 
     // What was kept of an operator in a context.
-    fn kept(&self, placed: &Placed) -> Option<Found>
+    fn kept(&self, placed: &OperatorIn) -> Option<Found>
         ensures { (p : ProgramData) → AreFindings p self.now → IfSome result (IsFoundFor p placed.now.at placed.now.context) }
     {
         self.table.get(placed).copied()
     }
 
     // Keeps what was found of an operator in a context.
-    fn keep(&mut self, placed: &Placed, found: &Found) -> Result<(), OutOfMemory>
+    fn keep(&mut self, placed: &OperatorIn, found: &Found) -> Result<(), OutOfMemory>
         ensures { (p : ProgramData) → AreFindings p self.old → IsFoundFor p placed.now.at placed.now.context found.now → OnOk result (AreFindings p self.new) }
     {
         self.table.insert(*placed, *found)?;
@@ -77,7 +77,7 @@ impl Findings {
         ensures found { IfOk result (IsFoundFor program.now at context.now) }
         ensures findings { OnOk result (AreFindings program.now self.new) }
     {
-        let placed = Placed {
+        let placed = OperatorIn {
             at,
             context: *context,
         };

@@ -1,4 +1,4 @@
--- Plans in reach: what they keep of the plan as written, and that exchanges, each legal where it is made, lead to them.
+-- Plans in reach: what they keep of the plan as written; and exchanges, each legal where it is made, one after the other.
 use Rattle.std.proofs.Common.{List, [], ◌∷◌, ◌++◌, sym, ap, subst}
 use Rattle.plan_trees.specs.Plans.{PlanTree}
 use Rattle.pact_operators.specs.Programs.{IsPlanOf, IsProgram, ProgramData}
@@ -24,13 +24,9 @@ module _ (p : ProgramData) (program : IsProgram p) where
   reached-KeepAnswers _ (exchanged t at rule r legal) = λ inputs of_inputs.
       same_through (plan_ops p inputs) p.plan t (swapped rule at t) (reached-KeepAnswers t r inputs of_inputs) (legal-KeepAnswers p program t (reached-IsPlanOf t r) at rule legal inputs of_inputs)
 
--- ---- what leads to them
+-- ---- what leads from plan to plan
 
 module _ (p : ProgramData) where
-  pub lead-Reach : (t u : PlanTree) (cs : List Condition) → Reach p t → Lead p t cs u → Reach p u
-  lead-Reach t u [] r h = subst (Reach p) h r
-  lead-Reach t u (c ∷ cs) r h = lead-Reach (after c t) u cs (exchanged t c.at c.rule r (c.upper, c.lower, h.0)) h.1
-
   -- one exchange more, behind the others
   pub lead_on : (t u : PlanTree) (cs : List Condition) (c : Condition) → Lead p t cs u → IsLegalIn p u c → Lead p t (cs ++ c ∷ []) (after c u)
   lead_on t u [] c h legal = (subst (λ (s : PlanTree). IsLegalIn p s c) (sym h) legal, ap (after c) h)

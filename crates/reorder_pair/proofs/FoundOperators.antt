@@ -86,12 +86,12 @@ found_in p n before after one other s e g h = record {
       (subst (λ (t : PlanTree). AreEither (Has (has_field h.context.right)) (HasRightAttribute p.functions p.ops t) (HasRightAttribute p.functions p.ops (subtree_of n after))) e h.union.right);
   left_keys = h.union.left_keys;
   right_keys = h.union.right_keys;
-  function = h.called;
-  function_is = h.function;
-  sets = h.sets;
-  touched = h.touched;
-  least = h.least;
-  most = h.most;
+  function = h.found.called;
+  function_is = h.found.function;
+  sets = h.found.sets;
+  touched = h.found.touched;
+  least = h.found.least;
+  most = h.found.most;
 }
 
 crossed : {A B : Type 0} → A ⊎ B → B ⊎ A

@@ -50,19 +50,19 @@ module _ (p : ProgramData) (n : ℕ) (before after : PlanTree) where
       let right_keys = h.right_keys ∙ sym g.right_keys in
       λ i. record { kind = f.function.kind; fields = f.fields; left = left i; right = right i; left_keys = left_keys i; right_keys = right_keys i }
 
-  pub sets_one : (f : WithFields) (c d : Context) → IsUnionOf p n before after c → IsUnionOf p n before after d → sets_in f c ≡ sets_in f d
+  sets_one : (f : WithFields) (c d : Context) → IsUnionOf p n before after c → IsUnionOf p n before after d → sets_in f c ≡ sets_in f d
   sets_one f c d h g = ap (λ (s : Scope). sets_of s f.function.body) (scope_one f c d h g)
 
   pub uses_one : (s r : Found) → IsFound p n before after s → IsFound p n before after r → uses_of s ≡ uses_of r
   uses_one s r h g =
-      let f = same_some h.called g.called (sym h.function ∙ g.function) in
+      let f = same_some h.found.called g.found.called (sym h.found.function ∙ g.found.function) in
       let sets : found_of s.sets ≡ found_of r.sets =
-      h.sets ∙ sets_one h.called h.context g.context h.union g.union ∙ ap (λ (w : WithFields). sets_in w g.context) f ∙ sym g.sets in
-      let touches = λ (k : ℕ). subst (λ (x : FoundSets). Has (has_field s.sets.touched) k ↔ IsTouched x g.called.function.body k) sets
-      (subst (λ (w : WithFields). Has (has_field s.sets.touched) k ↔ IsTouched (found_of s.sets) w.function.body k) f (h.touched k)) in
-      let touched = same_set (has_field s.sets.touched) (has_field r.sets.touched) (λ k. both_by (touches k) (g.touched k)) in
-      let low = h.least ∙ ap (λ (w : WithFields). least_emits w.function.body) f ∙ sym g.least in
-      let high = h.most ∙ ap (λ (w : WithFields). most_emits w.function.body) f ∙ sym g.most in
+      h.found.sets ∙ sets_one h.found.called h.context g.context h.union g.union ∙ ap (λ (w : WithFields). sets_in w g.context) f ∙ sym g.found.sets in
+      let touches = λ (k : ℕ). subst (λ (x : FoundSets). Has (has_field s.sets.touched) k ↔ IsTouched x g.found.called.function.body k) sets
+      (subst (λ (w : WithFields). Has (has_field s.sets.touched) k ↔ IsTouched (found_of s.sets) w.function.body k) f (h.found.touched k)) in
+      let touched = same_set (has_field s.sets.touched) (has_field r.sets.touched) (λ k. both_by (touches k) (g.found.touched k)) in
+      let low = h.found.least ∙ ap (λ (w : WithFields). least_emits w.function.body) f ∙ sym g.found.least in
+      let high = h.found.most ∙ ap (λ (w : WithFields). most_emits w.function.body) f ∙ sym g.found.most in
       λ i. record { sets = sets i; touched = touched i; low = low i; high = high i }
 
 -- ---- as the code keeps it
@@ -71,11 +71,11 @@ same_test : (a b : ℕ) → a < 2 → b < 2 → (a == 1) ≡ (b == 1) → a ≡ 
 same_test a b h k e = grind (arith, nat_tests)
 
 -- a set is the number of its bits
-pub same_bits : (a b : ℕ) → has_field a ≡ has_field b → a ≡ b
+same_bits : (a b : ℕ) → has_field a ≡ has_field b → a ≡ b
 unfolding has_field
 same_bits a b e = same_from_bits a b (λ i. same_test (bit_at a i) (bit_at b i) (bit_at-lt a i) (bit_at-lt b i) (ap (λ (s : FieldSet). s i) e))
 
-pub same_found : (s r : Found) → uses_of s ≡ uses_of r → s ≡ r
+same_found : (s r : Found) → uses_of s ≡ uses_of r → s ≡ r
 same_found s r e =
     let reads = same_bits s.sets.reads r.sets.reads (ap (λ (u : Uses). u.sets.reads) e) in
     let writes = same_bits s.sets.writes r.sets.writes (ap (λ (u : Uses). u.sets.writes) e) in

@@ -46,12 +46,7 @@ pub record IsFoundFor (p : ProgramData) (n : ℕ) (context : Context) (s : Found
 pub record IsFound (p : ProgramData) (n : ℕ) (before after : PlanTree) (s : Found) : Type 0 where
   pub context : Context
   pub union : IsUnionOf p n before after context
-  pub called : WithFields
-  pub function : slice_get p.functions (function_in (slice_get p.ops n)) ≡ Some called
-  pub sets : found_of s.sets ≡ sets_in called context
-  pub touched : (k : ℕ) → Has (has_field s.sets.touched) k ↔ IsTouched (found_of s.sets) called.function.body k
-  pub least : s.lo ≡ least_emits called.function.body
-  pub most : s.hi ≡ most_emits called.function.body
+  pub found : IsFoundFor p n context s
 
 -- Of the two operators that an exchange at the root exchanges: the upper one is the root before it, the lower one the root after it.
 pub record AreFound (p : ProgramData) (before after : PlanTree) (upper lower : Found) : Type 0 where

@@ -29,8 +29,8 @@ module _ (p : ProgramData) where
   found-MayBeFound : (n : ℕ) (before after : PlanTree) (f : Found) → IsFound p n before after f → AreSets f → MayBeFound f
   found-MayBeFound n before after f h sets = record {
     sets = sets;
-    lo = subst (λ (k : ℕ). k ≤ many) (sym h.least) (least-capped h.called.function.body);
-    hi = subst (λ (k : ℕ). k ≤ many) (sym h.most) (most-capped h.called.function.body);
+    lo = subst (λ (k : ℕ). k ≤ many) (sym h.found.least) (least-capped h.found.called.function.body);
+    hi = subst (λ (k : ℕ). k ≤ many) (sym h.found.most) (most-capped h.found.called.function.body);
   }
 
   module _ (names : AreNames p.ops) where
