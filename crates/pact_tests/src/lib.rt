@@ -6,6 +6,8 @@
 #[cfg(test)]
 mod calls;
 #[cfg(test)]
+mod choice_tests;
+#[cfg(test)]
 mod operator_tests;
 #[cfg(test)]
 mod rule_tests;

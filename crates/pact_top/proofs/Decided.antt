@@ -10,7 +10,7 @@ use Rattle.pact_operators.specs.PlanOps.{sources_of}
 use Rattle.tac_syntax.specs.Drafts.{DraftData}
 use Rattle.plan_trees.specs.Plans.{PlanTree}
 use Rattle.pact_operators.specs.declared.program_rules.ProgramRule.TheVariants.{DeclaredTwice}
-use Rattle.pact_operators.specs.Programs.{AreValidated, NamesDiffer, ProgramData}
+use Rattle.pact_operators.specs.Programs.{AreNames, AreValidated, NamesDiffer, ProgramData}
 use Rattle.swap_certificate.specs.declared.certificates.CertFault.{CertFault}
 use Rattle.swap_certificate.specs.declared.certificates.Certificate.{Certificate}
 use Rattle.swap_certificate.specs.Checks.{Checks}
@@ -24,10 +24,11 @@ use Rattle.text_lines.specs.TextLines.{lines_of}
 use Rattle.pact_top.specs.Refusal.{AreTold}
 use Rattle.pact_top.specs.Stages.{End, gives, stops, misses, fails, Reading, each}
 use Rattle.pact_top.specs.RefusalLines.{usage_line}
-use Rattle.pact_top.specs.Work.{IsTextOf, FileEnds, accepted, certificate, certificate_file, certificate_limit, command, draft, file, loaded, program, program_file, program_limit, program_of, ready, ready_for, rechecked, rows, source_file, sources, text_for, valid, valids, work}
-use Rattle.pact_words.specs.Words.{Asked, to_run, to_tell_sets, to_check, AreRefused}
-use Rattle.pact_words.proofs.OneAsked.{asked_not_refused, not_both, one_asked, one_of}
-use Rattle.pact_operators.proofs.DifferentNames.{kept-NamesDiffer}
+use Rattle.pact_top.specs.CommandTexts.{AreTextsOf}
+use Rattle.pact_top.specs.Work.{FileEnds, accepted, certificate, certificate_file, certificate_limit, command, draft, file, loaded, program, program_file, program_limit, program_of, ready, ready_for, rechecked, rows, source_file, sources, texts_for, valid, valids, work}
+use Rattle.pact_words.specs.Words.{Asked, to_run, to_plan, to_certify, to_tell_sets, to_check, AreRefused}
+use Rattle.pact_words.proofs.OneAsked.{never_both, not_both, one_asked, one_of}
+use Rattle.pact_operators.proofs.DifferentNames.{kept-NamesDiffer, spelled-AreNames}
 use Rattle.pact_operators.proofs.OneProgram.{one_program}
 use Rattle.pact_operators.proofs.RefusedOrKept.{refused_not_kept}
 use Rattle.pact_top.proofs.StageLaws.{AreAlike, Agree, GivesOne, IsDecided, StopsSo, agree_then, decided_then, each_decided, each_one, gave_cons, give_agrees, give_alike, one_then, plain_decided, stops_each, stops_give, stops_then}
@@ -35,7 +36,7 @@ use Rattle.pact_top.proofs.StageLaws.{AreAlike, Agree, GivesOne, IsDecided, Stop
 -- ---- words
 
 command_decided : (words : List (List ℕ)) → IsDecided (command words)
-command_decided words = plain_decided _ _ (λ c s l h g. asked_not_refused words c h g.0) (λ s t l m h g. h.1 ∙ sym g.1)
+command_decided words = plain_decided _ _ (λ c s l h g. never_both words c h g.0) (λ s t l m h g. h.1 ∙ sym g.1)
 
 command_one : (words : List (List ℕ)) → GivesOne (command words)
 command_one words = record { one = λ a b p q h g. one_asked words a b h.1 g.1 }
@@ -178,6 +179,22 @@ file-NamesDiffer files name p r (stops s l, r1, r2, e, f, h) = absurd cc
 file-NamesDiffer files name p r (misses n, r1, r2, e, f, h) = absurd cc
 file-NamesDiffer files name p r (fails n, r1, r2, e, f, h) = absurd cc
 
+-- and each is named as a text names it
+program-AreNames : (name text : List ℕ) (p : ProgramData) (r : List Reading) → (program_of name text).Ends r (gives p) → AreNames p.ops
+program-AreNames name text p r (gives d, r1, r2, e, h, (gives vs, r3, r4, e2, v, k)) = spelled-AreNames d vs p k.1.program h.1.writable.spelled
+program-AreNames name text p r (gives d, r1, r2, e, h, (stops s l, r3, r4, e2, v, k)) = absurd cc
+program-AreNames name text p r (gives d, r1, r2, e, h, (misses n, r3, r4, e2, v, k)) = absurd cc
+program-AreNames name text p r (gives d, r1, r2, e, h, (fails n, r3, r4, e2, v, k)) = absurd cc
+program-AreNames name text p r (stops s l, r1, r2, e, h, k) = absurd cc
+program-AreNames name text p r (misses n, r1, r2, e, h, k) = absurd cc
+program-AreNames name text p r (fails n, r1, r2, e, h, k) = absurd cc
+
+pub file-AreNames : (files : Option (List NamedFile)) (name : List ℕ) (p : ProgramData) (r : List Reading) → (program_file files name).Ends r (gives p) → AreNames p.ops
+file-AreNames files name p r (gives text, r1, r2, e, f, h) = program-AreNames name text p r2 h
+file-AreNames files name p r (stops s l, r1, r2, e, f, h) = absurd cc
+file-AreNames files name p r (misses n, r1, r2, e, f, h) = absurd cc
+file-AreNames files name p r (fails n, r1, r2, e, f, h) = absurd cc
+
 -- ---- the commands
 
 accepted_decided : (files : Option (List NamedFile)) → AreTold files → (name other : List ℕ) → IsDecided (accepted files name other)
@@ -191,19 +208,21 @@ loaded_decided files told name =
     decided_then _ (program_file_one files told name) (program_file_decided files told name) (λ p _. agree_then _ _ (sources_decided files told p) (λ a b _ _. give_agrees _ _))
 
 ready_for_decided : (files : Option (List NamedFile)) → AreTold files → (asked : Asked) → IsDecided (ready_for files asked)
-ready_for_decided files told (to_run name) = agree_then _ _ (loaded_decided files told name) (λ a b _ _. give_agrees _ _)
+ready_for_decided files told (to_run name workers plans counts) = agree_then _ _ (loaded_decided files told name) (λ a b _ _. give_agrees _ _)
+ready_for_decided files told (to_plan name workers plans) = agree_then _ _ (loaded_decided files told name) (λ a b _ _. give_agrees _ _)
+ready_for_decided files told (to_certify name workers plans) = agree_then _ _ (loaded_decided files told name) (λ a b _ _. give_agrees _ _)
 ready_for_decided files told (to_tell_sets name) = agree_then _ _ (program_file_decided files told name) (λ a b _ _. give_agrees _ _)
 ready_for_decided files told (to_check name other) = agree_then _ _ (accepted_decided files told name other) (λ a b _ _. give_agrees _ _)
 
 pub work_decided : (words : List (List ℕ)) (files : Option (List NamedFile)) → AreTold files → IsDecided (work words files)
 work_decided words files told = decided_then _ (command_one words) (command_decided words) (λ c _. agree_then _ _ (ready_for_decided files told c) (λ a b _ _. give_agrees _ _))
 
--- the text is made wherever there is what it is made from
+-- the texts are made wherever there is what it is made from
 pub ready_agrees : (words : List (List ℕ)) (files : Option (List NamedFile)) → AreTold files → Agree (work words files) (ready words files)
 ready_agrees words files told =
     agree_then _ _ (command_decided words)
-    (λ c d hc hd. subst (λ x. Agree (text_for files c) (ready_for files x)) (one_asked words c d hc.ends.1 hd.ends.1)
-    (give_alike (ready_for files c) IsTextOf (ready_for_decided files told c)))
+    (λ c d hc hd. subst (λ x. Agree (texts_for files c) (ready_for files x)) (one_asked words c d hc.ends.1 hd.ends.1)
+    (give_alike (ready_for files c) AreTextsOf (ready_for_decided files told c)))
 
 -- ---- the statuses
 
@@ -236,11 +255,15 @@ certificate_file_known words files name =
 rechecked_known : (words : List (List ℕ)) (p : ProgramData) (c : Certificate) → StopsSo (IsKnown words) (rechecked p c)
 rechecked_known words p c = record { so = λ s l r h. inr (between 9 s h.1.2 (omega arith) (omega arith)) }
 
+loaded_known : (words : List (List ℕ)) (files : Option (List NamedFile)) (name : List ℕ) → StopsSo (IsKnown words) (loaded files name)
+loaded_known words files name =
+    stops_then (IsKnown words) _ (program_file_known words files name)
+    (λ p. stops_then (IsKnown words) _ (stops_each (IsKnown words) (source_file p.fields files) (source_known words files p.fields) (sources_of p.ops)) (λ inputs. stops_give (IsKnown words) _))
+
 ready_for_known : (words : List (List ℕ)) (files : Option (List NamedFile)) (asked : Asked) → StopsSo (IsKnown words) (ready_for files asked)
-ready_for_known words files (to_run name) =
-    stops_then (IsKnown words) _ (stops_then (IsKnown words) _ (program_file_known words files name)
-    (λ p. stops_then (IsKnown words) _ (stops_each (IsKnown words) (source_file p.fields files) (source_known words files p.fields) (sources_of p.ops)) (λ inputs. stops_give (IsKnown words) _)))
-    (λ l. stops_give (IsKnown words) _)
+ready_for_known words files (to_run name workers plans counts) = stops_then (IsKnown words) _ (loaded_known words files name) (λ l. stops_give (IsKnown words) _)
+ready_for_known words files (to_plan name workers plans) = stops_then (IsKnown words) _ (loaded_known words files name) (λ l. stops_give (IsKnown words) _)
+ready_for_known words files (to_certify name workers plans) = stops_then (IsKnown words) _ (loaded_known words files name) (λ l. stops_give (IsKnown words) _)
 ready_for_known words files (to_tell_sets name) = stops_then (IsKnown words) _ (program_file_known words files name) (λ p. stops_give (IsKnown words) _)
 ready_for_known words files (to_check name other) =
     stops_then (IsKnown words) _ (stops_then (IsKnown words) _ (program_file_known words files name)

@@ -13,3 +13,5 @@ pub mod StageLaws
 pub mod Told
 pub mod WrittenParts
 pub mod CertificateEnds
+pub mod RowCounts
+pub mod ChosenTexts

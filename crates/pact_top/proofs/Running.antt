@@ -1,69 +1,86 @@
--- The commands, from the words to the text.
-use Rattle.std.proofs.Common.{◌≡◌, inl, inr, ℕ, List, Option, Result, Ok, Err, IfOk, IfErr, refl, sym, arith}
-use Rattle.pact_operators.specs.Allowed.{Allows, Bag}
-use Rattle.pact_operators.specs.PlanOps.{plan_ops}
+-- The commands, from the words to the texts.
+use Rattle.std.proofs.Common.{◌≡◌, ◌⊎◌, inl, inr, ℕ, Bool, true, false, List, Option, Some, None, Result, Ok, Err, IfOk, IfErr, refl, sym, subst, arith}
+use Rattle.pact_operators.specs.Allowed.{Bag}
 use Rattle.pact_operators.specs.Programs.{IsProgram, ProgramData}
 use Rattle.pact_outside.specs.declared.files.NamedFile.{NamedFile}
 use Rattle.pact_outside.specs.Outside.{Feeding}
 use Rattle.plan_trees.specs.Plans.{PlanTree}
 use Rattle.swap_certificate.specs.declared.certificates.Certificate.{Certificate}
 use Rattle.plan_printer.specs.SetsText.{IsSetsText}
+use Rattle.pact_top.specs.CommandTexts.{Accepted, AllowsWritten, AreCounts, AreTextsOf, IsAcceptance, IsAnswerOf, IsOutAlone, Ready, to_accept, to_analyse, to_evaluate, to_justify, to_show}
 use Rattle.pact_top.specs.Lines.{AreLines}
+use Rattle.pact_top.specs.declared.loaded.Loaded.{Loaded}
 use Rattle.pact_top.specs.declared.refusals.Refusal.{Refusal}
 use Rattle.pact_top.specs.declared.refusals.Refusal.TheVariants.{OutOfMemory, Usage, CannotRead, CannotWrite, Decided}
-use Rattle.pact_top.specs.Refusal.{Answers, Comes, ComesTo, Decides, IsRefused}
-use Rattle.pact_top.specs.Stages.{Stage, and_then, give, gives, stops}
+use Rattle.pact_top.specs.declared.texts.Texts.{Texts}
+use Rattle.pact_top.specs.Refusal.{Answers, AskForCounts, Comes, ComesTo, Decides, IsRefused}
+use Rattle.pact_top.specs.Stages.{Reading, Stage, and_then, fails, give, gives, misses, stops}
 use Rattle.pact_top.specs.RefusalLines.{usage_line}
-use Rattle.pact_top.specs.Work.{Accepted, IsAcceptance, IsTextOf, Loaded, Ready, accepted, certificate_file, loaded, program_file, ready_for, rechecked, sources, text_for, to_accept, to_analyse, to_evaluate, work}
-use Rattle.pact_words.specs.Words.{AreRefused, to_check, to_run, to_tell_sets}
+use Rattle.pact_top.specs.Work.{accepted, certificate_file, loaded, program_file, ready_for, rechecked, sources, texts_for, work}
+use Rattle.pact_words.specs.Words.{AreRefused, Asked, IsAsked, to_certify, to_check, to_plan, to_run, to_tell_sets}
 use Rattle.pact_top.proofs.Comings.{comes_decided, comes_err, comes_then, decides_err, decides_then}
 use Rattle.pact_top.proofs.Decided.{IsKnown, work_known}
 use Rattle.pact_top.proofs.OnlyBag.{one_text, only_bag}
 use Rattle.pact_top.proofs.SourceNames.{work_fails}
 
+-- ---- a program and its rows
+
+pub load_program : {before now : Feeding} (name : List ℕ) (r : Refusal) → Comes (λ f. program_file f name) before now (Err r) → Comes (λ f. loaded f name) before now (Err r)
+load_program name r h = comes_err (λ f p. and_then (sources p f) (λ inputs. give (λ all. all ≡ record { program = p; inputs = inputs }))) r h
+
+pub load_inputs : {before mid now : Feeding} (name : List ℕ) (p : ProgramData) (r : Refusal) → Comes (λ f. program_file f name) before mid (Ok p)
+    → Comes (sources p) mid now (Err r) → Comes (λ f. loaded f name) before now (Err r)
+load_inputs name p r h g =
+    comes_then (λ f q. and_then (sources q f) (λ inputs. give (λ all. all ≡ record { program = q; inputs = inputs }))) p (Err r) h (comes_err (λ f inputs. give (λ all. all ≡ record { program = p; inputs = inputs })) r g)
+
+pub load_both : {before mid now : Feeding} (name : List ℕ) (p : ProgramData) (inputs : List Bag) → Comes (λ f. program_file f name) before mid (Ok p) → Comes (sources p) mid now (Ok inputs)
+    → Comes (λ f. loaded f name) before now (Ok (record { program = p; inputs = inputs }))
+load_both name p inputs h g =
+    let l : Loaded = record { program = p; inputs = inputs } in
+    comes_then (λ f q. and_then (sources q f) (λ read. give (λ all. all ≡ record { program = q; inputs = read }))) p (Ok l) h
+    (comes_decided {s = sources p} (λ read. give (λ all. all ≡ record { program = p; inputs = read })) inputs (Ok l) g (refl, refl))
+
+-- ---- what is made of them: the commands `run`, `plan` and `cert`
+
+-- the order of work of such a command
+abbrev made : (Loaded → Ready) → List ℕ → Option (List NamedFile) → Stage Ready
+made make name files = and_then (loaded files name) (λ l. give (λ r. r ≡ make l))
+
+module _ (make : Loaded → Ready) {before now : Feeding} (name : List ℕ) where
+  pub made_err : (r : Refusal) → Comes (λ f. loaded f name) before now (Err r) → Comes (λ f. and_then (made make name f) (λ y. give (AreTextsOf y))) before now (Err r)
+  made_err r h = comes_err {A = Ready} {s = made make name} (λ f y. give (AreTextsOf y)) r (comes_err {A = Loaded} {s = λ f. loaded f name} (λ f l. give (λ y. y ≡ make l)) r h)
+
+  pub made_texts : (l : Loaded) (texts : Texts) → Comes (λ f. loaded f name) before now (Ok l) → AreTextsOf (make l) texts → Comes (λ f. and_then (made make name f) (λ y. give (AreTextsOf y))) before now (Ok texts)
+  made_texts l texts h are =
+      comes_decided {A = Ready} {s = made make name} (λ y. give (AreTextsOf y)) (make l) (Ok texts)
+      (comes_decided {A = Loaded} {s = λ f. loaded f name} (λ x. give (λ y. y ≡ make x)) l (Ok (make l)) h (refl, refl))
+      (refl, are)
+
 -- ---- run
 
-pub run_program : {before now : Feeding} (name : List ℕ) (r : Refusal) → Comes (λ f. program_file f name) before now (Err r) → Comes (λ f. text_for f (to_run name)) before now (Err r)
-run_program {before} {now} name r h =
-    comes_err {A = Ready} {s = λ f. ready_for f (to_run name)} (λ f y. give (IsTextOf y)) r
-    (comes_err {A = Loaded} {s = λ f. loaded f name} (λ f l. give (λ y. y ≡ to_evaluate l)) r
-    (comes_err (λ f p. and_then (sources p f) (λ inputs. give (λ all. all ≡ record { program = p; inputs = inputs }))) r h))
-
-pub run_inputs : {before mid now : Feeding} (name : List ℕ) (p : ProgramData) (r : Refusal) → Comes (λ f. program_file f name) before mid (Ok p)
-    → Comes (sources p) mid now (Err r) → Comes (λ f. text_for f (to_run name)) before now (Err r)
-run_inputs name p r h g =
-    comes_err {A = Ready} {s = λ f. ready_for f (to_run name)} (λ f y. give (IsTextOf y)) r
-    (comes_err {A = Loaded} {s = λ f. loaded f name} (λ f l. give (λ y. y ≡ to_evaluate l)) r
-    (comes_then (λ f q. and_then (sources q f) (λ inputs. give (λ all. all ≡ record { program = q; inputs = inputs }))) p (Err r) h (comes_err (λ f inputs. give (λ all. all ≡ record { program = p; inputs = inputs })) r g)))
-
-pub run_text : {before mid now : Feeding} (name : List ℕ) (p : ProgramData) (inputs : List Bag) (bag : Bag) (text : List ℕ) → Comes (λ f. program_file f name) before mid (Ok p)
-    → Comes (sources p) mid now (Ok inputs) → IsProgram p → Allows (plan_ops p inputs) p.plan bag → AreLines p.sink bag text → Comes (λ f. text_for f (to_run name)) before now (Ok text)
-run_text {before} {mid} {now} name p inputs bag text h g program allowed lines =
-    let l : Loaded = record { program = p; inputs = inputs } in
-    comes_decided {A = Ready} {s = λ f. ready_for f (to_run name)} (λ y. give (IsTextOf y)) (to_evaluate l) (Ok text)
-    (comes_decided {A = Loaded} {s = λ f. loaded f name} (λ x. give (λ y. y ≡ to_evaluate x)) l (Ok (to_evaluate l))
-    (comes_then (λ f q. and_then (sources q f) (λ read. give (λ all. all ≡ record { program = q; inputs = read }))) p (Ok l) h
-    (comes_decided {s = sources p} (λ read. give (λ all. all ≡ record { program = p; inputs = read })) inputs (Ok l) g (refl, refl)))
-    (refl, refl)) (
-      refl,
-      record {
-        bag = bag;
-        allowed = allowed;
-        lines = lines;
-        only_bag = λ free other also. only_bag p program free inputs p.plan bag other allowed also;
-        only_text = λ free other spelled also its. sym (one_text p.sink bag other text spelled (only_bag p program free inputs p.plan bag other allowed also) lines its);
-      },
-    )
+-- a bag that the program as written allows, its lines, and the counts of the same evaluation where they are asked for
+pub is_answer : (l : Loaded) (workers plans : ℕ) (counts : Bool) (t : Texts) (bag : Bag) → IsProgram l.program → AllowsWritten l bag → AreLines l.program.sink bag t.out
+    → AreCounts l workers plans bag counts t.counts → IsAnswerOf l workers plans counts t
+is_answer l workers plans counts t bag program allowed lines counted =
+    record {
+      bag = bag;
+      allowed = allowed;
+      lines = lines;
+      counted = counted;
+      only_bag = λ free other also. only_bag l.program program free l.inputs l.program.plan bag other allowed also;
+      only_text = λ free other spelled also its. sym (one_text l.program.sink bag other t.out spelled (only_bag l.program program free l.inputs l.program.plan bag other allowed also) lines its);
+    }
 
 -- ---- sets
 
-pub sets_program : {before now : Feeding} (name : List ℕ) (r : Refusal) → Comes (λ f. program_file f name) before now (Err r) → Comes (λ f. text_for f (to_tell_sets name)) before now (Err r)
+pub sets_program : {before now : Feeding} (name : List ℕ) (r : Refusal) → Comes (λ f. program_file f name) before now (Err r) → Comes (λ f. texts_for f (to_tell_sets name)) before now (Err r)
 sets_program {before} {now} name r h =
-    comes_err {A = Ready} {s = λ f. ready_for f (to_tell_sets name)} (λ f y. give (IsTextOf y)) r (comes_err (λ f p. give (λ y. y ≡ to_analyse p)) r h)
+    comes_err {A = Ready} {s = λ f. ready_for f (to_tell_sets name)} (λ f y. give (AreTextsOf y)) r (comes_err (λ f p. give (λ y. y ≡ to_analyse p)) r h)
 
-pub sets_told : {before now : Feeding} (name : List ℕ) (p : ProgramData) (text : List ℕ) → Comes (λ f. program_file f name) before now (Ok p) → IsSetsText p text → Comes (λ f. text_for f (to_tell_sets name)) before now (Ok text)
-sets_told {before} {now} name p text h told =
-    comes_decided {A = Ready} {s = λ f. ready_for f (to_tell_sets name)} (λ y. give (IsTextOf y)) (to_analyse p) (Ok text)
+pub sets_told : {before now : Feeding} (name : List ℕ) (p : ProgramData) (texts : Texts) → Comes (λ f. program_file f name) before now (Ok p) → IsOutAlone (IsSetsText p) texts
+    → Comes (λ f. texts_for f (to_tell_sets name)) before now (Ok texts)
+sets_told {before} {now} name p texts h told =
+    comes_decided {A = Ready} {s = λ f. ready_for f (to_tell_sets name)} (λ y. give (AreTextsOf y)) (to_analyse p) (Ok texts)
     (comes_decided {s = λ f. program_file f name} (λ q. give (λ y. y ≡ to_analyse q)) p (Ok (to_analyse p)) h (refl, refl))
     (refl, told)
 
@@ -78,29 +95,29 @@ behind_program other files p = and_then (certificate_file files other) (behind_c
 
 module _ {before now : Feeding} (name other : List ℕ) where
   -- a refusal of the command's own stages is one of the command
-  to_check_err : (r : Refusal) → Comes (λ f. accepted f name other) before now (Err r) → Comes (λ f. text_for f (to_check name other)) before now (Err r)
+  to_check_err : (r : Refusal) → Comes (λ f. accepted f name other) before now (Err r) → Comes (λ f. texts_for f (to_check name other)) before now (Err r)
   to_check_err r h =
-      comes_err {A = Ready} {s = λ f. ready_for f (to_check name other)} (λ f y. give (IsTextOf y)) r (comes_err {A = Accepted} {s = λ f. accepted f name other} (λ f a. give (λ y. y ≡ to_accept a)) r h)
+      comes_err {A = Ready} {s = λ f. ready_for f (to_check name other)} (λ f y. give (AreTextsOf y)) r (comes_err {A = Accepted} {s = λ f. accepted f name other} (λ f a. give (λ y. y ≡ to_accept a)) r h)
 
-  pub check_program : (r : Refusal) → Comes (λ f. program_file f name) before now (Err r) → Comes (λ f. text_for f (to_check name other)) before now (Err r)
+  pub check_program : (r : Refusal) → Comes (λ f. program_file f name) before now (Err r) → Comes (λ f. texts_for f (to_check name other)) before now (Err r)
   check_program r h = to_check_err r (comes_err (behind_program other) r h)
 
   module _ {mid : Feeding} (p : ProgramData) (h : Comes (λ f. program_file f name) before mid (Ok p)) where
-    pub check_certificate : (r : Refusal) → Comes (λ f. certificate_file f other) mid now (Err r) → Comes (λ f. text_for f (to_check name other)) before now (Err r)
+    pub check_certificate : (r : Refusal) → Comes (λ f. certificate_file f other) mid now (Err r) → Comes (λ f. texts_for f (to_check name other)) before now (Err r)
     check_certificate r g = to_check_err r (comes_then (behind_program other) p (Err r) h (comes_err (λ f. behind_certificate p) r g))
 
     module _ (c : Certificate) (g : Comes (λ f. certificate_file f other) mid now (Ok c)) where
-      pub check_refused : (r : Refusal) → Decides (rechecked p c) (Err r) → Comes (λ f. text_for f (to_check name other)) before now (Err r)
+      pub check_refused : (r : Refusal) → Decides (rechecked p c) (Err r) → Comes (λ f. texts_for f (to_check name other)) before now (Err r)
       check_refused r d =
           to_check_err r
           (comes_then (behind_program other) p (Err r) h
           (comes_decided {s = λ f. certificate_file f other} (behind_certificate p) c (Err r) g (decides_err (rechecked p c) (λ plan. give (λ all. all ≡ record { program = p; certificate = c; plan = plan })) r d)))
 
-      pub check_told : (plan : PlanTree) (text : List ℕ) → Decides (rechecked p c) (Ok plan) → IsAcceptance (record { program = p; certificate = c; plan = plan }) text
-          → Comes (λ f. text_for f (to_check name other)) before now (Ok text)
-      check_told plan text d acceptance =
+      pub check_told : (plan : PlanTree) (texts : Texts) → Decides (rechecked p c) (Ok plan) → IsOutAlone (IsAcceptance (record { program = p; certificate = c; plan = plan })) texts
+          → Comes (λ f. texts_for f (to_check name other)) before now (Ok texts)
+      check_told plan texts d acceptance =
           let a : Accepted = record { program = p; certificate = c; plan = plan } in
-          comes_decided {A = Ready} {s = λ f. ready_for f (to_check name other)} (λ y. give (IsTextOf y)) (to_accept a) (Ok text)
+          comes_decided {A = Ready} {s = λ f. ready_for f (to_check name other)} (λ y. give (AreTextsOf y)) (to_accept a) (Ok texts)
           (comes_decided {A = Accepted} {s = λ f. accepted f name other} (λ x. give (λ y. y ≡ to_accept x)) a (Ok (to_accept a))
           (comes_then (behind_program other) p (Ok a) h
           (comes_decided {s = λ f. certificate_file f other} (behind_certificate p) c (Ok a) g
@@ -110,26 +127,81 @@ module _ {before now : Feeding} (name other : List ℕ) where
 
 -- ---- all commands
 
-stop_refused : (words : List (List ℕ)) (before now : Feeding) (status : ℕ) (line : List ℕ) → (AreRefused words → ◌≡◌ {A = Result (List ℕ) Refusal} (Err (Decided status line)) (Err Usage))
-    → ComesTo (work words before.files) before now (stops status line) → IsKnown words status line → IsRefused words before now (Decided status line)
-stop_refused words before now status line usage h (inl k) = let bad = usage k.0 in absurd cc
-stop_refused words before now status line usage h (inr k) = (k.0, k.1, h)
-
 no_words : (words : List (List ℕ)) (status : ℕ) (line : List ℕ) → IsKnown words status line → status ≡ 2 → AreRefused words
 no_words words status line (inl k) e = k.0
 no_words words status line (inr k) e = let l = k.0 in absurd (omega (arith, l, e))
 
-refused_so : (words : List (List ℕ)) (before now : Feeding) (r : Refusal) → (AreRefused words → ◌≡◌ {A = Result (List ℕ) Refusal} (Err r) (Err Usage)) → Answers (work words before.files) before now (Err r) → IsRefused words before now r
+-- where the words are refused, nothing but that is told, or that memory is wanting
+abbrev IsUsage : List (List ℕ) → Refusal → Type 0
+IsUsage words r = AreRefused words → (◌≡◌ {A = Result Texts Refusal} (Err r) (Err Usage)) ⊎ (◌≡◌ {A = Result Texts Refusal} (Err r) (Err OutOfMemory))
+
+stop_refused : (words : List (List ℕ)) (before now : Feeding) (status : ℕ) (line : List ℕ) → IsUsage words (Decided status line)
+    → ComesTo (work words before.files) before now (stops status line) → IsKnown words status line → IsRefused words before now (Decided status line)
+stop_refused words before now status line usage h (inl k) = elim (usage k.0) as (λ _. IsRefused words before now (Decided status line)) [
+  | inl bad ↦ absurd cc
+  | inr bad ↦ absurd cc
+]
+stop_refused words before now status line usage h (inr k) = (k.0, k.1, h)
+
+refused_so : (words : List (List ℕ)) (before now : Feeding) (r : Refusal) → IsUsage words r → Answers (work words before.files) before now (Err r) → IsRefused words before now r
 refused_so words before now OutOfMemory usage h = tt
 refused_so words before now Usage usage h = (no_words words 2 usage_line ((work_known words before.files).so 2 usage_line h.readings h.ends) refl, h)
 refused_so words before now (CannotRead name) usage h = (h, (work_fails words before.files).so name h.readings h.ends)
 refused_so words before now CannotWrite usage h = absurd h
 refused_so words before now (Decided status line) usage h = stop_refused words before now status line usage h ((work_known words before.files).so status line h.readings h.ends)
 
-pub text_comes : (words : List (List ℕ)) (before now : Feeding) (x : Result (List ℕ) Refusal) → Answers (work words before.files) before now x → IfOk x (λ text. ComesTo (work words before.files) before now (gives text))
-text_comes words before now (Ok text) h = h
-text_comes words before now (Err r) h = tt
+pub texts_come : (words : List (List ℕ)) (before now : Feeding) (x : Result Texts Refusal) → Answers (work words before.files) before now x → IfOk x (λ texts. ComesTo (work words before.files) before now (gives texts))
+texts_come words before now (Ok texts) h = h
+texts_come words before now (Err r) h = tt
 
-pub is_refused : (words : List (List ℕ)) (before now : Feeding) (x : Result (List ℕ) Refusal) → (AreRefused words → x ≡ Err Usage) → Answers (work words before.files) before now x → IfErr x (IsRefused words before now)
-is_refused words before now (Ok text) usage h = tt
+pub is_refused : (words : List (List ℕ)) (before now : Feeding) (x : Result Texts Refusal) → (AreRefused words → (x ≡ Err Usage) ⊎ (x ≡ Err OutOfMemory)) → Answers (work words before.files) before now x
+    → IfErr x (IsRefused words before now)
+is_refused words before now (Ok texts) usage h = tt
 is_refused words before now (Err r) usage h = refused_so words before now r usage h
+
+-- ---- counts are asked for where they are told
+
+counted_texts : (y : Ready) (texts : Texts) (text : List ℕ) → AreTextsOf y texts → texts.counts ≡ Some text → (l : Loaded) × (workers : ℕ) × (plans : ℕ) × (y ≡ to_evaluate l workers plans true)
+counted_texts (to_evaluate l workers plans true) texts text are told = (l, workers, plans, refl)
+counted_texts (to_evaluate l workers plans false) texts text are told = let none : texts.counts ≡ None = are.counted in absurd cc
+counted_texts (to_show l workers plans) texts text are told = let none = are.1 in absurd cc
+counted_texts (to_justify l workers plans) texts text are told = let none = are.1 in absurd cc
+counted_texts (to_analyse p) texts text are told = let none = are.1 in absurd cc
+counted_texts (to_accept a) texts text are told = let none = are.1 in absurd cc
+
+-- what a command has read is what it makes of what it came to
+gave_made : {A : Type 0} (s : Stage A) (make : A → Ready) (p : List Reading) (y : Ready) → (and_then s (λ x. give (λ r. r ≡ make x))).Ends p (gives y) → (x : A) × (y ≡ make x)
+gave_made s make p y (gives x, q, r, e, h, g) = (x, g.1)
+gave_made s make p y (stops status line, q, r, e, h, g) = absurd cc
+gave_made s make p y (misses name, q, r, e, h, g) = absurd cc
+gave_made s make p y (fails name, q, r, e, h, g) = absurd cc
+
+-- and for counts only where it asks for them
+asks : (files : Option (List NamedFile)) (c : Asked) (p : List Reading) (l : Loaded) (workers plans : ℕ) → (ready_for files c).Ends p (gives (to_evaluate l workers plans true))
+    → (name : List ℕ) × (c ≡ to_run name workers plans true)
+asks files (to_run name w n counts) p l workers plans h = let e = (gave_made (loaded files name) (λ x. to_evaluate x w n counts) p _ h).1 in (name, cc)
+asks files (to_plan name w n) p l workers plans h = let e = (gave_made (loaded files name) (λ x. to_show x w n) p _ h).1 in absurd cc
+asks files (to_certify name w n) p l workers plans h = let e = (gave_made (loaded files name) (λ x. to_justify x w n) p _ h).1 in absurd cc
+asks files (to_tell_sets name) p l workers plans h = let e = (gave_made (program_file files name) to_analyse p _ h).1 in absurd cc
+asks files (to_check name other) p l workers plans h = let e = (gave_made (accepted files name other) to_accept p _ h).1 in absurd cc
+
+counts_for : (words : List (List ℕ)) (files : Option (List NamedFile)) (c : Asked) (p : List Reading) (texts : Texts) (text : List ℕ) → IsAsked words c → (texts_for files c).Ends p (gives texts) → texts.counts ≡ Some text
+    → AskForCounts words
+counts_for words files c p texts text asked (gives y, q, r, e, h, g) told =
+    let made_so = counted_texts y texts text g.1 told in
+    let a = asks files c q made_so.0 made_so.1 made_so.2 (subst (λ (z : Ready). (ready_for files c).Ends q (gives z)) made_so.3 h) in
+    (a.0, made_so.1, made_so.2, subst (IsAsked words) a.1 asked)
+counts_for words files c p texts text asked (stops status line, q, r, e, h, g) told = absurd cc
+counts_for words files c p texts text asked (misses name, q, r, e, h, g) told = absurd cc
+counts_for words files c p texts text asked (fails name, q, r, e, h, g) told = absurd cc
+
+counts_in : (words : List (List ℕ)) (files : Option (List NamedFile)) (p : List Reading) (texts : Texts) (text : List ℕ) → (work words files).Ends p (gives texts) → texts.counts ≡ Some text → AskForCounts words
+counts_in words files p texts text (gives c, q, r, e, h, g) told = counts_for words files c r texts text h.1 g told
+counts_in words files p texts text (stops status line, q, r, e, h, g) told = absurd cc
+counts_in words files p texts text (misses name, q, r, e, h, g) told = absurd cc
+counts_in words files p texts text (fails name, q, r, e, h, g) told = absurd cc
+
+pub counts_come : (words : List (List ℕ)) (before now : Feeding) (x : Result Texts Refusal) → Answers (work words before.files) before now x
+    → IfOk x (λ texts. (text : List ℕ) → texts.counts ≡ Some text → AskForCounts words)
+counts_come words before now (Ok texts) h = λ text. counts_in words before.files h.readings texts text h.ends
+counts_come words before now (Err r) h = tt

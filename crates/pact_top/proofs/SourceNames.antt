@@ -12,12 +12,12 @@ use Rattle.pact_operators.specs.PlanOps.{is_source_kind, sources_of}
 use Rattle.pact_operators.specs.Programs.{ProgramData}
 use Rattle.pact_operators.specs.Resolved.{function_names, ops_of}
 use Rattle.pact_outside.specs.declared.files.NamedFile.{NamedFile}
-use Rattle.pact_words.specs.Words.{Asked, to_run, to_tell_sets, to_check, IsAsked}
+use Rattle.pact_words.specs.Words.{Asked, to_run, to_plan, to_certify, to_tell_sets, to_check, IsAsked}
 use Rattle.tac_syntax.specs.declared.functions.Function.{Function as FunctionValue}
 use Rattle.tac_syntax.specs.Names.{is_file_name}
 use Rattle.pact_top.specs.Refusal.{IsNamed, Names}
 use Rattle.pact_top.specs.Stages.{each, fails, gives, misses, stops, Reading}
-use Rattle.pact_top.specs.Work.{certificate_limit, file, program_file, program_limit, program_of, ready_for, source_file, source_limit, valid, work}
+use Rattle.pact_top.specs.Work.{certificate_limit, file, loaded, program_file, program_limit, program_of, ready_for, source_file, source_limit, valid, work}
 use Rattle.pact_top.proofs.StageLaws.{FailsSo, fails_plain, fails_then}
 
 -- a source's file has a name that a program may give it
@@ -95,14 +95,17 @@ may_name : (asked : Asked) (sources : List Op) → AllByRecursion (λ s. IsTrue 
 may_name asked [] h = tt
 may_name asked (s ∷ sources) h = (inr h.0, may_name asked sources h.1)
 
+loaded_fails : (asked : Asked) (files : Option (List NamedFile)) (name : List ℕ) → NamedFor asked name → FailsSo (NamedFor asked) (loaded files name)
+loaded_fails asked files name named =
+    fails_then (NamedFor asked) _ (program_file_fails (NamedFor asked) files name named)
+    (λ p given. fails_then (NamedFor asked) _
+    (sources_fail (NamedFor asked) p.fields files (sources_of p.ops) (may_name asked (sources_of p.ops) (sources_named p.ops (file_sources_named files name p given.readings given.ends))))
+    (λ inputs _. fails_plain (NamedFor asked) _ _))
+
 ready_for_fails : (files : Option (List NamedFile)) (asked : Asked) → FailsSo (NamedFor asked) (ready_for files asked)
-ready_for_fails files (to_run name) =
-    fails_then (NamedFor (to_run name)) _
-    (fails_then (NamedFor (to_run name)) _ (program_file_fails (NamedFor (to_run name)) files name (inl refl))
-    (λ p given. fails_then (NamedFor (to_run name)) _
-    (sources_fail (NamedFor (to_run name)) p.fields files (sources_of p.ops) (may_name (to_run name) (sources_of p.ops) (sources_named p.ops (file_sources_named files name p given.readings given.ends))))
-    (λ inputs _. fails_plain (NamedFor (to_run name)) _ _)))
-    (λ l _. fails_plain (NamedFor (to_run name)) _ _)
+ready_for_fails files (to_run name workers plans counts) = fails_then (NamedFor (to_run name workers plans counts)) _ (loaded_fails (to_run name workers plans counts) files name (inl refl)) (λ l _. fails_plain (NamedFor (to_run name workers plans counts)) _ _)
+ready_for_fails files (to_plan name workers plans) = fails_then (NamedFor (to_plan name workers plans)) _ (loaded_fails (to_plan name workers plans) files name (inl refl)) (λ l _. fails_plain (NamedFor (to_plan name workers plans)) _ _)
+ready_for_fails files (to_certify name workers plans) = fails_then (NamedFor (to_certify name workers plans)) _ (loaded_fails (to_certify name workers plans) files name (inl refl)) (λ l _. fails_plain (NamedFor (to_certify name workers plans)) _ _)
 ready_for_fails files (to_tell_sets name) =
     fails_then (NamedFor (to_tell_sets name)) _ (program_file_fails (NamedFor (to_tell_sets name)) files name (inl refl)) (λ p _. fails_plain (NamedFor (to_tell_sets name)) _ _)
 ready_for_fails files (to_check name other) =

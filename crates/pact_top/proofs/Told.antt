@@ -1,15 +1,17 @@
 -- What a refusal says of the exit status.
-use Rattle.std.proofs.Common.{◌≡◌, ◌≤◌, ◌⊎◌, inl, inr, ℕ, List, refl, ap, sym, arith}
+use Rattle.std.proofs.Common.{◌≡◌, ◌≤◌, ◌⊎◌, inl, inr, ℕ, List, refl, ap, subst, sym, arith}
 use Rattle.pact_outside.specs.Outside.{Feeding, Rose}
 use Rattle.pact_top.specs.declared.refusals.Refusal.{Refusal}
 use Rattle.pact_top.specs.declared.refusals.Refusal.TheVariants.{OutOfMemory, Usage, CannotRead, CannotWrite, Decided}
-use Rattle.pact_top.specs.Refusal.{AreTold, ComesTo, IsRefused, status_of, refusal_line}
+use Rattle.pact_top.specs.Refusal.{AreTold, ComesTo, HasFailed, IsRefused, status_of, refusal_line}
 use Rattle.pact_top.specs.RefusalLines.{line_of, usage_line}
 use Rattle.pact_top.specs.Stages.{CanEnd, gives, stops, misses}
-use Rattle.pact_top.specs.Work.{Ready, ready, work}
+use Rattle.pact_top.specs.CommandTexts.{Ready}
+use Rattle.pact_top.specs.Work.{ready, work}
+use Rattle.pact_top.specs.declared.texts.Texts.{Texts}
 use Rattle.pact_top.proofs.Decided.{ready_agrees, work_decided}
 
-pub line_is : (words : List (List ℕ)) (before now : Feeding) (r : Refusal) → IsRefused words before now r → status_of r ≤ 4 → refusal_line r ≡ line_of (status_of r) now.opened
+pub line_is : (words : List (List ℕ)) (before now : Feeding) (r : Refusal) → IsRefused words before now r → status_of r ≤ 3 → refusal_line r ≡ line_of (status_of r) now.opened
 line_is words before now OutOfMemory h few = refl
 line_is words before now Usage h few = refl
 line_is words before now (CannotRead name) h few = ap (line_of 3) (sym h.0.named)
@@ -22,6 +24,14 @@ stopped words before now Usage h large = absurd (omega (arith, large))
 stopped words before now (CannotRead name) h large = absurd (omega (arith, large))
 stopped words before now CannotWrite h large = absurd h
 stopped words before now (Decided status line) h large = h.2
+
+-- where a file can't be read, it is the one opened last
+pub unread_there : (words : List (List ℕ)) (before now : Feeding) (r : Refusal) → IsRefused words before now r → status_of r ≡ 3 → HasFailed (work words before.files) before now now.opened
+unread_there words before now OutOfMemory h e = absurd (omega (arith, e))
+unread_there words before now Usage h e = absurd (omega (arith, e))
+unread_there words before now (CannotRead name) h e = subst (HasFailed (work words before.files) before now) (sym h.0.named) h.0
+unread_there words before now CannotWrite h e = absurd h
+unread_there words before now (Decided status line) h e = let l = h.0 in absurd (omega (arith, e, l))
 
 -- ---- what stands decides the status
 
@@ -51,10 +61,10 @@ where_ready words before now (Decided status line) h told y g n = absurd ((ready
 
 -- ---- where there is an answer
 
-pub not_missing : (words : List (List ℕ)) (before now : Feeding) (text : List ℕ) (Goal : Type 0) → ComesTo (work words before.files) before now (gives text) → AreTold before.files → (name : List ℕ)
+pub not_missing : (words : List (List ℕ)) (before now : Feeding) (texts : Texts) (Goal : Type 0) → ComesTo (work words before.files) before now (gives texts) → AreTold before.files → (name : List ℕ)
     → CanEnd (work words before.files) (misses name) → Goal
-not_missing words before now text Goal g told name m = absurd ((work_decided words before.files told).alike (gives text) (misses name) g.readings m.readings g.ends m.ends)
+not_missing words before now texts Goal g told name m = absurd ((work_decided words before.files told).alike (gives texts) (misses name) g.readings m.readings g.ends m.ends)
 
-pub not_stopped : (words : List (List ℕ)) (before now : Feeding) (text : List ℕ) (Goal : ℕ → Type 0) → ComesTo (work words before.files) before now (gives text) → AreTold before.files → (status : ℕ) (line : List ℕ)
+pub not_stopped : (words : List (List ℕ)) (before now : Feeding) (texts : Texts) (Goal : ℕ → Type 0) → ComesTo (work words before.files) before now (gives texts) → AreTold before.files → (status : ℕ) (line : List ℕ)
     → CanEnd (work words before.files) (stops status line) → Goal status
-not_stopped words before now text Goal g told status line s = absurd ((work_decided words before.files told).alike (gives text) (stops status line) g.readings s.readings g.ends s.ends)
+not_stopped words before now texts Goal g told status line s = absurd ((work_decided words before.files told).alike (gives texts) (stops status line) g.readings s.readings g.ends s.ends)

@@ -5,30 +5,44 @@
 -- `first` and `last` how often it failed. The order of work, `work`, stands in Work.antt: to which end the words and the files bring it,
 -- and which files are read on the way. That it `ComesTo` an end says that these files were opened in that order, one opening for each
 -- reading and no other, and that nothing was read more than one byte behind a file's limit.
-use Rattle.std.specs.Prelude.{◌≡◌, ◌≢◌, ◌≤◌, ◌↔◌, ◌⊎◌, ℕ, List, Option}
+use Rattle.std.specs.Prelude.{◌≡◌, ◌≢◌, ◌≤◌, ◌⊎◌, ℕ, List, [], Option, Some}
 use Rattle.pact_outside.specs.Outside.{Feeding, Rose}
 use Rattle.pact_words.specs.Words.{AreRefused}
-use Rattle.pact_top.specs.Refusal.{AreTold, ComesTo, HasFailed, IsNamed}
+use Rattle.pact_top.specs.Refusal.{AreTold, AskForCounts, ComesTo, HasFailed, IsNamed}
 use Rattle.pact_top.specs.RefusalLines.{line_of}
 use Rattle.pact_top.specs.Stages.{CanEnd, gives, stops, misses}
-use Rattle.pact_top.specs.Transfer.{Gains, GainsFront, Tells}
-use Rattle.pact_top.specs.Work.{Ready, ready, work}
+use Rattle.pact_top.specs.Transfer.{Gains, GainsCounts, GainsFront, Tells, TellsBehind}
+use Rattle.pact_top.specs.CommandTexts.{Ready}
+use Rattle.pact_top.specs.Work.{ready, work}
+use Rattle.pact_top.specs.declared.texts.Texts.{Texts}
 
 -- Status 0: the text was written whole. Of `run` it is the sorted rows of a bag that the program as written allows, which is the only such
--- bag where each function that a Reduce or a CoGroup calls passes the order test. Of `sets` it is what the analysis finds of each operator.
+-- bag where each function that a Reduce or a CoGroup calls passes the order test; with `--counts` the same evaluation's counts of the chosen
+-- plan were told on the other sink. Of `plan` it is the chosen plan, what it costs, and the exchanges that lead to it; of `cert` the
+-- certificate of them, which is accepted. Of `sets` it is what the analysis finds of each operator.
 -- Of `check` it tells that the certificate is accepted: legal exchanges lead to the plan that it states, which over every input allows the
--- bags of the plan as written.
-abbrev pub Answered : List (List ℕ) → Feeding → Feeding → Option (List ℕ) → Option (List ℕ) → ℕ → Type 0
-Answered words before now old new status = status ≡ 0 → (text : List ℕ) × ComesTo (work words before.files) before now (gives text) × Gains old new text
+-- bags of the plan as written. (`answered_quietly`: where no counts are asked for, the other sink is as it was.)
+abbrev pub Answered : List (List ℕ) → Feeding → Feeding → (old new told_old told_new : Option (List ℕ)) → ℕ → Type 0
+Answered words before now old new told_old told_new status =
+    status ≡ 0 → (texts : Texts) × ComesTo (work words before.files) before now (gives texts) × Gains old new texts.out × GainsCounts told_old told_new texts.counts
 
--- Where nothing stands against a text, it is written, unless memory is wanting or a fault of the feed or of the output rises.
-abbrev pub Complete : List (List ℕ) → Feeding → Feeding → ℕ → ℕ → ℕ → Type 0
-Complete words before now first last status =
-    AreTold before.files → (r : Ready) → CanEnd (ready words before.files) (gives r) → ¬ (Rose before.faults now.faults) → ¬ (Rose first last) → (status ≡ 0) ⊎ (status ≡ 1)
+abbrev pub AnsweredQuietly : List (List ℕ) → (told_old told_new : Option (List ℕ)) → ℕ → Type 0
+AnsweredQuietly words told_old told_new status = status ≡ 0 → ¬ (AskForCounts words) → told_new ≡ told_old
 
--- Status 2: exactly where the words ask for no command. (`usage_untouched`: the feed is as it was.)
+-- Where nothing stands against a text, it is written, unless memory is wanting or a fault of the feed or of the output rises, or of the other
+-- sink where counts are asked for.
+abbrev pub Complete : List (List ℕ) → Feeding → Feeding → (first last told_first told_last : ℕ) → ℕ → Type 0
+Complete words before now first last told_first told_last status =
+    AreTold before.files → (r : Ready) → CanEnd (ready words before.files) (gives r) → ¬ (Rose before.faults now.faults) → ¬ (Rose first last)
+    → (AskForCounts words → ¬ (Rose told_first told_last)) → (status ≡ 0) ⊎ (status ≡ 1)
+
+-- Status 2: only where the words ask for no command, and always there, unless memory is wanting. (`usage_untouched`: then the feed is as it
+-- was.)
 abbrev pub Usage : List (List ℕ) → ℕ → Type 0
-Usage words status = (status ≡ 2) ↔ AreRefused words
+Usage words status = status ≡ 2 → AreRefused words
+
+abbrev pub UsageAlways : List (List ℕ) → ℕ → Type 0
+UsageAlways words status = AreRefused words → (status ≡ 1) ⊎ (status ≡ 2)
 
 -- Status 3: only where a fault of the feed rose, at the file opened last, which the order of work opens there; no file is open then
 -- (`unread`, `unread_closed`). The command names it, or a program may. A file that is missing comes to nothing else.
@@ -41,9 +55,28 @@ UnreadName words now status = status ≡ 3 → IsNamed words now.opened
 abbrev pub MissingFile : List (List ℕ) → Feeding → ℕ → Type 0
 MissingFile words before status = AreTold before.files → (name : List ℕ) → CanEnd (work words before.files) (misses name) → (status ≡ 1) ⊎ (status ≡ 3)
 
--- Status 4: the output has taken a front of such a text. (`unwritten`: only where a fault of the output rose.)
-abbrev pub UnwrittenPrefix : List (List ℕ) → Feeding → Feeding → Option (List ℕ) → Option (List ℕ) → ℕ → Type 0
-UnwrittenPrefix words before now old new status = status ≡ 4 → (text : List ℕ) × ComesTo (work words before.files) before now (gives text) × GainsFront old new text
+-- Status 4: a fault of the output rose, and it has taken a front of such a text; or it has taken the whole text, and a fault of the other sink
+-- rose behind a front of the counts.
+pub record IsTextCut (t : Texts) (old new told_old told_new : Option (List ℕ)) (first last told_first told_last : ℕ) : Type 0 where
+  pub rose : Rose first last
+  pub front : GainsFront old new t.out
+  pub told : Tells told_old told_new told_first told_last (line_of 4 [])
+
+pub record AreCountsCut (t : Texts) (old new told_old told_new : Option (List ℕ)) (told_first told_last : ℕ) : Type 0 where
+  pub counts : List ℕ
+  pub are_told : t.counts ≡ Some counts
+  pub whole : Gains old new t.out
+  pub rose : Rose told_first told_last
+  pub told : TellsBehind told_old told_new told_first told_last counts (line_of 4 [])
+
+abbrev pub Unwritten : List (List ℕ) → Feeding → Feeding → (old new told_old told_new : Option (List ℕ)) → (first last told_first told_last : ℕ) → ℕ → Type 0
+Unwritten words before now old new told_old told_new first last told_first told_last status =
+    status ≡ 4 → (texts : Texts) × ComesTo (work words before.files) before now (gives texts)
+    × (IsTextCut texts old new told_old told_new first last told_first told_last ⊎ AreCountsCut texts old new told_old told_new told_first told_last)
+
+-- It comes only for one of these two faults.
+abbrev pub UnwrittenCause : List (List ℕ) → (first last told_first told_last : ℕ) → ℕ → Type 0
+UnwrittenCause words first last told_first told_last status = status ≡ 4 → Rose first last ⊎ (AskForCounts words × Rose told_first told_last)
 
 -- Statuses 5 to 9: only where the order of work stops with this status and line, which is told. Where it stops, the status is that one,
 -- unless memory is wanting or reading fails.
@@ -58,10 +91,9 @@ RefusedAlways words before status =
 abbrev pub NothingWritten : Option (List ℕ) → Option (List ℕ) → ℕ → Type 0
 NothingWritten old new status = status ≢ 0 → status ≢ 4 → new ≡ old
 
--- Statuses 1 to 4 are told in a line of their own, and status 0 in none (`answered_quietly`). A sink that fails took a front of the
--- line, and that changes no status.
+-- Statuses 1 to 3 are told in a line of their own, as 4 is. A sink that fails took a front of the line, and that changes no status.
 abbrev pub Told : Feeding → Option (List ℕ) → Option (List ℕ) → ℕ → ℕ → ℕ → Type 0
-Told now old new first last status = status ≢ 0 → status ≤ 4 → Tells old new first last (line_of status now.opened)
+Told now old new first last status = status ≢ 0 → status ≤ 3 → Tells old new first last (line_of status now.opened)
 
 -- There are no others.
 abbrev pub NoOther : ℕ → Type 0

@@ -1,3 +1,4 @@
+pub mod CommandTexts
 pub mod Headline
 pub mod Lines
 pub mod OrderFreePrograms

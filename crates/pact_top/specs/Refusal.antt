@@ -1,8 +1,8 @@
 -- The status and the line of a refusal, and what a call's answer says of a stage.
-use Rattle.std.specs.Prelude.{◌≡◌, ◌≤◌, ◌⊎◌, ℕ, false, List, [], Option, Some, None, Result, Ok, Err, IsTrue}
+use Rattle.std.specs.Prelude.{◌≡◌, ◌≤◌, ◌⊎◌, ℕ, true, false, List, [], Option, Some, None, Result, Ok, Err, IsTrue}
 use Rattle.pact_outside.specs.declared.files.NamedFile.{NamedFile}
 use Rattle.pact_outside.specs.Outside.{Feeding, Rose}
-use Rattle.pact_words.specs.Words.{Asked, to_run, to_tell_sets, to_check, AreRefused, IsAsked}
+use Rattle.pact_words.specs.Words.{Asked, to_run, to_plan, to_certify, to_tell_sets, to_check, AreRefused, IsAsked}
 use Rattle.pact_operators.specs.declared.checking.NotProgram.{NotProgram}
 use Rattle.pact_operators.specs.declared.checking.NotProgram.TheVariants as nots
 use Rattle.text_lines.specs.declared.lines.TextFault.{TextFault}
@@ -106,9 +106,15 @@ Decides stage (Err refusal) = ⊥
 
 -- the command names the file
 abbrev pub Names : Asked → List ℕ → Type 0
-Names (to_run program) name = name ≡ program
+Names (to_run program workers plans counts) name = name ≡ program
+Names (to_plan program workers plans) name = name ≡ program
+Names (to_certify program workers plans) name = name ≡ program
 Names (to_tell_sets program) name = name ≡ program
 Names (to_check program certificate) name = (name ≡ program) ⊎ (name ≡ certificate)
+
+-- the words ask for counts
+abbrev pub AskForCounts : List (List ℕ) → Type 0
+AskForCounts words = (program : List ℕ) × (workers : ℕ) × (plans : ℕ) × IsAsked words (to_run program workers plans true)
 
 -- the words name this file, or a program may
 abbrev pub IsNamed : List (List ℕ) → List ℕ → Type 0

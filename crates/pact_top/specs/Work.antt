@@ -1,33 +1,29 @@
 -- The order of work: what the words and the files come to, one stage behind another.
-use Rattle.std.specs.Prelude.{◌≡◌, ◌≤◌, ◌<◌, ℕ, List, length, Option, Ok, Err, codes}
-use Rattle.std.specs.List.Sorted.{IsPermutation}
+use Rattle.std.specs.Prelude.{◌≡◌, ◌≤◌, ◌<◌, ℕ, List, length, Option, Ok, Err}
 use Rattle.csv_source.specs.CsvRows.{CsvRows, HasBadRow}
 use Rattle.pact_operators.specs.declared.operators.Op.{Op}
 use Rattle.pact_operators.specs.declared.program_rules.ProgramRule.{ProgramRule}
-use Rattle.pact_operators.specs.Allowed.{Allows, Bag}
+use Rattle.pact_operators.specs.Allowed.{Bag}
 use Rattle.tac_syntax.specs.Drafts.{DraftData}
-use Rattle.pact_operators.specs.PlanOps.{plan_ops, sources_of}
+use Rattle.pact_operators.specs.PlanOps.{sources_of}
 use Rattle.pact_operators.specs.Programs.{IsProgramOf, ProgramData}
 use Rattle.pact_operators.specs.ProgramRules.{IsRefused, Keeps}
 use Rattle.pact_outside.specs.declared.files.NamedFile.{NamedFile}
-use Rattle.plan_printer.specs.SetsText.{IsSetsText}
-use Rattle.pact_words.specs.Words.{Asked, to_run, to_tell_sets, to_check, AreRefused, IsAsked}
+use Rattle.pact_words.specs.Words.{Asked, to_run, to_plan, to_certify, to_tell_sets, to_check, AreRefused, IsAsked}
 use Rattle.plan_trees.specs.Plans.{PlanTree}
-use Rattle.reorder_pair.specs.Legal.{KeepAnswers}
-use Rattle.reorder_pair.specs.Reach.{Reach}
 use Rattle.swap_certificate.specs.declared.certificates.CertFault.{CertFault}
 use Rattle.swap_certificate.specs.declared.certificates.Certificate.{Certificate}
 use Rattle.swap_certificate.specs.Checks.{Checks}
 use Rattle.swap_certificate.specs.FaultTexts.{fault_text, not_certificate_text}
-use Rattle.swap_certificate.specs.PlanLines.{line_of}
 use Rattle.swap_certificate.specs.Shape.{IsCertificateText}
 use Rattle.program_text.specs.ProgramTexts.{IsProgramText, ProgramText, program_fault, program_missing}
 use Rattle.tac_syntax.specs.declared.functions.Function.{Function}
 use Rattle.tac_syntax.specs.Valid.{IsRefusal, IsValid, WithFields}
 use Rattle.text_lines.specs.FirstFaults.{IsFirstFault}
 use Rattle.text_lines.specs.TextLines.{lines_of}
-use Rattle.pact_top.specs.Lines.{AreLines}
-use Rattle.pact_top.specs.OrderFreePrograms.{AreGroupsFree}
+use Rattle.pact_top.specs.CommandTexts.{Accepted, Ready, to_evaluate, to_show, to_justify, to_analyse, to_accept, AreTextsOf}
+use Rattle.pact_top.specs.declared.loaded.Loaded.{Loaded}
+use Rattle.pact_top.specs.declared.texts.Texts.{Texts}
 use Rattle.pact_top.specs.Readings.{Holds, Lacks, only}
 use Rattle.pact_top.specs.RefusalLines.{function_line, long_line, program_line, source_line, text_line, usage_line}
 use Rattle.pact_top.specs.Stages.{End, gives, stops, misses, fails, Stage, and_then, plain, give, each}
@@ -126,69 +122,28 @@ rechecked p c = plain (λ plan. Checks p c (Ok plan)) (λ status line. (fault : 
 
 -- ---- commands
 
--- a program and the rows of its sources
-pub record Loaded : Type 0 where
-  pub program : ProgramData
-  pub inputs : List Bag
-
 abbrev pub loaded : Option (List NamedFile) → List ℕ → Stage Loaded
 loaded files name = and_then (program_file files name) (λ p. and_then (sources p files) (λ inputs. give (λ all. all ≡ record { program = p; inputs = inputs })))
-
--- a program, a certificate, and the plan that this one leads to
-pub record Accepted : Type 0 where
-  pub program : ProgramData
-  pub certificate : Certificate
-  pub plan : PlanTree
 
 abbrev pub accepted : Option (List NamedFile) → List ℕ → List ℕ → Stage Accepted
 accepted files name other =
     and_then (program_file files name) (λ p. and_then (certificate_file files other) (λ c. and_then (rechecked p c) (λ plan. give (λ all. all ≡ record { program = p; certificate = c; plan = plan }))))
 
--- what a command has read, from which its text is made
-pub data Ready : Type 0 where
-  to_evaluate : (loaded : Loaded) → Ready
-  to_analyse : (program : ProgramData) → Ready
-  to_accept : (accepted : Accepted) → Ready
-
--- what the program as written allows on the rows of its sources
-abbrev pub AllowsWritten : Loaded → Bag → Type 0
-AllowsWritten l bag = Allows (plan_ops l.program l.inputs) l.program.plan bag
-
--- The sorted lines of a bag that the program as written allows. Where each function that a Reduce or a CoGroup calls passes the order
--- test, each such bag is this one, up to order, and its lines are these.
-pub record IsAnswerOf (l : Loaded) (text : List ℕ) : Type 0 where
-  pub bag : Bag
-  pub allowed : AllowsWritten l bag
-  pub lines : AreLines l.program.sink bag text
-  pub only_bag : AreGroupsFree l.program → (other : Bag) → AllowsWritten l other → IsPermutation bag other
-  pub only_text : AreGroupsFree l.program → (other : Bag) (lines : List ℕ) → AllowsWritten l other → AreLines l.program.sink other lines → lines ≡ text
-
--- It is told that the certificate is accepted. Then the plan is the one whose line the certificate states, legal exchanges lead to it from the plan as
--- written, and over every input of the program both allow the same bags.
-pub record IsAcceptance (a : Accepted) (text : List ℕ) : Type 0 where
-  pub told : text ≡ codes "accepted\n"
-  pub line : a.certificate.plan ≡ line_of a.program.ops a.plan
-  pub reached : Reach a.program a.plan
-  pub answers : KeepAnswers a.program a.program.plan a.plan
-
-abbrev pub IsTextOf : Ready → List ℕ → Type 0
-IsTextOf (to_evaluate l) text = IsAnswerOf l text
-IsTextOf (to_analyse p) text = IsSetsText p text
-IsTextOf (to_accept a) text = IsAcceptance a text
-
 -- the order of work of each command
 abbrev pub ready_for : Option (List NamedFile) → Asked → Stage Ready
-ready_for files (to_run name) = and_then (loaded files name) (λ l. give (λ r. r ≡ to_evaluate l))
+ready_for files (to_run name workers plans counts) = and_then (loaded files name) (λ l. give (λ r. r ≡ to_evaluate l workers plans counts))
+ready_for files (to_plan name workers plans) = and_then (loaded files name) (λ l. give (λ r. r ≡ to_show l workers plans))
+ready_for files (to_certify name workers plans) = and_then (loaded files name) (λ l. give (λ r. r ≡ to_justify l workers plans))
 ready_for files (to_tell_sets name) = and_then (program_file files name) (λ p. give (λ r. r ≡ to_analyse p))
 ready_for files (to_check name other) = and_then (accepted files name other) (λ a. give (λ r. r ≡ to_accept a))
 
-abbrev pub text_for : Option (List NamedFile) → Asked → Stage (List ℕ)
-text_for files asked = and_then (ready_for files asked) (λ r. give (IsTextOf r))
+abbrev pub texts_for : Option (List NamedFile) → Asked → Stage Texts
+texts_for files asked = and_then (ready_for files asked) (λ r. give (AreTextsOf r))
 
 -- what is read before a text is made
 abbrev pub ready : List (List ℕ) → Option (List NamedFile) → Stage Ready
 ready words files = and_then (command words) (ready_for files)
 
--- the whole of it, from the words to the text
-abbrev pub work : List (List ℕ) → Option (List NamedFile) → Stage (List ℕ)
-work words files = and_then (command words) (text_for files)
+-- the whole of it, from the words to the texts
+abbrev pub work : List (List ℕ) → Option (List NamedFile) → Stage Texts
+work words files = and_then (command words) (texts_for files)

@@ -1,29 +1,32 @@
 //! From the command line's words and the files to the text that is to be written.
 
-ghost use Rattle.std.specs.Prelude.{◌≡◌, ◌≤◌, ◌<◌, ◌^◌, ◌++◌, ◌∷◌, [], Err, IfErr, IfOk, OnOk};
+ghost use Rattle.std.specs.Prelude.{◌≡◌, ◌≤◌, ◌<◌, ◌^◌, ◌++◌, ◌∷◌, ◌⊎◌, ℕ, List, [], Some, Err, IfErr, IfOk, OnOk};
 ghost use Rattle.std.specs.List.{AllByRecursion};
 ghost use Rattle.pact_operators.specs.Inputs.{AreInputsOf};
-ghost use Rattle.pact_operators.specs.PlanOps.{is_source_kind};
-ghost use Rattle.pact_top.specs.Refusal.{Comes, ComesTo, Decides, IsRefused, RowRefused};
+ghost use Rattle.pact_operators.specs.Programs.{AreNames};
+ghost use Rattle.plan_enumerate.specs.Listing.{entry_limit};
+ghost use Rattle.plan_trees.specs.Physicals.{worker_limit};
+ghost use Rattle.pact_top.specs.Refusal.{AskForCounts, Comes, ComesTo, Decides, IsRefused, RowRefused};
 ghost use Rattle.pact_top.specs.Stages.{gives};
 ghost use Rattle.pact_top.specs.Work as work;
-ghost use Rattle.pact_words.specs.Words.{AreRefused, asked, texts_of, to_check, to_run, to_tell_sets};
+ghost use Rattle.pact_words.specs.Words.{AreRefused, IsInRange, asked, texts_of, to_certify, to_check, to_plan, to_run, to_tell_sets};
 
 use crate::certificates::{certificate_in, rechecked};
-use crate::lines::sorted_lines;
+use crate::choosing::{certificate_texts, plan_texts, run_texts};
+use crate::loaded::{Loaded, is_source};
 use crate::loading::{CERTIFICATE_LIMIT, PROGRAM_LIMIT, SOURCE_LIMIT, read_file};
 use crate::programs::program_of;
 use crate::refusal_lines::{bad_row, too_long};
 use crate::refusals::Refusal;
+use crate::texts::Texts;
 use crate::transfer::Stop;
 use csv_source::{BadRow, read_source};
 use pact_bag::{Inputs, Rows};
-use pact_operators::{Op, OpKind, Program};
+use pact_operators::{Op, Program};
 use pact_outside::Feed;
 use pact_record::{Bytes, MAX_FIELDS, OutOfMemory};
-use pact_words::{Command, read_words};
+use pact_words::{Command, Refused, read_words};
 use plan_printer::sets_text;
-use slow_eval::evaluate;
 use std::alloc::Global;
 use swap_certificate::Certificate;
 
@@ -102,12 +105,6 @@ fn load_sources<F: Feed>(alloc: Global, feed: &mut F, program: &Program) -> Resu
     Ok(inputs)
 }
 
-fn is_source(kind: OpKind) -> bool
-    ensures { result ≡ is_source_kind kind }
-{
-    matches!(kind, OpKind::Source)
-}
-
 // Its clause is what a refused push leaves out: only memory refuses it.
 fn push_rows(inputs: &mut Inputs, rows: Rows) -> Result<(), OutOfMemory>
     ensures { OnOk result (inputs.new ≡ inputs.old ++ rows ∷ []) }
@@ -128,24 +125,76 @@ pub fn load_inputs<F: Feed>(
     load_sources(alloc, feed, program)
 }
 
-// `run PROGRAM`.
-fn run<F: Feed>(alloc: Global, feed: &mut F, name: &[u8]) -> Result<Bytes, Refusal>
-    ensures { Comes (λ files. work.text_for files (to_run name.now)) (F.shows feed.old) (F.shows feed.new) result }
+/// A program and the rows of its sources, with what an evaluation and a certificate ask of them.
+pub fn load<F: Feed>(alloc: Global, feed: &mut F, name: &[u8]) -> Result<Loaded, Refusal>
+    ensures comes { Comes (λ files. work.loaded files name.now) (F.shows feed.old) (F.shows feed.new) result }
+    ensures inputs { IfOk result (λ l. AreInputsOf l.program l.inputs) }
+    ensures names { IfOk result (λ l. AreNames l.program.ops) }
 {
     let program = load_program(alloc, feed, name)?;
     let inputs = load_inputs(alloc, feed, &program)?;
-    let outcome = evaluate(alloc, &program, program.plan(), &inputs)?;
-    let text = sorted_lines(alloc, &outcome.rows, program.sink())?;
-    Ok(text)
+    Ok(Loaded { program, inputs })
+}
+
+// `run PROGRAM`.
+fn run<F: Feed>(
+    alloc: Global,
+    feed: &mut F,
+    name: &[u8],
+    workers: u32,
+    plans: u32,
+    counts: bool,
+) -> Result<Texts, Refusal>
+    requires workers { (1 ≤ workers) × (workers ≤ worker_limit) }
+    requires plans { (1 ≤ plans) × (plans ≤ entry_limit) }
+    ensures { Comes (λ files. work.texts_for files (to_run name.now workers plans counts)) (F.shows feed.old) (F.shows feed.new) result }
+{
+    let loaded = load(alloc, feed, name)?;
+    let texts = run_texts(alloc, &loaded, workers, plans, counts)?;
+    Ok(texts)
+}
+
+// `plan PROGRAM`.
+fn plan<F: Feed>(
+    alloc: Global,
+    feed: &mut F,
+    name: &[u8],
+    workers: u32,
+    plans: u32,
+) -> Result<Texts, Refusal>
+    requires workers { (1 ≤ workers) × (workers ≤ worker_limit) }
+    requires plans { (1 ≤ plans) × (plans ≤ entry_limit) }
+    ensures { Comes (λ files. work.texts_for files (to_plan name.now workers plans)) (F.shows feed.old) (F.shows feed.new) result }
+{
+    let loaded = load(alloc, feed, name)?;
+    let texts = plan_texts(alloc, &loaded, workers, plans)?;
+    Ok(texts)
+}
+
+// `cert PROGRAM`.
+fn cert<F: Feed>(
+    alloc: Global,
+    feed: &mut F,
+    name: &[u8],
+    workers: u32,
+    plans: u32,
+) -> Result<Texts, Refusal>
+    requires workers { (1 ≤ workers) × (workers ≤ worker_limit) }
+    requires plans { (1 ≤ plans) × (plans ≤ entry_limit) }
+    ensures { Comes (λ files. work.texts_for files (to_certify name.now workers plans)) (F.shows feed.old) (F.shows feed.new) result }
+{
+    let loaded = load(alloc, feed, name)?;
+    let texts = certificate_texts(alloc, &loaded, workers, plans)?;
+    Ok(texts)
 }
 
 // `sets PROGRAM`.
-fn sets<F: Feed>(alloc: Global, feed: &mut F, name: &[u8]) -> Result<Bytes, Refusal>
-    ensures { Comes (λ files. work.text_for files (to_tell_sets name.now)) (F.shows feed.old) (F.shows feed.new) result }
+fn sets<F: Feed>(alloc: Global, feed: &mut F, name: &[u8]) -> Result<Texts, Refusal>
+    ensures { Comes (λ files. work.texts_for files (to_tell_sets name.now)) (F.shows feed.old) (F.shows feed.new) result }
 {
     let program = load_program(alloc, feed, name)?;
     let text = sets_text(alloc, &program)?;
-    Ok(text)
+    Ok(Texts::out_alone(text))
 }
 
 fn load_certificate<F: Feed>(
@@ -160,22 +209,38 @@ fn load_certificate<F: Feed>(
 }
 
 // `check PROGRAM CERT`.
-fn check<F: Feed>(alloc: Global, feed: &mut F, name: &[u8], other: &[u8]) -> Result<Bytes, Refusal>
-    ensures { Comes (λ files. work.text_for files (to_check name.now other.now)) (F.shows feed.old) (F.shows feed.new) result }
+fn check<F: Feed>(alloc: Global, feed: &mut F, name: &[u8], other: &[u8]) -> Result<Texts, Refusal>
+    ensures { Comes (λ files. work.texts_for files (to_check name.now other.now)) (F.shows feed.old) (F.shows feed.new) result }
 {
     let program = load_program(alloc, feed, name)?;
     let certificate = load_certificate(alloc, feed, other)?;
     let _plan = rechecked(alloc, &program, &certificate)?;
     let text = Bytes::from_slice(alloc, b"accepted\n")?;
-    Ok(text)
+    Ok(Texts::out_alone(text))
 }
 
-// The text of a command.
-fn text_for<F: Feed>(alloc: Global, command: Command, feed: &mut F) -> Result<Bytes, Refusal>
-    ensures { Comes (λ files. work.text_for files (asked command.entry)) (F.shows feed.old) (F.shows feed.new) result }
+// The texts of a command.
+fn texts_for<F: Feed>(alloc: Global, command: Command, feed: &mut F) -> Result<Texts, Refusal>
+    requires { IsInRange (asked command) }
+    ensures { Comes (λ files. work.texts_for files (asked command.entry)) (F.shows feed.old) (F.shows feed.new) result }
 {
     match command {
-        Command::Run { program } => run(alloc, feed, program.as_bytes()),
+        Command::Run {
+            program,
+            workers,
+            plans,
+            counts,
+        } => run(alloc, feed, program.as_bytes(), workers, plans, counts),
+        Command::Plan {
+            program,
+            workers,
+            plans,
+        } => plan(alloc, feed, program.as_bytes(), workers, plans),
+        Command::Cert {
+            program,
+            workers,
+            plans,
+        } => cert(alloc, feed, program.as_bytes(), workers, plans),
         Command::Sets { program } => sets(alloc, feed, program.as_bytes()),
         Command::Check {
             program,
@@ -184,24 +249,26 @@ fn text_for<F: Feed>(alloc: Global, command: Command, feed: &mut F) -> Result<By
     }
 }
 
-// From the words to the text, one stage after the other.
-fn text_of<F: Feed>(alloc: Global, words: &[&str], feed: &mut F) -> Result<Bytes, Refusal>
-    ensures usage { AreRefused (texts_of words.now) → result ≡ Err Refusal.Usage }
+// From the words to the texts, one stage after the other.
+fn answered<F: Feed>(alloc: Global, words: &[&str], feed: &mut F) -> Result<Texts, Refusal>
+    ensures usage { AreRefused (texts_of words.now) → (result ≡ Err Refusal.Usage) ⊎ (result ≡ Err Refusal.OutOfMemory) }
     ensures usage_untouched { AreRefused (texts_of words.now) → feed.new ≡ feed.old }
     ensures comes { Comes (work.work (texts_of words.now)) (F.shows feed.old) (F.shows feed.new) result }
 {
-    match read_words(words) {
-        Some(command) => text_for(alloc, command, feed),
-        None => Err(Refusal::Usage),
+    match read_words(alloc, words) {
+        Ok(command) => texts_for(alloc, command, feed),
+        Err(Refused::Usage) => Err(Refusal::Usage),
+        Err(Refused::OutOfMemory) => Err(Refusal::OutOfMemory),
     }
 }
 
-/// The text that the words ask for, or the first refusal that stands.
-pub fn answer<F: Feed>(alloc: Global, words: &[&str], feed: &mut F) -> Result<Bytes, Refusal>
-    ensures usage { AreRefused (texts_of words.now) → result ≡ Err Refusal.Usage }
+/// The texts that the words ask for, or the first refusal that stands.
+pub fn answer<F: Feed>(alloc: Global, words: &[&str], feed: &mut F) -> Result<Texts, Refusal>
+    ensures usage { AreRefused (texts_of words.now) → (result ≡ Err Refusal.Usage) ⊎ (result ≡ Err Refusal.OutOfMemory) }
     ensures usage_untouched { AreRefused (texts_of words.now) → feed.new ≡ feed.old }
-    ensures text { IfOk result (λ text. ComesTo (work.work (texts_of words.now) (F.shows feed.old).files) (F.shows feed.old) (F.shows feed.new) (gives text)) }
+    ensures texts { IfOk result (λ texts. ComesTo (work.work (texts_of words.now) (F.shows feed.old).files) (F.shows feed.old) (F.shows feed.new) (gives texts)) }
+    ensures counts { IfOk result (λ texts. (text : List ℕ) → texts.counts ≡ Some text → AskForCounts (texts_of words.now)) }
     ensures refused { IfErr result (IsRefused (texts_of words.now) (F.shows feed.old) (F.shows feed.new)) }
 {
-    text_of(alloc, words, feed)
+    answered(alloc, words, feed)
 }

@@ -1,6 +1,6 @@
 //! Why a call gives no answer, and what is told of it.
 
-ghost use Rattle.std.specs.Prelude.{◌≡◌, OnOk, OnErr, IfOk};
+ghost use Rattle.std.specs.Prelude.{◌≡◌, ◌≤◌, OnOk, OnErr, IfOk};
 ghost use Rattle.pact_outside.specs.Outside.{HasCause};
 ghost use Rattle.pact_top.specs.Transfer.{Gains, GainsFront, Tells};
 ghost use Rattle.pact_top.specs.Refusal.{status_of, refusal_line};
@@ -46,7 +46,8 @@ impl Refusal {
 
 // A line that can't be written changes no status.
 fn tell_line<E: Sink>(err: &mut E, line: &[u8])
-    ensures { Tells (E.taken err.old) (E.taken err.new) (E.faults err.old) (E.faults err.new) line.now }
+    ensures later { E.faults err.old ≤ E.faults err.new }
+    ensures told { Tells (E.taken err.old) (E.taken err.new) (E.faults err.old) (E.faults err.new) line.now }
 {
     match write_all(err, line) {
         Ok(()) | Err(Failed) => {}
@@ -64,7 +65,8 @@ fn write_unreadable<E: Sink>(err: &mut E, name: &[u8]) -> Result<(), Failed>
 }
 
 fn tell_unreadable<E: Sink>(err: &mut E, name: &[u8])
-    ensures { Tells (E.taken err.old) (E.taken err.new) (E.faults err.old) (E.faults err.new) (line_of 3 name.now) }
+    ensures later { E.faults err.old ≤ E.faults err.new }
+    ensures told { Tells (E.taken err.old) (E.taken err.new) (E.faults err.old) (E.faults err.new) (line_of 3 name.now) }
 {
     match write_unreadable(err, name) {
         Ok(()) | Err(Failed) => {}
@@ -73,7 +75,8 @@ fn tell_unreadable<E: Sink>(err: &mut E, name: &[u8])
 
 /// Tells why: in one line, and of a certificate's found sets and plan in more.
 pub fn tell<E: Sink>(err: &mut E, refusal: &Refusal)
-    ensures { Tells (E.taken err.old) (E.taken err.new) (E.faults err.old) (E.faults err.new) (refusal_line refusal.now) }
+    ensures later { E.faults err.old ≤ E.faults err.new }
+    ensures told { Tells (E.taken err.old) (E.taken err.new) (E.faults err.old) (E.faults err.new) (refusal_line refusal.now) }
 {
     match refusal {
         Refusal::OutOfMemory => tell_line(err, b"out of memory\n"),

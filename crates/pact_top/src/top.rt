@@ -1,40 +1,76 @@
 //! The call that the program makes.
 
-ghost use Rattle.std.specs.Prelude.{◌≡◌, ◌≢◌, false};
+ghost use Rattle.std.specs.Prelude.{◌≡◌, ◌≢◌, ◌≤◌, ◌⊎◌, ℕ, List, [], Some, false};
 ghost use Rattle.pact_outside.specs.Outside.{Rose};
-ghost use Rattle.pact_top.specs.Headline.{Answered, Complete, MissingFile, NoOther, NothingWritten, Refused, RefusedAlways, Told, UnreadName, UnreadOpened, UnwrittenPrefix, Usage};
+ghost use Rattle.pact_top.specs.Headline.{Answered, AnsweredQuietly, AreCountsCut, Complete, IsTextCut, MissingFile, NoOther, NothingWritten, Refused, RefusedAlways, Told, UnreadName, UnreadOpened, Unwritten, UnwrittenCause, Usage, UsageAlways};
 ghost use Rattle.pact_top.specs.Refusal.{status_of, refusal_line};
-ghost use Rattle.pact_top.specs.Transfer.{Tells};
-ghost use Rattle.pact_words.specs.Words.{texts_of};
+ghost use Rattle.pact_top.specs.RefusalLines.{line_of};
+ghost use Rattle.pact_top.specs.Transfer.{Gains, GainsCounts, Tells, TellsBehind};
+ghost use Rattle.pact_words.specs.Words.{AreRefused, texts_of};
 
 use crate::answering::answer;
 use crate::refusals::{Refusal, tell};
+use crate::texts::Texts;
 use crate::transfer::write_all;
 use pact_outside::{Failed, Feed, Sink};
+use pact_record::Bytes;
 use std::alloc::Global;
 
 fn refuse<E: Sink>(err: &mut E, refusal: &Refusal) -> u8
     ensures status { result ≡ status_of refusal.now }
     ensures told { Tells (E.taken err.old) (E.taken err.new) (E.faults err.old) (E.faults err.new) (refusal_line refusal.now) }
+    ensures later { E.faults err.old ≤ E.faults err.new }
 {
     tell(err, refusal);
     refusal.status()
 }
 
+// Tells the counts where there are any.
+fn write_counts<E: Sink>(err: &mut E, counts: &Option<Bytes>) -> u8
+    ensures status { (result ≡ 0) ⊎ (result ≡ 4) }
+    ensures whole { result ≡ 0 → GainsCounts (E.taken err.old) (E.taken err.new) counts.now }
+    ensures rose { result ≡ 4 → Rose (E.faults err.old) (E.faults err.new) }
+    ensures cut { result ≡ 4 → (text : List ℕ) × (counts.now ≡ Some text) × TellsBehind (E.taken err.old) (E.taken err.new) (E.faults err.old) (E.faults err.new) text (line_of 4 []) }
+{
+    match counts {
+        None => 0,
+        Some(text) => match write_all(err, text.bytes()) {
+            Ok(()) => 0,
+            Err(Failed) => refuse(err, &Refusal::CannotWrite),
+        },
+    }
+}
+
+// Writes the text, and then tells the counts.
+fn write_texts<O: Sink, E: Sink>(out: &mut O, err: &mut E, texts: &Texts) -> u8
+    ensures status { (result ≡ 0) ⊎ (result ≡ 4) }
+    ensures whole { result ≡ 0 → Gains (O.taken out.old) (O.taken out.new) texts.now.out × GainsCounts (E.taken err.old) (E.taken err.new) texts.now.counts }
+    ensures cut { result ≡ 4 → IsTextCut texts.now (O.taken out.old) (O.taken out.new) (E.taken err.old) (E.taken err.new) (O.faults out.old) (O.faults out.new) (E.faults err.old) (E.faults err.new)
+        ⊎ AreCountsCut texts.now (O.taken out.old) (O.taken out.new) (E.taken err.old) (E.taken err.new) (E.faults err.old) (E.faults err.new) }
+{
+    match write_all(out, texts.out.bytes()) {
+        Ok(()) => write_counts(err, &texts.counts),
+        Err(Failed) => refuse(err, &Refusal::CannotWrite),
+    }
+}
+
 /// Does what the command line's words ask for, and answers the exit status.
 ///
 /// `words` are without the program's own name. Of `run PROGRAM`, the program's file and then those
-/// of its sources are opened and read, in text order, and the sorted rows are written on `out`. Of
-/// `sets PROGRAM`, its file alone is read, and what the analysis finds of each operator is written.
-/// Of `check PROGRAM CERT`, the program's file is read and then the certificate's, and `accepted` is
-/// written where each step of it is found again. Nothing is written before all of the text is made.
-/// What goes wrong is told on `err` in one line; of a certificate with other sets or another plan
-/// the lines behind it have both. `specs/Headline.antt` has the clauses, with what each says.
+/// of its sources are opened and read, in text order, the plan that is expected to cost least is
+/// chosen and evaluated, and the sorted rows are written on `out`; with `--counts`, how many records
+/// each operator had is told on `err` behind that. Of `plan PROGRAM` the chosen plan is written, and
+/// of `cert PROGRAM` its certificate. Of `sets PROGRAM`, its file alone is read, and what the
+/// analysis finds of each operator is written. Of `check PROGRAM CERT`, the program's file is read
+/// and then the certificate's, and `accepted` is written where each step of it is found again.
+/// Nothing is written before all of the texts are made. What goes wrong is told on `err` in one
+/// line; of a certificate with other sets or another plan the lines behind it have both.
+/// `specs/Headline.antt` has the clauses, with what each says.
 ///
 /// The statuses: 0 the text was written whole, 1 out of memory, 2 the words are no command, 3 a
-/// file can't be read, 4 `out` failed, 5 the program's text is faulty, 6 a function or a declaration
-/// of it breaks a rule, 7 a row of a source is bad, 8 a file is longer than its limit, 9 the
-/// certificate is refused.
+/// file can't be read, 4 `out` failed, or `err` in telling the counts, 5 the program's text is
+/// faulty, 6 a function or a declaration of it breaks a rule, 7 a row of a source is bad, 8 a file
+/// is longer than its limit, 9 the certificate is refused.
 pub fn pact_main<F: Feed, O: Sink, E: Sink>(
     alloc: Global,
     words: &[&str],
@@ -42,12 +78,13 @@ pub fn pact_main<F: Feed, O: Sink, E: Sink>(
     out: &mut O,
     err: &mut E,
 ) -> u8
-    ensures answered { Answered (texts_of words.now) (F.shows feed.old) (F.shows feed.new) (O.taken out.old) (O.taken out.new) result }
-    ensures answered_quietly { result ≡ 0 → E.taken err.new ≡ E.taken err.old }
-    ensures complete { Complete (texts_of words.now) (F.shows feed.old) (F.shows feed.new) (O.faults out.old) (O.faults out.new) result }
+    ensures answered { Answered (texts_of words.now) (F.shows feed.old) (F.shows feed.new) (O.taken out.old) (O.taken out.new) (E.taken err.old) (E.taken err.new) result }
+    ensures answered_quietly { AnsweredQuietly (texts_of words.now) (E.taken err.old) (E.taken err.new) result }
+    ensures complete { Complete (texts_of words.now) (F.shows feed.old) (F.shows feed.new) (O.faults out.old) (O.faults out.new) (E.faults err.old) (E.faults err.new) result }
 
     ensures usage { Usage (texts_of words.now) result }
-    ensures usage_untouched { result ≡ 2 → feed.new ≡ feed.old }
+    ensures usage_always { UsageAlways (texts_of words.now) result }
+    ensures usage_untouched { AreRefused (texts_of words.now) → feed.new ≡ feed.old }
 
     ensures unread { result ≡ 3 → Rose (F.shows feed.old).faults (F.shows feed.new).faults }
     ensures unread_closed { result ≡ 3 → (F.shows feed.new).is_open ≡ false }
@@ -55,8 +92,8 @@ pub fn pact_main<F: Feed, O: Sink, E: Sink>(
     ensures unread_opened { UnreadOpened (texts_of words.now) (F.shows feed.old) (F.shows feed.new) result }
     ensures missing_file { MissingFile (texts_of words.now) (F.shows feed.old) result }
 
-    ensures unwritten { result ≡ 4 → Rose (O.faults out.old) (O.faults out.new) }
-    ensures unwritten_prefix { UnwrittenPrefix (texts_of words.now) (F.shows feed.old) (F.shows feed.new) (O.taken out.old) (O.taken out.new) result }
+    ensures unwritten { Unwritten (texts_of words.now) (F.shows feed.old) (F.shows feed.new) (O.taken out.old) (O.taken out.new) (E.taken err.old) (E.taken err.new) (O.faults out.old) (O.faults out.new) (E.faults err.old) (E.faults err.new) result }
+    ensures unwritten_cause { UnwrittenCause (texts_of words.now) (O.faults out.old) (O.faults out.new) (E.faults err.old) (E.faults err.new) result }
 
     ensures refused { Refused (texts_of words.now) (F.shows feed.old) (F.shows feed.new) (E.taken err.old) (E.taken err.new) (E.faults err.old) (E.faults err.new) result }
     ensures refused_always { RefusedAlways (texts_of words.now) (F.shows feed.old) result }
@@ -67,10 +104,7 @@ pub fn pact_main<F: Feed, O: Sink, E: Sink>(
     ensures no_other { NoOther result }
 {
     match answer(alloc, words, feed) {
-        Ok(text) => match write_all(out, text.bytes()) {
-            Ok(()) => 0,
-            Err(Failed) => refuse(err, &Refusal::CannotWrite),
-        },
+        Ok(texts) => write_texts(out, err, &texts),
         Err(refusal) => refuse(err, &refusal),
     }
 }

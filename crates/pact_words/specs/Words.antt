@@ -1,41 +1,104 @@
 -- What the words of the command line ask for.
-use Rattle.std.specs.Prelude.{◌≡◌, ℕ, List, [], ◌∷◌, map, Option, Some, None, cond, codes}
+use Rattle.std.specs.Prelude.{◌≡◌, ◌≢◌, ◌≤◌, ℕ, Bool, List, [], ◌∷◌, map, option_map, Option, Some, None, Result, Ok, Err, cond, codes}
+use Rattle.std.specs.Borrow.{Bor}
 use Rattle.std.specs.Str.{bytes_eq}
-use Rattle.std.proofs.Common.{Bor}
+use Rattle.clap.specs.Words.{Row, fault_of, first_of, matches_of}
 use Rattle.pact_words.specs.declared.commands.Command.{Command}
 use Rattle.pact_words.specs.declared.commands.Command.TheVariants as commands
+use Rattle.pact_words.specs.declared.commands.Kind.{Kind}
+use Rattle.pact_words.specs.declared.commands.Kind.TheVariants.{Run, Plan, Cert, Check, Sets}
+use Rattle.pact_words.specs.declared.commands.Refused.{Refused}
+use Rattle.pact_words.specs.declared.commands.Refused.TheVariants.{Usage, OutOfMemory}
+use Rattle.pact_words.specs.Definitions.{app_for}
+use Rattle.pact_words.specs.FoundValues.{all_four, all_three, all_two, flag_of, number_of}
 
 -- the texts that words point to
 abbrev pub texts_of : List (Bor (List ℕ)) → List (List ℕ)
 texts_of words = map (λ word. word.now) words
 
+-- ---- commands
+
 -- a command, with the texts that it was given
 pub data Asked : Type 0 where
   -- `run PROGRAM`
-  to_run : (program : List ℕ) → Asked
-  -- `sets PROGRAM`
-  to_tell_sets : (program : List ℕ) → Asked
+  to_run : (program : List ℕ) → (workers plans : ℕ) → (counts : Bool) → Asked
+  -- `plan PROGRAM`
+  to_plan : (program : List ℕ) → (workers plans : ℕ) → Asked
+  -- `cert PROGRAM`
+  to_certify : (program : List ℕ) → (workers plans : ℕ) → Asked
   -- `check PROGRAM CERT`
   to_check : (program certificate : List ℕ) → Asked
+  -- `sets PROGRAM`
+  to_tell_sets : (program : List ℕ) → Asked
 
 abbrev pub asked : Command → Asked
-asked (commands.Run program) = to_run program.now
-asked (commands.Sets program) = to_tell_sets program.now
+asked (commands.Run program workers plans counts) = to_run program.now workers plans counts
+asked (commands.Plan program workers plans) = to_plan program.now workers plans
+asked (commands.Cert program workers plans) = to_certify program.now workers plans
 asked (commands.Check program certificate) = to_check program.now certificate.now
+asked (commands.Sets program) = to_tell_sets program.now
 
--- the command that the words ask for, where they ask for one
-abbrev pub asked_of : List (List ℕ) → Option Asked
-asked_of (word ∷ program ∷ []) = cond (bytes_eq word (codes "run")) (Some (to_run program)) (cond (bytes_eq word (codes "sets")) (Some (to_tell_sets program)) None)
-asked_of (word ∷ program ∷ certificate ∷ []) = cond (bytes_eq word (codes "check")) (Some (to_check program certificate)) None
-asked_of words = None
+pub record AreInRange (workers plans : ℕ) : Type 0 where
+  pub least_workers : 1 ≤ workers
+  pub most_workers : workers ≤ 16
+  pub least_plans : 1 ≤ plans
+  pub most_plans : plans ≤ 1000
 
-abbrev pub IsAsked : List (List ℕ) → Asked → Type 0
-IsAsked words command = asked_of words ≡ Some command
+-- the numbers that are asked for lie in their ranges
+abbrev pub IsInRange : Asked → Type 0
+IsInRange (to_run program workers plans counts) = AreInRange workers plans
+IsInRange (to_plan program workers plans) = AreInRange workers plans
+IsInRange (to_certify program workers plans) = AreInRange workers plans
+IsInRange (to_check program certificate) = Unit {0}
+IsInRange (to_tell_sets program) = Unit {0}
 
+-- ---- words
+
+abbrev pub name_of : Kind → List ℕ
+name_of Run = codes "run"
+name_of Plan = codes "plan"
+name_of Cert = codes "cert"
+name_of Check = codes "check"
+name_of Sets = codes "sets"
+
+abbrev pub named : List ℕ → Kind → Option Kind → Option Kind
+named word kind other = cond (bytes_eq word (name_of kind)) (Some kind) other
+
+-- the command of that name
+abbrev pub kind_named : List ℕ → Option Kind
+kind_named word = named word Run (named word Plan (named word Cert (named word Check (named word Sets None))))
+
+-- the command that the first word names
+abbrev pub kind_in : List (List ℕ) → Option Kind
+kind_in [] = None
+kind_in (word ∷ words) = kind_named word
+
+-- what is asked for by the values that clap finds
+abbrev pub asked_of : Kind → List Row → Option Asked
+asked_of Run rows = all_four to_run (first_of (codes "program") rows) (number_of (codes "workers") rows) (number_of (codes "plans") rows) (flag_of (codes "counts") rows)
+asked_of Plan rows = all_three to_plan (first_of (codes "program") rows) (number_of (codes "workers") rows) (number_of (codes "plans") rows)
+asked_of Cert rows = all_three to_certify (first_of (codes "program") rows) (number_of (codes "workers") rows) (number_of (codes "plans") rows)
+asked_of Check rows = all_two to_check (first_of (codes "program") rows) (first_of (codes "certificate") rows)
+asked_of Sets rows = option_map to_tell_sets (first_of (codes "program") rows)
+
+-- The first word is a command, clap takes the words by that command's definition, and these are the values that it finds. To clap the first
+-- word is the name under which a program is called, and the others are its arguments.
+pub record IsAsked (words : List (List ℕ)) (command : Asked) : Type 0 where
+  pub kind : Kind
+  pub named : kind_in words ≡ Some kind
+  pub taken : fault_of (app_for kind) words ≡ []
+  pub values : asked_of kind (matches_of (app_for kind) words) ≡ Some command
+
+abbrev pub AreRefusedBy : Option Kind → List (List ℕ) → Type 0
+AreRefusedBy None words = Unit {0}
+AreRefusedBy (Some kind) words = fault_of (app_for kind) words ≢ []
+
+-- there is no word, the first is no command, or clap refuses the words by that command's definition
 abbrev pub AreRefused : List (List ℕ) → Type 0
-AreRefused words = asked_of words ≡ None
+AreRefused words = AreRefusedBy (kind_in words) words
 
--- what is read from words says what they ask for
-abbrev pub Answers : List (List ℕ) → Option Command → Type 0
-Answers words (Some command) = IsAsked words (asked command)
-Answers words None = AreRefused words
+-- What is read from words says what they ask for, or that they are refused. Want of memory says nothing.
+abbrev pub Answers : List (List ℕ) → Result Command Refused → Type 0
+Answers words (Ok command) = IsAsked words (asked command)
+Answers words (Err Usage) = AreRefused words
+Answers words (Err OutOfMemory) = Unit {0}

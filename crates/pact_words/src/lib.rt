@@ -1,9 +1,20 @@
-//! The words of the command line: which command they ask for.
+//! The words of the command line: which command they ask for, and with which options.
 //!
-//! Callers speak of `IsAsked` and `AreRefused`, and of two laws on them: one command is asked for at
-//! most, and none is where the words are refused. How words are read stands here alone.
+//! Each command is a definition of the library clap, which reads its words. Callers speak of `IsAsked` and `AreRefused`
+//! of `specs/Words`, and of four laws on them: one command is asked for at most (`OneAsked`), none is where the words are
+//! refused, words ask for one or are refused (`AskedOrRefused`), and the numbers that are asked for lie in their ranges
+//! (`NumbersInRange`). How words are read stands here alone.
+//!
+//! An option is a rule in `specs/Arguments` with a function of `arguments`, and a line in the definition and in the
+//! reader of each command that takes it.
 #![tactic(auto)]
 
+mod arguments;
 pub mod commands;
+mod definitions;
+mod parsing;
+mod reading;
+mod values;
 
-pub use commands::{Command, read_words};
+pub use commands::{Command, Refused};
+pub use reading::read_words;

@@ -5,3 +5,7 @@ pub mod ReachedPlans
 pub mod LeadingSteps
 pub mod OneListing
 pub mod KeptFindings
+pub mod WeighedLayouts
+pub mod WeighedRows
+pub mod HeldTrees
+pub mod PlansOfEntries

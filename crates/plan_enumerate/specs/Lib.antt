@@ -4,3 +4,7 @@ pub mod EntryTable
 pub mod ListedCode
 pub mod Walks
 pub mod FindingTable
+pub mod Leasts
+pub mod Choices
+pub mod Weights
+pub mod RowsOfPlans

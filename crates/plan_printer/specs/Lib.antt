@@ -1,2 +1,4 @@
 pub mod FoundText
 pub mod SetsText
+pub mod PlanText
+pub mod CountsText

@@ -1,11 +1,13 @@
 //! Tests of programs and their plans, over what the libraries make public: what a program has, what its plans put out, which operators may change
-//! places, which plans are listed, and their certificates.
+//! places, which plans are listed, what they cost, and their certificates.
 //!
 //! A crate with tests is proved twice, with them and without, so the tests stand apart.
 #![tactic(auto)]
 
 #[cfg(test)]
 mod certificate_tests;
+#[cfg(test)]
+mod cost_tests;
 #[cfg(test)]
 mod evaluation_tests;
 #[cfg(test)]

@@ -9,6 +9,7 @@ pub mod WritableTexts
 pub mod StatedSteps
 pub mod WrittenSteps
 pub mod ToldLines
+pub mod LineEnds
 pub mod Written
 pub mod OneShape
 pub mod RisingSets

@@ -38,7 +38,7 @@ all_ascii-IsAscii (b ∷ bytes) h =
     let parts = both_true (is_ascii b) (all_bytes is_ascii bytes) h in
     ascii_cons b bytes (ascii-below b parts.0) (all_ascii-IsAscii bytes parts.1)
 
-text-IsUtf8 : (bytes : List ℕ) → all_bytes is_ascii bytes ≡ true → IsUtf8 bytes
+pub text-IsUtf8 : (bytes : List ℕ) → all_bytes is_ascii bytes ≡ true → IsUtf8 bytes
 text-IsUtf8 bytes h = IsUtf8-from_ascii bytes (all_ascii-IsAscii bytes h)
 
 -- ---- words of rules

@@ -1,6 +1,6 @@
 //! From a certificate to its text.
 
-ghost use Rattle.std.specs.Prelude.{◌≡◌, IfOk, map};
+ghost use Rattle.std.specs.Prelude.{◌≡◌, ◌++◌, IfOk, codes, map};
 ghost use Rattle.std.specs.List.{AllByRecursion};
 ghost use Rattle.serde_json.specs.Data.{array};
 ghost use Rattle.serde_json.specs.View.{items_of, view};
@@ -82,4 +82,17 @@ pub fn write_certificate(alloc: Global, c: &Certificate) -> Result<Bytes, OutOfM
 {
     let value = certificate_value(alloc, c)?;
     Ok(Bytes::from_vec(value.to_vec(alloc)?))
+}
+
+/// A certificate's text and a line end: one line, which is read as the certificate alone is. What may be written is as for `write_certificate`. Want of
+/// memory is the only error.
+pub fn certificate_line(alloc: Global, c: &Certificate) -> Result<Bytes, OutOfMemory>
+    requires stated { MayBeStated c.now }
+    ensures text { IfOk result (λ text. text ≡ compact_text (certificate_data c.now) ++ codes "\n") }
+    ensures read_back { IfOk result (λ text. IsCertificateText text c.now) }
+    ensures only { IfOk result (λ text. (other : CertificateData) → IsCertificateText text other → other ≡ c.now) }
+{
+    let mut text = write_certificate(alloc, c)?;
+    text.extend_from_slice(b"\n")?;
+    Ok(text)
 }

@@ -1,29 +1,104 @@
-use pact_words::{Command, read_words};
-use std::test::Fail;
+use pact_words::{Command, Refused, read_words};
+use std::process::Abort;
+
+fn run(workers: u32, plans: u32, counts: bool) -> Command<'static> {
+    Command::Run {
+        program: "p.pact",
+        workers,
+        plans,
+        counts,
+    }
+}
+
+fn asks(rt: &(impl Abort + AllocGlobal), words: &[&str], command: Command) {
+    let met = read_words(rt.alloc(), &*words) == Ok(command);
+    assert!(rt; met, "{words:?} don't ask for {command:?}");
+}
+
+fn refuses(rt: &(impl Abort + AllocGlobal), words: &[&str]) {
+    let met = read_words(rt.alloc(), &*words) == Err(Refused::Usage);
+    assert!(rt; met, "{words:?} aren't refused");
+}
 
 #[test]
-fn words_ask_for_commands(rt: HostRuntime) -> Result<(), Fail> {
-    let program = Some(Command::Run { program: "p.pact" });
-    assert_eq!(rt; read_words(&["run", "p.pact"]), program);
-    assert_eq!(rt;
-        read_words(&["run", ""]),
-        Some(Command::Run { program: "" })
+fn words_ask_for_run(rt: HostRuntime) {
+    asks(&rt, &["run", "p.pact"], run(4, 256, false));
+    asks(&rt, &["run", "p.pact", "--counts"], run(4, 256, true));
+    asks(&rt, &["run", "--counts", "p.pact"], run(4, 256, true));
+    asks(
+        &rt,
+        &["run", "--plans", "7", "p.pact", "--workers", "2"],
+        run(2, 7, false),
     );
-    assert_eq!(rt; read_words(&[]), None);
-    assert_eq!(rt; read_words(&["run"]), None);
-    assert_eq!(rt; read_words(&["Run", "p.pact"]), None);
-    assert_eq!(rt; read_words(&["p.pact", "run"]), None);
-    assert_eq!(rt; read_words(&["run", "p.pact", "d.csv"]), None);
-    let sets = Some(Command::Sets { program: "p.pact" });
-    assert_eq!(rt; read_words(&["sets", "p.pact"]), sets);
-    assert_eq!(rt; read_words(&["sets"]), None);
-    assert_eq!(rt; read_words(&["sets", "p.pact", "d.csv"]), None);
-    let check = Some(Command::Check {
+    asks(
+        &rt,
+        &["run", "p.pact", "--workers", "1", "--plans", "1"],
+        run(1, 1, false),
+    );
+    asks(
+        &rt,
+        &["run", "p.pact", "--workers=16", "--plans=1000"],
+        run(16, 1000, false),
+    );
+    asks(
+        &rt,
+        &["run", "p.pact", "--workers", "+3", "--plans=007"],
+        run(3, 7, false),
+    );
+    asks(&rt, &["run", "--", "p.pact"], run(4, 256, false));
+}
+
+#[test]
+fn words_ask_for_other_commands(rt: HostRuntime) {
+    let plan = Command::Plan {
+        program: "p.pact",
+        workers: 4,
+        plans: 256,
+    };
+    asks(&rt, &["plan", "p.pact"], plan);
+    let few = Command::Plan {
+        program: "",
+        workers: 1,
+        plans: 1000,
+    };
+    asks(&rt, &["plan", "", "--plans=1000", "--workers=1"], few);
+    let cert = Command::Cert {
+        program: "p.pact",
+        workers: 4,
+        plans: 256,
+    };
+    asks(&rt, &["cert", "p.pact"], cert);
+    let many = Command::Cert {
+        program: "--workers",
+        workers: 16,
+        plans: 1,
+    };
+    asks(
+        &rt,
+        &["cert", "--workers=16", "--plans=1", "--", "--workers"],
+        many,
+    );
+    let check = Command::Check {
         program: "p.pact",
         certificate: "c.json",
-    });
-    assert_eq!(rt; read_words(&["check", "p.pact", "c.json"]), check);
-    assert_eq!(rt; read_words(&["check", "p.pact"]), None);
-    assert_eq!(rt; read_words(&["check", "p.pact", "c.json", "d.csv"]), None);
-    Ok(())
+    };
+    asks(&rt, &["check", "p.pact", "c.json"], check);
+    asks(
+        &rt,
+        &["sets", "p.pact"],
+        Command::Sets { program: "p.pact" },
+    );
+    asks(&rt, &["sets", "-"], Command::Sets { program: "-" });
+    asks(&rt, &["sets", "help"], Command::Sets { program: "help" });
+}
+
+// Further words that are refused stand in `examples/check`.
+#[test]
+fn words_are_refused(rt: HostRuntime) {
+    refuses(&rt, &[]);
+    refuses(&rt, &["Run", "p.pact"]);
+    refuses(&rt, &["check", "p.pact"]);
+    refuses(&rt, &["run", "p.pact", "--help"]);
+    refuses(&rt, &["plan", "p.pact", "--counts"]);
+    refuses(&rt, &["run", "p.pact", "--workers", "17"]);
 }

@@ -1,3 +1,4 @@
+use Rattle.std.proofs.Common.{refl}
 use Rattle.std.proofs.lemmas.Result.{err_from_is_err_and}
 use Rattle.pact_top.proofs.Decided.{file-NamesDiffer}
 use Rattle.pact_top.proofs.Running.{check_certificate, check_program, check_refused, check_told}
@@ -25,5 +26,5 @@ returns-in_err-_plan g c =
 pub returns : goal.returns
 returns g c =
     let r = c.in_ok-_plan.ensures in
-    check_told c.args.name.now c.args.other.now c.in_ok-program.program c.in_ok-program.ensures c.in_ok-certificate.certificate c.in_ok-certificate.ensures c.in_ok-_plan._plan c.in_ok-text.text r.decides
-    (record { told = c.in_ok-text.ensures; line = r.line; reached = r.reached; answers = r.answers })
+    check_told c.args.name.now c.args.other.now c.in_ok-program.program c.in_ok-program.ensures c.in_ok-certificate.certificate c.in_ok-certificate.ensures c.in_ok-_plan._plan c.out_alone.result r.decides
+    (rw c.out_alone.ensures (record { told = c.in_ok-text.ensures; line = r.line; reached = r.reached; answers = r.answers }, refl))

@@ -1,3 +1,4 @@
+use Rattle.std.proofs.Common.{refl}
 use Rattle.std.proofs.lemmas.Result.{err_from_is_err_and}
 use Rattle.pact_top.proofs.Running.{sets_program, sets_told}
 use Rattle.pact_top.proofs.answering.sets.Goals as goal
@@ -8,4 +9,4 @@ returns-in_err-program g c =
     rw (p.1, p.2) (sets_program c.args.name.now c.in_err-program.field-0.0 c.in_err-program.ensures)
 
 pub returns : goal.returns
-returns g c = sets_told c.args.name.now c.in_ok-program.program c.in_ok-text.text c.in_ok-program.ensures c.in_ok-text.ensures
+returns g c = sets_told c.args.name.now c.in_ok-program.program c.out_alone.result c.in_ok-program.ensures (rw c.out_alone.ensures (c.in_ok-text.ensures, refl))

@@ -1,0 +1,4 @@
+pub mod NoFunction
+pub mod NumbersApart
+pub mod InnerEdges
+pub mod WholeSums

@@ -1,0 +1,17 @@
+//! How many records the sources and operators of a plan are expected to give, and what a physical plan is expected to cost.
+//!
+//! An estimate goes up from the row counts of the sources, by each operator's kind and by how many records a call of its function emits. A cost
+//! is the sum of what each operator takes and of what each edge ships, in records. All numbers stop at the greatest one of 64
+//! bits. `specs/Estimates` and `specs/Costs` have the rules.
+//!
+//! `estimate_above_one`, `estimate_above_two`, `edge_cost` and `plus` are the single steps, for a caller that goes over many
+//! physical plans of one plan. `ship_below` tells the ship of an edge by the tree that the edge leaves.
+#![tactic(auto)]
+
+mod costs;
+mod edges;
+mod estimates;
+
+pub use costs::{cost, edge_cost};
+pub use edges::ship_below;
+pub use estimates::{estimate, estimate_above_one, estimate_above_two, estimate_of, plus, rows_at};

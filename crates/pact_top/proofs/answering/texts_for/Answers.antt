@@ -1,0 +1,32 @@
+use Rattle.std.proofs.Common.{◌≡◌, sym, ap, ◌∙◌}
+use Rattle.pact_words.specs.Words.{asked, to_certify, to_check, to_plan, to_run, to_tell_sets}
+use Rattle.pact_top.proofs.answering.texts_for.Goals as goal
+
+pub returns-in-Run : goal.returns-in-Run
+returns-in-Run g c =
+    let same : to_run c.as_bytes.result.now c.in-Run.workers c.in-Run.plans c.in-Run.counts ≡ asked c.args.command =
+    ap (λ name. to_run name c.in-Run.workers c.in-Run.plans c.in-Run.counts) c.as_bytes.ensures.value ∙ ap asked (sym c.in-Run.is) in
+    rw (← same) c.run.ensures
+
+pub returns-in-Plan : goal.returns-in-Plan
+returns-in-Plan g c =
+    let same : to_plan c.as_bytes-in-Plan.result.now c.in-Plan.workers c.in-Plan.plans ≡ asked c.args.command =
+    ap (λ name. to_plan name c.in-Plan.workers c.in-Plan.plans) c.as_bytes-in-Plan.ensures.value ∙ ap asked (sym c.in-Plan.is) in
+    rw (← same) c.plan.ensures
+
+pub returns-in-Cert : goal.returns-in-Cert
+returns-in-Cert g c =
+    let same : to_certify c.as_bytes-in-Cert.result.now c.in-Cert.workers c.in-Cert.plans ≡ asked c.args.command =
+    ap (λ name. to_certify name c.in-Cert.workers c.in-Cert.plans) c.as_bytes-in-Cert.ensures.value ∙ ap asked (sym c.in-Cert.is) in
+    rw (← same) c.cert.ensures
+
+pub returns-in-Sets : goal.returns-in-Sets
+returns-in-Sets g c =
+    let same : to_tell_sets c.as_bytes-in-Sets.result.now ≡ asked c.args.command = ap to_tell_sets c.as_bytes-in-Sets.ensures.value ∙ ap asked (sym c.in-Sets.is) in
+    rw (← same) c.sets.ensures
+
+pub returns-in-Check : goal.returns-in-Check
+returns-in-Check g c =
+    let same : to_check c.as_bytes-in-Check.result.now c.as_bytes-in-Check-2.result.now ≡ asked c.args.command =
+    (λ i. to_check (c.as_bytes-in-Check.ensures.value i) (c.as_bytes-in-Check-2.ensures.value i)) ∙ ap asked (sym c.in-Check.is) in
+    rw (← same) c.check.ensures

@@ -1,0 +1,157 @@
+-- What each command writes, from what it has read.
+use Rattle.std.specs.Prelude.{◌≡◌, ◌++◌, ℕ, Bool, true, false, cond, List, [], ◌∷◌, drop, get_or, length, Option, Some, None, Ok, codes}
+use Rattle.std.specs.List.Sorted.{IsPermutation}
+use Rattle.serde_json.specs.Written.{compact_text}
+use Rattle.pact_operators.specs.declared.operators.Op.{Op}
+use Rattle.pact_operators.specs.Allowed.{Allows, Bag, Counted}
+use Rattle.pact_operators.specs.PlanOps.{is_source_kind, plan_ops}
+use Rattle.pact_operators.specs.Programs.{ProgramData}
+use Rattle.plan_trees.specs.Plans.{PlanTree}
+use Rattle.reorder_pair.specs.declared.legality.Condition.{Condition}
+use Rattle.reorder_pair.specs.Legal.{KeepAnswers}
+use Rattle.reorder_pair.specs.Reach.{Reach}
+use Rattle.reorder_pair.specs.ToldExchanges.{Lead}
+use Rattle.ship_strategy.specs.PlanFacts.{facts_of}
+use Rattle.ship_strategy.specs.Layouts.{layout_of}
+use Rattle.plan_enumerate.specs.Choices.{IsChosen}
+use Rattle.plan_enumerate.specs.Listing.{IsAt, IsListing, plans_of}
+use Rattle.plan_enumerate.specs.Steps.{AreStepsTo}
+use Rattle.plan_printer.specs.CountsText.{counts_text}
+use Rattle.plan_printer.specs.PlanText.{plan_text}
+use Rattle.plan_printer.specs.SetsText.{IsSetsText}
+use Rattle.plan_printer.specs.declared.plans.Shown.{Shown}
+use Rattle.swap_certificate.specs.declared.certificates.Certificate.{Certificate}
+use Rattle.swap_certificate.specs.Checks.{Checks, certificate_of}
+use Rattle.swap_certificate.specs.PlanLines.{line_of}
+use Rattle.swap_certificate.specs.Shape.{IsCertificateText, certificate_data}
+use Rattle.pact_top.specs.Lines.{AreLines}
+use Rattle.pact_top.specs.OrderFreePrograms.{AreGroupsFree}
+use Rattle.pact_top.specs.declared.choosing.Choice.{Choice}
+use Rattle.pact_top.specs.declared.loaded.Loaded.{Loaded}
+use Rattle.pact_top.specs.declared.texts.Texts.{Texts}
+
+-- a program, a certificate, and the plan that this one leads to
+pub record Accepted : Type 0 where
+  pub program : ProgramData
+  pub certificate : Certificate
+  pub plan : PlanTree
+
+-- what a command has read, from which its texts are made
+pub data Ready : Type 0 where
+  to_evaluate : (loaded : Loaded) → (workers plans : ℕ) → (counts : Bool) → Ready
+  to_show : (loaded : Loaded) → (workers plans : ℕ) → Ready
+  to_justify : (loaded : Loaded) → (workers plans : ℕ) → Ready
+  to_analyse : (program : ProgramData) → Ready
+  to_accept : (accepted : Accepted) → Ready
+
+-- ---- the choice
+
+-- how many rows each source has, by its number; an operator has none of its own
+abbrev pub row_counts : List Op → List Bag → List ℕ
+row_counts [] inputs = []
+row_counts (op ∷ ops) inputs = cond (is_source_kind op.kind) (length (get_or inputs 0 []) ∷ row_counts ops (drop 1 inputs)) (0 ∷ row_counts ops inputs)
+
+-- Of the plans that legal exchanges lead to, at most so many, one is chosen: the first that costs least, with one of its layouts for so many
+-- workers, on the numbers of rows that the sources have.
+pub record IsChoice (l : Loaded) (workers plans : ℕ) (c : Choice) : Type 0 where
+  pub listing : IsListing l.program plans c.listed
+  pub chosen : IsChosen l.program (plans_of c.listed.entries) (row_counts l.program.ops l.inputs) workers c.chosen
+  pub plan : IsAt c.listed.entries c.chosen.entry c.plan
+
+-- These are the exchanges by which it was listed: one legal exchange after the other leads to it from the plan as written.
+pub record IsDerived (l : Loaded) (workers plans : ℕ) (c : Choice) (steps : List Condition) : Type 0 where
+  pub choice : IsChoice l workers plans c
+  pub steps_to : AreStepsTo c.listed.entries c.chosen.entry steps
+  pub leads : Lead l.program l.program.plan steps c.plan
+
+-- ---- `run`
+
+-- what the program as written allows on the rows of its sources
+abbrev pub AllowsWritten : Loaded → Bag → Type 0
+AllowsWritten l bag = Allows (plan_ops l.program l.inputs) l.program.plan bag
+
+-- counts of a plan as text, where they are asked for
+abbrev pub AreToldCounts : Loaded → PlanTree → List ℕ → Bool → Option (List ℕ) → Type 0
+AreToldCounts l plan counts true told = told ≡ Some (counts_text l.program plan counts)
+AreToldCounts l plan counts false told = told ≡ None
+
+-- The counts of an evaluation of the chosen plan that gives the bag, as text.
+pub record IsCountsText (l : Loaded) (workers plans : ℕ) (bag : Bag) (text : List ℕ) : Type 0 where
+  pub choice : Choice
+  pub is_choice : IsChoice l workers plans choice
+  pub counts : List ℕ
+  pub counted : Counted (plan_ops l.program l.inputs) choice.plan bag counts
+  pub spelled : text ≡ counts_text l.program choice.plan counts
+
+-- They are told where they are asked for, and then of the very bag that is written.
+abbrev pub AreCounts : Loaded → (workers plans : ℕ) → Bag → Bool → Option (List ℕ) → Type 0
+AreCounts l workers plans bag true (Some text) = IsCountsText l workers plans bag text
+AreCounts l workers plans bag true None = ⊥
+AreCounts l workers plans bag false told = told ≡ None
+
+-- The sorted lines of a bag that the program as written allows. Where each function that a Reduce or a CoGroup calls passes the order
+-- test, each such bag is this one, up to order, and its lines are these.
+pub record IsAnswerOf (l : Loaded) (workers plans : ℕ) (counts : Bool) (t : Texts) : Type 0 where
+  pub bag : Bag
+  pub allowed : AllowsWritten l bag
+  pub lines : AreLines l.program.sink bag t.out
+  pub counted : AreCounts l workers plans bag counts t.counts
+  pub only_bag : AreGroupsFree l.program → (other : Bag) → AllowsWritten l other → IsPermutation bag other
+  pub only_text : AreGroupsFree l.program → (other : Bag) (lines : List ℕ) → AllowsWritten l other → AreLines l.program.sink other lines → lines ≡ t.out
+
+-- ---- `plan`
+
+-- what is shown of a choice
+abbrev pub shown : Loaded → (workers : ℕ) → Choice → List Condition → Shown
+shown l workers c steps = record {
+  plans = length c.listed.entries;
+  complete = c.listed.complete;
+  entry = c.chosen.entry;
+  layout = c.chosen.layout;
+  cost = c.chosen.cost;
+  physical = layout_of (facts_of l.program c.plan) l.program.ops c.plan c.chosen.layout workers;
+  counts = row_counts l.program.ops l.inputs;
+  steps = steps;
+}
+
+-- The chosen plan with its layout, what is estimated, and the exchanges that lead to it, as text.
+pub record IsPlanText (l : Loaded) (workers plans : ℕ) (text : List ℕ) : Type 0 where
+  pub choice : Choice
+  pub steps : List Condition
+  pub derived : IsDerived l workers plans choice steps
+  pub spelled : text ≡ plan_text l.program (shown l workers choice steps)
+
+-- ---- `cert`
+
+-- The certificate of the chosen plan and a line feed. It is accepted: read as a certificate, these bytes are that one, and it leads to the
+-- chosen plan.
+pub record IsCertificateLine (l : Loaded) (workers plans : ℕ) (text : List ℕ) : Type 0 where
+  pub choice : Choice
+  pub steps : List Condition
+  pub derived : IsDerived l workers plans choice steps
+  pub spelled : text ≡ compact_text (certificate_data (certificate_of l.program steps choice.plan)) ++ codes "\n"
+  pub read_back : IsCertificateText text (certificate_of l.program steps choice.plan)
+  pub accepted : Checks l.program (certificate_of l.program steps choice.plan) (Ok choice.plan)
+
+-- ---- `check`
+
+-- It is told that the certificate is accepted. Then the plan is the one whose line the certificate states, legal exchanges lead to it from the plan as
+-- written, and over every input of the program both allow the same bags.
+pub record IsAcceptance (a : Accepted) (text : List ℕ) : Type 0 where
+  pub told : text ≡ codes "accepted\n"
+  pub line : a.certificate.plan ≡ line_of a.program.ops a.plan
+  pub reached : Reach a.program a.plan
+  pub answers : KeepAnswers a.program a.program.plan a.plan
+
+-- ---- all commands
+
+-- a text for the output, and no counts
+abbrev pub IsOutAlone : (List ℕ → Type 0) → Texts → Type 0
+IsOutAlone IsText t = IsText t.out × (t.counts ≡ None)
+
+abbrev pub AreTextsOf : Ready → Texts → Type 0
+AreTextsOf (to_evaluate l workers plans counts) t = IsAnswerOf l workers plans counts t
+AreTextsOf (to_show l workers plans) t = IsOutAlone (IsPlanText l workers plans) t
+AreTextsOf (to_justify l workers plans) t = IsOutAlone (IsCertificateLine l workers plans) t
+AreTextsOf (to_analyse p) t = IsOutAlone (IsSetsText p) t
+AreTextsOf (to_accept a) t = IsOutAlone (IsAcceptance a) t

@@ -1,0 +1,227 @@
+//! The plan that is chosen of a program on the rows of its sources, and what is written of it.
+
+ghost use Rattle.std.specs.Prelude.{◌≡◌, ◌≤◌, ◌<◌, ◌+◌, ◌++◌, ◌∷◌, [], ℕ, true, cond, get_or, length, IfOk, OnOk};
+ghost use Rattle.pact_operators.specs.Allowed.{Counted};
+ghost use Rattle.pact_operators.specs.Inputs.{AreInputsOf};
+ghost use Rattle.pact_operators.specs.PlanOps.{is_source_kind, plan_ops};
+ghost use Rattle.pact_operators.specs.Programs.{AreNames, IsPlanOf};
+ghost use Rattle.plan_trees.specs.Physicals.{worker_limit};
+ghost use Rattle.plan_enumerate.specs.Listing.{entry_limit};
+ghost use Rattle.reorder_pair.specs.Legal.{KeepAnswers};
+ghost use Rattle.pact_record.specs.Widths.{AreWide};
+ghost use Rattle.pact_top.specs.CommandTexts as texts;
+ghost use Rattle.pact_top.specs.declared.loaded.Loaded.{Loaded as LoadedData};
+ghost use Rattle.ship_strategy.specs.Layouts.{layout_count};
+ghost use Rattle.pact_top.specs.CommandTexts.{AllowsWritten, AreToldCounts, IsAnswerOf, IsCertificateLine, IsChoice, IsDerived, IsOutAlone, IsPlanText};
+
+use crate::lines::sorted_lines;
+use crate::loaded::{Loaded, is_source};
+use crate::texts::Texts;
+use pact_bag::{Counts, Inputs, Outcome};
+use pact_operators::{Op, Plan, Program};
+use pact_record::{Bytes, OutOfMemory};
+use plan_enumerate::{Chosen, Listed, choose, enumerate, steps_of};
+use plan_printer::{Shown, counts_text, plan_text};
+use reorder_pair::ConditionList;
+use ship_strategy::layout;
+use slow_eval::evaluate;
+use std::alloc::Global;
+use swap_certificate::{certificate, certificate_line};
+
+/// The plans that are listed, which of them is chosen with which layout, and the plan itself.
+#[derive(Drop)]
+pub struct Choice {
+    pub listed: Listed,
+    pub chosen: Chosen,
+    pub plan: Plan,
+}
+
+// How many rows a source or operator has of its own, and the place of the next source. `source` is the place of this one, where it is a source.
+fn own_rows(op: &Op, inputs: &Inputs, source: usize) -> (u64, usize)
+    requires { is_source_kind op.now.kind ≡ true → source < length inputs.now }
+    ensures rows { result.0 ≡ cond (is_source_kind op.now.kind) (length (get_or inputs.now source [])) 0 }
+    ensures next { result.1 ≡ cond (is_source_kind op.now.kind) (source + 1) source }
+{
+    // Its clause bounds the places of sources.
+    let _sources = inputs.len();
+    if is_source(op.kind) {
+        (inputs.at(source).len() as u64, source + 1)
+    } else {
+        (0, source)
+    }
+}
+
+// Puts a number behind the others. Its clause is what a refused push leaves out: only memory refuses it.
+fn push_count(counts: &mut Counts, count: u64) -> Result<(), OutOfMemory>
+    ensures { OnOk result (counts.new ≡ counts.old ++ count ∷ []) }
+{
+    counts.push(count)?;
+    Ok(())
+}
+
+// How many rows each source has.
+fn row_counts(alloc: Global, program: &Program, inputs: &Inputs) -> Result<Counts, OutOfMemory>
+    requires inputs { AreInputsOf program.now inputs.now }
+    ensures { IfOk result (λ counts. counts ≡ texts.row_counts program.now.ops inputs.now) }
+{
+    let mut counts = Counts::new(alloc);
+    let mut source = 0;
+    for op in program.ops() {
+        let (rows, next) = own_rows(op, inputs, source);
+        push_count(&mut counts, rows)?;
+        source = next;
+    }
+    Ok(counts)
+}
+
+/// The first plan that costs least, with its layout, of at most so many listed ones.
+pub fn choose_plan(
+    alloc: Global,
+    loaded: &Loaded,
+    workers: u32,
+    plans: u32,
+) -> Result<Choice, OutOfMemory>
+    requires inputs { AreInputsOf loaded.now.program loaded.now.inputs }
+    requires workers { (1 ≤ workers) × (workers ≤ worker_limit) }
+    requires plans { (1 ≤ plans) × (plans ≤ entry_limit) }
+    ensures choice { IfOk result (IsChoice loaded.now workers plans) }
+    ensures plan { IfOk result (λ c. IsPlanOf loaded.now.program.functions loaded.now.program.ops c.plan) }
+    ensures answers { IfOk result (λ c. KeepAnswers loaded.now.program loaded.now.program.plan c.plan) }
+    ensures entry { IfOk result (λ c. c.chosen.entry < length c.listed.entries) }
+    ensures layout { IfOk result (λ c. c.chosen.layout < layout_count loaded.now.program.ops) }
+{
+    let listed = enumerate(alloc, &loaded.program, plans)?;
+    let counts = row_counts(alloc, &loaded.program, &loaded.inputs)?;
+    let chosen = choose(&loaded.program, &listed, &counts, workers);
+    let plan = listed.entries().at(chosen.entry as usize).plan;
+    Ok(Choice {
+        listed,
+        chosen,
+        plan,
+    })
+}
+
+// What an evaluation of the chosen plan gives: a bag that the plan as written allows too.
+fn evaluated(alloc: Global, loaded: &Loaded, choice: &Choice) -> Result<Outcome, OutOfMemory>
+    requires inputs { AreInputsOf loaded.now.program loaded.now.inputs }
+    requires plan { IsPlanOf loaded.now.program.functions loaded.now.program.ops choice.now.plan }
+    requires answers { KeepAnswers loaded.now.program loaded.now.program.plan choice.now.plan }
+    ensures allowed { IfOk result (λ o. AllowsWritten loaded.now o.rows) }
+    ensures counted { IfOk result (λ o. Counted (plan_ops loaded.now.program loaded.now.inputs) choice.now.plan o.rows o.counts) }
+    ensures widths { IfOk result (λ o. AreWide loaded.now.program.fields o.rows) }
+{
+    evaluate(alloc, &loaded.program, &choice.plan, &loaded.inputs)
+}
+
+// The counts of an evaluation of the chosen plan, where they are asked for.
+fn told_counts(
+    alloc: Global,
+    loaded: &Loaded,
+    choice: &Choice,
+    counts: &Counts,
+    asked: bool,
+) -> Result<Option<Bytes>, OutOfMemory>
+    requires plan { IsPlanOf loaded.now.program.functions loaded.now.program.ops choice.now.plan }
+    ensures { IfOk result (AreToldCounts loaded.now choice.now.plan counts.now asked) }
+{
+    if !asked {
+        return Ok(None);
+    }
+    let text = counts_text(alloc, &loaded.program, &choice.plan, counts)?;
+    Ok(Some(text))
+}
+
+/// The sorted rows of an evaluation of the chosen plan, and its counts where they are asked for.
+pub fn run_texts(
+    alloc: Global,
+    loaded: &Loaded,
+    workers: u32,
+    plans: u32,
+    counts: bool,
+) -> Result<Texts, OutOfMemory>
+    requires inputs { AreInputsOf loaded.now.program loaded.now.inputs }
+    requires workers { (1 ≤ workers) × (workers ≤ worker_limit) }
+    requires plans { (1 ≤ plans) × (plans ≤ entry_limit) }
+    ensures { IfOk result (IsAnswerOf loaded.now workers plans counts) }
+{
+    let choice = choose_plan(alloc, loaded, workers, plans)?;
+    let outcome = evaluated(alloc, loaded, &choice)?;
+    let out = sorted_lines(alloc, &outcome.rows, loaded.program.sink())?;
+    let counts = told_counts(alloc, loaded, &choice, &outcome.counts, counts)?;
+    Ok(Texts { out, counts })
+}
+
+// The exchanges that lead to the chosen plan.
+fn steps_to(alloc: Global, choice: &Choice) -> Result<ConditionList, OutOfMemory>
+    requires { choice.now.chosen.entry < length choice.now.listed.entries }
+    ensures { IfOk result (λ steps. (l : LoadedData) (workers plans : ℕ) → IsChoice l workers plans choice.now → IsDerived l workers plans choice.now steps) }
+{
+    steps_of(alloc, &choice.listed, choice.chosen.entry)
+}
+
+// What is shown of the choice.
+fn shown(
+    alloc: Global,
+    loaded: &Loaded,
+    workers: u32,
+    choice: &Choice,
+    steps: ConditionList,
+) -> Result<Shown, OutOfMemory>
+    requires inputs { AreInputsOf loaded.now.program loaded.now.inputs }
+    requires workers { (1 ≤ workers) × (workers ≤ worker_limit) }
+    requires plan { IsPlanOf loaded.now.program.functions loaded.now.program.ops choice.now.plan }
+    requires layout { choice.now.chosen.layout < layout_count loaded.now.program.ops }
+    ensures { IfOk result (λ s. s ≡ texts.shown loaded.now workers choice.now steps) }
+{
+    let counts = row_counts(alloc, &loaded.program, &loaded.inputs)?;
+    let entries = choice.listed.entries();
+    Ok(Shown {
+        plans: entries.len() as u32,
+        complete: choice.listed.complete(),
+        entry: choice.chosen.entry,
+        layout: choice.chosen.layout,
+        cost: choice.chosen.cost,
+        physical: layout(&loaded.program, &choice.plan, choice.chosen.layout, workers),
+        counts,
+        steps,
+    })
+}
+
+/// The chosen plan with its layout and the exchanges that lead to it.
+pub fn plan_texts(
+    alloc: Global,
+    loaded: &Loaded,
+    workers: u32,
+    plans: u32,
+) -> Result<Texts, OutOfMemory>
+    requires inputs { AreInputsOf loaded.now.program loaded.now.inputs }
+    requires workers { (1 ≤ workers) × (workers ≤ worker_limit) }
+    requires plans { (1 ≤ plans) × (plans ≤ entry_limit) }
+    ensures { IfOk result (IsOutAlone (IsPlanText loaded.now workers plans)) }
+{
+    let choice = choose_plan(alloc, loaded, workers, plans)?;
+    let steps = steps_to(alloc, &choice)?;
+    let shown = shown(alloc, loaded, workers, &choice, steps)?;
+    let out = plan_text(alloc, &loaded.program, &shown)?;
+    Ok(Texts::out_alone(out))
+}
+
+/// The certificate of the exchanges that lead to the chosen plan, and a line feed.
+pub fn certificate_texts(
+    alloc: Global,
+    loaded: &Loaded,
+    workers: u32,
+    plans: u32,
+) -> Result<Texts, OutOfMemory>
+    requires names { AreNames loaded.now.program.ops }
+    requires inputs { AreInputsOf loaded.now.program loaded.now.inputs }
+    requires workers { (1 ≤ workers) × (workers ≤ worker_limit) }
+    requires plans { (1 ≤ plans) × (plans ≤ entry_limit) }
+    ensures { IfOk result (IsOutAlone (IsCertificateLine loaded.now workers plans)) }
+{
+    let choice = choose_plan(alloc, loaded, workers, plans)?;
+    let steps = steps_to(alloc, &choice)?;
+    let certificate = certificate(alloc, &loaded.program, steps.conditions(), &choice.plan)?;
+    let out = certificate_line(alloc, &certificate)?;
+    Ok(Texts::out_alone(out))
+}

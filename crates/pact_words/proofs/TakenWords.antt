@@ -1,0 +1,117 @@
+-- Words that clap takes ask for a command, with its numbers in their ranges.
+use Rattle.std.proofs.Common.{◌≡◌, inl, inr, refl, ap, subst, arith, List, [], drop, Option, Some, None, option_map, codes}
+use Rattle.clap.specs.Walk.{Row, Rule, Text, arg_by_id}
+use Rattle.clap.specs.Simple.{built, matches_of}
+use Rattle.clap.specs.Faults.{fault_of}
+use Rattle.pact_words.specs.declared.commands.Kind.{Kind}
+use Rattle.pact_words.specs.declared.commands.Kind.TheVariants.{Run, Plan, Cert, Check, Sets}
+use Rattle.pact_words.specs.Definitions.{app_for}
+use Rattle.pact_words.specs.FoundValues.{all_four, all_three, all_two}
+use Rattle.pact_words.specs.Words.{AreInRange, Asked, IsInRange, asked_of, to_certify, to_check, to_plan, to_run, to_tell_sets}
+use Rattle.pact_words.proofs.FittingRows.{AllKnown}
+use Rattle.pact_words.proofs.GivenValues.{Holds, IsSure, held}
+use Rattle.pact_words.proofs.OneAsked.{not_both, one_of}
+use Rattle.pact_words.proofs.SaidValues.{HasNumber, has_flag, has_number, has_text}
+
+-- ---- what each command has
+
+known : (k : Kind) → AllKnown (built (app_for k)).top.rules (built (app_for k)).top.rules
+known Run = ((refl, inl (refl, refl)), ((refl, inl (refl, refl)), ((refl, inl (refl, refl)), ((refl, inr (inl (refl, (_, _, refl)))), ((refl, inr (inr refl)), tt)))))
+known Plan = ((refl, inl (refl, refl)), ((refl, inl (refl, refl)), ((refl, inl (refl, refl)), ((refl, inr (inr refl)), tt))))
+known Cert = ((refl, inl (refl, refl)), ((refl, inl (refl, refl)), ((refl, inl (refl, refl)), ((refl, inr (inr refl)), tt))))
+known Check = ((refl, inl (refl, refl)), ((refl, inl (refl, refl)), ((refl, inr (inr refl)), tt)))
+known Sets = ((refl, inl (refl, refl)), ((refl, inr (inr refl)), tt))
+
+-- each argument that is required or has a default has a value
+each_holds : (k : Kind) (words : List Text) → fault_of (app_for k) words ≡ [] → (id : Text) (a : Rule) → arg_by_id (built (app_for k)).top.rules id ≡ Some a
+    → IsSure a → Holds (matches_of (app_for k) words) id a
+each_holds Run words e = held (built (app_for Run)).top (known Run) refl refl (drop 1 words) _ _ e
+each_holds Plan words e = held (built (app_for Plan)).top (known Plan) refl refl (drop 1 words) _ _ e
+each_holds Cert words e = held (built (app_for Cert)).top (known Cert) refl refl (drop 1 words) _ _ e
+each_holds Check words e = held (built (app_for Check)).top (known Check) refl refl (drop 1 words) _ _ e
+each_holds Sets words e = held (built (app_for Sets)).top (known Sets) refl refl (drop 1 words) _ _ e
+
+-- ---- several values
+
+two_are : {A B C : Type 0} (f : A → B → C) (a : Option A) (b : Option B) (x : A) (y : B) → a ≡ Some x → b ≡ Some y → all_two f a b ≡ Some (f x y)
+two_are f a b x y p q = rw (p, q) refl
+
+three_are : {A B C D : Type 0} (f : A → B → C → D) (a : Option A) (b : Option B) (c : Option C) (x : A) (y : B) (z : C)
+    → a ≡ Some x → b ≡ Some y → c ≡ Some z → all_three f a b c ≡ Some (f x y z)
+three_are f a b c x y z p q r = rw (p, q, r) refl
+
+four_are : {A B C D E : Type 0} (f : A → B → C → D → E) (a : Option A) (b : Option B) (c : Option C) (d : Option D) (w : A) (x : B) (y : C) (z : D)
+    → a ≡ Some w → b ≡ Some x → c ≡ Some y → d ≡ Some z → all_four f a b c d ≡ Some (f w x y z)
+four_are f a b c d w x y z p q r s = rw (p, q, r, s) refl
+
+-- ---- the arguments
+
+pub record HasLimits (rows : List Row) : Type 0 where
+  pub workers : HasNumber (codes "workers") rows 1 16
+  pub plans : HasNumber (codes "plans") rows 1 1000
+
+in_range : (rows : List Row) (h : HasLimits rows) → AreInRange h.workers.number h.plans.number
+in_range rows h = record { least_workers = h.workers.least_of; most_workers = h.workers.most_of; least_plans = h.plans.least_of; most_plans = h.plans.most_of }
+
+-- clap's definition takes the words: they ask for a command, with its numbers in their ranges
+pub record Asks (k : Kind) (words : List Text) : Type 0 where
+  pub command : Asked
+  pub values : asked_of k (matches_of (app_for k) words) ≡ Some command
+  pub in_range : IsInRange command
+
+pub asks : (k : Kind) (words : List Text) → fault_of (app_for k) words ≡ [] → Asks k words
+asks Run words e =
+    let rows = matches_of (app_for Run) words in
+    let at = each_holds Run words e in
+    let program = has_text (codes "program") rows _ (at (codes "program") _ refl (inl refl)) in
+    let workers = has_number (codes "workers") rows _ 1 16 (omega arith) refl (at (codes "workers") _ refl (inr (_, _, refl))) in
+    let plans = has_number (codes "plans") rows _ 1 1000 (omega arith) refl (at (codes "plans") _ refl (inr (_, _, refl))) in
+    let counts = has_flag (codes "counts") rows _ refl (at (codes "counts") _ refl (inr (_, _, refl))) in
+    record {
+      command = to_run program.text workers.number plans.number counts.flag;
+      values = four_are to_run _ _ _ _ program.text workers.number plans.number counts.flag program.is workers.is plans.is counts.is;
+      in_range = in_range rows (record { workers = workers; plans = plans });
+    }
+asks Plan words e =
+    let rows = matches_of (app_for Plan) words in
+    let at = each_holds Plan words e in
+    let program = has_text (codes "program") rows _ (at (codes "program") _ refl (inl refl)) in
+    let workers = has_number (codes "workers") rows _ 1 16 (omega arith) refl (at (codes "workers") _ refl (inr (_, _, refl))) in
+    let plans = has_number (codes "plans") rows _ 1 1000 (omega arith) refl (at (codes "plans") _ refl (inr (_, _, refl))) in
+    record {
+      command = to_plan program.text workers.number plans.number;
+      values = three_are to_plan _ _ _ program.text workers.number plans.number program.is workers.is plans.is;
+      in_range = in_range rows (record { workers = workers; plans = plans });
+    }
+asks Cert words e =
+    let rows = matches_of (app_for Cert) words in
+    let at = each_holds Cert words e in
+    let program = has_text (codes "program") rows _ (at (codes "program") _ refl (inl refl)) in
+    let workers = has_number (codes "workers") rows _ 1 16 (omega arith) refl (at (codes "workers") _ refl (inr (_, _, refl))) in
+    let plans = has_number (codes "plans") rows _ 1 1000 (omega arith) refl (at (codes "plans") _ refl (inr (_, _, refl))) in
+    record {
+      command = to_certify program.text workers.number plans.number;
+      values = three_are to_certify _ _ _ program.text workers.number plans.number program.is workers.is plans.is;
+      in_range = in_range rows (record { workers = workers; plans = plans });
+    }
+asks Check words e =
+    let rows = matches_of (app_for Check) words in
+    let at = each_holds Check words e in
+    let program = has_text (codes "program") rows _ (at (codes "program") _ refl (inl refl)) in
+    let certificate = has_text (codes "certificate") rows _ (at (codes "certificate") _ refl (inl refl)) in
+    record { command = to_check program.text certificate.text; values = two_are to_check _ _ program.text certificate.text program.is certificate.is; in_range = tt }
+asks Sets words e =
+    let rows = matches_of (app_for Sets) words in
+    let at = each_holds Sets words e in
+    let program = has_text (codes "program") rows _ (at (codes "program") _ refl (inl refl)) in
+    record { command = to_tell_sets program.text; values = ap (option_map to_tell_sets) program.is; in_range = tt }
+
+-- what is asked for is there, and lies in its range
+pub taken_is_asked : (k : Kind) (words : List Text) → fault_of (app_for k) words ≡ [] → asked_of k (matches_of (app_for k) words) ≡ None → ⊥
+taken_is_asked k words taken none = let h = asks k words taken in not_both _ h.command h.values none
+
+pub taken_in_range : (k : Kind) (words : List Text) (a : Asked) → fault_of (app_for k) words ≡ []
+    → asked_of k (matches_of (app_for k) words) ≡ Some a → IsInRange a
+taken_in_range k words a taken values =
+    let h = asks k words taken in
+    subst IsInRange (one_of _ h.command a h.values values) h.in_range

@@ -1,0 +1,41 @@
+-- The arguments of commands, each by the rule that clap follows at it.
+use Rattle.std.specs.Prelude.{◌∷◌, [], ℤ, pos, true, Some, codes}
+use Rattle.clap.specs.Words.{Rule, Text, new_rule}
+use Rattle.clap.specs.declared.builder.action.ArgAction.TheVariants.{SetTrue}
+use Rattle.clap.specs.declared.builder.value_parser.ValueParser.TheVariants.{Signed}
+
+-- ---- the kinds of argument
+
+-- a word that has to be there
+abbrev pub operand_rule : Text → Rule
+operand_rule name = record (new_rule name) { required = true }
+
+-- an option with a number from `least` to `most`, which is `usual` where the option isn't given
+abbrev pub number_rule : Text → ℤ → ℤ → Text → Rule
+number_rule name least most usual = record (new_rule name) { long = Some name; defaults = usual ∷ []; parser = Some (Signed least most) }
+
+-- an option without a value
+abbrev pub flag_rule : Text → Rule
+flag_rule name = record (new_rule name) { long = Some name; action = Some SetTrue }
+
+-- ---- the arguments
+
+-- `PROGRAM`
+abbrev pub program_rule : Rule
+program_rule = operand_rule (codes "program")
+
+-- `CERT`
+abbrev pub certificate_rule : Rule
+certificate_rule = operand_rule (codes "certificate")
+
+-- `--workers`
+abbrev pub workers_rule : Rule
+workers_rule = number_rule (codes "workers") (pos 1) (pos 16) (codes "4")
+
+-- `--plans`
+abbrev pub plans_rule : Rule
+plans_rule = number_rule (codes "plans") (pos 1) (pos 1000) (codes "256")
+
+-- `--counts`
+abbrev pub counts_rule : Rule
+counts_rule = flag_rule (codes "counts")

@@ -1,0 +1,37 @@
+-- The commands as clap sees them.
+use Rattle.std.specs.Prelude.{codes}
+use Rattle.clap.specs.Words.{App, Text, new_app, with_rule}
+use Rattle.pact_words.specs.declared.commands.Kind.{Kind}
+use Rattle.pact_words.specs.declared.commands.Kind.TheVariants.{Run, Plan, Cert, Check, Sets}
+use Rattle.pact_words.specs.Arguments.{certificate_rule, counts_rule, plans_rule, program_rule, workers_rule}
+
+-- a command of a program
+abbrev pub program_app : Text → App
+program_app name = with_rule (new_app name) program_rule
+
+-- with how many workers there are, and how many plans are listed
+abbrev pub with_limits : App → App
+with_limits app = with_rule (with_rule app workers_rule) plans_rule
+
+-- a command that chooses a plan
+abbrev pub planning_app : Text → App
+planning_app name = with_limits (program_app name)
+
+-- `run PROGRAM`
+abbrev pub run_app : App
+run_app = with_rule (planning_app (codes "run")) counts_rule
+
+-- `check PROGRAM CERT`
+abbrev pub check_app : App
+check_app = with_rule (program_app (codes "check")) certificate_rule
+
+-- `sets PROGRAM`
+abbrev pub sets_app : App
+sets_app = program_app (codes "sets")
+
+abbrev pub app_for : Kind → App
+app_for Run = run_app
+app_for Plan = planning_app (codes "plan")
+app_for Cert = planning_app (codes "cert")
+app_for Check = check_app
+app_for Sets = sets_app

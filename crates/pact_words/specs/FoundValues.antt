@@ -1,0 +1,35 @@
+-- The values of arguments, in what clap finds.
+use Rattle.std.specs.Prelude.{◌^◌, ◌&&◌, nat_lt, List, ℕ, Bool, true, false, Option, Some, None, cond, codes, option_map, option_and_then}
+use Rattle.std.specs.Str.{bytes_eq}
+use Rattle.std.specs.Str.Parse.{digits_value, without_leading_plus}
+use Rattle.clap.specs.ValueTests.{is_numeral}
+use Rattle.clap.specs.Words.{Row, Text, one_of}
+
+-- the number that digits write, if it has 32 bits
+abbrev pub number_written : List ℕ → Option ℕ
+number_written digits = cond (is_numeral digits && nat_lt (digits_value 10 digits) (2 ^ 32)) (Some (digits_value 10 digits)) None
+
+-- the number that a text says, as `4`, `04` and `+4` do
+abbrev pub number_said : Text → Option ℕ
+number_said text = number_written (without_leading_plus text)
+
+abbrev pub number_of : Text → List Row → Option ℕ
+number_of name rows = option_and_then number_said (one_of name rows)
+
+-- what a flag says, which clap finds as a text too
+abbrev pub flag_said : Text → Option Bool
+flag_said text = cond (bytes_eq text (codes "true")) (Some true) (cond (bytes_eq text (codes "false")) (Some false) None)
+
+abbrev pub flag_of : Text → List Row → Option Bool
+flag_of name rows = option_and_then flag_said (one_of name rows)
+
+-- ---- several values, where each is there
+
+abbrev pub all_two : {A B C : Type 0} → (A → B → C) → Option A → Option B → Option C
+all_two f a b = option_and_then (λ x. option_map (f x) b) a
+
+abbrev pub all_three : {A B C D : Type 0} → (A → B → C → D) → Option A → Option B → Option C → Option D
+all_three f a b c = option_and_then (λ x. all_two (f x) b c) a
+
+abbrev pub all_four : {A B C D E : Type 0} → (A → B → C → D → E) → Option A → Option B → Option C → Option D → Option E
+all_four f a b c d = option_and_then (λ x. all_three (f x) b c d) a

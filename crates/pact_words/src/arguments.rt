@@ -1,0 +1,71 @@
+//! The arguments of commands, each by the rule that clap follows at it.
+
+ghost use Rattle.std.specs.Prelude.{◌≡◌, false};
+ghost use Rattle.clap.specs.Words.{rule_of};
+ghost use Rattle.pact_words.specs.Arguments.{certificate_rule, counts_rule, flag_rule, number_rule, operand_rule, plans_rule, program_rule, workers_rule};
+
+use clap::builder::ValueParser;
+use clap::{Arg, ArgAction};
+use std::alloc::Global;
+
+pub(crate) fn program<'a>(alloc: Global) -> Arg<'a>
+    ensures rule { rule_of result ≡ program_rule }
+    ensures local { result.global ≡ false }
+{
+    operand(alloc, "program")
+}
+
+pub(crate) fn certificate<'a>(alloc: Global) -> Arg<'a>
+    ensures rule { rule_of result ≡ certificate_rule }
+    ensures local { result.global ≡ false }
+{
+    operand(alloc, "certificate")
+}
+
+pub(crate) fn workers<'a>(alloc: Global) -> Arg<'a>
+    ensures rule { rule_of result ≡ workers_rule }
+    ensures local { result.global ≡ false }
+{
+    number(alloc, "workers", 1, 16, "4")
+}
+
+pub(crate) fn plans<'a>(alloc: Global) -> Arg<'a>
+    ensures rule { rule_of result ≡ plans_rule }
+    ensures local { result.global ≡ false }
+{
+    number(alloc, "plans", 1, 1000, "256")
+}
+
+pub(crate) fn counts<'a>(alloc: Global) -> Arg<'a>
+    ensures rule { rule_of result ≡ counts_rule }
+    ensures local { result.global ≡ false }
+{
+    flag(alloc, "counts")
+}
+
+// A word that has to be there.
+fn operand<'a>(alloc: Global, name: &'a str) -> Arg<'a>
+    ensures rule { rule_of result ≡ operand_rule name.entry.now }
+    ensures local { result.global ≡ false }
+{
+    Arg::new(alloc, name).required(true)
+}
+
+// An option with a number, which is `usual` where the option isn't given.
+fn number<'a>(alloc: Global, name: &'a str, least: i64, most: i64, usual: &'a str) -> Arg<'a>
+    ensures rule { rule_of result ≡ number_rule name.entry.now least most usual.entry.now }
+    ensures local { result.global ≡ false }
+{
+    Arg::new(alloc, name)
+        .long(name)
+        .value_parser(ValueParser::signed(least, most))
+        .default_value(usual)
+}
+
+// An option without a value.
+fn flag<'a>(alloc: Global, name: &'a str) -> Arg<'a>
+    ensures rule { rule_of result ≡ flag_rule name.entry.now }
+    ensures local { result.global ≡ false }
+{
+    Arg::new(alloc, name).long(name).action(ArgAction::SetTrue)
+}

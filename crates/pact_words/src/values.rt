@@ -1,0 +1,99 @@
+//! From the values that clap finds to a command.
+
+ghost use Rattle.std.specs.Prelude.{◌≡◌, option_map};
+ghost use Rattle.clap.specs.Words.{first_of, found_of, rows_of};
+ghost use Rattle.pact_words.specs.FoundValues.{flag_of, number_of};
+ghost use Rattle.pact_words.specs.Words.{asked, asked_of};
+
+use crate::commands::{Command, Kind};
+use clap::ArgMatches;
+
+/// The command that the values of its words make, where each of them is there.
+pub(crate) fn command_in<'a>(kind: Kind, matches: &ArgMatches<'a>) -> Option<Command<'a>>
+    ensures { option_map asked result ≡ asked_of kind (rows_of (found_of matches.now)) }
+{
+    match kind {
+        Kind::Run => run(matches),
+        Kind::Plan => plan(matches),
+        Kind::Cert => cert(matches),
+        Kind::Check => check(matches),
+        Kind::Sets => sets(matches),
+    }
+}
+
+fn run<'a>(matches: &ArgMatches<'a>) -> Option<Command<'a>>
+    ensures { option_map asked result ≡ asked_of Kind.Run (rows_of (found_of matches.now)) }
+{
+    let program = text(matches, "program")?;
+    let workers = number(matches, "workers")?;
+    let plans = number(matches, "plans")?;
+    let counts = flag(matches, "counts")?;
+    Some(Command::Run {
+        program,
+        workers,
+        plans,
+        counts,
+    })
+}
+
+fn plan<'a>(matches: &ArgMatches<'a>) -> Option<Command<'a>>
+    ensures { option_map asked result ≡ asked_of Kind.Plan (rows_of (found_of matches.now)) }
+{
+    let program = text(matches, "program")?;
+    let workers = number(matches, "workers")?;
+    let plans = number(matches, "plans")?;
+    Some(Command::Plan {
+        program,
+        workers,
+        plans,
+    })
+}
+
+fn cert<'a>(matches: &ArgMatches<'a>) -> Option<Command<'a>>
+    ensures { option_map asked result ≡ asked_of Kind.Cert (rows_of (found_of matches.now)) }
+{
+    let program = text(matches, "program")?;
+    let workers = number(matches, "workers")?;
+    let plans = number(matches, "plans")?;
+    Some(Command::Cert {
+        program,
+        workers,
+        plans,
+    })
+}
+
+fn check<'a>(matches: &ArgMatches<'a>) -> Option<Command<'a>>
+    ensures { option_map asked result ≡ asked_of Kind.Check (rows_of (found_of matches.now)) }
+{
+    let program = text(matches, "program")?;
+    let certificate = text(matches, "certificate")?;
+    Some(Command::Check {
+        program,
+        certificate,
+    })
+}
+
+fn sets<'a>(matches: &ArgMatches<'a>) -> Option<Command<'a>>
+    ensures { option_map asked result ≡ asked_of Kind.Sets (rows_of (found_of matches.now)) }
+{
+    let program = text(matches, "program")?;
+    Some(Command::Sets { program })
+}
+
+fn text<'a>(matches: &ArgMatches<'a>, name: &str) -> Option<&'a str>
+    ensures { option_map (λ text. text.now) result ≡ first_of name.now (rows_of (found_of matches.now)) }
+{
+    matches.get_str(name)
+}
+
+fn number<'a>(matches: &ArgMatches<'a>, name: &str) -> Option<u32>
+    ensures { result ≡ number_of name.now (rows_of (found_of matches.now)) }
+{
+    matches.get_one::<u32>(name)
+}
+
+fn flag<'a>(matches: &ArgMatches<'a>, name: &str) -> Option<bool>
+    ensures { result ≡ flag_of name.now (rows_of (found_of matches.now)) }
+{
+    matches.get_one::<bool>(name)
+}

@@ -1,0 +1,163 @@
+//! Which plan, with which layout, is expected to cost least.
+
+ghost use Rattle.std.specs.Prelude.{◌≡◌, ◌≢◌, ◌≤◌, ◌<◌, ◌+◌, ℕ, List, Some, length, slice_get};
+ghost use Rattle.plan_trees.specs.Physicals.{worker_limit};
+ghost use Rattle.plan_trees.specs.Plans.{PlanTree, node_limit};
+ghost use Rattle.pact_operators.specs.Programs.{IsPlanOf, ProgramData};
+ghost use Rattle.ship_strategy.specs.Facts.{Facts};
+ghost use Rattle.ship_strategy.specs.Layouts.{layout_count, ways_of};
+ghost use Rattle.ship_strategy.specs.Views.{ways_in};
+ghost use Rattle.plan_enumerate.specs.Choices.{IsChosen, layout_cost, pair_cost};
+ghost use Rattle.plan_enumerate.specs.Leasts.{IsLeastBelow};
+ghost use Rattle.plan_enumerate.specs.Listing.{IsListed, plans_of};
+ghost use Rattle.plan_enumerate.specs.RowsOfPlans.{AreWeighed, Holds};
+ghost use Rattle.plan_enumerate.specs.Weights.{weighed};
+ghost use Rattle.plan_enumerate.specs.declared.plan_rows.Row as row;
+
+use crate::entries::Entries;
+use crate::listings::Listed;
+use crate::plan_rows::{Rows, rows_of};
+use crate::weights::{Weight, row_weight, source_weight};
+use pact_bag::Counts;
+use pact_operators::{MAX_NODES, Op, Plan, Program};
+use ship_strategy::{Ways, chosen, known, layouts};
+
+/// Which listed plan and which of its layouts is chosen, and what it is expected to cost.
+#[derive(Clone, Copy, Debug, PartialEq, Eq)]
+pub struct Chosen {
+    /// The number of the plan's entry.
+    pub entry: u32,
+    /// The number of the layout among those of the plan.
+    pub layout: u32,
+    pub cost: u64,
+}
+
+// A layout of a plan, and what it costs.
+#[derive(Clone, Copy, Debug)]
+struct Least {
+    layout: u32,
+    cost: u64,
+}
+
+// The first row whose operator's way has changed.
+fn first_changed(rows: &Rows, old: &Ways, new: &Ways) -> u32
+    requires few { rows.now.count ≤ node_limit }
+    ensures within { result ≤ rows.now.count }
+    ensures same { (k : ℕ) (x : row.Row) → k < result → slice_get rows.now.held k ≡ Some x → ways_in old.now x.at ≡ ways_in new.now x.at }
+{
+    for n in 0..rows.count {
+        let at = rows.held[n as usize].at;
+        if old.at(at) != new.at(at) {
+            return n;
+        }
+    }
+    rows.count
+}
+
+// Weighs the rows from one on, where those before it are weighed.
+fn weigh_from(rows: &Rows, ways: &Ways, workers: u32, first: u32, weights: &mut [Weight; MAX_NODES])
+    requires few { rows.now.count ≤ node_limit }
+    requires within { first ≤ rows.now.count }
+    ensures { (p : ProgramData) (counts : List ℕ) (f : Facts) → AreWeighed p counts workers f (ways_in ways.now) rows.now.held weights.old first
+        → AreWeighed p counts workers f (ways_in ways.now) rows.now.held weights.new rows.now.count }
+{
+    for n in first..rows.count {
+        weights[n as usize] = row_weight(&rows.held[n as usize], ways, workers, weights);
+    }
+}
+
+// Weighs the rows anew where operators have other ways, up to the root.
+fn weigh_again(rows: &Rows, old: &Ways, new: &Ways, workers: u32, weights: &mut [Weight; MAX_NODES])
+    requires few { rows.now.count ≤ node_limit }
+    ensures { (p : ProgramData) (counts : List ℕ) (f : Facts) → AreWeighed p counts workers f (ways_in old.now) rows.now.held weights.old rows.now.count
+        → AreWeighed p counts workers f (ways_in new.now) rows.now.held weights.new rows.now.count }
+{
+    let first = first_changed(rows, old, new);
+    weigh_from(rows, new, workers, first, weights);
+}
+
+// The first of so many layouts that costs least, of the plan that stands in the rows.
+fn cheapest_in(rows: &Rows, ops: &[Op], workers: u32, count: u32) -> Least
+    requires rows { (1 ≤ rows.now.count) × (rows.now.count ≤ node_limit) }
+    requires few { length ops.now ≤ node_limit }
+    requires some { 1 ≤ count }
+    ensures { (p : ProgramData) (counts : List ℕ) (f : Facts) (t : PlanTree) (root : ℕ) → rows.now.count ≡ root + 1 → Holds p counts f rows.now.held root t
+        → IsLeastBelow (λ k. (weighed p counts workers f (ways_of ops.now k) t).cost) count result.layout result.cost }
+{
+    let root = rows.count as usize - 1;
+    let mut ways = chosen(ops, 0);
+    let mut weights = [source_weight(); MAX_NODES];
+    weigh_from(rows, &ways, workers, 0, &mut weights);
+    let mut least = Least {
+        layout: 0,
+        cost: weights[root].cost,
+    };
+    for number in 1..count {
+        let next = chosen(ops, number);
+        weigh_again(rows, &ways, &next, workers, &mut weights);
+        ways = next;
+        let cost = weights[root].cost;
+        if cost < least.cost {
+            least = Least {
+                layout: number,
+                cost,
+            };
+        }
+    }
+    least
+}
+
+fn cheapest(program: &Program, plan: &Plan, counts: &Counts, workers: u32) -> Least
+    requires of { IsPlanOf program.now.functions program.now.ops plan.now }
+    requires workers { (1 ≤ workers) × (workers ≤ worker_limit) }
+    ensures { IsLeastBelow (layout_cost program.now counts.now workers plan.now) (layout_count program.now.ops) result.layout result.cost }
+{
+    // Its clause says that the numbers of a plan are small.
+    let _root = plan.root();
+    let rows = rows_of(program, counts, &known(program, plan), plan);
+    cheapest_in(&rows, program.ops(), workers, layouts(program, plan))
+}
+
+// The same of the plan of an entry.
+fn cheapest_at(
+    program: &Program,
+    entries: &Entries,
+    entry: usize,
+    counts: &Counts,
+    workers: u32,
+) -> Least
+    requires within { entry < length entries.now }
+    requires of { (t : PlanTree) → IsListed t entries.now → IsPlanOf program.now.functions program.now.ops t }
+    requires workers { (1 ≤ workers) × (workers ≤ worker_limit) }
+    ensures { IsLeastBelow (pair_cost program.now (plans_of entries.now) counts.now workers entry) (layout_count program.now.ops) result.layout result.cost }
+{
+    cheapest(program, &entries.at(entry).plan, counts, workers)
+}
+
+/// The first pair of a listed plan and one of its layouts that is expected to cost least, where each source has the number of rows that `counts`
+/// has at its number: the entries count first, then the layouts. It takes no memory. Time grows with the plans times their layouts, of which there
+/// are at most 6,561 each.
+pub fn choose(program: &Program, listed: &Listed, counts: &Counts, workers: u32) -> Chosen
+    requires of { (t : PlanTree) → IsListed t listed.now.entries → IsPlanOf program.now.functions program.now.ops t }
+    requires workers { (1 ≤ workers) × (workers ≤ worker_limit) }
+    ensures { IsChosen program.now (plans_of listed.now.entries) counts.now workers result }
+{
+    let entries = listed.entries();
+    let first = cheapest_at(program, entries, 0, counts, workers);
+    let mut chosen = Chosen {
+        entry: 0,
+        layout: first.layout,
+        cost: first.cost,
+    };
+    for entry in 1..entries.len() {
+        let next = cheapest_at(program, entries, entry, counts, workers);
+        if next.cost < chosen.cost {
+            chosen = Chosen {
+                entry: entry as u32,
+                layout: next.layout,
+                cost: next.cost,
+            };
+        }
+    }
+    chosen
+}

@@ -1,0 +1,29 @@
+-- How many records each source and operator of a plan had in one evaluation, as text.
+use Rattle.std.specs.Prelude.{◌++◌, ◌+◌, ℕ, List, [], ◌∷◌, Option, Some, None, codes, decimal, get_or}
+use Rattle.plan_trees.specs.Plans.{PlanTree, input_of}
+use Rattle.pact_operators.specs.declared.operators.Op.{Op}
+use Rattle.pact_operators.specs.Programs.{ProgramData}
+
+-- what an input gave
+abbrev pub given_text : List ℕ → Option ℕ → List ℕ
+given_text counts None = []
+given_text counts (Some input) = codes " " ++ decimal (get_or counts input 0)
+
+-- what an operator's inputs gave, one after the other; a source has none
+abbrev pub taken_text : List ℕ → (first second : Option ℕ) → List ℕ
+taken_text counts None second = []
+taken_text counts (Some input) second = codes " in" ++ (given_text counts (Some input) ++ given_text counts second)
+
+-- the line of the source or operator of a number: its name, what it took and what it gave
+abbrev pub counts_line : PlanTree → List ℕ → ℕ → Op → List ℕ
+counts_line plan counts at op =
+    op.name ++ (taken_text counts (input_of at 0 plan) (input_of at 1 plan) ++ (codes " out " ++ (decimal (get_or counts at 0) ++ codes "\n")))
+
+-- those of the sources and operators that are numbered from this number on
+abbrev pub counts_from : PlanTree → List ℕ → ℕ → List Op → List ℕ
+counts_from plan counts at [] = []
+counts_from plan counts at (op ∷ ops) = counts_line plan counts at op ++ counts_from plan counts (at + 1) ops
+
+-- in text order
+abbrev pub counts_text : ProgramData → PlanTree → List ℕ → List ℕ
+counts_text p plan counts = counts_from plan counts 0 p.ops

@@ -1,0 +1,88 @@
+//! How many records each source and operator of a plan had in one evaluation, as text.
+
+ghost use Rattle.std.specs.Prelude.{◌≡◌, ◌++◌, IfOk, OnOk, true};
+ghost use Rattle.plan_trees.specs.Plans.{has};
+ghost use Rattle.pact_operators.specs.Programs.{IsPlanOf};
+ghost use Rattle.plan_printer.specs.CountsText as texts;
+
+use crate::findings::push_number;
+use cost_model::rows_at;
+use pact_bag::Counts;
+use pact_operators::{Op, Plan, Program};
+use pact_record::{Bytes, OutOfMemory};
+use std::alloc::Global;
+
+// Puts what an input gave behind what is there.
+fn push_given(
+    alloc: Global,
+    text: &mut Bytes,
+    counts: &Counts,
+    input: Option<u32>,
+) -> Result<(), OutOfMemory>
+    ensures { OnOk result (text.new ≡ text.old ++ texts.given_text counts.now input) }
+{
+    match input {
+        Some(input) => {
+            text.extend_from_slice(b" ")?;
+            push_number(alloc, text, rows_at(counts, input))
+        }
+        None => Ok(()),
+    }
+}
+
+// Puts what an operator's inputs gave behind what is there.
+fn push_taken(
+    alloc: Global,
+    text: &mut Bytes,
+    counts: &Counts,
+    first: Option<u32>,
+    second: Option<u32>,
+) -> Result<(), OutOfMemory>
+    ensures { OnOk result (text.new ≡ text.old ++ texts.taken_text counts.now first second) }
+{
+    if first.is_none() {
+        return Ok(());
+    }
+    text.extend_from_slice(b" in")?;
+    push_given(alloc, text, counts, first)?;
+    push_given(alloc, text, counts, second)
+}
+
+// Puts the line of the source or operator of a number behind what is there.
+fn push_line(
+    alloc: Global,
+    text: &mut Bytes,
+    plan: &Plan,
+    counts: &Counts,
+    at: u32,
+    op: &Op,
+) -> Result<(), OutOfMemory>
+    requires { has at plan.now ≡ true }
+    ensures { OnOk result (text.new ≡ text.old ++ texts.counts_line plan.now counts.now at op.now) }
+{
+    text.extend_from_slice(op.name.bytes())?;
+    push_taken(alloc, text, counts, plan.input(at, 0), plan.input(at, 1))?;
+    text.extend_from_slice(b" out ")?;
+    push_number(alloc, text, rows_at(counts, at))?;
+    text.extend_from_slice(b"\n")
+}
+
+/// A line for each source and operator in text order: its name, what each of its inputs in the plan gave, and what it gave. One that has no count gave
+/// none. Want of memory is the only error.
+pub fn counts_text(
+    alloc: Global,
+    program: &Program,
+    plan: &Plan,
+    counts: &Counts,
+) -> Result<Bytes, OutOfMemory>
+    requires plan { IsPlanOf program.now.functions program.now.ops plan.now }
+    ensures { IfOk result (λ text. text ≡ texts.counts_text program.now plan.now counts.now) }
+{
+    // the root tells that the plan is small; each source and operator stands in it, so its number is small too
+    let _root = plan.root();
+    let mut text = Bytes::new(alloc);
+    for (n, op) in program.ops().iter().enumerate() {
+        push_line(alloc, &mut text, plan, counts, n as u32, op)?;
+    }
+    Ok(text)
+}

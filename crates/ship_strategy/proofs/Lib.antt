@@ -1,0 +1,15 @@
+pub mod TestsOfKeys
+pub mod AllowedShips
+pub mod LaidPlacements
+pub mod LaidShips
+pub mod LaidSteps
+pub mod PlannedSame
+pub mod TestsOfEdges
+pub mod FewLayouts
+pub mod ChosenWays
+pub mod PlacesOfChoices
+pub mod BlankTables
+pub mod FilledTables
+pub mod PlanAttributes
+pub mod PlanSets
+pub mod ProgramLayouts

@@ -1,0 +1,5 @@
+pub mod Facts
+pub mod Ships
+pub mod Layouts
+pub mod Views
+pub mod PlanFacts

@@ -1,0 +1,174 @@
+-- Where records lie, and which ships are legal.
+use Rattle.std.specs.Prelude.{◌≡◌, ◌⊎◌, ◌||◌, ◌&&◌, ◌==◌, not, ℕ, Bool, true, false, cond, Option, Some, None, List, [], ◌∷◌}
+use Rattle.std.specs.List.{AllByRecursion, list_any, list_all}
+use Rattle.pact_record.specs.Keys.{is_listed}
+use Rattle.tac_syntax.specs.Contexts.{FieldSet}
+use Rattle.tac_syntax.specs.declared.declarations.OpKind.{OpKind}
+use Rattle.tac_syntax.specs.declared.declarations.OpKind.TheVariants.{Map, Reduce, Match, Cross, CoGroup}
+use Rattle.tac_flow.specs.Known.{either}
+use Rattle.plan_trees.specs.declared.physicals.Ship.{Ship}
+use Rattle.plan_trees.specs.declared.physicals.Ship.TheVariants.{Forward, Partition, Broadcast}
+use Rattle.plan_trees.specs.Physicals.{PhysicalData}
+use Rattle.plan_trees.specs.Plans.{PlanTree, leaf, over, both}
+use Rattle.cost_model.specs.Edges.{ship_of}
+use Rattle.ship_strategy.specs.Facts.{NodeFacts, Facts}
+
+-- ---- placements
+
+-- Each record lies at the worker that its values at these fields tell; of no placement nothing is known.
+abbrev pub Placement : Type 0
+Placement = Option (List ℕ)
+
+-- a placement by fields of which none is in the set
+abbrev pub passed : FieldSet → Placement → Placement
+passed bad None = None
+passed bad (Some keys) = cond (list_any bad keys) None (Some keys)
+
+abbrev pub first_of_both : Placement → Placement → Placement
+first_of_both None other = other
+first_of_both (Some keys) other = Some keys
+
+-- of an edge, from that of the operator that it leaves
+abbrev pub edge_placement : Ship → Placement → Placement
+edge_placement Forward below = below
+edge_placement (Partition keys) below = Some keys
+edge_placement Broadcast below = None
+
+abbrev pub is_broadcast : Ship → Bool
+is_broadcast Broadcast = true
+is_broadcast ship = false
+
+-- what an operator of one input makes of its edge's placement
+abbrev pub placement_over : OpKind → FieldSet → Placement → Placement
+placement_over Map writes edge = passed writes edge
+placement_over Reduce writes edge = passed writes edge
+placement_over kind writes edge = None
+
+-- Of one that pairs each record of a side that goes everywhere with those of the other: where the other side's records lay.
+abbrev pub placement_paired : (writes left right : FieldSet) → (left_all right_all : Bool) → (left_edge right_edge by_key : Placement) → Placement
+placement_paired writes left right true right_all left_edge right_edge by_key = passed (either writes left) right_edge
+placement_paired writes left right false true left_edge right_edge by_key = passed (either writes right) left_edge
+placement_paired writes left right false false left_edge right_edge by_key = by_key
+
+-- of one by key on both sides
+abbrev pub placement_of_keys : (writes left right : FieldSet) → (left_keys right_keys : List ℕ) → Placement
+placement_of_keys writes left right left_keys right_keys = first_of_both (passed (either writes right) (Some left_keys)) (passed (either writes left) (Some right_keys))
+
+-- the placement where the test says so
+abbrev pub where_so : Bool → List ℕ → Placement
+where_so true keys = Some keys
+where_so false keys = None
+
+-- of a CoGroup
+abbrev pub placement_anchored : FieldSet → Bool → Bool → (left_keys right_keys : List ℕ) → Placement
+placement_anchored writes anchor_left anchor_right left_keys right_keys =
+    first_of_both (passed writes (where_so anchor_left left_keys)) (passed writes (where_so anchor_right right_keys))
+
+-- what an operator of two inputs makes of those of its edges
+abbrev pub placement_both : OpKind → NodeFacts → (left_all right_all : Bool) → (left_edge right_edge : Placement) → Placement
+placement_both Match x left_all right_all left_edge right_edge =
+    placement_paired x.writes x.left x.right left_all right_all left_edge right_edge (placement_of_keys x.writes x.left x.right x.left_keys x.right_keys)
+placement_both Cross x left_all right_all left_edge right_edge = placement_paired x.writes x.left x.right left_all right_all left_edge right_edge None
+placement_both CoGroup x left_all right_all left_edge right_edge = placement_anchored x.writes x.anchor_left x.anchor_right x.left_keys x.right_keys
+placement_both kind x left_all right_all left_edge right_edge = None
+
+-- of what an operator gives, from the ships of its edges and the placements below
+abbrev pub placed_over : NodeFacts → Ship → Placement → Placement
+placed_over x ship below = placement_over x.kind x.writes (edge_placement ship below)
+
+abbrev pub placed_both : NodeFacts → (left_ship right_ship : Ship) → (left right : Placement) → Placement
+placed_both x left_ship right_ship left right =
+    placement_both x.kind x (is_broadcast left_ship) (is_broadcast right_ship) (edge_placement left_ship left) (edge_placement right_ship right)
+
+-- the placement of the records that a tree's root gives
+abbrev pub placement : Facts → PhysicalData → PlanTree → Placement
+placement f p (leaf n) = None
+placement f p (over n t) = placed_over (f n) (ship_of p t) (placement f p t)
+placement f p (both n t u) = placed_both (f n) (ship_of p t) (ship_of p u) (placement f p t) (placement f p u)
+
+-- ---- legal edges
+
+-- The edge of an operator of one input. A Reduce finds the records of a group at one worker where they lie by some of its keys.
+abbrev pub IsLegalOver : OpKind → List ℕ → Bool → Placement → Type 0
+IsLegalOver Map keys all edge = all ≡ false
+IsLegalOver Reduce keys all edge = (fields : List ℕ) × (edge ≡ Some fields) × AllByRecursion (λ k. is_listed keys k ≡ true) fields
+IsLegalOver kind keys all edge = ⊥
+
+-- exactly one side is Broadcast
+abbrev pub GoesEverywhere : Bool → Bool → Type 0
+GoesEverywhere left_all right_all = ((left_all ≡ true) × (right_all ≡ false)) ⊎ ((left_all ≡ false) × (right_all ≡ true))
+
+abbrev pub AreByKey : (left_keys right_keys : List ℕ) → (left_edge right_edge : Placement) → Type 0
+AreByKey left_keys right_keys left_edge right_edge = (left_edge ≡ Some left_keys) × (right_edge ≡ Some right_keys)
+
+-- the edges of an operator of two
+abbrev pub IsLegalBoth : OpKind → (left_keys right_keys : List ℕ) → (left_all right_all : Bool) → (left_edge right_edge : Placement) → Type 0
+IsLegalBoth Match left_keys right_keys left_all right_all left_edge right_edge = AreByKey left_keys right_keys left_edge right_edge ⊎ GoesEverywhere left_all right_all
+IsLegalBoth Cross left_keys right_keys left_all right_all left_edge right_edge = GoesEverywhere left_all right_all
+IsLegalBoth CoGroup left_keys right_keys left_all right_all left_edge right_edge = AreByKey left_keys right_keys left_edge right_edge
+IsLegalBoth kind left_keys right_keys left_all right_all left_edge right_edge = ⊥
+
+-- from the ships of the edges and the placements below
+abbrev pub AllowsOver : NodeFacts → Ship → Placement → Type 0
+AllowsOver x ship below = IsLegalOver x.kind x.left_keys (is_broadcast ship) (edge_placement ship below)
+
+abbrev pub AllowsBoth : NodeFacts → (left_ship right_ship : Ship) → (left right : Placement) → Type 0
+AllowsBoth x left_ship right_ship left right =
+    IsLegalBoth x.kind x.left_keys x.right_keys (is_broadcast left_ship) (is_broadcast right_ship) (edge_placement left_ship left) (edge_placement right_ship right)
+
+-- every edge of the tree is legal
+abbrev pub IsLegal : Facts → PhysicalData → PlanTree → Type 0
+IsLegal f p (leaf n) = Unit {0}
+IsLegal f p (over n t) = AllowsOver (f n) (ship_of p t) (placement f p t) × IsLegal f p t
+IsLegal f p (both n t u) = AllowsBoth (f n) (ship_of p t) (ship_of p u) (placement f p t) (placement f p u) × IsLegal f p t × IsLegal f p u
+
+abbrev pub LegalShip : Facts → PhysicalData → Type 0
+LegalShip f p = IsLegal f p p.tree
+
+-- ---- the same as tests
+
+-- the edge has a placement, all of whose fields are among the keys
+abbrev pub is_within : List ℕ → Placement → Bool
+is_within keys None = false
+is_within keys (Some fields) = list_all (is_listed keys) fields
+
+-- two lists of keys are the same
+abbrev pub same_keys : List ℕ → List ℕ → Bool
+same_keys [] [] = true
+same_keys (j ∷ js) (k ∷ ks) = (j == k) && same_keys js ks
+same_keys js ks = false
+
+-- the edge's placement is exactly the keys
+abbrev pub is_exactly : List ℕ → Placement → Bool
+is_exactly keys None = false
+is_exactly keys (Some fields) = same_keys fields keys
+
+abbrev pub legal_over : OpKind → List ℕ → Bool → Placement → Bool
+legal_over Map keys all edge = not all
+legal_over Reduce keys all edge = is_within keys edge
+legal_over kind keys all edge = false
+
+abbrev pub goes_everywhere : Bool → Bool → Bool
+goes_everywhere true right_all = not right_all
+goes_everywhere false right_all = right_all
+
+abbrev pub are_by_key : (left_keys right_keys : List ℕ) → (left_edge right_edge : Placement) → Bool
+are_by_key left_keys right_keys left_edge right_edge = is_exactly left_keys left_edge && is_exactly right_keys right_edge
+
+abbrev pub legal_both : OpKind → (left_keys right_keys : List ℕ) → (left_all right_all : Bool) → (left_edge right_edge : Placement) → Bool
+legal_both Match left_keys right_keys left_all right_all left_edge right_edge = are_by_key left_keys right_keys left_edge right_edge || goes_everywhere left_all right_all
+legal_both Cross left_keys right_keys left_all right_all left_edge right_edge = goes_everywhere left_all right_all
+legal_both CoGroup left_keys right_keys left_all right_all left_edge right_edge = are_by_key left_keys right_keys left_edge right_edge
+legal_both kind left_keys right_keys left_all right_all left_edge right_edge = false
+
+abbrev pub allows_over : NodeFacts → Ship → Placement → Bool
+allows_over x ship below = legal_over x.kind x.left_keys (is_broadcast ship) (edge_placement ship below)
+
+abbrev pub allows_both : NodeFacts → (left_ship right_ship : Ship) → (left right : Placement) → Bool
+allows_both x left_ship right_ship left right =
+    legal_both x.kind x.left_keys x.right_keys (is_broadcast left_ship) (is_broadcast right_ship) (edge_placement left_ship left) (edge_placement right_ship right)
+
+abbrev pub is_legal : Facts → PhysicalData → PlanTree → Bool
+is_legal f p (leaf n) = true
+is_legal f p (over n t) = allows_over (f n) (ship_of p t) (placement f p t) && is_legal f p t
+is_legal f p (both n t u) = allows_both (f n) (ship_of p t) (ship_of p u) (placement f p t) (placement f p u) && (is_legal f p t && is_legal f p u)

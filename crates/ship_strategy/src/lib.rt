@@ -1,0 +1,30 @@
+//! How records go between the workers that run a plan: where they lie, which ships are legal, and the layouts of a plan.
+//!
+//! A placement is a list of fields by whose values each record lies at a worker. Where an operator needs records together, its edges either
+//! keep a placement that does so already, or ship. `specs/Ships` has the rules, over what is known of each operator in its
+//! plan (`specs/PlanFacts`), and `specs/Layouts` the layouts: a list of choices, one for each operator, calls for one
+//! ship on each edge.
+//!
+//! `layouts`, `layout` and `legal_ship` are for one plan at a time. For many layouts of one plan, `known` finds what is known of its operators
+//! once, `chosen` tells the ways of a number, and `left_ship`, `right_ship`, `only_ship`, `placed_over` and `placed_both` take a
+//! step each, without a physical plan.
+#![tactic(auto)]
+
+mod all_layouts;
+mod edges;
+mod knowing;
+mod laying;
+mod legality;
+mod numbering;
+mod placements;
+mod tables;
+mod ways;
+
+pub use all_layouts::{layout, layout_in, layouts};
+pub use edges::{left_ship, only_ship, right_ship};
+pub use knowing::known;
+pub use legality::legal_ship;
+pub use numbering::{choices_of, chosen};
+pub use placements::{placed_both, placed_over};
+pub use tables::{OpFacts, Table};
+pub use ways::{Way, Ways};
