@@ -3,12 +3,11 @@ use Rattle.std.proofs.Common.{◌≡◌, ◌+◌, ◌*◌, ℕ, List, refl, ◌�
 use Rattle.std.proofs.lemmas.Grind.{common_steps}
 use Rattle.plan_trees.specs.declared.physicals.Ship.{Ship}
 use Rattle.plan_trees.specs.declared.physicals.Ship.TheVariants.{Forward, Partition, Broadcast}
-use Rattle.plan_trees.specs.Physicals.{PhysicalData}
+use Rattle.plan_trees.specs.Physicals.{PhysicalData, ship_of}
 use Rattle.plan_trees.specs.Plans.{PlanTree, leaf, over, both}
 use Rattle.pact_operators.specs.Allowed.{count_of}
 use Rattle.pact_operators.specs.Programs.{ProgramData}
 use Rattle.cost_model.specs.Costs.{edge_cost, spent, whole_cost, whole_edge_cost}
-use Rattle.cost_model.specs.Edges.{ship_of}
 use Rattle.cost_model.specs.Estimates.{estimate, plus}
 
 stopped_right : (n x : ℕ) → count_of (n + count_of x) ≡ count_of (n + x)

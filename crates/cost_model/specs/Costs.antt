@@ -2,10 +2,9 @@
 use Rattle.std.specs.Prelude.{◌+◌, ◌*◌, ℕ, List}
 use Rattle.plan_trees.specs.declared.physicals.Ship.{Ship}
 use Rattle.plan_trees.specs.declared.physicals.Ship.TheVariants.{Forward, Partition, Broadcast}
-use Rattle.plan_trees.specs.Physicals.{PhysicalData}
+use Rattle.plan_trees.specs.Physicals.{PhysicalData, ship_of}
 use Rattle.plan_trees.specs.Plans.{PlanTree, leaf, over, both}
 use Rattle.pact_operators.specs.Programs.{ProgramData}
-use Rattle.cost_model.specs.Edges.{ship_of}
 use Rattle.cost_model.specs.Estimates.{estimate, plus, times}
 
 -- of shipping so many records along an edge: one that stays costs nothing, and one that goes to every worker goes to each

@@ -5,7 +5,8 @@ ghost use Rattle.plan_trees.specs.Plans.{has, root_of};
 ghost use Rattle.pact_operators.specs.Allowed.{count_of};
 ghost use Rattle.cost_model.specs.Costs as costs;
 ghost use Rattle.cost_model.specs.Costs.{whole_cost};
-ghost use Rattle.cost_model.specs.Edges.{EdgesLieIn, ship_of};
+ghost use Rattle.cost_model.specs.Edges.{EdgesLieIn};
+ghost use Rattle.plan_trees.specs.Physicals.{ship_of};
 ghost use Rattle.cost_model.specs.Estimates.{estimate};
 
 use crate::edges::ship_below;

@@ -2,7 +2,7 @@
 
 ghost use Rattle.std.specs.Prelude.{◌≡◌, ◌≢◌, true};
 ghost use Rattle.plan_trees.specs.Plans.{has, root_of};
-ghost use Rattle.cost_model.specs.Edges.{ship_of};
+ghost use Rattle.plan_trees.specs.Physicals.{ship_of};
 
 use pact_operators::{Physical, Plan, Ship};
 

@@ -2,37 +2,18 @@
 use Rattle.std.proofs.Common.{◌≡◌, ◌<◌, ◌≤◌, ℕ, Bool, true, false, not, cond, ◌||◌, List, [], ◌∷◌, ◌++◌, length, map, refl, ap, sym, ◌∙◌, arith, append-nil}
 use Rattle.std.specs.Prelude.{filter}
 use Rattle.std.specs.List.{AllByRecursion, list_any}
-use Rattle.std.specs.FinMap.{int_cmp-IsAntisymmetric, nat_cmp-IsAntisymmetric, slice_cmp-IsAntisymmetric}
+use Rattle.std.specs.FinMap.{slice_cmp-IsAntisymmetric}
 use Rattle.std.specs.Ordering.{is_eq}
-use Rattle.std.specs.declared.cmp.Ordering.{Ordering}
-use Rattle.std.specs.declared.cmp.Ordering.TheVariants.{Less, Equal, Greater}
 use Rattle.std.proofs.lemmas.Cmp.{tied_itself}
 use Rattle.std.proofs.lemmas.List.Elements.{filter-append}
 use Rattle.pact_bag.specs.Groups.{distinct_keys, group_of_key, is_same_key}
 use Rattle.pact_record.specs.declared.values.Value.{Value}
-use Rattle.pact_record.specs.declared.values.Value.TheVariants.{Null, Int, Text}
 use Rattle.pact_record.specs.Order.{records_total}
 use Rattle.pact_record.specs.Record.{key_of, record_cmp}
-use Rattle.pact_record.specs.Value.{value_cmp}
+use Rattle.pact_record.proofs.EqualValues.{equal_values, is_equal}
 use Rattle.pact_record.proofs.Lists.{AllByRecursion-filter}
 
 -- ---- equal keys
-
-equal_values : (a b : Value) → value_cmp a b ≡ Equal → a ≡ b
-equal_values Null Null h = refl
-equal_values Null (Int b) h = cc
-equal_values Null (Text b) h = cc
-equal_values (Int a) Null h = cc
-equal_values (Int a) (Int b) h = ap Int (int_cmp-IsAntisymmetric a b h)
-equal_values (Int a) (Text b) h = cc
-equal_values (Text a) Null h = cc
-equal_values (Text a) (Int b) h = cc
-equal_values (Text a) (Text b) h = ap Text (slice_cmp-IsAntisymmetric nat_cmp-IsAntisymmetric a b h)
-
-is_equal : (r : Ordering) → is_eq r ≡ true → r ≡ Equal
-is_equal Less h = cc
-is_equal Equal h = refl
-is_equal Greater h = cc
 
 pub same_keys : (a b : List Value) → is_same_key a b ≡ true → a ≡ b
 same_keys a b h = slice_cmp-IsAntisymmetric equal_values a b (is_equal (record_cmp a b) h)

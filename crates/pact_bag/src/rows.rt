@@ -105,6 +105,12 @@ impl Rows {
         &self.held
     }
 
+    pub fn into_records(self) -> Vec<Record>
+        ensures { result.items ≡ self }
+    {
+        self.held
+    }
+
     pub fn copy(&self, alloc: Global) -> Result<Rows, OutOfMemory>
         ensures { IfOk result (λ rows. rows ≡ self.now) }
     {

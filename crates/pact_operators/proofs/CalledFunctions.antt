@@ -28,7 +28,7 @@ operator-below (op ∷ ops) zero h = omega arith
 operator-below (op ∷ ops) (suc n) h = omega (arith, operator-below ops n h)
 
 module _ (p : ProgramData) (program : IsProgram p) (at : ℕ) (op : Op) (operator : kind_at p.ops at ≡ Source → ⊥) where
-  is_operator : slice_get p.ops at ≡ Some op → IsOperatorOf p.fields p.functions op
+  pub is_operator : slice_get p.ops at ≡ Some op → IsOperatorOf p.fields p.functions op
   is_operator found = elim (AllByRecursion-slice_get (IsOpOf p.fields p.functions) p.ops at op program.ops found) as (λ _. IsOperatorOf p.fields p.functions op) [
     | inl source ↦ absurd (operator (ap kind_in found ∙ source))
     | inr h ↦ h

@@ -1,15 +1,13 @@
 -- The records of a bag that a plan allows are Null outside the plan's attributes.
-use Rattle.std.proofs.Common.{◌≡◌, ◌<◌, ◌+◌, ◌⊎◌, inl, inr, ℕ, false, List, [], ◌∷◌, ◌++◌, length, map, refl, sym, ap, subst, arith}
-use Rattle.std.specs.Prelude.{flat_map}
+use Rattle.std.proofs.Common.{◌≡◌, ◌<◌, ◌+◌, ◌⊎◌, inl, inr, ℕ, false, List, [], ◌∷◌, length, refl, sym, ap, subst}
 use Rattle.std.specs.List.{AllByRecursion}
 use Rattle.std.proofs.lemmas.Bool.{both_ways}
-use Rattle.pact_bag.specs.Groups.{group_of_key, is_same_key}
-use Rattle.pact_bag.proofs.KeyGroups.{all-distinct, group_keys, keys_have_groups}
+use Rattle.pact_bag.specs.Groups.{is_same_key}
 use Rattle.pact_record.specs.Widths.{AreWide}
 use Rattle.pact_record.specs.declared.values.Value.{Value}
 use Rattle.pact_record.specs.Record.{key_of}
-use Rattle.pact_record.proofs.Lists.{AllByRecursion-append, AllByRecursion-cond, AllByRecursion-filter, AllByRecursion-flat_map, AllByRecursion-weaker}
-use Rattle.pact_record.proofs.Permutations.{from_permutation, each_perm, length-perm}
+use Rattle.pact_record.proofs.Lists.{AllByRecursion-cond, AllByRecursion-flat_map, AllByRecursion-weaker}
+use Rattle.pact_record.proofs.Permutations.{from_permutation, each_perm}
 use Rattle.tac_syntax.specs.Bounded.{SomeHasValue, InputHasValue}
 use Rattle.tac_syntax.specs.Call.{CallInput, of_record, of_pair, of_group, of_groups}
 use Rattle.tac_syntax.specs.Forms.{IsWithin, left_records, right_records, HaveKey}
@@ -18,10 +16,11 @@ use Rattle.tac_syntax.specs.declared.declarations.OpKind.{OpKind}
 use Rattle.tac_syntax.specs.declared.declarations.OpKind.TheVariants.{Source, Map, Reduce, Match, Cross, CoGroup}
 use Rattle.plan_trees.specs.Plans.{PlanTree, leaf, over, both}
 use Rattle.pact_operators.specs.declared.operators.Op.{Op}
-use Rattle.pact_operators.specs.Allowed.{Bag, Allows, Gives, GivesBoth, Grouped, CoGrouped, crossed, matched, keys_in, keys_in_either}
+use Rattle.pact_operators.specs.Allowed.{Bag, Allows, Gives, GivesBoth, matched}
 use Rattle.pact_operators.specs.PlanOps.{PlanOps, is_source_kind}
 use Rattle.pact_operators.specs.Programs.{HasAttribute, Owns}
 use Rattle.pact_operators.specs.SoundOps.{AreOpsOf, IsCallOf, called}
+use Rattle.pact_operators.proofs.EachOfGroups.{cogrouped_each, crossed_each, grouped_each}
 use Rattle.pact_operators.proofs.WithinFields.{all_within_larger}
 
 pub all_wide : (fields : ℕ) (s : ℕ → Type 0) (rows : Bag) → AllByRecursion (IsWithin fields s) rows → AreWide fields rows
@@ -97,54 +96,13 @@ module _ (fields : ℕ) (v : List WithFields) (ops : List Op) (o : PlanOps) (goo
 
   -- ---- what an operator gives
 
-  crossed_fits : (s t u : ℕ → Type 0) (f : List Value → List Value → Bag) (ls rs : Bag) → AllByRecursion (IsWithin fields s) ls → AllByRecursion (IsWithin fields t) rs
-      → ((l r : List Value) → IsWithin fields s l → IsWithin fields t r → AllByRecursion (IsWithin fields u) (f l r)) → AllByRecursion (IsWithin fields u) (crossed f ls rs)
-  crossed_fits s t u f ls rs h j e =
-      AllByRecursion-flat_map (IsWithin fields s) (IsWithin fields u) (λ l. flat_map (f l) rs) ls h
-      (λ l fl. AllByRecursion-flat_map (IsWithin fields t) (IsWithin fields u) (f l) rs j (λ r fr. e l r fl fr))
-
-  grouped_fits : (s u : ℕ → Type 0) (keys : List ℕ) (f : List Value → Bag → Bag) (rows : Bag) → AllByRecursion (IsWithin fields s) rows
-      → ((k : List Value) (group : Bag) → AllByRecursion (IsWithin fields s) group → HaveKey keys k group → 0 < length group → AllByRecursion (IsWithin fields u) (f k group))
-      → (ks : List (List Value)) → AllByRecursion (λ k. 0 < length (group_of_key keys rows k)) ks → (out : Bag) → Grouped f keys rows ks out → AllByRecursion (IsWithin fields u) out
-  grouped_fits s u keys f rows h e [] some out p = subst (AllByRecursion (IsWithin fields u)) (sym p) tt
-  grouped_fits s u keys f rows h e (k ∷ ks) some out p =
-      let perm = from_permutation (group_of_key keys rows k) p.0 p.2 in
-      let here = e k p.0 (each_perm (IsWithin fields s) perm (AllByRecursion-filter (IsWithin fields s) (λ r. is_same_key (key_of keys r) k) rows h))
-      (each_perm (λ r. key_of keys r ≡ k) perm (group_keys keys rows k)) (omega (arith, some.0, length-perm perm)) in
-      subst (AllByRecursion (IsWithin fields u)) (sym p.3) (AllByRecursion-append (IsWithin fields u) (f k p.0) p.1 here (grouped_fits s u keys f rows h e ks some.1 p.1 p.4))
-
-  cogrouped_fits : (s t u : ℕ → Type 0) (keys others : List ℕ) (f : List Value → Bag → Bag → Bag) (ls rs : Bag) → AllByRecursion (IsWithin fields s) ls → AllByRecursion (IsWithin fields t) rs
-      → ((k : List Value) (left right : Bag) → AllByRecursion (IsWithin fields s) left → AllByRecursion (IsWithin fields t) right → HaveKey keys k left → HaveKey others k right → 0 < length left + length right
-      → AllByRecursion (IsWithin fields u) (f k left right))
-      → (ks : List (List Value)) → AllByRecursion (λ k. 0 < length (group_of_key keys ls k) + length (group_of_key others rs k)) ks → (out : Bag) → CoGrouped f keys others ls rs ks out
-      → AllByRecursion (IsWithin fields u) out
-  cogrouped_fits s t u keys others f ls rs h j e [] some out p = subst (AllByRecursion (IsWithin fields u)) (sym p) tt
-  cogrouped_fits s t u keys others f ls rs h j e (k ∷ ks) some out p =
-      let lp = from_permutation (group_of_key keys ls k) p.0 p.3 in
-      let rp = from_permutation (group_of_key others rs k) p.1 p.4 in
-      let here = e k p.0 p.1 (each_perm (IsWithin fields s) lp (AllByRecursion-filter (IsWithin fields s) (λ r. is_same_key (key_of keys r) k) ls h))
-      (each_perm (IsWithin fields t) rp (AllByRecursion-filter (IsWithin fields t) (λ r. is_same_key (key_of others r) k) rs j))
-      (each_perm (λ r. key_of keys r ≡ k) lp (group_keys keys ls k)) (each_perm (λ r. key_of others r ≡ k) rp (group_keys others rs k)) (omega (arith, some.0, length-perm lp, length-perm rp)) in
-      subst (AllByRecursion (IsWithin fields u)) (sym p.5) (AllByRecursion-append (IsWithin fields u) (f k p.0 p.1) p.2 here (cogrouped_fits s t u keys others f ls rs h j e ks some.1 p.2 p.6))
-
-  keys_some : (keys : List ℕ) (rows : Bag) → AllByRecursion (λ k. 0 < length (group_of_key keys rows k)) (keys_in keys rows)
-  keys_some keys rows = all-distinct (λ k. 0 < length (group_of_key keys rows k)) (map (key_of keys) rows) (keys_have_groups keys rows)
-
-  either_some : (keys others : List ℕ) (ls rs : Bag) → AllByRecursion (λ k. 0 < length (group_of_key keys ls k) + length (group_of_key others rs k)) (keys_in_either keys others ls rs)
-  either_some keys others ls rs =
-      let P = λ (k : List Value). 0 < length (group_of_key keys ls k) + length (group_of_key others rs k) in
-      all-distinct P (map (key_of keys) ls ++ map (key_of others) rs) (AllByRecursion-append P (map (key_of keys) ls) (map (key_of others) rs)
-      (AllByRecursion-weaker (λ k. 0 < length (group_of_key keys ls k)) P (map (key_of keys) ls) (λ k h. omega (arith, h)) (keys_have_groups keys ls))
-      (AllByRecursion-weaker (λ k. 0 < length (group_of_key others rs k)) P (map (key_of others) rs) (λ k h. omega (arith, h)) (keys_have_groups others rs)))
-
   gives_fits : (n : ℕ) (s : ℕ → Type 0) (kind : OpKind) → o.kind n ≡ kind → (ls out : Bag) → AllByRecursion (IsWithin fields s) ls → Gives o kind n ls out → AllByRecursion (IsWithin fields (Over n s)) out
   gives_fits n s Source e ls out h p = absurd p
   gives_fits n s Map e ls out h p =
       subst (AllByRecursion (IsWithin fields (Over n s))) (sym p) (AllByRecursion-flat_map (IsWithin fields s) (IsWithin fields (Over n s)) (o.of_record n) ls h (λ r fr. map_fits n s e r fr))
   gives_fits n s Reduce e ls out h p =
-      grouped_fits s (Over n s) (o.left_keys n) (o.of_group n) ls h
-      (λ k group fg kg some. call_fits_one n s (of_group k group) (IsCallOf-group (o.kind n) (o.left_keys n) (o.right_keys n) k group e some kg) fg tt)
-      (keys_in (o.left_keys n) ls) (keys_some (o.left_keys n) ls) out p
+      grouped_each (IsWithin fields s) (IsWithin fields (Over n s)) (o.left_keys n) (o.of_group n) ls h
+      (λ k group fg kg some. call_fits_one n s (of_group k group) (IsCallOf-group (o.kind n) (o.left_keys n) (o.right_keys n) k group e some kg) fg tt) out p
   gives_fits n s Match e ls out h p = absurd p
   gives_fits n s Cross e ls out h p = absurd p
   gives_fits n s CoGroup e ls out h p = absurd p
@@ -155,14 +113,13 @@ module _ (fields : ℕ) (v : List WithFields) (ops : List Op) (o : PlanOps) (goo
   both_fits n s t Map e ls rs out h j p = absurd p
   both_fits n s t Reduce e ls rs out h j p = absurd p
   both_fits n s t Match e ls rs out h j p =
-      subst (AllByRecursion (IsWithin fields (OverBoth n s t))) (sym p) (crossed_fits s t (OverBoth n s t) (matched (o.of_pair n) (o.left_keys n) (o.right_keys n)) ls rs h j
+      subst (AllByRecursion (IsWithin fields (OverBoth n s t))) (sym p) (crossed_each (IsWithin fields s) (IsWithin fields t) (IsWithin fields (OverBoth n s t)) (matched (o.of_pair n) (o.left_keys n) (o.right_keys n)) ls rs h j
       (λ l r fl fr. AllByRecursion-cond (IsWithin fields (OverBoth n s t)) (is_same_key (key_of (o.left_keys n) l) (key_of (o.right_keys n) r)) (o.of_pair n l r) [] (match_fits n s t e l r fl fr) tt))
   both_fits n s t Cross e ls rs out h j p =
-      subst (AllByRecursion (IsWithin fields (OverBoth n s t))) (sym p) (crossed_fits s t (OverBoth n s t) (o.of_pair n) ls rs h j (λ l r fl fr. cross_fits n s t e l r fl fr))
+      subst (AllByRecursion (IsWithin fields (OverBoth n s t))) (sym p) (crossed_each (IsWithin fields s) (IsWithin fields t) (IsWithin fields (OverBoth n s t)) (o.of_pair n) ls rs h j (λ l r fl fr. cross_fits n s t e l r fl fr))
   both_fits n s t CoGroup e ls rs out h j p =
-      cogrouped_fits s t (OverBoth n s t) (o.left_keys n) (o.right_keys n) (o.of_groups n) ls rs h j
-      (λ k left right fl fr kl kr some. call_fits n s t (of_groups k left right) (IsCallOf-groups (o.kind n) (o.left_keys n) (o.right_keys n) k left right e some kl kr) fl fr)
-      (keys_in_either (o.left_keys n) (o.right_keys n) ls rs) (either_some (o.left_keys n) (o.right_keys n) ls rs) out p
+      cogrouped_each (IsWithin fields s) (IsWithin fields t) (IsWithin fields (OverBoth n s t)) (o.left_keys n) (o.right_keys n) (o.of_groups n) ls rs h j
+      (λ k left right fl fr kl kr some. call_fits n s t (of_groups k left right) (IsCallOf-groups (o.kind n) (o.left_keys n) (o.right_keys n) k left right e some kl kr) fl fr) out p
 
   pub lawful_bags : (t : PlanTree) (bag : Bag) → Allows o t bag → AllByRecursion (IsWithin fields (HasAttribute v ops t)) bag
   lawful_bags (leaf n) bag h = each_perm (IsWithin fields (Owns v ops n)) (from_permutation (o.rows n) bag h.0.permuted) (good.rows n h.0.source)

@@ -30,5 +30,9 @@ pub mod WithinFields
 pub mod SoundPrograms
 pub mod SmallerContexts
 pub mod CalledFunctions
+pub mod EachOfGroups
 pub mod LawfulBags
+pub mod EverySubtree
+pub mod ChosenForKeys
+pub mod PermutedEvaluations
 pub mod DifferentNames

@@ -1,6 +1,6 @@
 -- The plan as written is a plan of the sources and operators.
-use Rattle.std.proofs.Common.{◌≡◌, ◌<◌, ◌++◌, ◌||◌, ◌==◌, inl, inr, ℕ, zero, suc, true, false, Some, None, Option, List, [], ◌∷◌, length, slice_get, refl, ap, subst, sym, ◌∙◌, arith}
-use Rattle.std.proofs.lemmas.Bool.{cases_Bool, eq-eqb, eqb-true, false_from_ne_true, leb-false, ne_eqb, or_left, or_right}
+use Rattle.std.proofs.Common.{◌≡◌, ◌<◌, ◌==◌, inl, inr, ℕ, zero, suc, true, Some, None, Option, List, [], ◌∷◌, length, slice_get, refl, ap, subst, sym, ◌∙◌, arith}
+use Rattle.std.proofs.lemmas.Bool.{cases_Bool, eqb-true, false_from_ne_true, leb-false}
 use Rattle.tac_syntax.specs.Valid.{WithFields}
 use Rattle.tac_syntax.specs.declared.declarations.OpKind.{OpKind}
 use Rattle.tac_syntax.specs.declared.declarations.OpKind.TheVariants.{Source as SourceKind, Map, Reduce, Match, Cross, CoGroup}
@@ -8,16 +8,14 @@ use Rattle.tac_syntax.specs.declared.declarations.Decl.{Decl}
 use Rattle.tac_syntax.specs.declared.declarations.Decl.TheVariants.{Source, Function as FunctionDecl, Op as OpDecl, Sink}
 use Rattle.pact_operators.specs.declared.operators.Op.{Op}
 use Rattle.pact_operators.specs.declared.program_rules.ProgramRule.TheVariants.{DeclaredTwice, SharedAttribute}
-use Rattle.plan_trees.specs.Distinct.{AreDifferent, IsAbsent}
 use Rattle.tac_syntax.specs.Drafts.{DraftData}
-use Rattle.plan_trees.specs.Plans.{PlanTree, leaf, over, both, has, nodes, root_of, subtree_of}
+use Rattle.plan_trees.specs.Plans.{PlanTree, leaf, over, both, has, root_of, subtree_of}
 use Rattle.pact_operators.specs.ProgramRules.{NoneBreaks, SidesShare}
 use Rattle.pact_operators.specs.Programs.{AreSidesApart, Follows, HasArity, IsPlanOf, IsWrittenPlan, Takes, takes}
 use Rattle.pact_operators.specs.Resolved.{Inputs, no_input, one_input, two_inputs, function_names, inputs_of, inputs_read, node_names, ops_of, place_among, times_among}
-use Rattle.plan_trees.proofs.DifferentNumbers.{AreDifferent-parts, IsAbsent-not, IsIn, IsIn-left, IsIn-right}
-use Rattle.plan_trees.proofs.NodesOfTrees.{nodes-has}
 use Rattle.pact_operators.proofs.FewDeclarations.{length-ops_of}
 use Rattle.pact_operators.proofs.EachDecl.{none-at}
+use Rattle.pact_operators.proofs.EverySubtree.{AllBelow, all_below}
 use Rattle.pact_operators.proofs.OnePlan.{root_within}
 use Rattle.pact_operators.proofs.NamedInputs.{length-inputs_of, only_place}
 
@@ -74,43 +72,6 @@ subtree-follows inputs n (both m t u) f h = elim (cases_Bool (n == m)) as (λ _.
     | inr l ↦ rw (e, l) (subtree-follows inputs n u f.2 (simp (e, l) at h))
   ]
 ]
-
--- a fact of a tree and of all trees below it
-abbrev AllBelow : (PlanTree → Type 0) → PlanTree → Type 0
-AllBelow P (leaf n) = P (leaf n)
-AllBelow P (over n t) = P (over n t) × AllBelow P t
-AllBelow P (both n t u) = P (both n t u) × AllBelow P t × AllBelow P u
-
-other_than : (n m : ℕ) (ms : List ℕ) → IsAbsent n ms → IsIn m ms → (m == n) ≡ false
-other_than n m ms a i = ne_eqb m n (λ e. IsAbsent-not n ms a (subst (λ (k : ℕ). IsIn k ms) e i))
-
--- what holds of each subtree that a number of the tree names
-all_below : (P : PlanTree → Type 0) (t : PlanTree) → AreDifferent (nodes t) → ((m : ℕ) → has m t ≡ true → P (subtree_of m t)) → AllBelow P t
-all_below P (leaf n) d h = h n (eq-eqb n n refl)
-all_below P (over n t) d h =
-    let self = eq-eqb n n refl in
-    let here : subtree_of n (over n t) ≡ over n t = rw self refl in (
-      subst P here (h n (or_left (n == n) (has n t) self)),
-      all_below P t d.1 (λ m there.
-          let other = other_than n m (nodes t) d.0 (nodes-has m t there) in
-          let below : subtree_of m (over n t) ≡ subtree_of m t = rw other refl in
-          subst P below (h m (or_right (m == n) (has m t) there))),
-    )
-all_below P (both n t u) d h =
-    let self = eq-eqb n n refl in
-    let here : subtree_of n (both n t u) ≡ both n t u = rw self refl in
-    let parts = AreDifferent-parts (nodes t) (nodes u) d.1 in (
-      subst P here (h n (or_left (n == n) (has n t || has n u) self)),
-      all_below P t parts.0 (λ m there.
-          let other = other_than n m (nodes t ++ nodes u) d.0 (IsIn-left m (nodes t) (nodes u) (nodes-has m t there)) in
-          let below : subtree_of m (both n t u) ≡ subtree_of m t = rw (other, there) refl in
-          subst P below (h m (or_right (m == n) (has m t || has m u) (or_left (has m t) (has m u) there)))),
-      all_below P u parts.1 (λ m there.
-          let other = other_than n m (nodes t ++ nodes u) d.0 (IsIn-right m (nodes t) (nodes u) (nodes-has m u there)) in
-          let elsewhere = false_from_ne_true (has m t) (λ (left : has m t ≡ true). parts.2 m (nodes-has m t left) (nodes-has m u there)) in
-          let below : subtree_of m (both n t u) ≡ subtree_of m u = rw (other, elsewhere) refl in
-          subst P below (h m (or_right (m == n) (has m t || has m u) (or_right (has m t) (has m u) there)))),
-    )
 
 -- ---- the sides of each operator share nothing
 

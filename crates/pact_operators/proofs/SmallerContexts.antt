@@ -6,7 +6,8 @@ use Rattle.tac_syntax.specs.declared.functions.Kind.{Kind}
 use Rattle.tac_syntax.specs.declared.functions.Kind.TheVariants as kinds
 use Rattle.tac_syntax.specs.Call.{CallInput, of_record, of_pair, of_group, of_groups, Out}
 use Rattle.tac_syntax.specs.Contexts.{FieldSet, Ports}
-use Rattle.tac_syntax.specs.Forms.{Agree, AreApart, AreKeyed, HasForm, HaveKey, IsLawful, KeepsGroups, left_records, right_records}
+use Rattle.pact_record.specs.Record.{Agree}
+use Rattle.tac_syntax.specs.Forms.{AreApart, AreKeyed, HasForm, HaveKey, IsLawful, KeepsGroups, left_records, right_records}
 use Rattle.pact_operators.specs.Allowed.{Bag}
 use Rattle.pact_operators.specs.PlanOps.{plan_ops, body_at}
 use Rattle.pact_operators.specs.Programs.{ProgramData}

@@ -3,9 +3,9 @@ use Rattle.std.proofs.Common.{◌≡◌, ℕ, List, [], ◌∷◌, refl}
 use Rattle.std.specs.List.{AllByRecursion, AllZip}
 use Rattle.pact_record.proofs.Lists.{AllByRecursion-weaker}
 use Rattle.pact_record.specs.declared.values.Value.{Value}
-use Rattle.pact_record.specs.Record.{key_of}
+use Rattle.pact_record.specs.Record.{Agree, key_of}
 use Rattle.tac_syntax.specs.Contexts.{FieldSet, Has}
-use Rattle.tac_syntax.specs.Forms.{Agree, IsWithin}
+use Rattle.tac_syntax.specs.Forms.{IsWithin}
 
 -- what isn't in the second set isn't in the first
 abbrev pub IsCovered : (ℕ → Type 0) → (ℕ → Type 0) → Type 0

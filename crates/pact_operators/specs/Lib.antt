@@ -6,6 +6,7 @@ pub mod Programs
 pub mod ProgramCode
 pub mod PlanOps
 pub mod Allowed
+pub mod Divided
 pub mod Inputs
 pub mod ProgramRules
 pub mod RuleTests

@@ -5,4 +5,5 @@ pub mod Order
 pub mod Operations
 pub mod FieldSets
 pub mod Keys
+pub mod Hash
 pub mod Widths

@@ -9,6 +9,7 @@
 pub mod bytes;
 pub mod columns;
 pub mod field_sets;
+mod hashing;
 pub mod keys;
 pub mod operations;
 mod pairs;

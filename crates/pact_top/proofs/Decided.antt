@@ -208,7 +208,7 @@ loaded_decided files told name =
     decided_then _ (program_file_one files told name) (program_file_decided files told name) (λ p _. agree_then _ _ (sources_decided files told p) (λ a b _ _. give_agrees _ _))
 
 ready_for_decided : (files : Option (List NamedFile)) → AreTold files → (asked : Asked) → IsDecided (ready_for files asked)
-ready_for_decided files told (to_run name workers plans counts) = agree_then _ _ (loaded_decided files told name) (λ a b _ _. give_agrees _ _)
+ready_for_decided files told (to_run name options counts) = agree_then _ _ (loaded_decided files told name) (λ a b _ _. give_agrees _ _)
 ready_for_decided files told (to_plan name workers plans) = agree_then _ _ (loaded_decided files told name) (λ a b _ _. give_agrees _ _)
 ready_for_decided files told (to_certify name workers plans) = agree_then _ _ (loaded_decided files told name) (λ a b _ _. give_agrees _ _)
 ready_for_decided files told (to_tell_sets name) = agree_then _ _ (program_file_decided files told name) (λ a b _ _. give_agrees _ _)
@@ -261,7 +261,7 @@ loaded_known words files name =
     (λ p. stops_then (IsKnown words) _ (stops_each (IsKnown words) (source_file p.fields files) (source_known words files p.fields) (sources_of p.ops)) (λ inputs. stops_give (IsKnown words) _))
 
 ready_for_known : (words : List (List ℕ)) (files : Option (List NamedFile)) (asked : Asked) → StopsSo (IsKnown words) (ready_for files asked)
-ready_for_known words files (to_run name workers plans counts) = stops_then (IsKnown words) _ (loaded_known words files name) (λ l. stops_give (IsKnown words) _)
+ready_for_known words files (to_run name options counts) = stops_then (IsKnown words) _ (loaded_known words files name) (λ l. stops_give (IsKnown words) _)
 ready_for_known words files (to_plan name workers plans) = stops_then (IsKnown words) _ (loaded_known words files name) (λ l. stops_give (IsKnown words) _)
 ready_for_known words files (to_certify name workers plans) = stops_then (IsKnown words) _ (loaded_known words files name) (λ l. stops_give (IsKnown words) _)
 ready_for_known words files (to_tell_sets name) = stops_then (IsKnown words) _ (program_file_known words files name) (λ p. stops_give (IsKnown words) _)

@@ -15,3 +15,4 @@ pub mod WrittenParts
 pub mod CertificateEnds
 pub mod RowCounts
 pub mod ChosenTexts
+pub mod RunPlans

@@ -1,5 +1,5 @@
 -- The commands, from the words to the texts.
-use Rattle.std.proofs.Common.{◌≡◌, ◌⊎◌, inl, inr, ℕ, Bool, true, false, List, Option, Some, None, Result, Ok, Err, IfOk, IfErr, refl, sym, subst, arith}
+use Rattle.std.proofs.Common.{◌≡◌, ◌⊎◌, inl, inr, ℕ, Bool, true, false, List, Option, Some, None, Result, Ok, Err, IfOk, IfErr, refl, sym, subst, arith, ap}
 use Rattle.pact_operators.specs.Allowed.{Bag}
 use Rattle.pact_operators.specs.Programs.{IsProgram, ProgramData}
 use Rattle.pact_outside.specs.declared.files.NamedFile.{NamedFile}
@@ -17,6 +17,7 @@ use Rattle.pact_top.specs.Refusal.{Answers, AskForCounts, Comes, ComesTo, Decide
 use Rattle.pact_top.specs.Stages.{Reading, Stage, and_then, fails, give, gives, misses, stops}
 use Rattle.pact_top.specs.RefusalLines.{usage_line}
 use Rattle.pact_top.specs.Work.{accepted, certificate_file, loaded, program_file, ready_for, rechecked, sources, texts_for, work}
+use Rattle.pact_words.specs.declared.commands.Options.{Options}
 use Rattle.pact_words.specs.Words.{AreRefused, Asked, IsAsked, to_certify, to_check, to_plan, to_run, to_tell_sets}
 use Rattle.pact_top.proofs.Comings.{comes_decided, comes_err, comes_then, decides_err, decides_then}
 use Rattle.pact_top.proofs.Decided.{IsKnown, work_known}
@@ -178,8 +179,8 @@ gave_made s make p y (fails name, q, r, e, h, g) = absurd cc
 
 -- and for counts only where it asks for them
 asks : (files : Option (List NamedFile)) (c : Asked) (p : List Reading) (l : Loaded) (workers plans : ℕ) → (ready_for files c).Ends p (gives (to_evaluate l workers plans true))
-    → (name : List ℕ) × (c ≡ to_run name workers plans true)
-asks files (to_run name w n counts) p l workers plans h = let e = (gave_made (loaded files name) (λ x. to_evaluate x w n counts) p _ h).1 in (name, cc)
+    → (name : List ℕ) × (options : Options) × (c ≡ to_run name options true)
+asks files (to_run name o counts) p l workers plans h = let e = (gave_made (loaded files name) (λ x. to_evaluate x o.workers o.plans counts) p _ h).1 in (name, o, let asked : counts ≡ true = cc in ap (to_run name o) asked)
 asks files (to_plan name w n) p l workers plans h = let e = (gave_made (loaded files name) (λ x. to_show x w n) p _ h).1 in absurd cc
 asks files (to_certify name w n) p l workers plans h = let e = (gave_made (loaded files name) (λ x. to_justify x w n) p _ h).1 in absurd cc
 asks files (to_tell_sets name) p l workers plans h = let e = (gave_made (program_file files name) to_analyse p _ h).1 in absurd cc
@@ -190,7 +191,7 @@ counts_for : (words : List (List ℕ)) (files : Option (List NamedFile)) (c : As
 counts_for words files c p texts text asked (gives y, q, r, e, h, g) told =
     let made_so = counted_texts y texts text g.1 told in
     let a = asks files c q made_so.0 made_so.1 made_so.2 (subst (λ (z : Ready). (ready_for files c).Ends q (gives z)) made_so.3 h) in
-    (a.0, made_so.1, made_so.2, subst (IsAsked words) a.1 asked)
+    (a.0, a.1, subst (IsAsked words) a.2 asked)
 counts_for words files c p texts text asked (stops status line, q, r, e, h, g) told = absurd cc
 counts_for words files c p texts text asked (misses name, q, r, e, h, g) told = absurd cc
 counts_for words files c p texts text asked (fails name, q, r, e, h, g) told = absurd cc

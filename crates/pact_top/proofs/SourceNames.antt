@@ -103,7 +103,7 @@ loaded_fails asked files name named =
     (λ inputs _. fails_plain (NamedFor asked) _ _))
 
 ready_for_fails : (files : Option (List NamedFile)) (asked : Asked) → FailsSo (NamedFor asked) (ready_for files asked)
-ready_for_fails files (to_run name workers plans counts) = fails_then (NamedFor (to_run name workers plans counts)) _ (loaded_fails (to_run name workers plans counts) files name (inl refl)) (λ l _. fails_plain (NamedFor (to_run name workers plans counts)) _ _)
+ready_for_fails files (to_run name options counts) = fails_then (NamedFor (to_run name options counts)) _ (loaded_fails (to_run name options counts) files name (inl refl)) (λ l _. fails_plain (NamedFor (to_run name options counts)) _ _)
 ready_for_fails files (to_plan name workers plans) = fails_then (NamedFor (to_plan name workers plans)) _ (loaded_fails (to_plan name workers plans) files name (inl refl)) (λ l _. fails_plain (NamedFor (to_plan name workers plans)) _ _)
 ready_for_fails files (to_certify name workers plans) = fails_then (NamedFor (to_certify name workers plans)) _ (loaded_fails (to_certify name workers plans) files name (inl refl)) (λ l _. fails_plain (NamedFor (to_certify name workers plans)) _ _)
 ready_for_fails files (to_tell_sets name) =

@@ -7,7 +7,7 @@
 -- reading and no other, and that nothing was read more than one byte behind a file's limit.
 use Rattle.std.specs.Prelude.{◌≡◌, ◌≢◌, ◌≤◌, ◌⊎◌, ℕ, List, [], Option, Some}
 use Rattle.pact_outside.specs.Outside.{Feeding, Rose}
-use Rattle.pact_words.specs.Words.{AreRefused}
+use Rattle.pact_words.specs.Words.{AreRefused, AreUnnamed}
 use Rattle.pact_top.specs.Refusal.{AreTold, AskForCounts, ComesTo, HasFailed, IsNamed}
 use Rattle.pact_top.specs.RefusalLines.{line_of}
 use Rattle.pact_top.specs.Stages.{CanEnd, gives, stops, misses}
@@ -43,6 +43,10 @@ Usage words status = status ≡ 2 → AreRefused words
 
 abbrev pub UsageAlways : List (List ℕ) → ℕ → Type 0
 UsageAlways words status = AreRefused words → (status ≡ 1) ⊎ (status ≡ 2)
+
+-- where there is no word, or the first is no command, it comes always, since no memory is taken then
+abbrev pub UsageUnnamed : List (List ℕ) → ℕ → Type 0
+UsageUnnamed words status = AreUnnamed words → status ≡ 2
 
 -- Status 3: only where a fault of the feed rose, at the file opened last, which the order of work opens there; no file is open then
 -- (`unread`, `unread_closed`). The command names it, or a program may. A file that is missing comes to nothing else.

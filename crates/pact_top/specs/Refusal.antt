@@ -2,6 +2,7 @@
 use Rattle.std.specs.Prelude.{◌≡◌, ◌≤◌, ◌⊎◌, ℕ, true, false, List, [], Option, Some, None, Result, Ok, Err, IsTrue}
 use Rattle.pact_outside.specs.declared.files.NamedFile.{NamedFile}
 use Rattle.pact_outside.specs.Outside.{Feeding, Rose}
+use Rattle.pact_words.specs.declared.commands.Options.{Options}
 use Rattle.pact_words.specs.Words.{Asked, to_run, to_plan, to_certify, to_tell_sets, to_check, AreRefused, IsAsked}
 use Rattle.pact_operators.specs.declared.checking.NotProgram.{NotProgram}
 use Rattle.pact_operators.specs.declared.checking.NotProgram.TheVariants as nots
@@ -106,7 +107,7 @@ Decides stage (Err refusal) = ⊥
 
 -- the command names the file
 abbrev pub Names : Asked → List ℕ → Type 0
-Names (to_run program workers plans counts) name = name ≡ program
+Names (to_run program options counts) name = name ≡ program
 Names (to_plan program workers plans) name = name ≡ program
 Names (to_certify program workers plans) name = name ≡ program
 Names (to_tell_sets program) name = name ≡ program
@@ -114,7 +115,7 @@ Names (to_check program certificate) name = (name ≡ program) ⊎ (name ≡ cer
 
 -- the words ask for counts
 abbrev pub AskForCounts : List (List ℕ) → Type 0
-AskForCounts words = (program : List ℕ) × (workers : ℕ) × (plans : ℕ) × IsAsked words (to_run program workers plans true)
+AskForCounts words = (program : List ℕ) × (options : Options) × IsAsked words (to_run program options true)
 
 -- the words name this file, or a program may
 abbrev pub IsNamed : List (List ℕ) → List ℕ → Type 0

@@ -131,7 +131,7 @@ accepted files name other =
 
 -- the order of work of each command
 abbrev pub ready_for : Option (List NamedFile) → Asked → Stage Ready
-ready_for files (to_run name workers plans counts) = and_then (loaded files name) (λ l. give (λ r. r ≡ to_evaluate l workers plans counts))
+ready_for files (to_run name o counts) = and_then (loaded files name) (λ l. give (λ r. r ≡ to_evaluate l o.workers o.plans counts))
 ready_for files (to_plan name workers plans) = and_then (loaded files name) (λ l. give (λ r. r ≡ to_show l workers plans))
 ready_for files (to_certify name workers plans) = and_then (loaded files name) (λ l. give (λ r. r ≡ to_justify l workers plans))
 ready_for files (to_tell_sets name) = and_then (program_file files name) (λ p. give (λ r. r ≡ to_analyse p))

@@ -9,7 +9,7 @@ ghost use Rattle.plan_trees.specs.Physicals.{worker_limit};
 ghost use Rattle.pact_top.specs.Refusal.{AskForCounts, Comes, ComesTo, Decides, IsRefused, RowRefused};
 ghost use Rattle.pact_top.specs.Stages.{gives};
 ghost use Rattle.pact_top.specs.Work as work;
-ghost use Rattle.pact_words.specs.Words.{AreRefused, IsInRange, asked, texts_of, to_certify, to_check, to_plan, to_run, to_tell_sets};
+ghost use Rattle.pact_words.specs.Words.{AreOptionsInRange, AreRefused, AreUnnamed, IsInRange, asked, texts_of, to_certify, to_check, to_plan, to_run, to_tell_sets};
 
 use crate::certificates::{certificate_in, rechecked};
 use crate::choosing::{certificate_texts, plan_texts, run_texts};
@@ -25,7 +25,7 @@ use pact_bag::{Inputs, Rows};
 use pact_operators::{Op, Program};
 use pact_outside::Feed;
 use pact_record::{Bytes, MAX_FIELDS, OutOfMemory};
-use pact_words::{Command, Refused, read_words};
+use pact_words::{Command, Options, Refused, read_words};
 use plan_printer::sets_text;
 use std::alloc::Global;
 use swap_certificate::Certificate;
@@ -141,16 +141,14 @@ fn run<F: Feed>(
     alloc: Global,
     feed: &mut F,
     name: &[u8],
-    workers: u32,
-    plans: u32,
+    options: Options,
     counts: bool,
 ) -> Result<Texts, Refusal>
-    requires workers { (1 ≤ workers) × (workers ≤ worker_limit) }
-    requires plans { (1 ≤ plans) × (plans ≤ entry_limit) }
-    ensures { Comes (λ files. work.texts_for files (to_run name.now workers plans counts)) (F.shows feed.old) (F.shows feed.new) result }
+    requires { AreOptionsInRange options }
+    ensures { Comes (λ files. work.texts_for files (to_run name.now options counts)) (F.shows feed.old) (F.shows feed.new) result }
 {
     let loaded = load(alloc, feed, name)?;
-    let texts = run_texts(alloc, &loaded, workers, plans, counts)?;
+    let texts = run_texts(alloc, &loaded, options, counts)?;
     Ok(texts)
 }
 
@@ -227,10 +225,9 @@ fn texts_for<F: Feed>(alloc: Global, command: Command, feed: &mut F) -> Result<T
     match command {
         Command::Run {
             program,
-            workers,
-            plans,
+            options,
             counts,
-        } => run(alloc, feed, program.as_bytes(), workers, plans, counts),
+        } => run(alloc, feed, program.as_bytes(), options, counts),
         Command::Plan {
             program,
             workers,
@@ -251,6 +248,7 @@ fn texts_for<F: Feed>(alloc: Global, command: Command, feed: &mut F) -> Result<T
 
 // From the words to the texts, one stage after the other.
 fn answered<F: Feed>(alloc: Global, words: &[&str], feed: &mut F) -> Result<Texts, Refusal>
+    ensures unnamed { AreUnnamed (texts_of words.now) → result ≡ Err Refusal.Usage }
     ensures usage { AreRefused (texts_of words.now) → (result ≡ Err Refusal.Usage) ⊎ (result ≡ Err Refusal.OutOfMemory) }
     ensures usage_untouched { AreRefused (texts_of words.now) → feed.new ≡ feed.old }
     ensures comes { Comes (work.work (texts_of words.now)) (F.shows feed.old) (F.shows feed.new) result }
@@ -264,6 +262,7 @@ fn answered<F: Feed>(alloc: Global, words: &[&str], feed: &mut F) -> Result<Text
 
 /// The texts that the words ask for, or the first refusal that stands.
 pub fn answer<F: Feed>(alloc: Global, words: &[&str], feed: &mut F) -> Result<Texts, Refusal>
+    ensures unnamed { AreUnnamed (texts_of words.now) → result ≡ Err Refusal.Usage }
     ensures usage { AreRefused (texts_of words.now) → (result ≡ Err Refusal.Usage) ⊎ (result ≡ Err Refusal.OutOfMemory) }
     ensures usage_untouched { AreRefused (texts_of words.now) → feed.new ≡ feed.old }
     ensures texts { IfOk result (λ texts. ComesTo (work.work (texts_of words.now) (F.shows feed.old).files) (F.shows feed.old) (F.shows feed.new) (gives texts)) }

@@ -7,6 +7,7 @@ ghost use Rattle.pact_operators.specs.PlanOps.{is_source_kind, plan_ops};
 ghost use Rattle.pact_operators.specs.Programs.{AreNames, IsPlanOf};
 ghost use Rattle.plan_trees.specs.Physicals.{worker_limit};
 ghost use Rattle.plan_enumerate.specs.Listing.{entry_limit};
+ghost use Rattle.pact_words.specs.Words.{AreOptionsInRange};
 ghost use Rattle.reorder_pair.specs.Legal.{KeepAnswers};
 ghost use Rattle.pact_record.specs.Widths.{AreWide};
 ghost use Rattle.pact_top.specs.CommandTexts as texts;
@@ -17,14 +18,16 @@ ghost use Rattle.pact_top.specs.CommandTexts.{AllowsWritten, AreToldCounts, IsAn
 use crate::lines::sorted_lines;
 use crate::loaded::{Loaded, is_source};
 use crate::texts::Texts;
+use flow_core::{World, run_alone};
+use local_strategy::ListLocal;
 use pact_bag::{Counts, Inputs, Outcome};
 use pact_operators::{Op, Plan, Program};
 use pact_record::{Bytes, OutOfMemory};
+use pact_words::Options;
 use plan_enumerate::{Chosen, Listed, choose, enumerate, steps_of};
 use plan_printer::{Shown, counts_text, plan_text};
 use reorder_pair::ConditionList;
 use ship_strategy::layout;
-use slow_eval::evaluate;
 use std::alloc::Global;
 use swap_certificate::{certificate, certificate_line};
 
@@ -101,19 +104,32 @@ pub fn choose_plan(
     })
 }
 
-// What an evaluation of the chosen plan gives: a bag that the plan as written allows too.
-fn evaluated(alloc: Global, loaded: &Loaded, choice: &Choice) -> Result<Outcome, OutOfMemory>
+// What a run of the chosen plan in parts gives: a bag that the plan as written allows too.
+fn run_plan(
+    alloc: Global,
+    loaded: &Loaded,
+    choice: &Choice,
+    options: Options,
+) -> Result<Outcome, OutOfMemory>
     requires inputs { AreInputsOf loaded.now.program loaded.now.inputs }
+    requires options { AreOptionsInRange options }
     requires plan { IsPlanOf loaded.now.program.functions loaded.now.program.ops choice.now.plan }
+    requires layout { choice.now.chosen.layout < layout_count loaded.now.program.ops }
     requires answers { KeepAnswers loaded.now.program loaded.now.program.plan choice.now.plan }
     ensures allowed { IfOk result (λ o. AllowsWritten loaded.now o.rows) }
     ensures counted { IfOk result (λ o. Counted (plan_ops loaded.now.program loaded.now.inputs) choice.now.plan o.rows o.counts) }
     ensures widths { IfOk result (λ o. AreWide loaded.now.program.fields o.rows) }
 {
-    evaluate(alloc, &loaded.program, &choice.plan, &loaded.inputs)
+    let (program, inputs) = (&loaded.program, &loaded.inputs);
+    // a program tells that it is one
+    let _fields = program.fields();
+    let physical = layout(program, &choice.plan, choice.chosen.layout, options.workers);
+    let (batch, depth) = (options.batch, options.depth);
+    let world = World::<ListLocal>::start(alloc, program, &physical, inputs, batch, depth)?;
+    run_alone(world)
 }
 
-// The counts of an evaluation of the chosen plan, where they are asked for.
+// The counts of a run of the chosen plan, where they are asked for.
 fn told_counts(
     alloc: Global,
     loaded: &Loaded,
@@ -131,21 +147,19 @@ fn told_counts(
     Ok(Some(text))
 }
 
-/// The sorted rows of an evaluation of the chosen plan, and its counts where they are asked for.
+/// The sorted rows of a run of the chosen plan, and its counts where they are asked for.
 pub fn run_texts(
     alloc: Global,
     loaded: &Loaded,
-    workers: u32,
-    plans: u32,
+    options: Options,
     counts: bool,
 ) -> Result<Texts, OutOfMemory>
     requires inputs { AreInputsOf loaded.now.program loaded.now.inputs }
-    requires workers { (1 ≤ workers) × (workers ≤ worker_limit) }
-    requires plans { (1 ≤ plans) × (plans ≤ entry_limit) }
-    ensures { IfOk result (IsAnswerOf loaded.now workers plans counts) }
+    requires options { AreOptionsInRange options }
+    ensures { IfOk result (IsAnswerOf loaded.now options.workers options.plans counts) }
 {
-    let choice = choose_plan(alloc, loaded, workers, plans)?;
-    let outcome = evaluated(alloc, loaded, &choice)?;
+    let choice = choose_plan(alloc, loaded, options.workers, options.plans)?;
+    let outcome = run_plan(alloc, loaded, &choice, options)?;
     let out = sorted_lines(alloc, &outcome.rows, loaded.program.sink())?;
     let counts = told_counts(alloc, loaded, &choice, &outcome.counts, counts)?;
     Ok(Texts { out, counts })

@@ -2,7 +2,7 @@
 
 ghost use Rattle.std.specs.Prelude.{◌≡◌, ◌≢◌, ◌≤◌, ◌⊎◌, ℕ, List, [], Some, false};
 ghost use Rattle.pact_outside.specs.Outside.{Rose};
-ghost use Rattle.pact_top.specs.Headline.{Answered, AnsweredQuietly, AreCountsCut, Complete, IsTextCut, MissingFile, NoOther, NothingWritten, Refused, RefusedAlways, Told, UnreadName, UnreadOpened, Unwritten, UnwrittenCause, Usage, UsageAlways};
+ghost use Rattle.pact_top.specs.Headline.{Answered, AnsweredQuietly, AreCountsCut, Complete, IsTextCut, MissingFile, NoOther, NothingWritten, Refused, RefusedAlways, Told, UnreadName, UnreadOpened, Unwritten, UnwrittenCause, Usage, UsageAlways, UsageUnnamed};
 ghost use Rattle.pact_top.specs.Refusal.{status_of, refusal_line};
 ghost use Rattle.pact_top.specs.RefusalLines.{line_of};
 ghost use Rattle.pact_top.specs.Transfer.{Gains, GainsCounts, Tells, TellsBehind};
@@ -84,6 +84,7 @@ pub fn pact_main<F: Feed, O: Sink, E: Sink>(
 
     ensures usage { Usage (texts_of words.now) result }
     ensures usage_always { UsageAlways (texts_of words.now) result }
+    ensures usage_unnamed { UsageUnnamed (texts_of words.now) result }
     ensures usage_untouched { AreRefused (texts_of words.now) → feed.new ≡ feed.old }
 
     ensures unread { result ≡ 3 → Rose (F.shows feed.old).faults (F.shows feed.new).faults }

@@ -7,7 +7,7 @@ use Rattle.pact_words.specs.declared.commands.Kind.{Kind}
 use Rattle.pact_words.specs.declared.commands.Kind.TheVariants.{Run, Plan, Cert, Check, Sets}
 use Rattle.pact_words.specs.Definitions.{app_for}
 use Rattle.pact_words.specs.FoundValues.{all_four, all_three, all_two}
-use Rattle.pact_words.specs.Words.{AreInRange, Asked, IsInRange, asked_of, to_certify, to_check, to_plan, to_run, to_tell_sets}
+use Rattle.pact_words.specs.Words.{AreInRange, AreOptionsInRange, Asked, IsInRange, asked_of, options, to_certify, to_check, to_plan, to_run, to_tell_sets}
 use Rattle.pact_words.proofs.FittingRows.{AllKnown}
 use Rattle.pact_words.proofs.GivenValues.{Holds, IsSure, held}
 use Rattle.pact_words.proofs.OneAsked.{not_both, one_of}
@@ -16,7 +16,7 @@ use Rattle.pact_words.proofs.SaidValues.{HasNumber, has_flag, has_number, has_te
 -- ---- what each command has
 
 known : (k : Kind) → AllKnown (built (app_for k)).top.rules (built (app_for k)).top.rules
-known Run = ((refl, inl (refl, refl)), ((refl, inl (refl, refl)), ((refl, inl (refl, refl)), ((refl, inr (inl (refl, (_, _, refl)))), ((refl, inr (inr refl)), tt)))))
+known Run = ((refl, inl (refl, refl)), ((refl, inl (refl, refl)), ((refl, inl (refl, refl)), ((refl, inl (refl, refl)), ((refl, inl (refl, refl)), ((refl, inr (inl (refl, (_, _, refl)))), ((refl, inr (inr refl)), tt)))))))
 known Plan = ((refl, inl (refl, refl)), ((refl, inl (refl, refl)), ((refl, inl (refl, refl)), ((refl, inr (inr refl)), tt))))
 known Cert = ((refl, inl (refl, refl)), ((refl, inl (refl, refl)), ((refl, inl (refl, refl)), ((refl, inr (inr refl)), tt))))
 known Check = ((refl, inl (refl, refl)), ((refl, inl (refl, refl)), ((refl, inr (inr refl)), tt)))
@@ -66,11 +66,21 @@ asks Run words e =
     let program = has_text (codes "program") rows _ (at (codes "program") _ refl (inl refl)) in
     let workers = has_number (codes "workers") rows _ 1 16 (omega arith) refl (at (codes "workers") _ refl (inr (_, _, refl))) in
     let plans = has_number (codes "plans") rows _ 1 1000 (omega arith) refl (at (codes "plans") _ refl (inr (_, _, refl))) in
+    let batch = has_number (codes "batch") rows _ 1 1024 (omega arith) refl (at (codes "batch") _ refl (inr (_, _, refl))) in
+    let depth = has_number (codes "depth") rows _ 1 64 (omega arith) refl (at (codes "depth") _ refl (inr (_, _, refl))) in
     let counts = has_flag (codes "counts") rows _ refl (at (codes "counts") _ refl (inr (_, _, refl))) in
+    let chosen = options workers.number plans.number batch.number depth.number in
     record {
-      command = to_run program.text workers.number plans.number counts.flag;
-      values = four_are to_run _ _ _ _ program.text workers.number plans.number counts.flag program.is workers.is plans.is counts.is;
-      in_range = in_range rows (record { workers = workers; plans = plans });
+      command = to_run program.text chosen counts.flag;
+      values = three_are to_run _ _ _ program.text chosen counts.flag program.is
+          (four_are options _ _ _ _ workers.number plans.number batch.number depth.number workers.is plans.is batch.is depth.is) counts.is;
+      in_range = record {
+        limits = in_range rows (record { workers = workers; plans = plans });
+        least_batch = batch.least_of;
+        most_batch = batch.most_of;
+        least_depth = depth.least_of;
+        most_depth = depth.most_of;
+      };
     }
 asks Plan words e =
     let rows = matches_of (app_for Plan) words in

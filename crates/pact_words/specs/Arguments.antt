@@ -36,6 +36,14 @@ workers_rule = number_rule (codes "workers") (pos 1) (pos 16) (codes "4")
 abbrev pub plans_rule : Rule
 plans_rule = number_rule (codes "plans") (pos 1) (pos 1000) (codes "256")
 
+-- `--batch`
+abbrev pub batch_rule : Rule
+batch_rule = number_rule (codes "batch") (pos 1) (pos 1024) (codes "64")
+
+-- `--depth`
+abbrev pub depth_rule : Rule
+depth_rule = number_rule (codes "depth") (pos 1) (pos 64) (codes "4")
+
 -- `--counts`
 abbrev pub counts_rule : Rule
 counts_rule = flag_rule (codes "counts")

@@ -3,7 +3,7 @@ use Rattle.std.specs.Prelude.{codes}
 use Rattle.clap.specs.Words.{App, Text, new_app, with_rule}
 use Rattle.pact_words.specs.declared.commands.Kind.{Kind}
 use Rattle.pact_words.specs.declared.commands.Kind.TheVariants.{Run, Plan, Cert, Check, Sets}
-use Rattle.pact_words.specs.Arguments.{certificate_rule, counts_rule, plans_rule, program_rule, workers_rule}
+use Rattle.pact_words.specs.Arguments.{batch_rule, certificate_rule, counts_rule, depth_rule, plans_rule, program_rule, workers_rule}
 
 -- a command of a program
 abbrev pub program_app : Text → App
@@ -17,9 +17,13 @@ with_limits app = with_rule (with_rule app workers_rule) plans_rule
 abbrev pub planning_app : Text → App
 planning_app name = with_limits (program_app name)
 
+-- with how many records a batch has, and how many notes a pipe
+abbrev pub with_pipes : App → App
+with_pipes app = with_rule (with_rule app batch_rule) depth_rule
+
 -- `run PROGRAM`
 abbrev pub run_app : App
-run_app = with_rule (planning_app (codes "run")) counts_rule
+run_app = with_rule (with_pipes (planning_app (codes "run"))) counts_rule
 
 -- `check PROGRAM CERT`
 abbrev pub check_app : App

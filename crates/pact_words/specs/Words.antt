@@ -5,6 +5,7 @@ use Rattle.std.specs.Str.{bytes_eq}
 use Rattle.clap.specs.Words.{Row, fault_of, first_of, matches_of}
 use Rattle.pact_words.specs.declared.commands.Command.{Command}
 use Rattle.pact_words.specs.declared.commands.Command.TheVariants as commands
+use Rattle.pact_words.specs.declared.commands.Options.{Options}
 use Rattle.pact_words.specs.declared.commands.Kind.{Kind}
 use Rattle.pact_words.specs.declared.commands.Kind.TheVariants.{Run, Plan, Cert, Check, Sets}
 use Rattle.pact_words.specs.declared.commands.Refused.{Refused}
@@ -21,7 +22,7 @@ texts_of words = map (λ word. word.now) words
 -- a command, with the texts that it was given
 pub data Asked : Type 0 where
   -- `run PROGRAM`
-  to_run : (program : List ℕ) → (workers plans : ℕ) → (counts : Bool) → Asked
+  to_run : (program : List ℕ) → (options : Options) → (counts : Bool) → Asked
   -- `plan PROGRAM`
   to_plan : (program : List ℕ) → (workers plans : ℕ) → Asked
   -- `cert PROGRAM`
@@ -32,7 +33,7 @@ pub data Asked : Type 0 where
   to_tell_sets : (program : List ℕ) → Asked
 
 abbrev pub asked : Command → Asked
-asked (commands.Run program workers plans counts) = to_run program.now workers plans counts
+asked (commands.Run program options counts) = to_run program.now options counts
 asked (commands.Plan program workers plans) = to_plan program.now workers plans
 asked (commands.Cert program workers plans) = to_certify program.now workers plans
 asked (commands.Check program certificate) = to_check program.now certificate.now
@@ -44,9 +45,16 @@ pub record AreInRange (workers plans : ℕ) : Type 0 where
   pub least_plans : 1 ≤ plans
   pub most_plans : plans ≤ 1000
 
+pub record AreOptionsInRange (o : Options) : Type 0 where
+  pub limits : AreInRange o.workers o.plans
+  pub least_batch : 1 ≤ o.batch
+  pub most_batch : o.batch ≤ 1024
+  pub least_depth : 1 ≤ o.depth
+  pub most_depth : o.depth ≤ 64
+
 -- the numbers that are asked for lie in their ranges
 abbrev pub IsInRange : Asked → Type 0
-IsInRange (to_run program workers plans counts) = AreInRange workers plans
+IsInRange (to_run program options counts) = AreOptionsInRange options
 IsInRange (to_plan program workers plans) = AreInRange workers plans
 IsInRange (to_certify program workers plans) = AreInRange workers plans
 IsInRange (to_check program certificate) = Unit {0}
@@ -73,9 +81,19 @@ abbrev pub kind_in : List (List ℕ) → Option Kind
 kind_in [] = None
 kind_in (word ∷ words) = kind_named word
 
+abbrev pub options : (workers plans batch depth : ℕ) → Options
+options workers plans batch depth = record { workers = workers; plans = plans; batch = batch; depth = depth }
+
+abbrev pub options_of : List Row → Option Options
+options_of rows = all_four options (number_of (codes "workers") rows) (number_of (codes "plans") rows) (number_of (codes "batch") rows) (number_of (codes "depth") rows)
+
+-- there is no word, or the first is no command
+abbrev pub AreUnnamed : List (List ℕ) → Type 0
+AreUnnamed words = kind_in words ≡ None
+
 -- what is asked for by the values that clap finds
 abbrev pub asked_of : Kind → List Row → Option Asked
-asked_of Run rows = all_four to_run (first_of (codes "program") rows) (number_of (codes "workers") rows) (number_of (codes "plans") rows) (flag_of (codes "counts") rows)
+asked_of Run rows = all_three to_run (first_of (codes "program") rows) (options_of rows) (flag_of (codes "counts") rows)
 asked_of Plan rows = all_three to_plan (first_of (codes "program") rows) (number_of (codes "workers") rows) (number_of (codes "plans") rows)
 asked_of Cert rows = all_three to_certify (first_of (codes "program") rows) (number_of (codes "workers") rows) (number_of (codes "plans") rows)
 asked_of Check rows = all_two to_check (first_of (codes "program") rows) (first_of (codes "certificate") rows)

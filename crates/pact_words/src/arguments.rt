@@ -2,7 +2,7 @@
 
 ghost use Rattle.std.specs.Prelude.{◌≡◌, false};
 ghost use Rattle.clap.specs.Words.{rule_of};
-ghost use Rattle.pact_words.specs.Arguments.{certificate_rule, counts_rule, flag_rule, number_rule, operand_rule, plans_rule, program_rule, workers_rule};
+ghost use Rattle.pact_words.specs.Arguments.{batch_rule, certificate_rule, counts_rule, depth_rule, flag_rule, number_rule, operand_rule, plans_rule, program_rule, workers_rule};
 
 use clap::builder::ValueParser;
 use clap::{Arg, ArgAction};
@@ -34,6 +34,20 @@ pub(crate) fn plans<'a>(alloc: Global) -> Arg<'a>
     ensures local { result.global ≡ false }
 {
     number(alloc, "plans", 1, 1000, "256")
+}
+
+pub(crate) fn batch<'a>(alloc: Global) -> Arg<'a>
+    ensures rule { rule_of result ≡ batch_rule }
+    ensures local { result.global ≡ false }
+{
+    number(alloc, "batch", 1, 1024, "64")
+}
+
+pub(crate) fn depth<'a>(alloc: Global) -> Arg<'a>
+    ensures rule { rule_of result ≡ depth_rule }
+    ensures local { result.global ≡ false }
+{
+    number(alloc, "depth", 1, 64, "4")
 }
 
 pub(crate) fn counts<'a>(alloc: Global) -> Arg<'a>

@@ -1,17 +1,28 @@
 //! What the words ask for, or why they ask for nothing.
 
+/// How a plan is chosen and run.
+#[derive(Clone, Copy, Debug, PartialEq, Eq)]
+pub struct Options {
+    /// `--workers`: how many workers a plan is chosen for, and runs on.
+    pub workers: u32,
+    /// `--plans`: how many plans are listed at most, of which one is chosen.
+    pub plans: u32,
+    /// `--batch`: how many records go along a pipe at once at most.
+    pub batch: u32,
+    /// `--depth`: how many batches a pipe holds at most.
+    pub depth: u32,
+}
+
 /// A command with its operands and options.
 ///
-/// Workers are 1 to 16, and 4 where the words don't tell. Plans are 1 to 1,000, and 256 where they don't.
+/// Where the words don't tell, there are 4 workers (1 to 16), at most 256 plans (1 to 1,000), batches of 64 records (1 to 1,024) and pipes of
+/// 4 batches (1 to 64).
 #[derive(Clone, Copy, Debug, PartialEq, Eq)]
 pub enum Command<'a> {
     /// `run PROGRAM`: the program in the file of that name is run, and its rows are written.
     Run {
         program: &'a str,
-        /// `--workers`: how many workers a plan is chosen for.
-        workers: u32,
-        /// `--plans`: how many plans are listed at most, of which one is chosen.
-        plans: u32,
+        options: Options,
         /// `--counts`: whether it is told besides how many records each operator takes and gives.
         counts: bool,
     },

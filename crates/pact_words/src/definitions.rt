@@ -2,9 +2,9 @@
 
 ghost use Rattle.std.specs.Prelude.{◌≡◌, IfOk};
 ghost use Rattle.clap.specs.Words.{app_of};
-ghost use Rattle.pact_words.specs.Definitions.{app_for, check_app, planning_app, run_app, sets_app, with_limits};
+ghost use Rattle.pact_words.specs.Definitions.{app_for, check_app, planning_app, run_app, sets_app, with_limits, with_pipes};
 
-use crate::arguments::{certificate, counts, plans, program, workers};
+use crate::arguments::{batch, certificate, counts, depth, plans, program, workers};
 use crate::commands::Kind;
 use clap::Command;
 use std::alloc::{AllocError, Global};
@@ -25,7 +25,7 @@ pub(crate) fn definition<'a>(alloc: Global, kind: Kind) -> Result<Command<'a>, A
 fn run<'a>(alloc: Global) -> Result<Command<'a>, AllocError>
     ensures { IfOk result (λ c. app_of c ≡ run_app) }
 {
-    planning(alloc, "run")?.arg(counts(alloc))
+    with_pipes(alloc, planning(alloc, "run")?)?.arg(counts(alloc))
 }
 
 // A command that chooses a plan.
@@ -53,4 +53,10 @@ fn with_limits<'a>(alloc: Global, command: Command<'a>) -> Result<Command<'a>, A
     ensures { IfOk result (λ c. app_of c ≡ with_limits (app_of command.entry)) }
 {
     command.arg(workers(alloc))?.arg(plans(alloc))
+}
+
+fn with_pipes<'a>(alloc: Global, command: Command<'a>) -> Result<Command<'a>, AllocError>
+    ensures { IfOk result (λ c. app_of c ≡ with_pipes (app_of command.entry)) }
+{
+    command.arg(batch(alloc))?.arg(depth(alloc))
 }

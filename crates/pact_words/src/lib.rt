@@ -16,5 +16,5 @@ mod parsing;
 mod reading;
 mod values;
 
-pub use commands::{Command, Refused};
+pub use commands::{Command, Options, Refused};
 pub use reading::read_words;

@@ -1,7 +1,7 @@
 //! From the words to a command.
 
-ghost use Rattle.std.specs.Prelude.{◌≡◌, IfOk};
-ghost use Rattle.pact_words.specs.Words.{Answers, IsInRange, asked, kind_named, texts_of};
+ghost use Rattle.std.specs.Prelude.{◌≡◌, Err, IfOk};
+ghost use Rattle.pact_words.specs.Words.{Answers, AreUnnamed, IsInRange, asked, kind_named, texts_of};
 
 use crate::commands::{Command, Kind, Refused};
 use crate::parsing::parse;
@@ -15,6 +15,7 @@ use std::alloc::Global;
 pub fn read_words<'a>(alloc: Global, words: &'a [&'a str]) -> Result<Command<'a>, Refused>
     ensures answers { Answers (texts_of words.entry.now) result }
     ensures in_range { IfOk result (λ c. IsInRange (asked c)) }
+    ensures unnamed { AreUnnamed (texts_of words.entry.now) → result ≡ Err Refused.Usage }
 {
     let Some(first) = words.first() else {
         return Err(Refused::Usage);

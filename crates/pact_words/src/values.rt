@@ -3,9 +3,9 @@
 ghost use Rattle.std.specs.Prelude.{◌≡◌, option_map};
 ghost use Rattle.clap.specs.Words.{first_of, found_of, rows_of};
 ghost use Rattle.pact_words.specs.FoundValues.{flag_of, number_of};
-ghost use Rattle.pact_words.specs.Words.{asked, asked_of};
+ghost use Rattle.pact_words.specs.Words.{asked, asked_of, options_of};
 
-use crate::commands::{Command, Kind};
+use crate::commands::{Command, Kind, Options};
 use clap::ArgMatches;
 
 /// The command that the values of its words make, where each of them is there.
@@ -25,14 +25,27 @@ fn run<'a>(matches: &ArgMatches<'a>) -> Option<Command<'a>>
     ensures { option_map asked result ≡ asked_of Kind.Run (rows_of (found_of matches.now)) }
 {
     let program = text(matches, "program")?;
-    let workers = number(matches, "workers")?;
-    let plans = number(matches, "plans")?;
+    let options = options(matches)?;
     let counts = flag(matches, "counts")?;
     Some(Command::Run {
         program,
+        options,
+        counts,
+    })
+}
+
+fn options(matches: &ArgMatches<'_>) -> Option<Options>
+    ensures { result ≡ options_of (rows_of (found_of matches.now)) }
+{
+    let workers = number(matches, "workers")?;
+    let plans = number(matches, "plans")?;
+    let batch = number(matches, "batch")?;
+    let depth = number(matches, "depth")?;
+    Some(Options {
         workers,
         plans,
-        counts,
+        batch,
+        depth,
     })
 }
 

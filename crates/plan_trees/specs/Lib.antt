@@ -6,5 +6,6 @@ pub mod PlanCode
 pub mod PlanEquality
 pub mod NodeRows
 pub mod Physicals
+pub mod Sending
 pub mod PhysicalCode
 pub mod Shapes

@@ -21,6 +21,10 @@ has_edge at tree = has at tree && not (at == root_of tree)
 abbrev pub ship_at : PhysicalData → ℕ → Option Ship
 ship_at p at = if has_edge at p.tree then Some (get_or p.ships at Forward) else None
 
+-- how the records of a tree's root go to its consumer
+abbrev pub ship_of : PhysicalData → PlanTree → Ship
+ship_of p t = get_or p.ships (root_of t) Forward
+
 -- the plan with another ship on one edge
 abbrev pub with_ship : PhysicalData → ℕ → Ship → PhysicalData
 with_ship p at ship = record { tree = p.tree; workers = p.workers; ships = set p.ships at ship }

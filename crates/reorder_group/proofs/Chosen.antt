@@ -1,44 +1,12 @@
--- For each key an output that is allowed for it, one after another.
-use Rattle.std.proofs.Common.{◌≡◌, true, false, List, [], ◌∷◌, ◌++◌, refl, sym, ap, ◌∙◌, append_assoc}
+-- A function over what is chosen for each key, and under it.
+use Rattle.std.proofs.Common.{◌≡◌, true, false, List, [], ◌∷◌, ◌++◌, refl, sym, ap, ◌∙◌}
 use Rattle.std.specs.Prelude.{flat_map}
-use Rattle.std.proofs.lemmas.Bool.{or_left, or_right}
-use Rattle.pact_record.proofs.Permutations.{Perm, after, before, chains, crossed_over, flat_map-append, flat_map_perm, is_same, keeps, nothing, same, swaps, turned}
-use Rattle.pact_bag.specs.Groups.{is_same_key}
-use Rattle.pact_bag.proofs.KeyGroups.{key_itself, occurs}
+use Rattle.pact_record.proofs.Permutations.{Perm, chains, flat_map-append, flat_map_perm, is_same, turned}
+use Rattle.pact_bag.proofs.KeyGroups.{occurs}
 use Rattle.pact_bag.proofs.KeyLists.{AreOnce, HasAll, Key, beyond}
 use Rattle.pact_operators.specs.Allowed.{Bag}
+use Rattle.pact_operators.proofs.ChosenForKeys.{AreChosen, AreChosen-permuted, first_occurs, later_occurs}
 use Rattle.reorder_pair.proofs.FunctionForms.{Row}
-
-abbrev pub AreChosen : (Key → Bag → Type 0) → List Key → Bag → Type 0
-AreChosen P [] out = out ≡ []
-AreChosen P (k ∷ ks) out = (first : Bag) × (rest : Bag) × P k first × (out ≡ first ++ rest) × AreChosen P ks rest
-
-pub AreChosen-weaker : (P Q : Key → Bag → Type 0) → ((k : Key) (out : Bag) → P k out → Q k out) → (ks : List Key) (out : Bag) → AreChosen P ks out → AreChosen Q ks out
-AreChosen-weaker P Q f [] out h = h
-AreChosen-weaker P Q f (k ∷ ks) out h = (h.0, h.1, f k h.0 h.2, h.3, AreChosen-weaker P Q f ks h.1 h.4)
-
--- ---- in another order of the keys
-
-parts_swapped : (a b c : Bag) → Perm (a ++ (b ++ c)) (b ++ (a ++ c))
-parts_swapped a b c = chains (is_same (sym (append_assoc a b c))) (chains (after c (crossed_over a b)) (is_same (append_assoc b a c)))
-
-pub AreChosen-permuted : (P : Key → Bag → Type 0) {ks js : List Key} → Perm ks js → (out : Bag) → AreChosen P ks out → (now : Bag) × AreChosen P js now × Perm out now
-AreChosen-permuted P nothing out h = (out, h, same out)
-AreChosen-permuted P (keeps p) out h =
-    let rest = AreChosen-permuted P p h.1 h.4 in
-    (h.0 ++ rest.0, (h.0, rest.0, h.2, refl, rest.1), chains (is_same h.3) (before h.0 rest.2))
-AreChosen-permuted P swaps out h =
-    let t = h.4 in (
-      t.0 ++ (h.0 ++ t.1),
-      (t.0, h.0 ++ t.1, t.2, refl, (h.0, t.1, h.2, refl, t.4)),
-      chains (is_same (h.3 ∙ ap (λ (l : Bag). h.0 ++ l) t.3)) (parts_swapped h.0 t.0 t.1),
-    )
-AreChosen-permuted P (chains p q) out h =
-    let one = AreChosen-permuted P p out h in
-    let two = AreChosen-permuted P q one.0 one.1 in
-    (two.0, two.1, chains one.2 two.2)
-
--- ---- a function over what is chosen, and under it
 
 -- For the keys of the second list what is chosen may go both ways. They are keys of the first, whose others give nothing.
 pub record Carries (f : Row → Bag) (P Q : Key → Bag → Type 0) (ks js : List Key) : Type 0 where
@@ -49,13 +17,6 @@ pub record Carries (f : Row → Bag) (P Q : Key → Bag → Type 0) (ks js : Lis
   pub once : AreOnce ks
   pub once_now : AreOnce js
   pub has_all : HasAll ks js
-
--- the first key of a list, and those behind it
-pub first_occurs : (k : Key) (ks : List Key) → occurs k (k ∷ ks) ≡ true
-first_occurs k ks = or_left (is_same_key k k) (occurs k ks) (key_itself k)
-
-later_occurs : (j k : Key) (ks : List Key) → occurs k ks ≡ true → occurs k (j ∷ ks) ≡ true
-later_occurs j k ks o = or_right (is_same_key j k) (occurs k ks) o
 
 module _ (f : Row → Bag) (P Q : Key → Bag → Type 0) (es : List Key) (nothing_of : (k : Key) → occurs k es ≡ true → (out : Bag) → P k out → flat_map f out ≡ []) where
   others_gone : (ks : List Key) → HasAll es ks → (out : Bag) → AreChosen P ks out → flat_map f out ≡ []

@@ -1,52 +1,18 @@
 -- The bags that a plan with a Reduce or a CoGroup at its root allows, as what is chosen for keys.
-use Rattle.std.proofs.Common.{◌≡◌, ℕ, List, [], ◌∷◌, ◌++◌, refl, sym, ap, subst, ◌∙◌}
-use Rattle.pact_record.proofs.Permutations.{Perm, from_permutation, nothing, to_permutation}
-use Rattle.pact_bag.specs.Groups.{group_of_key}
+use Rattle.std.proofs.Common.{◌≡◌, ℕ, List, [], sym, subst}
+use Rattle.pact_record.proofs.Permutations.{Perm, from_permutation, to_permutation}
 use Rattle.pact_bag.proofs.KeyLists.{Key}
 use Rattle.tac_syntax.specs.declared.declarations.OpKind.{OpKind}
 use Rattle.tac_syntax.specs.declared.declarations.OpKind.TheVariants.{Reduce, CoGroup}
 use Rattle.plan_trees.specs.Plans.{PlanTree, over, both}
-use Rattle.pact_operators.specs.Allowed.{Allows, Bag, CoGrouped, Gives, GivesBoth, Grouped, keys_in, keys_in_either}
+use Rattle.pact_operators.specs.Allowed.{Allows, Bag, Gives, GivesBoth, keys_in, keys_in_either}
 use Rattle.pact_operators.specs.PlanOps.{PlanOps}
+use Rattle.pact_operators.proofs.ChosenForKeys.{AreChosen, AreChosen-weaker, IsGivenFor, chosen-CoGrouped, chosen-Grouped, cogrouped-AreChosen, grouped-AreChosen, of_one_side}
 use Rattle.reorder_pair.proofs.FunctionForms.{Row}
-use Rattle.reorder_group.proofs.Chosen.{AreChosen, AreChosen-weaker}
-use Rattle.reorder_group.proofs.SideLaws.{IsGivenFor}
 
--- a function of one group as one of two, and one of two groups the other way round
-abbrev pub of_one_side : (Row → Bag → Bag) → Row → Bag → Bag → Bag
-of_one_side f k xs zs = f k xs
-
+-- a function of two groups the other way round
 abbrev pub turned_groups : (Row → Bag → Bag → Bag) → Row → Bag → Bag → Bag
 turned_groups f k xs zs = f k zs xs
-
--- ---- what groups give, as what is chosen
-
-grouped-AreChosen : (f : Row → Bag → Bag) (keys : List ℕ) (rows : Bag) (ks : List Key) (out : Bag) → Grouped f keys rows ks out → AreChosen (IsGivenFor (of_one_side f) keys [] rows []) ks out
-grouped-AreChosen f keys rows [] out h = h
-grouped-AreChosen f keys rows (k ∷ ks) out h =
-    (f k h.0, h.1, (h.0, [], from_permutation (group_of_key keys rows k) h.0 h.2, nothing, refl), h.3, grouped-AreChosen f keys rows ks h.1 h.4)
-
-chosen-Grouped : (f : Row → Bag → Bag) (keys : List ℕ) (rows : Bag) (ks : List Key) (out : Bag) → AreChosen (IsGivenFor (of_one_side f) keys [] rows []) ks out → Grouped f keys rows ks out
-chosen-Grouped f keys rows [] out h = h
-chosen-Grouped f keys rows (k ∷ ks) out h =
-    let c = h.2 in
-    (c.0, h.1, to_permutation c.2, h.3 ∙ ap (λ (l : Bag). l ++ h.1) c.4, chosen-Grouped f keys rows ks h.1 h.4)
-
-cogrouped-AreChosen : (f : Row → Bag → Bag → Bag) (keys others : List ℕ) (ls rs : Bag) (ks : List Key) (out : Bag) → CoGrouped f keys others ls rs ks out → AreChosen (IsGivenFor f keys others ls rs) ks out
-cogrouped-AreChosen f keys others ls rs [] out h = h
-cogrouped-AreChosen f keys others ls rs (k ∷ ks) out h = (
-  f k h.0 h.1,
-  h.2,
-  (h.0, h.1, from_permutation (group_of_key keys ls k) h.0 h.3, from_permutation (group_of_key others rs k) h.1 h.4, refl),
-  h.5,
-  cogrouped-AreChosen f keys others ls rs ks h.2 h.6,
-)
-
-chosen-CoGrouped : (f : Row → Bag → Bag → Bag) (keys others : List ℕ) (ls rs : Bag) (ks : List Key) (out : Bag) → AreChosen (IsGivenFor f keys others ls rs) ks out → CoGrouped f keys others ls rs ks out
-chosen-CoGrouped f keys others ls rs [] out h = h
-chosen-CoGrouped f keys others ls rs (k ∷ ks) out h =
-    let c = h.2 in
-    (c.0, c.1, h.1, to_permutation c.2, to_permutation c.3, h.3 ∙ ap (λ (l : Bag). l ++ h.1) c.4, chosen-CoGrouped f keys others ls rs ks h.1 h.4)
 
 -- from the other side
 pub AreChosen-turned : (f : Row → Bag → Bag → Bag) (keys others : List ℕ) (ls rs : Bag) (ks : List Key) (out : Bag) → AreChosen (IsGivenFor f keys others ls rs) ks out

@@ -3,10 +3,10 @@ use Rattle.std.proofs.Common.{◌≡◌, ◌==◌, ◌≤◌, ◌⊎◌, inl, in
 use Rattle.std.proofs.lemmas.Bool.{both_ways, eqb-true, or_cases}
 use Rattle.pact_record.specs.declared.values.Value.{Value}
 use Rattle.pact_record.specs.Keys.{is_listed}
-use Rattle.pact_record.specs.Record.{at_field, key_of}
+use Rattle.pact_record.specs.Record.{Agree, at_field, key_of}
 use Rattle.tac_syntax.specs.Call.{CallInput, of_record}
 use Rattle.tac_syntax.specs.Contexts.{FieldSet, Ports}
-use Rattle.tac_syntax.specs.Forms.{Agree, AreApart, IsWithin, KeepsGroups}
+use Rattle.tac_syntax.specs.Forms.{AreApart, IsWithin, KeepsGroups}
 use Rattle.pact_operators.specs.Allowed.{Bag}
 use Rattle.reorder_pair.proofs.FunctionForms.{Row}
 use Rattle.reorder_pair.proofs.Maps.{IsLawful-record}

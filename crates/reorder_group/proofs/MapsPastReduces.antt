@@ -21,7 +21,8 @@ use Rattle.pact_operators.proofs.LawfulBags.{IsCallOf-group, all_wide, call_fits
 use Rattle.pact_operators.proofs.WithinFields.{all_within_larger, within_larger}
 use Rattle.reorder_pair.proofs.Maps.{bag_of_map, map_bag, map_form_in}
 use Rattle.reorder_pair.proofs.PermittedExchanges.{joint}
-use Rattle.reorder_group.proofs.GroupBags.{bag_of_reduce, of_one_side, reduce_bag}
+use Rattle.pact_operators.proofs.ChosenForKeys.{of_one_side}
+use Rattle.reorder_group.proofs.GroupBags.{bag_of_reduce, reduce_bag}
 use Rattle.reorder_group.proofs.KeptGroups.{records_kept}
 use Rattle.reorder_group.proofs.PermittedGroups.{PermitsReduce}
 use Rattle.reorder_group.proofs.SideGroups.{IsCall, IsMove, Move}

@@ -18,9 +18,8 @@ use Rattle.reorder_pair.proofs.FunctionForms.{Row}
 use Rattle.reorder_pair.proofs.Maps.{map_bag}
 use Rattle.reorder_pair.proofs.Pairs.{pair_bag, pair_of}
 use Rattle.reorder_pair.proofs.PermittedExchanges.{IsPair}
-use Rattle.reorder_group.proofs.Chosen.{AreChosen, AreChosen-permuted, first_occurs}
-use Rattle.reorder_group.proofs.GroupBags.{cogroup_bag, of_one_side, reduce_bag}
-use Rattle.reorder_group.proofs.SideLaws.{IsGivenFor}
+use Rattle.pact_operators.proofs.ChosenForKeys.{AreChosen, AreChosen-permuted, IsGivenFor, first_occurs, of_one_side}
+use Rattle.reorder_group.proofs.GroupBags.{cogroup_bag, reduce_bag}
 
 -- for groups in another order an operator that groups gives permuted outputs
 abbrev pub PermutesAt : PlanOps → OpKind → ℕ → Type 0

@@ -6,11 +6,11 @@ use Rattle.std.proofs.lemmas.Bool.{both_ways, cases_Bool, false_from_ne_true}
 use Rattle.std.proofs.lemmas.List.Elements.{AllZip-get_or}
 use Rattle.std.proofs.lemmas.Slice.Zip.{AllZip-long}
 use Rattle.pact_record.specs.Keys.{is_listed}
-use Rattle.pact_record.specs.Record.{at_field, key_of}
+use Rattle.pact_record.specs.Record.{Agree, at_field, key_of}
 use Rattle.pact_record.proofs.JoinedRecords.{same_fields}
 use Rattle.pact_record.proofs.Lists.{AllByRecursion-get_or, AllByRecursion-weaker}
 use Rattle.tac_syntax.specs.Contexts.{FieldSet, Has}
-use Rattle.tac_syntax.specs.Forms.{Agree, AreAnchored, AreAnchoredAt, HaveKey, IsWithin}
+use Rattle.tac_syntax.specs.Forms.{AreAnchored, AreAnchoredAt, HaveKey, IsWithin}
 use Rattle.pact_operators.specs.Allowed.{Bag}
 use Rattle.pact_operators.proofs.WithinFields.{agree_self, same_key_of}
 use Rattle.reorder_pair.proofs.FunctionForms.{OneForm, Row}

@@ -15,13 +15,10 @@ use Rattle.pact_bag.proofs.KeyLists.{Key}
 use Rattle.pact_bag.proofs.KeysOfBags.{AreKeysOf}
 use Rattle.tac_syntax.specs.Forms.{IsWithin}
 use Rattle.pact_operators.specs.Allowed.{Bag}
+use Rattle.pact_operators.proofs.ChosenForKeys.{AreChosen, IsGivenFor}
 use Rattle.reorder_pair.proofs.FunctionForms.{Row}
-use Rattle.reorder_group.proofs.Chosen.{AreChosen, Carries, carried, carried_back}
+use Rattle.reorder_group.proofs.Chosen.{Carries, carried, carried_back}
 use Rattle.reorder_group.proofs.SideGroups.{IsCall, IsMove, Move, flat_map-nones, flat_map-ones, group_of_nones, group_of_ones, group_of_others, no_record, one_keyed, one_record, settled}
-
--- what may be given for a key, over the records of one side and of the other
-abbrev pub IsGivenFor : (Row → Bag → Bag → Bag) → List ℕ → List ℕ → Bag → Bag → Key → Bag → Type 0
-IsGivenFor g keys others ls rs k out = (xs : Bag) × (zs : Bag) × Perm (group_of_key keys ls k) xs × Perm (group_of_key others rs k) zs × (out ≡ g k xs zs)
 
 -- what is given above the Map, and what below it, up to order
 pub given_above : (f : Row → Bag) (out rows now bag : Bag) → Perm (flat_map f out) now → Perm out rows → Perm (flat_map f rows) bag → Perm now bag

@@ -5,12 +5,12 @@ use Rattle.std.specs.Prelude.{flat_map}
 use Rattle.std.specs.List.{AllByRecursion, AllZip}
 use Rattle.pact_record.specs.declared.values.Value.{Value}
 use Rattle.pact_record.specs.declared.values.Value.TheVariants.{Null}
-use Rattle.pact_record.specs.Record.{at_field, joined_record, joined_value}
+use Rattle.pact_record.specs.Record.{Agree, at_field, joined_record, joined_value}
 use Rattle.pact_record.proofs.JoinedRecords.{at_field-joined_record, joined_value-null, joined_value_assoc, length-joined_record, same_fields}
 use Rattle.pact_record.proofs.Lists.{AllByRecursion-both}
 use Rattle.pact_record.proofs.Permutations.{Perm, as_units, chains, each_moved, is_same, turn}
 use Rattle.tac_syntax.specs.Contexts.{FieldSet}
-use Rattle.tac_syntax.specs.Forms.{Agree, AreAnchored, IsWithin}
+use Rattle.tac_syntax.specs.Forms.{AreAnchored, IsWithin}
 use Rattle.pact_operators.specs.Allowed.{Bag}
 use Rattle.pact_operators.proofs.WithinFields.{IsCovered, within_larger}
 use Rattle.reorder_pair.proofs.FunctionForms.{PairForm, Row}

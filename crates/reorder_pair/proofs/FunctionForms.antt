@@ -3,13 +3,13 @@ use Rattle.std.proofs.Common.{◌≡◌, ℕ, Bool, cond, List, [], ◌∷◌, l
 use Rattle.std.specs.List.{AllByRecursion, AllZip}
 use Rattle.pact_record.specs.declared.values.Value.{Value}
 use Rattle.pact_record.specs.declared.values.Value.TheVariants.{Null, Int, Text}
-use Rattle.pact_record.specs.Record.{at_field, key_of, joined_record, joined_value}
+use Rattle.pact_record.specs.Record.{Agree, at_field, key_of, joined_record, joined_value}
 use Rattle.pact_record.proofs.JoinedRecords.{at_field-joined_record, joined_value-null, length-joined_record, same_fields}
 use Rattle.pact_record.proofs.Lists.{AllByRecursion-cond}
 use Rattle.pact_record.proofs.SideBySide.{AllZip-cond, AllZip-weaker}
 use Rattle.pact_bag.specs.Groups.{is_same_key}
 use Rattle.tac_syntax.specs.Contexts.{FieldSet, Has}
-use Rattle.tac_syntax.specs.Forms.{Agree, AreAnchored, AreAnchoredAt, AreApart, IsWithin}
+use Rattle.tac_syntax.specs.Forms.{AreAnchored, AreAnchoredAt, AreApart, IsWithin}
 use Rattle.pact_operators.specs.Allowed.{Bag, matched}
 use Rattle.pact_operators.proofs.WithinFields.{same_key_of}
 

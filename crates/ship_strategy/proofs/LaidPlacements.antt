@@ -4,14 +4,13 @@ use Rattle.std.proofs.lemmas.Bool.{or_left, or_right}
 use Rattle.std.proofs.lemmas.List.{get_or-set_same, get_or-set_other, length-set}
 use Rattle.plan_trees.specs.declared.physicals.Ship.{Ship}
 use Rattle.plan_trees.specs.declared.physicals.Ship.TheVariants.{Forward}
-use Rattle.plan_trees.specs.Physicals.{PhysicalData}
+use Rattle.plan_trees.specs.Physicals.{PhysicalData, ship_of}
 use Rattle.plan_trees.specs.Plans.{PlanTree, leaf, over, both, root_of, has, IsPlan, node_limit}
 use Rattle.plan_trees.proofs.SubtreesOfPlans.{has-root}
 use Rattle.ship_strategy.specs.declared.ways.Way.{Way}
 use Rattle.ship_strategy.specs.Facts.{Facts}
 use Rattle.ship_strategy.specs.Ships.{Placement, placed_over, placed_both, placement, IsLegal, AllowsOver, AllowsBoth}
 use Rattle.ship_strategy.specs.Layouts.{planned, laid, left_ship, right_ship, only_ship}
-use Rattle.cost_model.specs.Edges.{ship_of}
 use Rattle.cost_model.proofs.NumbersApart.{above_one, above_two}
 use Rattle.ship_strategy.proofs.AllowedShips.{IsSingle, Suits, over_allowed, both_allowed}
 

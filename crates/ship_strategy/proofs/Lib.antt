@@ -13,3 +13,16 @@ pub mod FilledTables
 pub mod PlanAttributes
 pub mod PlanSets
 pub mod ProgramLayouts
+pub mod EachWorker
+pub mod Arrivals
+pub mod GroupsAtWorkers
+pub mod PairsAtWorkers
+pub mod GivenByAll
+pub mod KeptPlacements
+pub mod FactsBelow
+pub mod SoundFacts
+pub mod ReceivedRecords
+pub mod MeetingRecords
+pub mod DividedEvaluations
+pub mod DividedRuns
+pub mod DividedRunsExist

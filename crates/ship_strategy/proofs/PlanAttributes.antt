@@ -77,12 +77,12 @@ attribute_true p (both n t u) k =
     (owned_true p.functions p.ops n k)
     (either_true (attribute p t k) (attribute p u k) (HasAttribute p.functions p.ops t k) (HasAttribute p.functions p.ops u k) (attribute_true p t k) (attribute_true p u k))
 
-left_true : (p : ProgramData) (t : PlanTree) (k : ℕ) → Has (left_attribute p t) k ↔ HasLeftAttribute p.functions p.ops t k
+pub left_true : (p : ProgramData) (t : PlanTree) (k : ℕ) → Has (left_attribute p t) k ↔ HasLeftAttribute p.functions p.ops t k
 left_true p (leaf n) k = never_true
 left_true p (over n t) k = attribute_true p t k
 left_true p (both n t u) k = attribute_true p t k
 
-right_true : (p : ProgramData) (t : PlanTree) (k : ℕ) → Has (right_attribute p t) k ↔ HasRightAttribute p.functions p.ops t k
+pub right_true : (p : ProgramData) (t : PlanTree) (k : ℕ) → Has (right_attribute p t) k ↔ HasRightAttribute p.functions p.ops t k
 right_true p (leaf n) k = never_true
 right_true p (over n t) k = never_true
 right_true p (both n t u) k = attribute_true p u k

@@ -15,7 +15,7 @@ use Rattle.pact_operators.proofs.CalledFunctions.{IsCalled, called_at}
 use Rattle.pact_operators.proofs.SoundPrograms.{function_kind-for}
 use Rattle.ship_strategy.specs.PlanFacts.{sets_at, unless_source}
 
-operator_sets : (kind : OpKind) (s : FoundSets) → (kind ≡ Source → ⊥) → unless_source kind s ≡ s
+pub operator_sets : (kind : OpKind) (s : FoundSets) → (kind ≡ Source → ⊥) → unless_source kind s ≡ s
 operator_sets Source s operator = absurd (operator refl)
 operator_sets Map s operator = refl
 operator_sets Reduce s operator = refl

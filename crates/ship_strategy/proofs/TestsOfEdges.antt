@@ -5,9 +5,8 @@ use Rattle.std.proofs.lemmas.Bool.{or_cases, or_left, or_right, and_parts, and_f
 use Rattle.pact_record.specs.Keys.{is_listed}
 use Rattle.tac_syntax.specs.declared.declarations.OpKind.{OpKind}
 use Rattle.tac_syntax.specs.declared.declarations.OpKind.TheVariants.{Source, Map, Reduce, Match, Cross, CoGroup}
-use Rattle.plan_trees.specs.Physicals.{PhysicalData}
+use Rattle.plan_trees.specs.Physicals.{PhysicalData, ship_of}
 use Rattle.plan_trees.specs.Plans.{PlanTree, leaf, over, both}
-use Rattle.cost_model.specs.Edges.{ship_of}
 use Rattle.ship_strategy.specs.Facts.{Facts}
 use Rattle.ship_strategy.specs.Ships.{Placement, placement, is_within, is_exactly, IsLegalOver, IsLegalBoth, AreByKey, GoesEverywhere, IsLegal, legal_over, legal_both, are_by_key, goes_everywhere, is_legal, allows_over, allows_both}
 use Rattle.ship_strategy.proofs.TestsOfKeys.{listed_all, exactly, exactly_self, within}

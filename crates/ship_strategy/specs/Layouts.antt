@@ -4,11 +4,10 @@ use Rattle.tac_syntax.specs.declared.declarations.OpKind.{OpKind}
 use Rattle.tac_syntax.specs.declared.declarations.OpKind.TheVariants.{Reduce, Match, Cross}
 use Rattle.plan_trees.specs.declared.physicals.Ship.{Ship}
 use Rattle.plan_trees.specs.declared.physicals.Ship.TheVariants.{Forward, Partition, Broadcast}
-use Rattle.plan_trees.specs.Physicals.{PhysicalData, with_ship, forwarded}
+use Rattle.plan_trees.specs.Physicals.{PhysicalData, forwarded, ship_of, with_ship}
 use Rattle.plan_trees.specs.Plans.{PlanTree, leaf, over, both, root_of}
 use Rattle.pact_operators.specs.declared.operators.Op.{Op}
 use Rattle.pact_operators.specs.PlanOps.{kind_at}
-use Rattle.cost_model.specs.Edges.{ship_of}
 use Rattle.ship_strategy.specs.declared.ways.Way.{Way}
 use Rattle.ship_strategy.specs.declared.ways.Way.TheVariants.{ByKey, LeftEverywhere, RightEverywhere}
 use Rattle.ship_strategy.specs.Facts.{Facts}

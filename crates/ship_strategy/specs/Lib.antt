@@ -3,3 +3,4 @@ pub mod Ships
 pub mod Layouts
 pub mod Views
 pub mod PlanFacts
+pub mod Meets

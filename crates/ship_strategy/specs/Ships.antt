@@ -8,9 +8,8 @@ use Rattle.tac_syntax.specs.declared.declarations.OpKind.TheVariants.{Map, Reduc
 use Rattle.tac_flow.specs.Known.{either}
 use Rattle.plan_trees.specs.declared.physicals.Ship.{Ship}
 use Rattle.plan_trees.specs.declared.physicals.Ship.TheVariants.{Forward, Partition, Broadcast}
-use Rattle.plan_trees.specs.Physicals.{PhysicalData}
+use Rattle.plan_trees.specs.Physicals.{PhysicalData, ship_of}
 use Rattle.plan_trees.specs.Plans.{PlanTree, leaf, over, both}
-use Rattle.cost_model.specs.Edges.{ship_of}
 use Rattle.ship_strategy.specs.Facts.{NodeFacts, Facts}
 
 -- ---- placements

@@ -3,8 +3,13 @@
 ghost use Rattle.std.specs.Prelude.{◌≡◌, ◌≤◌, ◌<◌, ℕ, List, length};
 ghost use Rattle.plan_trees.specs.Physicals.{worker_limit};
 ghost use Rattle.plan_trees.specs.Plans.{node_limit};
+ghost use Rattle.pact_operators.specs.Allowed.{Bag, Counted};
+ghost use Rattle.pact_operators.specs.Divided.{IsDivided, Shares};
+ghost use Rattle.pact_operators.specs.Inputs.{AreInputsOf};
+ghost use Rattle.pact_operators.specs.PlanOps.{plan_ops};
 ghost use Rattle.pact_operators.specs.Programs.{IsPlanOf};
 ghost use Rattle.ship_strategy.specs.Layouts.{AreChoices, IsLaidOut, choices, layout_count, layout_of, place_of, ways_of};
+ghost use Rattle.ship_strategy.specs.Meets.{AllGaveShares, AllMeet};
 ghost use Rattle.ship_strategy.specs.PlanFacts.{facts_of};
 ghost use Rattle.ship_strategy.specs.Ships.{LegalShip};
 ghost use Rattle.ship_strategy.specs.Views.{facts_in};
@@ -50,6 +55,10 @@ pub fn layout(program: &Program, plan: &Plan, number: u32, workers: u32) -> Phys
     ensures tree { result.tree ≡ plan.now }
     ensures legal { LegalShip (facts_of program.now result.tree) result }
     ensures ships { IsLaidOut (facts_of program.now plan.now) (ways_of program.now.ops number) result plan.now }
+    ensures meets { (inputs : List Bag) → AreInputsOf program.now inputs → (gave : Shares) → AllGaveShares (plan_ops program.now inputs) result gave → AllMeet (plan_ops program.now inputs) result gave }
+    ensures counted { (inputs : List Bag) → AreInputsOf program.now inputs → (rows : Bag) (counts : List ℕ)
+        → IsDivided (plan_ops program.now inputs) result rows counts → Counted (plan_ops program.now inputs) result.tree rows counts }
+    ensures runs { (inputs : List Bag) → (rows : Bag) × (counts : List ℕ) × IsDivided (plan_ops program.now inputs) result rows counts }
     ensures place { AreChoices program.now.ops (choices program.now.ops number) × (place_of program.now.ops (choices program.now.ops number) ≡ number) }
 {
     // the root of a plan tells that it is one

@@ -1,7 +1,13 @@
 //! Whether a physical plan's ships are legal.
 
-ghost use Rattle.std.specs.Prelude.{◌≡◌, ◌&&◌, ◌↔◌, IsTrue};
+ghost use Rattle.std.specs.Prelude.{◌≡◌, ◌&&◌, ◌↔◌, ℕ, IsTrue, List};
 ghost use Rattle.cost_model.specs.Edges.{EdgesLieIn};
+ghost use Rattle.pact_operators.specs.Allowed.{Bag, Counted};
+ghost use Rattle.pact_operators.specs.Divided.{IsDivided, Shares};
+ghost use Rattle.pact_operators.specs.Inputs.{AreInputsOf};
+ghost use Rattle.pact_operators.specs.PlanOps.{plan_ops};
+ghost use Rattle.pact_operators.specs.Programs.{IsPlanOf};
+ghost use Rattle.ship_strategy.specs.Meets.{AllGaveShares, AllMeet};
 ghost use Rattle.ship_strategy.specs.PlanFacts.{facts_of};
 ghost use Rattle.ship_strategy.specs.Ships as ships;
 ghost use Rattle.ship_strategy.specs.Ships.{LegalShip, is_legal};
@@ -148,10 +154,25 @@ fn look(table: &Table, physical: &Physical, tree: &Plan) -> Looked
     }
 }
 
-/// Whether every edge of the physical plan is legal: each operator finds at one worker all records that it needs together.
-pub fn legal_ship(program: &Program, physical: &Physical) -> bool
+fn has_legal_edges(program: &Program, physical: &Physical) -> bool
     ensures { IsTrue result ↔ LegalShip (facts_of program.now physical.now.tree) physical.now }
 {
     let table = known(program, physical.plan());
     look(&table, physical, physical.plan()).legal
+}
+
+/// Whether every edge of the physical plan is legal: each operator finds at one worker all records that it needs together.
+pub fn legal_ship(program: &Program, physical: &Physical) -> bool
+    ensures legal { IsTrue result ↔ LegalShip (facts_of program.now physical.now.tree) physical.now }
+    ensures meets { IsTrue result → IsPlanOf program.now.functions program.now.ops physical.now.tree → (inputs : List Bag) → AreInputsOf program.now inputs → (gave : Shares)
+        → AllGaveShares (plan_ops program.now inputs) physical.now gave → AllMeet (plan_ops program.now inputs) physical.now gave }
+    ensures counted { IsTrue result → IsPlanOf program.now.functions program.now.ops physical.now.tree → (inputs : List Bag) → AreInputsOf program.now inputs → (rows : Bag) (counts : List ℕ)
+        → IsDivided (plan_ops program.now inputs) physical.now rows counts → Counted (plan_ops program.now inputs) physical.now.tree rows counts }
+    ensures runs { IsPlanOf program.now.functions program.now.ops physical.now.tree → (inputs : List Bag)
+        → (rows : Bag) × (counts : List ℕ) × IsDivided (plan_ops program.now inputs) physical.now rows counts }
+{
+    // a program tells that it is one, and a physical plan too
+    let _fields = program.fields();
+    let _workers = physical.workers();
+    has_legal_edges(program, physical)
 }

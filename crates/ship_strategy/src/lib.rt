@@ -3,7 +3,8 @@
 //! A placement is a list of fields by whose values each record lies at a worker. Where an operator needs records together, its edges either
 //! keep a placement that does so already, or ship. `specs/Ships` has the rules, over what is known of each operator in its
 //! plan (`specs/PlanFacts`), and `specs/Layouts` the layouts: a list of choices, one for each operator, calls for one
-//! ship on each edge.
+//! ship on each edge. Where ships are legal, the records that an operator needs together meet (`specs/Meets`), and what all instances give is one
+//! evaluation of the plan: `layout` and `legal_ship` tell both.
 //!
 //! `layouts`, `layout` and `legal_ship` are for one plan at a time. For many layouts of one plan, `known` finds what is known of its operators
 //! once, `chosen` tells the ways of a number, and `left_ship`, `right_ship`, `only_ship`, `placed_over` and `placed_both` take a

@@ -13,7 +13,7 @@ ghost use Rattle.slow_eval.specs.GivenRows.{rows_of};
 
 use crate::given_rows::GivenRows;
 use crate::grouping::{cogroup_rows, reduce_rows};
-use crate::pairing::{cross_rows, map_rows, match_rows};
+use bag_calls::{cross_rows, map_rows, match_rows};
 use pact_bag::{Counts, Inputs, Outcome, Rows};
 use pact_operators::{Op, OpKind, Parts, Plan, Program};
 use pact_record::OutOfMemory;

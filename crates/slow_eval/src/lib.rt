@@ -1,13 +1,12 @@
 //! Evaluates a plan operator by operator, on one thread.
 //!
 //! It is written to be compared with the definition of allowed bags and not to be fast: records with equal
-//! keys are found by going through all records. `evaluating` goes down the plan and counts; `pairing`
-//! has Map, Match and Cross, `grouping` Reduce and CoGroup.
+//! keys are found by going through all records. `evaluating` goes down the plan and counts; `grouping` has
+//! Reduce and CoGroup.
 #![tactic(auto)]
 
 mod evaluating;
 mod given_rows;
 mod grouping;
-mod pairing;
 
 pub use evaluating::evaluate;

@@ -5,7 +5,7 @@ use Rattle.std.proofs.lemmas.Bool.{or_left, or_right, and_from, cases_lt, lt-ltb
 use Rattle.std.proofs.lemmas.List.{get_or_past}
 use Rattle.pact_record.specs.declared.values.Value.{Value}
 use Rattle.pact_record.specs.declared.values.Value.TheVariants.{Null}
-use Rattle.pact_record.specs.Record.{at_field}
+use Rattle.pact_record.specs.Record.{Agree, at_field}
 use Rattle.tac_syntax.specs.declared.functions.Kind.{Kind}
 use Rattle.tac_syntax.specs.declared.functions.Kind.TheVariants.{Map, Match, Cross, Reduce, CoGroup}
 use Rattle.tac_syntax.specs.Rules.{is_cogroup}
@@ -18,7 +18,7 @@ use Rattle.tac_flow.specs.Known.{FieldSet, fields_below, Side, left, right}
 use Rattle.tac_flow.specs.Steps.{Scope, fresh, constant, start_state}
 use Rattle.tac_flow.specs.Walks.{Note}
 use Rattle.tac_flow.specs.Results.{writes_in, common_in, depends_in, control_in, anchored_in, reads_in, notes_of, summary, found_by, by_anchors, sets_of, IsAnchoredOn, IsAlone}
-use Rattle.tac_syntax.specs.Forms.{AreAnchoredAt, IsWithin, IsLawful, Agree, InputsAgree, HaveAnchors, HasForm, HasFormAlone, anchors, left_records, right_records}
+use Rattle.tac_syntax.specs.Forms.{AreAnchoredAt, IsWithin, IsLawful, InputsAgree, HaveAnchors, HasForm, HasFormAlone, anchors, left_records, right_records}
 use Rattle.tac_syntax.specs.Contexts.{Has}
 use Rattle.tac_syntax.specs.CallInputs.{IsInputOf}
 use Rattle.tac_flow.specs.Views.{ports_in}

@@ -7,7 +7,8 @@ use Rattle.tac_syntax.specs.Code.{Code}
 use Rattle.tac_syntax.specs.Call.{of_record, Out}
 use Rattle.tac_syntax.specs.Contexts.{FieldSet}
 use Rattle.tac_syntax.specs.EmitBounds.{least_emits, most_emits}
-use Rattle.tac_syntax.specs.Forms.{IsLawful, Agree, KeepsGroups}
+use Rattle.pact_record.specs.Record.{Agree}
+use Rattle.tac_syntax.specs.Forms.{IsLawful, KeepsGroups}
 use Rattle.tac_syntax.specs.WellFormed.{IsWellFormed}
 use Rattle.tac_syntax.proofs.EmitCounts.{AreBounds-emits}
 use Rattle.tac_flow.specs.Steps.{Scope}

@@ -6,7 +6,7 @@ use Rattle.std.proofs.lemmas.List.{length-replicate}
 use Rattle.std.proofs.lemmas.List.Elements.{AllZip-get_or, length_all_zip}
 use Rattle.pact_record.specs.declared.values.Value.{Value}
 use Rattle.pact_record.specs.declared.values.Value.TheVariants.{Null, Int, Text}
-use Rattle.pact_record.specs.Record.{at_field, key_of, joined_value, joined_record}
+use Rattle.pact_record.specs.Record.{Agree, at_field, key_of, joined_value, joined_record}
 use Rattle.pact_record.proofs.JoinedRecords.{length-joined_record}
 use Rattle.tac_syntax.specs.declared.functions.Kind.{Kind}
 use Rattle.tac_syntax.specs.declared.functions.Kind.TheVariants.{Map, Match, Cross, Reduce, CoGroup}
@@ -19,7 +19,7 @@ use Rattle.tac_syntax.specs.Call.{CallInput, of_record, of_pair, of_group, of_gr
 use Rattle.tac_flow.specs.Known.{FieldSet, no_fields, either, Side, left, right, Base, first, some, nowhere, Held, State, fields_below, side_of}
 use Rattle.tac_flow.specs.Steps.{Scope, is_key_at, keys_by, fresh_by, held_of}
 use Rattle.tac_flow.specs.Walks.{side_of_list}
-use Rattle.tac_syntax.specs.Forms.{IsWithin, Agree, HaveKey, IsLawful, InputsAgree, anchors}
+use Rattle.tac_syntax.specs.Forms.{IsWithin, HaveKey, IsLawful, InputsAgree, anchors}
 use Rattle.tac_syntax.specs.CallInputs.{IsOfPair}
 use Rattle.tac_syntax.specs.Contexts.{Has}
 use Rattle.tac_flow.specs.Views.{ports_in}

@@ -10,7 +10,8 @@ use Rattle.tac_flow.specs.Known.{FieldSet, Side, left, side_of, Held}
 use Rattle.tac_flow.specs.Steps.{Scope}
 use Rattle.tac_flow.specs.Walks.{Note, decides, emits}
 use Rattle.tac_flow.specs.Results.{writes_in, common_in, depends_in, control_in, anchored_in, is_on}
-use Rattle.tac_syntax.specs.Forms.{Agree, AreAnchored, AreAnchoredAt, HaveAnchors, anchors}
+use Rattle.pact_record.specs.Record.{Agree}
+use Rattle.tac_syntax.specs.Forms.{AreAnchored, AreAnchoredAt, HaveAnchors, anchors}
 use Rattle.tac_flow.proofs.TwoCalls.{Sub, HaveBase, AreCalls}
 use Rattle.tac_flow.proofs.LooserBases.{same_side-true}
 use Rattle.tac_flow.proofs.RecordsOfTwo.{agree_over}

@@ -4,11 +4,11 @@ use Rattle.std.proofs.lemmas.Bool.{and_parts, and_cases, and_from, or_cases, or_
 use Rattle.std.proofs.lemmas.List.{get_or_past, length-set, get_or-set_same, get_or-set_other}
 use Rattle.pact_record.specs.declared.values.Value.{Value}
 use Rattle.pact_record.specs.declared.values.Value.TheVariants.{Null}
-use Rattle.pact_record.specs.Record.{at_field}
+use Rattle.pact_record.specs.Record.{Agree, at_field}
 use Rattle.tac_syntax.specs.Call.{CallInput, key_values}
 use Rattle.tac_flow.specs.Known.{FieldSet, only_field, with_field, without_field, either, Side, left, right, Base, first, bound, some, nowhere, Origin, field_of, key_at, unknown, same_base, same_origin, side_of, names_one, Known, Held, joined_known, joined_held, changed_from}
 use Rattle.tac_flow.specs.Steps.{Scope, keys_of, is_key_at, key_or, origin_of, read_from, is_key_of, is_copy, written}
-use Rattle.tac_syntax.specs.Forms.{Agree, anchors}
+use Rattle.tac_syntax.specs.Forms.{anchors}
 use Rattle.tac_flow.proofs.TwoCalls.{anchor_at, Sub, HasOrigin, HaveBase, IsOver, IsAt, IsInScope, base_record, SameRecord, SameValue, IsCall, AreCalls}
 use Rattle.tac_flow.proofs.LooserBases.{same_base-true, same_origin-true, Loosens, loosens_joined, outside_same, loosened}
 

@@ -4,7 +4,7 @@ use Rattle.std.specs.Prelude.{◌≡◌, ◌<◌, ◌≤◌, ◌⊎◌, ℕ, tru
 use Rattle.std.specs.List.{AllByRecursion, AllZip}
 use Rattle.pact_record.specs.declared.values.Value.{Value}
 use Rattle.pact_record.specs.declared.values.Value.TheVariants.{Null}
-use Rattle.pact_record.specs.Record.{at_field, key_of, joined_record}
+use Rattle.pact_record.specs.Record.{Agree, at_field, key_of, joined_record}
 use Rattle.tac_syntax.specs.declared.functions.Kind.{Kind}
 use Rattle.tac_syntax.specs.declared.functions.Kind.TheVariants.{Map}
 use Rattle.tac_syntax.specs.Call.{CallInput, of_record, of_pair, of_group, of_groups}
@@ -21,10 +21,6 @@ AreApart s t = (k : ℕ) → s k → t k → ⊥
 pub record IsWithin (fields : ℕ) (set : ℕ → Type 0) (row : List Value) : Type 0 where
   pub width : length row ≡ fields
   pub null : (k : ℕ) → (set k → ⊥) → at_field row k ≡ Null
-
--- two records have equal values in a set
-abbrev pub Agree : FieldSet → List Value → List Value → Type 0
-Agree set a b = (k : ℕ) → set k ≡ true → at_field a k ≡ at_field b k
 
 -- ---- inputs
 

@@ -1,11 +1,20 @@
-use pact_words::{Command, Refused, read_words};
+use pact_words::{Command, Options, Refused, read_words};
 use std::process::Abort;
 
 fn run(workers: u32, plans: u32, counts: bool) -> Command<'static> {
-    Command::Run {
-        program: "p.pact",
+    piped(workers, plans, 64, 4, counts)
+}
+
+fn piped(workers: u32, plans: u32, batch: u32, depth: u32, counts: bool) -> Command<'static> {
+    let options = Options {
         workers,
         plans,
+        batch,
+        depth,
+    };
+    Command::Run {
+        program: "p.pact",
+        options,
         counts,
     }
 }
@@ -46,6 +55,16 @@ fn words_ask_for_run(rt: HostRuntime) {
         run(3, 7, false),
     );
     asks(&rt, &["run", "--", "p.pact"], run(4, 256, false));
+    asks(
+        &rt,
+        &["run", "p.pact", "--batch", "1", "--depth=64"],
+        piped(4, 256, 1, 64, false),
+    );
+    asks(
+        &rt,
+        &["run", "--depth", "1", "p.pact", "--batch=1024", "--counts"],
+        piped(4, 256, 1024, 1, true),
+    );
 }
 
 #[test]
@@ -101,4 +120,8 @@ fn words_are_refused(rt: HostRuntime) {
     refuses(&rt, &["run", "p.pact", "--help"]);
     refuses(&rt, &["plan", "p.pact", "--counts"]);
     refuses(&rt, &["run", "p.pact", "--workers", "17"]);
+    refuses(&rt, &["run", "p.pact", "--batch", "0"]);
+    refuses(&rt, &["run", "p.pact", "--batch", "1025"]);
+    refuses(&rt, &["run", "p.pact", "--depth", "65"]);
+    refuses(&rt, &["plan", "p.pact", "--depth", "4"]);
 }

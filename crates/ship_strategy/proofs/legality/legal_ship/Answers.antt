@@ -1,17 +1,14 @@
-use Rattle.std.proofs.Common.{ap, sym, ◌∙◌}
-use Rattle.plan_trees.specs.Plans.{PlanTree}
-use Rattle.ship_strategy.specs.PlanFacts.{facts_of}
-use Rattle.ship_strategy.specs.Ships.{is_legal}
-use Rattle.ship_strategy.proofs.TestsOfEdges.{legal_says, legal_tests}
+use Rattle.ship_strategy.proofs.DividedRuns.{divided_counted, divided_meets}
+use Rattle.ship_strategy.proofs.DividedRunsExist.{divided_exists}
 use Rattle.ship_strategy.proofs.legality.legal_ship.Goals as goal
 
-pub returns : goal.returns
-returns c =
-    let p = c.args.program.now in
-    let d = c.args.physical.now in
-    let same = c.look.ensures.legal
-    ∙ (λ i. is_legal (c.known-table.ensures.value i) d (c.plan-2.ensures i))
-    ∙ ap (λ (t : PlanTree). is_legal (facts_of p t) d d.tree) c.plan.ensures in (
-      λ e. legal_says (facts_of p d.tree) d d.tree (sym same ∙ e),
-      λ h. same ∙ legal_tests (facts_of p d.tree) d d.tree h,
-    )
+pub returns-clause-meets : goal.returns-clause-meets
+returns-clause-meets c said plan inputs of_inputs gave shares =
+    divided_meets c.args.program.now c.fields-fields.ensures.keeps inputs of_inputs c.args.physical.now c.workers-workers.ensures.physical plan (c.has_legal_edges.ensures.0 said) gave shares
+
+pub returns-clause-counted : goal.returns-clause-counted
+returns-clause-counted c said plan inputs of_inputs rows counts run =
+    divided_counted c.args.program.now c.fields-fields.ensures.keeps inputs of_inputs c.args.physical.now c.workers-workers.ensures.physical plan (c.has_legal_edges.ensures.0 said) rows counts run
+
+pub returns-clause-runs : goal.returns-clause-runs
+returns-clause-runs c plan inputs = divided_exists c.args.program.now inputs c.args.physical.now c.workers-workers.ensures.physical.plan plan

@@ -1,0 +1,6 @@
+//! One call of a function for each record of a bag, or for each pair of records of two bags.
+#![tactic(auto)]
+
+pub mod pairing;
+
+pub use pairing::{cross_rows, map_rows, match_rows};

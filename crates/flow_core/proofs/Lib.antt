@@ -1,0 +1,12 @@
+mod Tables
+mod Places
+mod Oks
+mod EnabledEvents
+mod Stepping
+mod Dealing
+mod StartStands
+mod Replaying
+mod Idle
+mod Leaving
+mod Finishing
+mod RunAlone

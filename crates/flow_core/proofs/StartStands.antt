@@ -1,0 +1,94 @@
+-- A world at its start.
+use Rattle.std.proofs.Common.{◌≡◌, ◌<◌, ◌≤◌, ◌||◌, ◌==◌, inl, inr, ℕ, zero, suc, true, List, [], ◌∷◌, get_or, length, ap, subst, sym, ◌∙◌, arith}
+use Rattle.std.specs.List.{AllByRecursion}
+use Rattle.std.proofs.lemmas.Bool.{cases_lt, eqb-true, or_cases}
+use Rattle.std.proofs.lemmas.Option.{slice_get_within}
+use Rattle.std.proofs.lemmas.List.{get_or_past}
+use Rattle.pact_operators.specs.Allowed.{Bag}
+use Rattle.pact_operators.specs.Inputs.{AreInputsOf}
+use Rattle.pact_operators.specs.Programs.{HasArity, IsPlanOf, IsProgram, ProgramData, Takes}
+use Rattle.pact_operators.specs.declared.operators.Op.{Op}
+use Rattle.plan_trees.specs.Physicals.{IsPhysical, PhysicalData}
+use Rattle.plan_trees.specs.Plans.{PlanTree, leaf, over, both, has}
+use Rattle.flow_model.specs.declared.notes.Note.{Note}
+use Rattle.flow_model.specs.Events.{no_history}
+use Rattle.flow_model.specs.Spots.{Setting, setting}
+use Rattle.flow_model.proofs.Events.{start_stands}
+use Rattle.flow_core.specs.Starting.{AreStarted}
+use Rattle.flow_core.specs.Worlds.{IsStanding, IsWhole, StandsForSome, StationData, WorldData, no_station, queue_in, seen, station_in}
+
+all_empty : (queues : List (List Note)) (to : ℕ) → AllByRecursion (λ q. q ≡ []) queues → get_or queues to [] ≡ []
+all_empty [] to h = get_or_past [] to [] (omega arith)
+all_empty (q ∷ queues) zero h = h.0
+all_empty (q ∷ queues) (suc to) h = all_empty queues to h.1
+
+module _ (g : Setting) (count : ℕ) (stations : List (List StationData)) (s : AreStarted g count stations) where
+  -- outside of the rows there is no station
+  no_row : (at worker : ℕ) → count ≤ at → station_in stations at worker ≡ no_station
+  no_row at worker more = ap (λ (r : List StationData). get_or r worker no_station) (get_or_past stations at [] (omega (arith, more, s.long))) ∙ get_or_past [] worker no_station (omega arith)
+
+  none_there : (at worker : ℕ) → at < count → g.physical.workers ≤ worker → station_in stations at worker ≡ no_station
+  none_there at worker less more = get_or_past (get_or stations at []) worker no_station (omega (arith, more, (s.each at less).long))
+
+  empty_start : (edge from to : ℕ) → queue_in stations edge from to ≡ []
+  empty_start edge from to = elim (cases_lt edge count) as (λ _. queue_in stations edge from to ≡ []) [
+    | inr more ↦ ap (λ (x : StationData). get_or x.queues to []) (no_row edge from more) ∙ get_or_past [] to [] (omega arith)
+    | inl less ↦ elim (cases_lt from g.physical.workers) as (λ _. queue_in stations edge from to ≡ []) [
+      | inr more ↦ ap (λ (x : StationData). get_or x.queues to []) (none_there edge from less more) ∙ get_or_past [] to [] (omega arith)
+      | inl below ↦ all_empty (station_in stations edge from).queues to ((s.each edge less).each from below).empty
+    ]
+  ]
+
+  pub whole_start : ((at : ℕ) → has at g.physical.tree ≡ true → at < count) → ((at : ℕ) → at < count → has at g.physical.tree ≡ true) → IsWhole g.physical stations
+  whole_start each only = record {
+    each = λ at there. omega (arith, each at there, s.long);
+    only = λ at less. only at (omega (arith, less, s.long));
+    workers = λ at less. (s.each at (omega (arith, less, s.long))).long;
+    pipes = λ at worker less below. ((s.each at (omega (arith, less, s.long))).each worker below).long;
+  }
+
+  pub standing_start : (w : WorldData) → w.physical ≡ g.physical → w.stations ≡ stations → ((at : ℕ) → has at g.physical.tree ≡ true → at < count) → ((at : ℕ) → at < count → has at g.physical.tree ≡ true)
+      → IsStanding g w no_history
+  standing_start w same is each only =
+      subst (λ (l : List (List StationData)). IsStanding g (record w { stations = l }) no_history) (sym is) (record {
+        physical = same;
+        whole = subst (λ (p : PhysicalData). IsWhole p stations) (sym same) (whole_start each only);
+        stands = start_stands g (seen (record w { stations = stations })) (record {
+          queue = empty_start;
+          instances = λ at worker there below. ((s.each at (each at there)).each worker below).started;
+        });
+      })
+
+-- ---- the numbers of a plan of a program
+
+takes_below : (ops : List Op) (n count : ℕ) → Takes ops n count → n < length ops
+takes_below ops n count t = slice_get_within ops n t.0 t.1
+
+-- each number of the plan is one of the program's
+pub numbers_below : (ops : List Op) (t : PlanTree) (at : ℕ) → HasArity ops t → has at t ≡ true → at < length ops
+numbers_below ops (leaf n) at h there = subst (λ (m : ℕ). m < length ops) (sym (eqb-true at n there)) (takes_below ops n 0 h)
+numbers_below ops (over n t) at h there = elim (or_cases (at == n) (has at t) there) as (λ _. at < length ops) [
+  | inl e ↦ subst (λ (m : ℕ). m < length ops) (sym (eqb-true at n e)) (takes_below ops n 1 h.0)
+  | inr below ↦ numbers_below ops t at h.1 below
+]
+numbers_below ops (both n t u) at h there = elim (or_cases (at == n) (has at t || has at u) there) as (λ _. at < length ops) [
+  | inl e ↦ subst (λ (m : ℕ). m < length ops) (sym (eqb-true at n e)) (takes_below ops n 2 h.0)
+  | inr below ↦ elim (or_cases (has at t) (has at u) below) as (λ _. at < length ops) [
+    | inl left ↦ numbers_below ops t at h.1 left
+    | inr right ↦ numbers_below ops u at h.2 right
+  ]
+]
+
+pub some_start : (p : ProgramData) (inputs : List Bag) (physical : PhysicalData) (w : WorldData) → IsProgram p → AreInputsOf p inputs → IsPhysical physical → IsPlanOf p.functions p.ops physical.tree
+    → 1 ≤ w.depth → w.physical ≡ physical → IsStanding (setting p inputs physical) w no_history → StandsForSome w
+some_start p inputs physical w is are plan of deep same standing = record {
+  program = p;
+  inputs = inputs;
+  history = no_history;
+  is_program = is;
+  are_inputs = are;
+  is_physical = subst IsPhysical (sym same) plan;
+  plan = subst (λ (q : PhysicalData). IsPlanOf p.functions p.ops q.tree) (sym same) of;
+  some_depth = deep;
+  standing = subst (λ (q : PhysicalData). IsStanding (setting p inputs q) w no_history) (sym same) standing;
+}

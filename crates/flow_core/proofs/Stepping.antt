@@ -1,0 +1,75 @@
+-- The world after an event.
+use Rattle.std.proofs.Common.{◌≡◌, ◌<◌, ◌≤◌, ℕ, true, Option, Some, List, slice_get, ap, subst, sym, ◌∙◌}
+use Rattle.plan_trees.specs.Physicals.{IsPhysical, PhysicalData}
+use Rattle.plan_trees.specs.Plans.{has, subtree_of}
+use Rattle.pact_operators.specs.Programs.{IsPlanOf}
+use Rattle.flow_model.specs.declared.notes.Event.{Event}
+use Rattle.flow_model.specs.declared.notes.Event.TheVariants as events
+use Rattle.flow_model.specs.declared.notes.Note.{Note}
+use Rattle.flow_model.specs.declared.notes.PipeId.{PipeId}
+use Rattle.flow_model.specs.Events.{ListChanged, OthersSame, Steps, Takes, TakesBy, first_note, noted}
+use Rattle.flow_model.specs.Instances.{Instance}
+use Rattle.flow_model.specs.Local.{IsLocal}
+use Rattle.flow_model.specs.Spots.{Setting, Spot, ports_of, setting, spot}
+use Rattle.flow_model.specs.Steps.{Took, later}
+use Rattle.flow_model.specs.Worlds.{History, enabled, lists_at, reader_of}
+use Rattle.flow_model.proofs.Events.{step_stands}
+use Rattle.flow_core.specs.Worlds.{IsStanding, IsWhole, StandsForSome, WorldData, instance_in, queue_in, seen}
+
+-- a note that left a pipe, which gave the world u, was taken
+pub take_steps : (g : Setting) (w u v : WorldData) (h : History) (p : PipeId) (at port : ℕ) (note : Note) → IsStanding g w h
+    → reader_of p.edge w.physical.tree ≡ Some (at, port) → has at w.physical.tree ≡ true → p.to < w.physical.workers
+    → ((a b : ℕ) → instance_in u.stations a b ≡ instance_in w.stations a b)
+    → ListChanged (queue_in w.stations) p (later (queue_in w.stations p.edge p.from p.to)) (queue_in u.stations)
+    → note ≡ first_note (queue_in w.stations p.edge p.from p.to)
+    → ((s : Spot) (taken : ℕ → ℕ → List Note) (put : ℕ → List Note) → IsLocal s p.to (instance_in u.stations at p.to) taken put → Took s p.to (instance_in u.stations at p.to) port p.from note (instance_in v.stations at p.to))
+    → OthersSame (seen u) at p.to (seen v)
+    → ((edge a b : ℕ) → queue_in v.stations edge a b ≡ queue_in u.stations edge a b)
+    → Steps g (seen w) (events.Take p) (seen v)
+take_steps g w u v h p at port note s reader there below same queue note_is took others kept =
+    let reader_too : reader_of p.edge g.physical.tree ≡ Some (at, port) = ap (λ (q : PhysicalData). reader_of p.edge q.tree) (sym s.physical) ∙ reader in
+    let there_too : has at g.physical.tree ≡ true = subst (λ (q : PhysicalData). has at q.tree ≡ true) s.physical there in
+    let below_too : p.to < g.physical.workers = subst (λ (q : PhysicalData). p.to < q.workers) s.physical below in
+    let t = subtree_of at g.physical.tree in
+    let taken : ℕ → ℕ → List Note = λ q from. lists_at h.taken (slice_get (ports_of g.physical t) q) from p.to in
+    let put : ℕ → List Note = λ to. h.put at p.to to in
+    let l = s.stands.instances at p.to there_too below_too in
+    let i = instance_in w.stations at p.to in
+    let j = instance_in v.stations at p.to in
+    let took_it = took (spot g t) taken put (subst (λ (x : Instance). IsLocal (spot g t) p.to x taken put) (sym (same at p.to)) l) in
+    let step : Takes g (seen w) p at port (seen v) = record {
+      instance = subst (λ (n : Note). Took (spot g t) p.to i port p.from n j) note_is (subst (λ (x : Instance). Took (spot g t) p.to x port p.from note j) (same at p.to) took_it);
+      others = λ a b other. others a b other ∙ same a b;
+      queue = record {
+        here = kept p.edge p.from p.to ∙ queue.here;
+        elsewhere = λ edge a b other. kept edge a b ∙ queue.elsewhere edge a b other;
+      };
+    } in
+    subst (λ (o : Option (ℕ × ℕ)). TakesBy g (seen w) p o (seen v)) (sym reader_too) step
+
+-- ---- what stands
+
+pub standing_after : (g : Setting) (w v : WorldData) (h : History) (e : Event) → IsPhysical w.physical → enabled w.physical w.depth (seen w) e ≡ true → IsStanding g w h → Steps g (seen w) e (seen v)
+    → v.physical ≡ w.physical → IsWhole v.physical v.stations → IsStanding g v (noted (seen w) e h)
+standing_after g w v h e physical can s step same whole = record {
+  physical = same ∙ s.physical;
+  whole = whole;
+  stands = step_stands g w.depth (seen w) (seen v) h e (subst IsPhysical s.physical physical).plan.different s.stands (subst (λ (q : PhysicalData). enabled q w.depth (seen w) e ≡ true) s.physical can) step;
+}
+
+pub some_after : (w v : WorldData) (e : Event) → enabled w.physical w.depth (seen w) e ≡ true → StandsForSome w → ((g : Setting) (h : History) → IsStanding g w h → Steps g (seen w) e (seen v))
+    → v.physical ≡ w.physical → v.depth ≡ w.depth → IsWhole v.physical v.stations → StandsForSome v
+some_after w v e can s steps same deep whole =
+    let back : w.physical ≡ v.physical = sym same in
+    record {
+      program = s.program;
+      inputs = s.inputs;
+      history = noted (seen w) e s.history;
+      is_program = s.is_program;
+      are_inputs = s.are_inputs;
+      is_physical = subst IsPhysical back s.is_physical;
+      plan = subst (λ (q : PhysicalData). IsPlanOf s.program.functions s.program.ops q.tree) back s.plan;
+      some_depth = subst (λ (n : ℕ). 1 ≤ n) (sym deep) s.some_depth;
+      standing = subst (λ (q : PhysicalData). IsStanding (setting s.program s.inputs q) v (noted (seen w) e s.history)) back
+          (standing_after (setting s.program s.inputs w.physical) w v s.history e s.is_physical can s.standing (steps (setting s.program s.inputs w.physical) s.history s.standing) same whole);
+    }

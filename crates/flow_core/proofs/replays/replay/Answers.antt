@@ -1,0 +1,20 @@
+use Rattle.std.proofs.Common.{◌≡◌, List, arith, rules, subst, sym, take, true, ◌∙◌}
+use Rattle.std.proofs.lemmas.List.{take_all}
+use Rattle.flow_model.specs.declared.notes.Event.{Event}
+use Rattle.flow_core.specs.Replays.{IsReplayed}
+use Rattle.flow_core.proofs.Replaying.{replayed-next, replayed_short}
+use Rattle.flow_core.proofs.replays.replay.Goals as goal
+
+pub loop-index-preserved : goal.loop-index-preserved
+loop-index-preserved g c =
+    let step = c.step.ensures in
+    let can : c.enabled.result ≡ true = search rules in
+    replayed-next c.args.world c.loop-index.world c.step.new.self c.args.events.now c.loop-index.index _ c.step.result (search rules) c.loop-index.invariant (sym c.if-is_err.ensures.value)
+    (sym c.enabled.ensures ∙ can) step.stepped step.standing step.physical step.depth step.stands
+
+pub returns-clause-short : goal.returns-clause-short
+returns-clause-short g c =
+    let events = c.args.events.now in
+    let whole : take c.loop-index.index events ≡ events = take_all c.loop-index.index events (omega (arith, c.loop-index-test.false)) in
+    let all = subst (λ (es : List Event). IsReplayed c.args.world es c.loop-index.world) whole c.loop-index.invariant in
+    replayed_short c.args.world c.loop-index.world c.args.events.now c.requires all

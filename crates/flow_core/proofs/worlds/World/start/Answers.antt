@@ -1,0 +1,23 @@
+use Rattle.std.proofs.Common.{length, refl}
+use Rattle.flow_model.specs.Spots.{setting}
+use Rattle.flow_core.specs.Worlds.{WorldData}
+use Rattle.flow_core.proofs.StartStands.{numbers_below, some_start, standing_start}
+use Rattle.flow_core.proofs.worlds.World.start.Goals as goal
+
+pub returns-clause-standing : goal.returns-clause-standing
+returns-clause-standing g c =
+    let p = c.args.program.now in
+    let physical = c.args.physical.now in
+    let w : WorldData = record { physical = c.new.result; depth = c.args.depth; stations = c.in_ok-stations.stations.items } in
+    let standing = standing_start (setting p c.args.inputs.now physical) (length p.ops) c.in_ok-stations.stations.items c.in_ok-stations.ensures w c.new.ensures refl
+    (λ at there. numbers_below p.ops physical.tree at c.requires.plan.arity there) (λ at less. c.requires.plan.all at less) in
+    standing
+
+pub returns-clause-stands : goal.returns-clause-stands
+returns-clause-stands g c =
+    let p = c.args.program.now in
+    let physical = c.args.physical.now in
+    let w : WorldData = record { physical = c.new.result; depth = c.args.depth; stations = c.in_ok-stations.stations.items } in
+    let standing = standing_start (setting p c.args.inputs.now physical) (length p.ops) c.in_ok-stations.stations.items c.in_ok-stations.ensures w c.new.ensures refl
+    (λ at there. numbers_below p.ops physical.tree at c.requires.plan.arity there) (λ at less. c.requires.plan.all at less) in
+    some_start p c.args.inputs.now physical w c.fields-fields.ensures.keeps c.requires.inputs c.workers-workers.ensures.physical c.requires.plan c.requires.depth.0 c.new.ensures standing

@@ -1,0 +1,54 @@
+use Rattle.std.proofs.Common.{◌≡◌, ap, subst, sym, ◌∙◌, true, Some}
+use Rattle.flow_core.proofs.Oks.{on_ok_three}
+use Rattle.plan_trees.specs.Physicals.{PhysicalData}
+use Rattle.plan_trees.specs.Plans.{has}
+use Rattle.flow_model.specs.Events.{first_note}
+use Rattle.flow_model.specs.Instances.{Instance}
+use Rattle.flow_model.specs.Worlds.{reader_of}
+use Rattle.flow_model.specs.declared.notes.Note.{Note}
+use Rattle.flow_core.specs.Stations.{IsReadyFor}
+use Rattle.flow_core.specs.Worlds.{WorldData, instance_in, queue_in}
+use Rattle.flow_core.proofs.EnabledEvents.{can_take_at}
+use Rattle.flow_core.proofs.Stepping.{take_steps}
+use Rattle.flow_core.proofs.worlds.World.take.Goals as goal
+
+pub give-note-requires-clause-some : goal.give-note-requires-clause-some
+give-note-requires-clause-some g c κs within =
+    let reader : reader_of c.args.pipe.edge c.args.self.now.physical.tree ≡ Some (c.in-Some.at, c.in-Some.port) =
+    ap (λ (w : WorldData). reader_of c.args.pipe.edge w.physical.tree) (sym c.self.view_is) ∙ sym c.reader.ensures ∙ c.in-Some.is in
+    let can = can_take_at c.args.self.now c.args.pipe c.in-Some.at c.in-Some.port c.requires.stands c.requires.can reader in
+    can.some
+
+pub give-note-requires-clause-has : goal.give-note-requires-clause-has
+give-note-requires-clause-has g c κs within =
+    let reader : reader_of c.args.pipe.edge c.args.self.now.physical.tree ≡ Some (c.in-Some.at, c.in-Some.port) =
+    ap (λ (w : WorldData). reader_of c.args.pipe.edge w.physical.tree) (sym c.self.view_is) ∙ sym c.reader.ensures ∙ c.in-Some.is in
+    let can = can_take_at c.args.self.now c.args.pipe c.in-Some.at c.in-Some.port c.requires.stands c.requires.can reader in
+    can.sender.there
+
+pub receive-requires-clause-ready : goal.receive-requires-clause-ready
+receive-requires-clause-ready g c κs within =
+    let reader : reader_of c.args.pipe.edge c.args.self.now.physical.tree ≡ Some (c.in-Some.at, c.in-Some.port) =
+    ap (λ (w : WorldData). reader_of c.args.pipe.edge w.physical.tree) (sym c.self.view_is) ∙ sym c.reader.ensures ∙ c.in-Some.is in
+    let can = can_take_at c.args.self.now c.args.pipe c.in-Some.at c.in-Some.port c.requires.stands c.requires.can reader in
+    let p = c.args.pipe in
+    subst (λ (n : Note). IsReadyFor (instance_in c.give-note.new.self.stations c.in-Some.at p.to) p.to c.in-Some.port p.from n) (sym c.give-note.ensures.note)
+    (subst (λ (i : Instance). IsReadyFor i p.to c.in-Some.port p.from (first_note (queue_in c.args.self.now.stations p.edge p.from p.to))) (sym (c.give-note.ensures.instances c.in-Some.at p.to)) can.ready)
+
+pub receive-requires-clause-has : goal.receive-requires-clause-has
+receive-requires-clause-has g c κs within =
+    let reader : reader_of c.args.pipe.edge c.args.self.now.physical.tree ≡ Some (c.in-Some.at, c.in-Some.port) =
+    ap (λ (w : WorldData). reader_of c.args.pipe.edge w.physical.tree) (sym c.self.view_is) ∙ sym c.reader.ensures ∙ c.in-Some.is in
+    let can = can_take_at c.args.self.now c.args.pipe c.in-Some.at c.in-Some.port c.requires.stands c.requires.can reader in
+    subst (λ (q : PhysicalData). has c.in-Some.at q.tree ≡ true) (sym c.give-note.ensures.physical) can.receiver.there
+
+pub returns-clause-stepped : goal.returns-clause-stepped
+returns-clause-stepped g c =
+    let reader : reader_of c.args.pipe.edge c.args.self.now.physical.tree ≡ Some (c.in-Some.at, c.in-Some.port) =
+    ap (λ (w : WorldData). reader_of c.args.pipe.edge w.physical.tree) (sym c.self.view_is) ∙ sym c.reader.ensures ∙ c.in-Some.is in
+    let can = can_take_at c.args.self.now c.args.pipe c.in-Some.at c.in-Some.port c.requires.stands c.requires.can reader in
+    let give = c.give-note.ensures in
+    on_ok_three c.receive.result (λ took others kept s h st.
+    take_steps s c.args.self.now c.give-note.new.self c.receive.new.self h c.args.pipe c.in-Some.at c.in-Some.port c.give-note.result st reader can.receiver.there can.receiver.below
+    give.instances give.queue give.note took others kept)
+    c.receive.ensures.took c.receive.ensures.others c.receive.ensures.queues

@@ -1,0 +1,7 @@
+pub mod Worlds
+pub mod WorldCode
+pub mod Stations
+pub mod Starting
+pub mod Wired
+pub mod Replays
+pub mod Idle

@@ -1,0 +1,29 @@
+-- Where lists of events lead.
+use Rattle.std.specs.Prelude.{◌≡◌, ◌<◌, ◌+◌, ℕ, false, List, Some, length, slice_get, take}
+use Rattle.flow_model.specs.declared.notes.Event.{Event}
+use Rattle.flow_model.specs.Events.{Runs}
+use Rattle.flow_model.specs.Most.{events}
+use Rattle.flow_model.specs.Spots.{Setting}
+use Rattle.flow_model.specs.Worlds.{History, enabled}
+use Rattle.flow_core.specs.declared.stops.Replay.{Replay}
+use Rattle.flow_core.specs.declared.stops.Replay.TheVariants.{Memory, NotEnabled}
+use Rattle.flow_core.specs.Worlds.{IsStanding, StandsForSome, WorldData, seen}
+
+-- Over each history, the events lead from the world to the other one, which stands for the history with their notes.
+pub record IsReplayed (w : WorldData) (events : List Event) (v : WorldData) : Type 0 where
+  pub runs : (g : Setting) (h : History) → IsStanding g w h → (more : History) × Runs g w.depth (seen w) h events (seen v) more × IsStanding g v more
+  pub physical : v.physical ≡ w.physical
+  pub depth : v.depth ≡ w.depth
+  pub stands : StandsForSome v
+
+-- The event at the place is the first that isn't enabled, and the world is the one before it.
+abbrev pub IsStopped : {L : Type 0} → WorldData → List Event → Replay L → Type 0
+IsStopped w events (NotEnabled index v) =
+    (index < length events) × IsReplayed w (take index events) v × ((e : Event) → slice_get events index ≡ Some e → enabled v.physical v.depth (seen v) e ≡ false)
+IsStopped w events Memory = Unit {0}
+
+-- Whatever the world stands for, the other one stands for what came of it in so many events.
+pub record IsReached (w : WorldData) (n : ℕ) (v : WorldData) : Type 0 where
+  pub each : (g : Setting) (h : History) → IsStanding g w h → (more : History) × IsStanding g v more × (events g (seen v) more ≡ events g (seen w) h + n)
+  pub physical : v.physical ≡ w.physical
+  pub stands : StandsForSome v

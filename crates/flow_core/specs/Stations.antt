@@ -1,0 +1,45 @@
+-- What an event does to a station.
+use Rattle.std.specs.Prelude.{◌≡◌, ◌<◌, ℕ, true, false, [], ◌∷◌, ◌++◌, get_or, length, set, slice_get, List}
+use Rattle.flow_model.specs.declared.notes.Note.{Note}
+use Rattle.flow_model.specs.declared.notes.Want.TheVariants.{Take}
+use Rattle.flow_model.specs.Instances.{Instance, ended_at, want}
+use Rattle.flow_model.specs.Notes.{AreNotes}
+use Rattle.flow_model.specs.Spots.{is_edge}
+use Rattle.flow_model.specs.Steps.{finish, later, next_note, offered}
+use Rattle.pact_operators.specs.Allowed.{Bag, count_of}
+use Rattle.flow_model.specs.Spread.{sum_below}
+use Rattle.flow_core.specs.Worlds.{StationData, no_station}
+
+-- a note was put
+abbrev pub with_put : StationData → (to : ℕ) → StationData
+with_put s to = record { instance = offered s.instance; queues = set s.queues to (get_or s.queues to [] ++ next_note s.instance.waiting ∷ []) }
+
+-- a note was taken from a pipe
+abbrev pub given : StationData → (to : ℕ) → StationData
+given s to = record { instance = s.instance; queues = set s.queues to (later (get_or s.queues to [])) }
+
+-- its instance has ended
+abbrev pub with_end : StationData → StationData
+with_end s = record { instance = finish s.instance; queues = s.queues }
+
+-- The instance on the worker can take the note at the port from the sender.
+pub record IsReadyFor (i : Instance) (on port sender : ℕ) (note : Note) : Type 0 where
+  pub worker : i.part.worker ≡ on
+  pub wanted : want i ≡ Take port
+  pub edge : is_edge (slice_get i.part.ports port) sender i.part.worker ≡ true
+  pub below : sender < i.part.workers
+  pub not_ended : ended_at i port sender ≡ false
+  pub fits : AreNotes i.part.fields (note ∷ [])
+
+-- ---- what the stations of a row leave
+
+-- how many records a worker's instance gave, and those that it placed
+abbrev pub given_by : List StationData → (worker : ℕ) → ℕ
+given_by row worker = (get_or row worker no_station).instance.given
+
+abbrev pub placed_by : List StationData → (worker : ℕ) → Bag
+placed_by row worker = (get_or row worker no_station).instance.placed
+
+-- how many they gave together, where a greater number counts as the greatest of 64 bits
+abbrev pub total_given : List StationData → ℕ
+total_given row = count_of (sum_below (length row) (given_by row))

@@ -1,0 +1,23 @@
+-- How a world is stored in the logic.
+use Rattle.std.specs.Prelude.{ℕ, List, refl}
+use Rattle.std.specs.Coded.{Coded, code_by, coded×, coded_list, coded_ℕ}
+use Rattle.plan_trees.specs.PhysicalCode.{coded_physical}
+use Rattle.plan_trees.specs.Physicals.{PhysicalData}
+use Rattle.flow_instance.specs.InstanceCode.{coded_instance}
+use Rattle.flow_model.specs.Instances.{Instance}
+use Rattle.flow_model.specs.contracts.notes.Note.{the_row as note_row}
+use Rattle.flow_model.specs.declared.notes.Note.{Note}
+use Rattle.flow_core.specs.Worlds.{StationData, WorldData}
+
+abbrev pub coded_station : Coded StationData
+coded_station =
+    code_by (Instance × List (List Note)) (coded× coded_instance (coded_list (coded_list note_row.coded))) (λ s. (s.instance, s.queues))
+    (λ q. record { instance = q.0; queues = q.1 }) (λ _. refl)
+
+abbrev pub coded_row : Coded (List StationData)
+coded_row = coded_list coded_station
+
+abbrev pub coded_world : Coded WorldData
+coded_world =
+    code_by (PhysicalData × (ℕ × List (List StationData))) (coded× coded_physical (coded× coded_ℕ (coded_list coded_row)))
+    (λ w. (w.physical, (w.depth, w.stations))) (λ q. record { physical = q.0; depth = q.1.0; stations = q.1.1 }) (λ _. refl)

@@ -1,0 +1,97 @@
+//! A run on one thread.
+
+ghost use Rattle.std.specs.Prelude.{◌≡◌, ◌≤◌, ◌-◌, ◌^◌, List, length, IfNone, IfOk, IfSome, true};
+ghost use Rattle.pact_operators.specs.Allowed.{Bag, Counted};
+ghost use Rattle.pact_operators.specs.Inputs.{AreInputsOf};
+ghost use Rattle.pact_operators.specs.PlanOps.{plan_ops};
+ghost use Rattle.pact_operators.specs.Programs.{IsPlanOf, IsProgram, ProgramData};
+ghost use Rattle.pact_record.specs.Widths.{AreWide};
+ghost use Rattle.plan_trees.specs.Physicals.{IsPhysical};
+ghost use Rattle.ship_strategy.specs.PlanFacts.{facts_of};
+ghost use Rattle.ship_strategy.specs.Ships.{LegalShip};
+ghost use Rattle.flow_model.specs.Most.{most, program_turns};
+ghost use Rattle.flow_model.specs.Spots.{Setting, setting};
+ghost use Rattle.flow_model.specs.Spread.{Spread};
+ghost use Rattle.flow_model.specs.Worlds.{History, IsStuck, enabled};
+ghost use Rattle.flow_core.specs.Worlds.{IsStanding, StandsForSome, seen};
+
+use crate::ready::Ready;
+use crate::worlds::World;
+use flow_model::Event;
+use local_strategy::Local;
+use pact_bag::Outcome;
+use pact_record::OutOfMemory;
+
+// An event that can happen: of an instance that is listed, or else of any.
+fn next_event<L: Local>(world: &World<L>, ready: &mut Ready) -> Option<Event>
+    requires { IsPhysical world.now.physical }
+    ensures some { IfSome result (λ e. enabled world.now.physical world.now.depth (seen world.now) e ≡ true) }
+    ensures none { IfNone result (IsStuck world.now.physical world.now.depth (seen world.now)) }
+{
+    while let Some((at, worker)) = ready.pop() {
+        if let Some(event) = world.event_of(at, worker) {
+            return Some(event);
+        }
+    }
+    world.any_event()
+}
+
+// Lists the instance that did an event, and the one at the other end of the pipe as the next one.
+fn list_around<L: Local>(
+    ready: &mut Ready,
+    world: &World<L>,
+    event: Event,
+) -> Result<(), OutOfMemory> {
+    match event {
+        Event::Put(pipe) => {
+            ready.push(pipe.edge, pipe.from)?;
+            let Some((at, _)) = world.reader(pipe.edge) else {
+                return Ok(());
+            };
+            ready.push(at, pipe.to)
+        }
+        Event::Take(pipe) => {
+            ready.push(pipe.edge, pipe.from)?;
+            let Some((at, _)) = world.reader(pipe.edge) else {
+                return Ok(());
+            };
+            ready.push(at, pipe.to)
+        }
+        Event::End { .. } => Ok(()),
+    }
+}
+
+// Lets events happen until none can, and None after 2^64 - 1 of them, where a run may have as many.
+fn run_to_end<L: Local>(world: World<L>) -> Result<Option<Outcome>, OutOfMemory>
+    requires { StandsForSome world }
+    ensures spread { IfOk result (λ o. IfSome o (λ o. (g : Setting) (h : History) → IsStanding g world h → Spread g o.rows o.counts)) }
+    ensures widths { IfOk result (λ o. IfSome o (λ o. (g : Setting) (h : History) → IsStanding g world h → AreWide g.fields o.rows)) }
+    ensures counts { IfOk result (λ o. IfSome o (λ o. (p : ProgramData) → IsPlanOf p.functions p.ops world.physical.tree → length o.counts ≡ length p.ops)) }
+    ensures long { IfOk result (λ o. IfNone o ((p : ProgramData) (inputs : List Bag) (h : History) → IsStanding (setting p inputs world.physical) world h → 2 ^ 64 - 1 ≤ most (setting p inputs world.physical) (program_turns p))) }
+{
+    let mut world = world;
+    let mut ready = Ready::new(world.alloc());
+    for _turn in 0..u64::MAX {
+        let Some(event) = next_event(&world, &mut ready) else {
+            return Ok(Some(world.finish()?));
+        };
+        world.step(event)?;
+        list_around(&mut ready, &world, event)?;
+    }
+    Ok(None)
+}
+
+/// Lets events happen until none can, which is when every instance is done. It waits for nobody. Want of memory is the error; a run whose bound on
+/// events is 2^64 - 1 or more, which no machine would see end, gives up with it too.
+pub fn run_alone<L: Local>(world: World<L>) -> Result<Outcome, OutOfMemory>
+    requires { StandsForSome world }
+    ensures spread { IfOk result (λ o. (g : Setting) (h : History) → IsStanding g world h → Spread g o.rows o.counts) }
+    ensures counted { IfOk result (λ o. (p : ProgramData) (inputs : List Bag) (h : History) → IsProgram p → AreInputsOf p inputs → IsPlanOf p.functions p.ops world.physical.tree → LegalShip (facts_of p world.physical.tree) world.physical → IsStanding (setting p inputs world.physical) world h → Counted (plan_ops p inputs) world.physical.tree o.rows o.counts) }
+    ensures widths { IfOk result (λ o. (g : Setting) (h : History) → IsStanding g world h → AreWide g.fields o.rows) }
+    ensures counts { IfOk result (λ o. (p : ProgramData) → IsPlanOf p.functions p.ops world.physical.tree → length o.counts ≡ length p.ops) }
+{
+    let Some(outcome) = run_to_end(world)? else {
+        return Err(OutOfMemory);
+    };
+    Ok(outcome)
+}

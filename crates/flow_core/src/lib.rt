@@ -1,0 +1,23 @@
+//! A plan's instances and pipes on one thread, event by event.
+//!
+//! A `World` has an instance of each source and operator on each worker, each with the notes on the pipes that leave it. `enabled` tells whether an event
+//! can happen, and `step` lets it happen; `replay` goes through a list of events, and `run_alone` picks its own until every instance is done. What is
+//! promised of all four is said of histories: a world stands for the notes that were put and taken so far.
+#![tactic(auto)]
+
+pub mod alone;
+pub mod laws;
+mod ready;
+pub mod replays;
+mod searching;
+mod starting;
+mod stations;
+pub mod stops;
+mod wirings;
+pub mod worlds;
+
+pub use alone::run_alone;
+pub use flow_model::{Event, PipeId};
+pub use replays::replay;
+pub use stops::Replay;
+pub use worlds::World;

@@ -1,0 +1,154 @@
+//! Instances with the pipes that leave them.
+
+ghost use Rattle.std.specs.Prelude.{◌≡◌, ◌<◌, ℕ, List, [], get_or, length, IfOk, OnOk};
+ghost use Rattle.pact_bag.specs.Rows.{HaveOneWidth};
+ghost use Rattle.plan_trees.specs.Sending.{all_of};
+ghost use Rattle.flow_model.specs.declared.notes.Note.{Note as NoteData};
+ghost use Rattle.flow_model.specs.declared.notes.Want.TheVariants.{End, Put};
+ghost use Rattle.flow_model.specs.Events.{first_note};
+ghost use Rattle.flow_model.specs.Instances.{want};
+ghost use Rattle.flow_model.specs.Local.{IsLocal};
+ghost use Rattle.flow_model.specs.Spots.{Spot};
+ghost use Rattle.flow_model.specs.Steps.{Took};
+ghost use Rattle.flow_core.specs.Stations.{IsReadyFor, given, placed_by, total_given, with_end, with_put};
+
+use flow_instance::Instance;
+use flow_model::Note;
+use local_strategy::Local;
+use pact_bag::Rows;
+use pact_record::OutOfMemory;
+use std::alloc::Global;
+use std::collections::VecDeque;
+use std::marker::Model;
+
+/// The notes on a pipe, the next one first.
+#[derive(Drop)]
+pub(crate) struct Queue {
+    pub(crate) notes: VecDeque<Note>,
+}
+
+impl Model for Queue {
+    ghost use Rattle.std.specs.Prelude.{List};
+    ghost use Rattle.flow_model.specs.declared.notes.Note.{Note as NoteData};
+
+    ghost Value = { List NoteData };
+
+    ghost view = { λ q. q.notes.items };
+}
+
+/// An instance with the notes on the pipes that leave it, by receiver.
+#[derive(Drop)]
+pub(crate) struct Station<L: Local> {
+    pub(crate) instance: Instance<L>,
+    pub(crate) queues: Vec<Queue>,
+}
+
+impl<L: Local> Model for Station<L> {
+    ghost use Rattle.flow_core.specs.Worlds.{StationData};
+    ghost use Rattle.flow_core.specs.WorldCode.{coded_station};
+
+    ghost Value = { StationData };
+
+    ghost coded = { coded_station };
+
+    ghost view = { λ s. record { instance = s.instance; queues = s.queues.items } };
+}
+
+impl<L: Local> Station<L> {
+    /// The note that is wanted to go out moves to its pipe.
+    pub(crate) fn put(&mut self, to: u32) -> Result<(), OutOfMemory>
+        requires wanted { want self.old.instance ≡ Put to }
+        requires to { to < length self.old.queues }
+        ensures { OnOk result (self.new ≡ with_put self.old to) }
+    {
+        let note = self.instance.offer();
+        self.queues[to as usize].notes.push_back(note)?;
+        Ok(())
+    }
+
+    /// The first note leaves a pipe.
+    pub(crate) fn give(&mut self, to: u32) -> Note
+        requires { 0 < length (get_or self.old.queues to []) }
+        ensures note { result ≡ first_note (get_or self.old.queues to []) }
+        ensures station { self.new ≡ given self.old to }
+    {
+        let Some(note) = self.queues[to as usize].notes.pop_front() else {
+            unreachable!()
+        };
+        note
+    }
+
+    /// The instance takes a note.
+    pub(crate) fn take(&mut self, port: u32, from: u32, note: Note) -> Result<(), OutOfMemory>
+        requires { IsReadyFor self.old.instance self.old.instance.part.worker port from note }
+        ensures took { OnOk result ((s : Spot) (taken : ℕ → ℕ → List NoteData) (put : ℕ → List NoteData) → IsLocal s self.old.instance.part.worker self.old.instance taken put → Took s self.old.instance.part.worker self.old.instance port from note self.new.instance) }
+        ensures queues { self.new.queues ≡ self.old.queues }
+    {
+        self.instance.took(port, from, note)
+    }
+
+    /// The instance ends.
+    pub(crate) fn end(&mut self)
+        requires { want self.old.instance ≡ End }
+        ensures { self.new ≡ with_end self.old }
+    {
+        self.instance.end();
+    }
+
+    fn given(&self) -> u64
+        ensures { result ≡ self.now.instance.given }
+    {
+        self.instance.given()
+    }
+
+    fn into_placed(self) -> Rows
+        ensures { result ≡ self.instance.placed }
+    {
+        self.instance.into_placed()
+    }
+}
+
+/// The stations of one source or operator, by worker.
+#[derive(Drop)]
+pub(crate) struct Row<L: Local> {
+    pub(crate) held: Vec<Station<L>>,
+}
+
+impl<L: Local> Model for Row<L> {
+    ghost use Rattle.std.specs.Prelude.{List};
+    ghost use Rattle.flow_core.specs.Worlds.{StationData};
+    ghost use Rattle.flow_core.specs.WorldCode.{coded_row};
+
+    ghost Value = { List StationData };
+
+    ghost coded = { coded_row };
+
+    ghost view = { λ r. r.held.items };
+}
+
+impl<L: Local> Row<L> {
+    /// How many records the instances gave together.
+    pub(crate) fn given(&self) -> u64
+        ensures { result ≡ total_given self.now }
+    {
+        let mut total: u64 = 0;
+        for station in &self.held {
+            total = total.saturating_add(station.given());
+        }
+        total
+    }
+
+    /// The records that the instances placed, the last worker's first.
+    pub(crate) fn into_placed(self, alloc: Global) -> Result<Rows, OutOfMemory>
+        requires { HaveOneWidth (all_of (length self) (placed_by self)) }
+        ensures { IfOk result (λ rows. rows ≡ all_of (length self) (placed_by self)) }
+    {
+        let mut held = self.held;
+        let mut rows = Rows::new(alloc);
+        while let Some(station) = held.pop() {
+            let mut placed = station.into_placed();
+            rows.append(&mut placed)?;
+        }
+        Ok(rows)
+    }
+}

@@ -1,0 +1,13 @@
+//! Where a list of events stops.
+
+use crate::worlds::World;
+use local_strategy::Local;
+
+/// Why not every event of a list happened.
+#[derive(Drop)]
+pub enum Replay<L: Local> {
+    /// The first event that can't happen, by its place in the list, and the world before it.
+    NotEnabled { index: usize, world: World<L> },
+    /// Memory was wanting.
+    Memory,
+}

@@ -1,0 +1,327 @@
+//! Worlds.
+
+ghost use Rattle.std.specs.Prelude.{◌≡◌, ◌<◌, ◌≤◌, ℕ, true, List, length, map, IfOk, OnOk};
+ghost use Rattle.pact_operators.specs.Inputs.{AreInputsOf};
+ghost use Rattle.pact_operators.specs.Programs.{IsPlanOf};
+ghost use Rattle.plan_trees.specs.Plans.{has};
+ghost use Rattle.flow_instance.specs.Limits.{batch_limit};
+ghost use Rattle.flow_model.specs.declared.notes.Event.TheVariants as events;
+ghost use Rattle.flow_model.specs.declared.notes.Want.TheVariants as wants;
+ghost use Rattle.flow_model.specs.declared.notes.Note.{Note as NoteData};
+ghost use Rattle.flow_model.specs.Events.{Ends, KeepsDepth, ListChanged, OthersSame, Puts, Steps, Takes, first_note, no_history, noted};
+ghost use Rattle.flow_model.specs.Instances.{want};
+ghost use Rattle.flow_model.specs.Local.{IsLocal};
+ghost use Rattle.flow_model.specs.Spots.{Setting, Spot, setting};
+ghost use Rattle.flow_model.specs.Spread.{Spread};
+ghost use Rattle.flow_model.specs.Steps.{Took, later};
+ghost use Rattle.pact_record.specs.Widths.{AreWide};
+ghost use Rattle.flow_core.specs.Stations.{IsReadyFor, total_given};
+ghost use Rattle.flow_model.specs.Worlds.{AreDone, History, does_want, enabled, reader_of};
+ghost use Rattle.flow_core.specs.Wired.{input_in};
+ghost use Rattle.flow_core.specs.Worlds.{IsStanding, IsWhole, StandsForSome, depth_limit, instance_in, queue_in, seen};
+
+use crate::starting::start_all;
+use crate::stations::Row;
+use crate::wirings::Wiring;
+use flow_model::{Event, Note, PipeId, Want};
+use local_strategy::Local;
+use pact_bag::{Counts, Inputs, Outcome};
+use pact_operators::{Physical, Program};
+use pact_record::OutOfMemory;
+use std::alloc::Global;
+use std::marker::Model;
+
+/// The instances of a physical plan, and the notes on the pipes between them.
+#[derive(Drop)]
+pub struct World<L: Local> {
+    alloc: Global,
+    wiring: Wiring,
+    depth: u32,
+    stations: Vec<Row<L>>,
+}
+
+impl<L: Local> Model for World<L> {
+    ghost use Rattle.flow_core.specs.Worlds.{WorldData};
+    ghost use Rattle.flow_core.specs.WorldCode.{coded_world};
+
+    ghost Value = { WorldData };
+
+    ghost coded = { coded_world };
+
+    ghost view = { λ w. record { physical = w.wiring; depth = w.depth; stations = w.stations.items } };
+}
+
+// How many records each source and operator gave.
+fn count_rows<L: Local>(alloc: Global, rows: &[Row<L>]) -> Result<Counts, OutOfMemory>
+    ensures { IfOk result (λ counts. counts ≡ map total_given rows.now) }
+{
+    let mut counts = Counts::new(alloc);
+    for row in rows {
+        counts.push(row.given())?;
+    }
+    Ok(counts)
+}
+
+// Whether two wants are the same.
+fn does_want(a: Want, b: Want) -> bool
+    ensures { result ≡ does_want a b }
+{
+    match (a, b) {
+        (Want::Take(x), Want::Take(y)) => x == y,
+        (Want::Put(x), Want::Put(y)) => x == y,
+        (Want::End, Want::End) => true,
+        (Want::Done, Want::Done) => true,
+        _ => false,
+    }
+}
+
+impl<L: Local> World<L> {
+    /// The instances of a plan at their start, and empty pipes that hold at most `depth` notes each. An instance gives batches of at most `batch` records.
+    pub fn start(
+        alloc: Global,
+        program: &Program,
+        physical: &Physical,
+        inputs: &Inputs,
+        batch: u32,
+        depth: u32,
+    ) -> Result<World<L>, OutOfMemory>
+        requires plan { IsPlanOf program.now.functions program.now.ops physical.now.tree }
+        requires inputs { AreInputsOf program.now inputs.now }
+        requires batch { (1 ≤ batch) × (batch ≤ batch_limit) }
+        requires depth { (1 ≤ depth) × (depth ≤ depth_limit) }
+        ensures standing { IfOk result (λ w. IsStanding (setting program.now inputs.now physical.now) w no_history) }
+        ensures stands { IfOk result StandsForSome }
+        ensures physical { IfOk result (λ w. w.physical ≡ physical.now) }
+        ensures depth { IfOk result (λ w. w.depth ≡ depth) }
+    {
+        // a program tells that it is one, and a physical plan too
+        let (_fields, _workers) = (program.fields(), physical.workers());
+        let stations = start_all(alloc, program, physical, inputs, batch)?;
+        Ok(World {
+            alloc,
+            wiring: Wiring::new(physical),
+            depth,
+            stations,
+        })
+    }
+
+    pub(crate) fn alloc(&self) -> Global {
+        self.alloc
+    }
+
+    pub(crate) fn workers(&self) -> u32
+        ensures { result ≡ self.now.physical.workers }
+    {
+        self.wiring.workers()
+    }
+
+    // The operator that reads an edge, and its port.
+    pub(crate) fn reader(&self, edge: u32) -> Option<(u32, u32)>
+        ensures { result ≡ reader_of edge self.now.physical.tree }
+    {
+        self.wiring.reader(edge)
+    }
+
+    // What an operator reads at a port.
+    pub(crate) fn input(&self, at: u32, port: u32) -> Option<u32>
+        ensures { result ≡ input_in self.now.physical.tree at port }
+    {
+        self.wiring.input(at, port)
+    }
+
+    // What an instance wants. Where there is none, nothing is wanted.
+    pub(crate) fn want(&self, at: u32, worker: u32) -> Want
+        ensures { result ≡ want (instance_in self.now.stations at worker) }
+    {
+        let Some(row) = self.stations.get(at as usize) else {
+            return Want::Done;
+        };
+        let Some(station) = row.held.get(worker as usize) else {
+            return Want::Done;
+        };
+        station.instance.want()
+    }
+
+    // How many notes are on a pipe.
+    pub(crate) fn queued(&self, pipe: PipeId) -> usize
+        ensures { result ≡ length (queue_in self.now.stations pipe.edge pipe.from pipe.to) }
+    {
+        let Some(row) = self.stations.get(pipe.edge as usize) else {
+            return 0;
+        };
+        let Some(station) = row.held.get(pipe.from as usize) else {
+            return 0;
+        };
+        let Some(queue) = station.queues.get(pipe.to as usize) else {
+            return 0;
+        };
+        queue.notes.len()
+    }
+
+    fn can_put(&self, pipe: PipeId) -> bool
+        ensures { result ≡ enabled self.now.physical self.now.depth (seen self.now) (events.Put pipe) }
+    {
+        self.wiring.has(pipe.edge, pipe.from)
+            && does_want(self.want(pipe.edge, pipe.from), Want::Put(pipe.to))
+            && self.queued(pipe) < self.depth as usize
+    }
+
+    fn can_take(&self, pipe: PipeId) -> bool
+        ensures { result ≡ enabled self.now.physical self.now.depth (seen self.now) (events.Take pipe) }
+    {
+        let workers = self.wiring.workers();
+        if pipe.from >= workers || pipe.to >= workers {
+            return false;
+        }
+        let Some((at, port)) = self.wiring.reader(pipe.edge) else {
+            return false;
+        };
+        does_want(self.want(at, pipe.to), Want::Take(port)) && self.queued(pipe) > 0
+    }
+
+    /// Whether the event can happen: a note is put where its sender wants that and the pipe holds fewer notes than the depth, and taken where the
+    /// receiver wants the port and the pipe holds a note; an instance ends where it wants to. Of what the plan doesn't have nothing can happen.
+    pub fn enabled(&self, event: Event) -> bool
+        ensures { result ≡ enabled self.now.physical self.now.depth (seen self.now) event }
+    {
+        match event {
+            Event::Put(pipe) => self.can_put(pipe),
+            Event::Take(pipe) => self.can_take(pipe),
+            Event::End { at, worker } => {
+                self.wiring.has(at, worker) && does_want(self.want(at, worker), Want::End)
+            }
+        }
+    }
+
+    // The note that is wanted to go out moves to its pipe.
+    fn put(&mut self, pipe: PipeId) -> Result<(), OutOfMemory>
+        requires wanted { want (instance_in self.old.stations pipe.edge pipe.from) ≡ wants.Put pipe.to }
+        requires whole { IsWhole self.old.physical self.old.stations }
+        requires has { has pipe.edge self.old.physical.tree ≡ true }
+        requires from { pipe.from < self.old.physical.workers }
+        requires to { pipe.to < self.old.physical.workers }
+        ensures put { OnOk result (Puts (seen self.old) pipe (seen self.new)) }
+        ensures whole { OnOk result (IsWhole self.new.physical self.new.stations) }
+        ensures physical { self.new.physical ≡ self.old.physical }
+        ensures depth { self.new.depth ≡ self.old.depth }
+    {
+        self.stations[pipe.edge as usize].held[pipe.from as usize].put(pipe.to)
+    }
+
+    // The first note leaves a pipe.
+    fn give(&mut self, pipe: PipeId) -> Note
+        requires some { 0 < length (queue_in self.old.stations pipe.edge pipe.from pipe.to) }
+        requires whole { IsWhole self.old.physical self.old.stations }
+        requires has { has pipe.edge self.old.physical.tree ≡ true }
+        requires from { pipe.from < self.old.physical.workers }
+        requires to { pipe.to < self.old.physical.workers }
+        ensures note { result ≡ first_note (queue_in self.old.stations pipe.edge pipe.from pipe.to) }
+        ensures instances { (at worker : ℕ) → instance_in self.new.stations at worker ≡ instance_in self.old.stations at worker }
+        ensures queue { ListChanged (queue_in self.old.stations) pipe (later (queue_in self.old.stations pipe.edge pipe.from pipe.to)) (queue_in self.new.stations) }
+        ensures whole { IsWhole self.new.physical self.new.stations }
+        ensures physical { self.new.physical ≡ self.old.physical }
+        ensures depth { self.new.depth ≡ self.old.depth }
+    {
+        self.stations[pipe.edge as usize].held[pipe.from as usize].give(pipe.to)
+    }
+
+    // An instance takes a note.
+    fn receive(
+        &mut self,
+        at: u32,
+        worker: u32,
+        port: u32,
+        from: u32,
+        note: Note,
+    ) -> Result<(), OutOfMemory>
+        requires ready { IsReadyFor (instance_in self.old.stations at worker) worker port from note }
+        requires whole { IsWhole self.old.physical self.old.stations }
+        requires has { has at self.old.physical.tree ≡ true }
+        requires worker { worker < self.old.physical.workers }
+        ensures took { OnOk result ((s : Spot) (taken : ℕ → ℕ → List NoteData) (put : ℕ → List NoteData) → IsLocal s worker (instance_in self.old.stations at worker) taken put → Took s worker (instance_in self.old.stations at worker) port from note (instance_in self.new.stations at worker)) }
+        ensures others { OnOk result (OthersSame (seen self.old) at worker (seen self.new)) }
+        ensures queues { OnOk result ((edge a b : ℕ) → queue_in self.new.stations edge a b ≡ queue_in self.old.stations edge a b) }
+        ensures whole { OnOk result (IsWhole self.new.physical self.new.stations) }
+        ensures physical { self.new.physical ≡ self.old.physical }
+        ensures depth { self.new.depth ≡ self.old.depth }
+    {
+        self.stations[at as usize].held[worker as usize].take(port, from, note)
+    }
+
+    // An instance ends.
+    fn end(&mut self, at: u32, worker: u32)
+        requires wanted { want (instance_in self.old.stations at worker) ≡ wants.End }
+        requires whole { IsWhole self.old.physical self.old.stations }
+        requires has { has at self.old.physical.tree ≡ true }
+        requires worker { worker < self.old.physical.workers }
+        ensures ends { Ends (seen self.old) at worker (seen self.new) }
+        ensures whole { IsWhole self.new.physical self.new.stations }
+        ensures physical { self.new.physical ≡ self.old.physical }
+        ensures depth { self.new.depth ≡ self.old.depth }
+    {
+        self.stations[at as usize].held[worker as usize].end();
+    }
+
+    // The first note of a pipe moves to its reader.
+    fn take(&mut self, pipe: PipeId) -> Result<(), OutOfMemory>
+        requires can { enabled self.old.physical self.old.depth (seen self.old) (events.Take pipe) ≡ true }
+        requires stands { StandsForSome self.old }
+        ensures stepped { OnOk result ((g : Setting) (h : History) → IsStanding g self.old h → Steps g (seen self.old) (events.Take pipe) (seen self.new)) }
+        ensures whole { OnOk result (IsWhole self.new.physical self.new.stations) }
+        ensures physical { self.new.physical ≡ self.old.physical }
+        ensures depth { self.new.depth ≡ self.old.depth }
+    {
+        let Some((at, port)) = self.wiring.reader(pipe.edge) else {
+            unreachable!()
+        };
+        let note = self.give(pipe);
+        self.receive(at, pipe.to, port, pipe.from, note)
+    }
+
+    // The world after an event.
+    fn change(&mut self, event: Event) -> Result<(), OutOfMemory>
+        requires can { enabled self.old.physical self.old.depth (seen self.old) event ≡ true }
+        requires stands { StandsForSome self.old }
+        ensures stepped { OnOk result ((g : Setting) (h : History) → IsStanding g self.old h → Steps g (seen self.old) event (seen self.new)) }
+        ensures whole { OnOk result (IsWhole self.new.physical self.new.stations) }
+        ensures physical { self.new.physical ≡ self.old.physical }
+        ensures depth { self.new.depth ≡ self.old.depth }
+    {
+        match event {
+            Event::Put(pipe) => self.put(pipe),
+            Event::Take(pipe) => self.take(pipe),
+            Event::End { at, worker } => {
+                self.end(at, worker);
+                Ok(())
+            }
+        }
+    }
+
+    /// Lets an event happen. After want of memory the world may only be dropped.
+    pub fn step(&mut self, event: Event) -> Result<(), OutOfMemory>
+        requires can { enabled self.old.physical self.old.depth (seen self.old) event ≡ true }
+        requires stands { StandsForSome self.old }
+        ensures stepped { OnOk result ((g : Setting) (h : History) → IsStanding g self.old h → Steps g (seen self.old) event (seen self.new)) }
+        ensures standing { OnOk result ((g : Setting) (h : History) → IsStanding g self.old h → IsStanding g self.new (noted (seen self.old) event h)) }
+        ensures room { OnOk result (KeepsDepth self.old.depth (seen self.old) event (seen self.new)) }
+        ensures physical { self.new.physical ≡ self.old.physical }
+        ensures depth { self.new.depth ≡ self.old.depth }
+        ensures stands { OnOk result (StandsForSome self.new) }
+    {
+        self.change(event)
+    }
+
+    /// What is left at the end: the records that the root's instances placed, and how many each source and operator gave.
+    pub(crate) fn finish(self) -> Result<Outcome, OutOfMemory>
+        requires { StandsForSome self }
+        ensures spread { IfOk result (λ o. (g : Setting) (h : History) → IsStanding g self h → AreDone g.physical (seen self) → Spread g o.rows o.counts) }
+        ensures widths { IfOk result (λ o. (g : Setting) (h : History) → IsStanding g self h → AreWide g.fields o.rows) }
+        ensures counts { IfOk result (λ o. length o.counts ≡ length self.stations) }
+    {
+        let counts = count_rows(self.alloc, &self.stations)?;
+        let root = self.wiring.root();
+        let mut stations = self.stations;
+        let rows = stations.swap_remove(root as usize).into_placed(self.alloc)?;
+        Ok(Outcome { rows, counts })
+    }
+}

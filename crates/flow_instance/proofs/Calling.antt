@@ -1,0 +1,173 @@
+-- The calls of a Reduce, by the numbers of the keys.
+use Rattle.std.proofs.Common.{◌≡◌, ◌<◌, ◌≤◌, ℕ, zero, suc, Bool, true, false, cond, Option, Some, List, [], ◌∷◌, ◌++◌, length, map, take, refl, ap, sym, ◌∙◌, subst, arith, append-nil, append_assoc}
+use Rattle.std.specs.Prelude.{IfSome, filter, slice_get}
+use Rattle.std.specs.List.{AllByRecursion}
+use Rattle.std.specs.List.Sorted.{IsPermutation}
+use Rattle.std.proofs.lemmas.List.Sorted.{IsPermutation-append_comm, IsPermutation-refl, length_permutation}
+use Rattle.flow_model.proofs.Bags.{beside, is_same, joined}
+use Rattle.pact_bag.proofs.KeyGroups.{all-distinct, group_keys, keys_have_groups}
+use Rattle.pact_bag.specs.Groups.{group_of_key}
+use Rattle.pact_operators.specs.Allowed.{Bag, CoGrouped, Grouped, keys_in, keys_in_either}
+use Rattle.pact_record.proofs.Lists.{AllByRecursion-slice_get}
+use Rattle.pact_record.proofs.Permutations.{Perm, nothing, keeps, swaps, chains, each_perm, filter_perm, from_permutation, to_permutation}
+use Rattle.pact_record.specs.Record.{key_of}
+use Rattle.pact_record.specs.Widths.{AreWide}
+use Rattle.pact_record.specs.declared.values.Value.{Value}
+use Rattle.flow_instance.specs.Grouping.{AreCoGroupsGiven, AreGroupsGiven, EachGives, HaveGroups, IsCalled, IsCalledAlone, IsCalledIf, IsCoCalled, has_none}
+use Rattle.flow_instance.proofs.BothKeys.{keys_of_both}
+use Rattle.flow_instance.proofs.Matched.{group_wide}
+
+-- ---- the group of a number
+
+-- the key of a number, with its group
+pub record IsNumbered (keys : List ℕ) (rows : Bag) (order : List (List Value)) (n : ℕ) (group : Bag) : Type 0 where
+  pub key : List Value
+  pub is : slice_get order n ≡ Some key
+  pub same : IsPermutation (group_of_key keys rows key) group
+  pub some : 0 < length group
+
+pub numbered : (keys : List ℕ) (rows : Bag) (order : List (List Value)) (n : ℕ) (group : Bag) → n < length order → HaveGroups keys rows order
+    → IfSome (slice_get order n) (λ k. IsPermutation (group_of_key keys rows k) group) → IsNumbered keys rows order n group
+numbered keys rows [] n group less h p = absurd (omega (arith, less))
+numbered keys rows (k ∷ order) zero group less h p = record { key = k; is = refl; same = p; some = let some : 0 < length (group_of_key keys rows k) = h.0 in omega (arith, some, length_permutation (group_of_key keys rows k) group p) }
+numbered keys rows (k ∷ order) (suc n) group less h p =
+    let r = numbered keys rows order n group (omega (arith, less)) h.1 p in
+    record { key = r.key; is = r.is; same = r.same; some = r.some }
+
+pub numbered_wide : (fields : ℕ) (keys : List ℕ) (rows : Bag) (order : List (List Value)) (n : ℕ) (group : Bag) → IsNumbered keys rows order n group → AreWide fields rows → AreWide fields group
+numbered_wide fields keys rows order n group r h = group_wide fields keys rows group r.key h r.same
+
+-- the records of a permuted group have its key
+pub keys_of_group : (keys : List ℕ) (rows group : Bag) (k : List Value) → IsPermutation (group_of_key keys rows k) group → AllByRecursion (λ row. key_of keys row ≡ k) group
+keys_of_group keys rows group k p = each_perm (λ (row : List Value). key_of keys row ≡ k) (from_permutation (group_of_key keys rows k) group p) (group_keys keys rows k)
+
+pub called : (f : List Value → Bag → Bag) (keys : List ℕ) (rows : Bag) (order : List (List Value)) (n : ℕ) (group out : Bag) → (r : IsNumbered keys rows order n group) → out ≡ f r.key group → IfSome (slice_get order n) (λ k. IsCalled f keys rows k out)
+called f keys rows order n group out r told = subst (λ (o : Option (List Value)). IfSome o (λ k. IsCalled f keys rows k out)) (sym r.is) (group, r.same, told)
+
+-- ---- one key more
+
+pub each_more : (Gives : List Value → Bag → Type 0) (order : List (List Value)) (n : ℕ) (out given : Bag) → n < length order → EachGives Gives (take n order) out → IfSome (slice_get order n) (λ k. Gives k given)
+    → EachGives Gives (take (suc n) order) (out ++ given)
+each_more Gives [] n out given less g c = absurd (omega (arith, less))
+each_more Gives (k ∷ order) zero out given less g c = (given, [], c, ap (λ (l : Bag). l ++ given) g ∙ sym (append-nil given), refl)
+each_more Gives (k ∷ order) (suc n) out given less g c =
+    (g.0, g.1 ++ given, g.2, ap (λ (l : Bag). l ++ given) g.3 ∙ append_assoc g.0 g.1 given, each_more Gives order n g.1 given (omega (arith, less)) g.4 c)
+
+-- ---- keys in another order
+
+pub record IsGivenAs (Gives : List Value → Bag → Type 0) (ks : List (List Value)) (out : Bag) : Type 0 where
+  pub other : Bag
+  pub each : EachGives Gives ks other
+  pub same : IsPermutation other out
+
+in_order : (Gives : List Value → Bag → Type 0) {ks js : List (List Value)} → Perm ks js → (out : Bag) → EachGives Gives js out → IsGivenAs Gives ks out
+in_order Gives nothing out g = record { other = out; each = g; same = IsPermutation-refl out }
+in_order Gives (keeps p) out g =
+    let rest = in_order Gives p g.1 g.4 in
+    record { other = g.0 ++ rest.other; each = (g.0, rest.other, g.2, refl, rest.each); same = joined (beside (IsPermutation-refl g.0) rest.same) (is_same (sym g.3)) }
+in_order Gives swaps out g =
+    let second = g.4 in
+    record {
+      other = second.0 ++ (g.0 ++ second.1);
+      each = (second.0, g.0 ++ second.1, second.2, refl, (g.0, second.1, g.2, refl, second.4));
+      same = joined (is_same (sym (append_assoc second.0 g.0 second.1)))
+          (joined (beside (IsPermutation-append_comm second.0 g.0) (IsPermutation-refl second.1))
+          (is_same (append_assoc g.0 second.0 second.1 ∙ ap (λ (l : Bag). g.0 ++ l) (sym second.3) ∙ sym g.3)));
+    }
+in_order Gives (chains p q) out g =
+    let last = in_order Gives q out g in
+    let first = in_order Gives p last.other last.each in
+    record { other = first.other; each = first.each; same = joined first.same last.same }
+
+pub other_order : (Gives : List Value → Bag → Type 0) (ks js : List (List Value)) (out : Bag) → IsPermutation ks js → EachGives Gives js out → IsGivenAs Gives ks out
+other_order Gives ks js out p g = in_order Gives (from_permutation ks js p) out g
+
+-- ---- what a Reduce gives
+
+grouped : (f : List Value → Bag → Bag) (keys : List ℕ) (rows : Bag) (ks : List (List Value)) (out : Bag) → EachGives (IsCalled f keys rows) ks out → Grouped f keys rows ks out
+grouped f keys rows [] out g = g
+grouped f keys rows (k ∷ ks) out g = (g.2.0, g.1, g.2.1, g.3 ∙ ap (λ (l : Bag). l ++ g.1) g.2.2, grouped f keys rows ks g.1 g.4)
+
+pub groups_given : (f : List Value → Bag → Bag) (keys : List ℕ) (rows : Bag) (order : List (List Value)) (out : Bag) → IsPermutation (keys_in keys rows) order → EachGives (IsCalled f keys rows) order out → AreGroupsGiven f keys rows out
+groups_given f keys rows order out p g =
+    let turned = other_order (IsCalled f keys rows) (keys_in keys rows) order out p g in
+    record { other = turned.other; grouped = grouped f keys rows (keys_in keys rows) turned.other turned.each; same = turned.same }
+
+pub all_have_groups : (keys : List ℕ) (rows : Bag) (order : List (List Value)) → IsPermutation (keys_in keys rows) order → HaveGroups keys rows order
+all_have_groups keys rows order o =
+    each_perm (λ (k : List Value). 0 < length (group_of_key keys rows k)) (from_permutation (keys_in keys rows) order o)
+    (all-distinct (λ (k : List Value). 0 < length (group_of_key keys rows k)) (map (key_of keys) rows) (keys_have_groups keys rows))
+
+-- ---- the other side's group
+
+pub numbered_as : (keys own : List ℕ) (rows : Bag) (order : List (List Value)) (n : ℕ) (group : Bag) → own ≡ keys → n < length order → HaveGroups keys rows order
+    → IfSome (slice_get order n) (λ k. IsPermutation (group_of_key own rows k) group) → IsNumbered keys rows order n group
+numbered_as keys own rows order n group same less h p = numbered keys rows order n group less h (subst (λ (ks : List ℕ). IfSome (slice_get order n) (λ k. IsPermutation (group_of_key ks rows k) group)) same p)
+
+pub row_width : (fields : ℕ) (keys : List ℕ) (rows : Bag) (order : List (List Value)) (n : ℕ) (group : Bag) (row : List Value) → IsNumbered keys rows order n group → AreWide fields rows → slice_get group 0 ≡ Some row → length row ≡ fields
+row_width fields keys rows order n group row r wide e = AllByRecursion-slice_get (λ (x : List Value). length x ≡ fields) group 0 row (numbered_wide fields keys rows order n group r wide) e
+
+pub other_group : (keys others own : List ℕ) (rows other_rows : Bag) (order : List (List Value)) (n : ℕ) (group other : Bag) (row : List Value) → (r : IsNumbered keys rows order n group) → slice_get group 0 ≡ Some row → own ≡ others
+    → IsPermutation (group_of_key own other_rows (key_of keys row)) other → IsPermutation (group_of_key others other_rows r.key) other
+other_group keys others own rows other_rows order n group other row r e same p =
+    let key : key_of keys row ≡ r.key = AllByRecursion-slice_get (λ (x : List Value). key_of keys x ≡ r.key) group 0 row (keys_of_group keys rows group r.key r.same) e in
+    subst (λ (k : List Value). IsPermutation (group_of_key others other_rows k) other) key (subst (λ (ks : List ℕ). IsPermutation (group_of_key ks other_rows (key_of keys row)) other) same p)
+
+-- the call for a key of the left side
+pub left_called : (f : List Value → Bag → Bag → Bag) (left_keys right_keys : List ℕ) (ls rs : Bag) (order : List (List Value)) (n : ℕ) (left right out : Bag) → (r : IsNumbered left_keys ls order n left)
+    → IsPermutation (group_of_key right_keys rs r.key) right → out ≡ f r.key left right → IfSome (slice_get order n) (λ k. IsCoCalled f left_keys right_keys ls rs k out)
+left_called f left_keys right_keys ls rs order n left right out r p told =
+    subst (λ (o : Option (List Value)). IfSome o (λ k. IsCoCalled f left_keys right_keys ls rs k out)) (sym r.is) (left, right, r.same, p, told)
+
+-- and of the right side alone
+has_none-yes : (rows other : Bag) → IsPermutation rows other → length other ≤ 0 → has_none rows ≡ true
+has_none-yes [] other p none = refl
+has_none-yes (row ∷ rows) other p none = absurd (omega (arith, none, length_permutation (row ∷ rows) other p))
+
+has_none-no : (rows other : Bag) → IsPermutation rows other → 0 < length other → has_none rows ≡ false
+has_none-no [] other p some = absurd (omega (arith, some, length_permutation [] other p))
+has_none-no (row ∷ rows) other p some = refl
+
+pub right_called : (f : List Value → Bag → Bag → Bag) (left_keys right_keys : List ℕ) (ls rs : Bag) (order : List (List Value)) (n : ℕ) (left right out : Bag) → (r : IsNumbered right_keys rs order n right)
+    → IsPermutation (group_of_key left_keys ls r.key) left → length left ≤ 0 → out ≡ f r.key left right → IfSome (slice_get order n) (λ k. IsCalledAlone f left_keys right_keys ls rs k out)
+right_called f left_keys right_keys ls rs order n left right out r p none told =
+    subst (λ (o : Option (List Value)). IfSome o (λ k. IsCalledAlone f left_keys right_keys ls rs k out)) (sym r.is)
+    (subst (λ (b : Bool). IsCalledIf b (IsCoCalled f left_keys right_keys ls rs r.key) out) (sym (has_none-yes (group_of_key left_keys ls r.key) left p none)) (left, right, p, r.same, told))
+
+pub right_silent : (f : List Value → Bag → Bag → Bag) (left_keys right_keys : List ℕ) (ls rs : Bag) (order : List (List Value)) (n : ℕ) (left right out : Bag) → (r : IsNumbered right_keys rs order n right)
+    → IsPermutation (group_of_key left_keys ls r.key) left → 0 < length left → out ≡ [] → IfSome (slice_get order n) (λ k. IsCalledAlone f left_keys right_keys ls rs k out)
+right_silent f left_keys right_keys ls rs order n left right out r p some told =
+    subst (λ (o : Option (List Value)). IfSome o (λ k. IsCalledAlone f left_keys right_keys ls rs k out)) (sym r.is)
+    (subst (λ (b : Bool). IsCalledIf b (IsCoCalled f left_keys right_keys ls rs r.key) out) (sym (has_none-no (group_of_key left_keys ls r.key) left p some)) told)
+
+-- ---- what a CoGroup gives
+
+pub each_append : (Gives : List Value → Bag → Type 0) (ks js : List (List Value)) (out other : Bag) → EachGives Gives ks out → EachGives Gives js other → EachGives Gives (ks ++ js) (out ++ other)
+each_append Gives [] js out other g h = subst (EachGives Gives js) (ap (λ (l : Bag). l ++ other) (sym g)) h
+each_append Gives (k ∷ ks) js out other g h =
+    (g.0, g.1 ++ other, g.2, ap (λ (l : Bag). l ++ other) g.3 ∙ append_assoc g.0 g.1 other, each_append Gives ks js g.1 other g.4 h)
+
+-- the keys that the left side lacks give what all keys of the right side give
+keep_lacking : (Gives : List Value → Bag → Type 0) (b : Bool) (k : List Value) (ks : List (List Value)) (part rest out : Bag) → IsCalledIf b (Gives k) part → out ≡ part ++ rest → EachGives Gives ks rest → EachGives Gives (cond b (k ∷ ks) ks) out
+keep_lacking Gives true k ks part rest out p e g = (part, rest, p, e, g)
+keep_lacking Gives false k ks part rest out p e g = subst (EachGives Gives ks) (sym (e ∙ ap (λ (l : Bag). l ++ rest) p)) g
+
+pub lacking : (Gives : List Value → Bag → Type 0) (lacks : List Value → Bool) (ks : List (List Value)) (out : Bag) → EachGives (λ k part. IsCalledIf (lacks k) (Gives k) part) ks out → EachGives Gives (filter lacks ks) out
+lacking Gives lacks [] out g = g
+lacking Gives lacks (k ∷ ks) out g = keep_lacking Gives (lacks k) k (filter lacks ks) g.0 g.1 out g.2 g.3 (lacking Gives lacks ks g.1 g.4)
+
+cogrouped : (f : List Value → Bag → Bag → Bag) (left_keys right_keys : List ℕ) (ls rs : Bag) (ks : List (List Value)) (out : Bag) → EachGives (IsCoCalled f left_keys right_keys ls rs) ks out → CoGrouped f left_keys right_keys ls rs ks out
+cogrouped f left_keys right_keys ls rs [] out g = g
+cogrouped f left_keys right_keys ls rs (k ∷ ks) out g =
+    (g.2.0, g.2.1, g.1, g.2.2, g.2.3, g.3 ∙ ap (λ (l : Bag). l ++ g.1) g.2.4, cogrouped f left_keys right_keys ls rs ks g.1 g.4)
+
+pub cogroups_given : (f : List Value → Bag → Bag → Bag) (left_keys right_keys : List ℕ) (ls rs : Bag) (left_order right_order : List (List Value)) (out other : Bag) → IsPermutation (keys_in left_keys ls) left_order → IsPermutation (keys_in right_keys rs) right_order
+    → EachGives (IsCoCalled f left_keys right_keys ls rs) left_order out → EachGives (IsCalledAlone f left_keys right_keys ls rs) right_order other → AreCoGroupsGiven f left_keys right_keys ls rs (out ++ other)
+cogroups_given f left_keys right_keys ls rs left_order right_order out other p q g h =
+    let Gives = IsCoCalled f left_keys right_keys ls rs in
+    let lacks : List Value → Bool = λ k. has_none (group_of_key left_keys ls k) in
+    let order = left_order ++ filter lacks right_order in
+    let all : IsPermutation (keys_in_either left_keys right_keys ls rs) order =
+    joined (is_same (keys_of_both left_keys right_keys ls rs)) (beside p (to_permutation (filter_perm lacks (from_permutation (keys_in right_keys rs) right_order q)))) in
+    let turned = other_order Gives (keys_in_either left_keys right_keys ls rs) order (out ++ other) all (each_append Gives left_order (filter lacks right_order) out other g (lacking Gives lacks right_order other h)) in
+    record { other = turned.other; grouped = cogrouped f left_keys right_keys ls rs (keys_in_either left_keys right_keys ls rs) turned.other turned.each; same = turned.same }

@@ -1,0 +1,33 @@
+-- A record with Null in the fields that it lacks has the key values of the record itself.
+use Rattle.std.proofs.Common.{◌≡◌, ◌<◌, ◌≤◌, ◌+◌, ◌-◌, ◌++◌, ℕ, zero, suc, List, [], ◌∷◌, length, map, take, set, replicate, refl, ap, sym, ◌∙◌, arith, length-append}
+use Rattle.std.proofs.lemmas.List.{length-replicate, length-take-le, take_more}
+use Rattle.pact_bag.proofs.Fronts.{set_next}
+use Rattle.pact_record.specs.Hash as hash
+use Rattle.pact_record.specs.declared.values.Value.{Value}
+use Rattle.pact_record.specs.declared.values.Value.TheVariants.{Null}
+use Rattle.pact_record.specs.Record.{at_field, key_of}
+
+at_field-none : (m k : ℕ) → at_field (replicate m Null) k ≡ Null
+at_field-none zero k = refl
+at_field-none (suc m) zero = refl
+at_field-none (suc m) (suc k) = at_field-none m k
+
+at_field-filled : (row : List Value) (m k : ℕ) → at_field (row ++ replicate m Null) k ≡ at_field row k
+at_field-filled [] m k = at_field-none m k
+at_field-filled (v ∷ row) m zero = refl
+at_field-filled (v ∷ row) m (suc k) = at_field-filled row m k
+
+key_of-filled : (keys : List ℕ) (row : List Value) (m : ℕ) → key_of keys (row ++ replicate m Null) ≡ key_of keys row
+key_of-filled keys row m = λ i. map (λ k. at_field-filled row m k i) keys
+
+pub target-filled : (workers m to : ℕ) (keys : List ℕ) (row filled : List Value) → filled ≡ row ++ replicate m Null → to ≡ hash.target workers (key_of keys filled) → to ≡ hash.target workers (key_of keys row)
+target-filled workers m to keys row filled f e = e ∙ ap (hash.target workers) (ap (key_of keys) f ∙ key_of-filled keys row m)
+
+pub length-filled : (m size : ℕ) (row filled : List Value) → filled ≡ row ++ replicate m Null → m ≡ size - length row → length row ≤ size → size ≡ length filled
+length-filled m size row filled f e le = omega (arith, ap length f, length-append row (replicate m Null), length-replicate m Null)
+
+pub filled-more : (row filled : List Value) (size n : ℕ) (v : Value) → n < length row → length row ≤ size → v ≡ at_field row n → filled ≡ take n row ++ replicate (size - n) Null
+    → set filled n v ≡ take (n + 1) row ++ replicate (size - (n + 1)) Null
+filled-more row filled size n v lt le e f =
+    ap (λ (l : List Value). set l n v) f ∙ set_next (take n row) Null v n size (length-take-le n row (omega arith)) (omega arith)
+    ∙ ap (λ (l : List Value). l ++ replicate (size - (n + 1)) Null) (sym (take_more row n Null lt ∙ ap (λ (x : Value). take n row ++ x ∷ []) (sym e)))

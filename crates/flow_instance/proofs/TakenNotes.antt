@@ -1,0 +1,296 @@
+-- Notes that an instance takes.
+use Rattle.std.proofs.Common.{◌≡◌, ◌+◌, ◌&&◌, ◌||◌, ◌==◌, ◌⊎◌, inl, inr, ℕ, zero, suc, Bool, true, false, Option, Some, None, List, [], ◌∷◌, ◌++◌, length, map, refl, ap, sym, ◌∙◌, subst, arith, append-nil}
+use Rattle.std.specs.Prelude.{flat_map}
+use Rattle.std.specs.List.{AllByRecursion}
+use Rattle.std.specs.List.Sorted.{IsPermutation}
+use Rattle.std.proofs.lemmas.Bool.{and_left, and_right}
+use Rattle.std.proofs.lemmas.List.Sorted.{IsPermutation-refl, length_permutation}
+use Rattle.flow_model.proofs.Bags.{beside, is_same, joined}
+use Rattle.flow_model.specs.Instances.{Instance, all_ended, ended_at, kept_at, port_ended}
+use Rattle.flow_model.specs.Local.{IsReceiver, KeepsRows, Placed, marks_for, one_if, works_at_once}
+use Rattle.flow_model.specs.Spots.{Spot, has_out, sent}
+use Rattle.flow_model.specs.Steps.{Carry, GivesAtOnce, GivesNow, Mark, Took, is_end, kept_with}
+use Rattle.flow_model.specs.declared.notes.Note.{Note}
+use Rattle.flow_model.specs.declared.notes.Note.TheVariants.{Batch}
+use Rattle.pact_operators.specs.Allowed.{Bag, count_of, crossed, matched}
+use Rattle.pact_operators.specs.PlanOps.{PlanOps}
+use Rattle.pact_operators.specs.Programs.{HasKeyLists}
+use Rattle.pact_record.proofs.Permutations.{filter_perm, from_permutation, to_permutation}
+use Rattle.pact_record.specs.Widths.{AreWide}
+use Rattle.pact_record.specs.declared.values.Value.{Value}
+use Rattle.plan_trees.specs.Sending.{goes}
+use Rattle.plan_trees.specs.declared.physicals.Ship.{Ship}
+use Rattle.std.proofs.lemmas.Option.{same_Some}
+use Rattle.flow_model.specs.Local.{Calls}
+use Rattle.tac_syntax.specs.Call.{Out, of_pair, of_record}
+use Rattle.tac_syntax.specs.Valid.{WithFields}
+use Rattle.tac_syntax.specs.declared.declarations.OpKind.{OpKind}
+use Rattle.flow_instance.specs.Sending.{batch_parcel, batches_in, marks_in}
+use Rattle.flow_instance.specs.States.{AreOpsOf, ArePairsGiven, IsSound, IsOperator, IsReady, PlacesAtRoot, body_in, is_cross, is_map, is_pairing, part_of, seen, spot_of}
+use Rattle.flow_instance.specs.Steps.{HasGiven}
+use Rattle.flow_instance.specs.declared.parts.Part.{Part}
+use Rattle.flow_instance.specs.declared.states.State.{State}
+use Rattle.tac_syntax.specs.declared.declarations.OpKind.TheVariants.{Source, Map, Reduce, Match, Cross, CoGroup}
+
+sent_permuted : (o : Option Ship) (workers from to : ℕ) (out real : Bag) → IsPermutation out real → IsPermutation (sent o workers from to out) (sent o workers from to real)
+sent_permuted None workers from to out real p = IsPermutation-refl []
+sent_permuted (Some ship) workers from to out real p = to_permutation (filter_perm (goes ship workers from to) (from_permutation out real p))
+
+placed_permuted : (o : Option Ship) (before out real placed : Bag) → IsPermutation out real → Placed o (before ++ real) placed → Placed o (before ++ out) placed
+placed_permuted None before out real placed p h = joined (beside (IsPermutation-refl before) p) h
+placed_permuted (Some ship) before out real placed p h = h
+
+-- what was given stands in some order for what may be given
+pub took_of : (s : Spot) (worker : ℕ) (i j : Instance) (port from : ℕ) (note : Note) (out real : Bag) → IsPermutation out real → GivesNow (works_at_once s.kind) s worker i j port note out → j.part ≡ i.part → j.finished ≡ i.finished
+    → ((p k : ℕ) → ended_at j p k ≡ ((is_end note && ((p == port) && (k == from))) || ended_at i p k)) → (all_ended j ≡ false → KeepsRows s.kind (kept_with (kept_at i) port note) (kept_at j)) → ((p : ℕ) → AreWide s.fields (kept_at j p))
+    → Carry s worker real j.waiting → Mark s worker (all_ended j) j.marks → Placed s.out (i.placed ++ real) j.placed → AreWide s.fields j.placed → j.given ≡ count_of (i.given + length real) → Took s worker i port from note j
+took_of s worker i j port from note out real p gives part finished ended kept kept_wide carry mark placed placed_wide given = record {
+  out = out;
+  gives = gives;
+  part = part;
+  finished = finished;
+  ended = ended;
+  kept = kept;
+  kept_wide = kept_wide;
+  carries = record { notes = carry.notes; sent_on = λ to less. joined (sent_permuted s.out s.workers worker to out real p) (carry.sent_on to less) };
+  marks = mark;
+  placed = placed_permuted s.out i.placed out real j.placed p placed;
+  placed_wide = placed_wide;
+  given = given ∙ ap (λ (n : ℕ). count_of (i.given + n)) (length_permutation out real p);
+}
+
+pub no_marks : (s : Spot) (worker : ℕ) (all : Bool) (marks : List ℕ) → all ≡ false → marks ≡ [] → Mark s worker all marks
+no_marks s worker all marks not_yet none = record {
+  receivers = subst (AllByRecursion (IsReceiver s worker)) (sym none) tt;
+  each = λ to less. ap (marks_for to) none ∙ sym (ap one_if (and_right (has_out s.out worker to) all not_yet));
+}
+
+pub nothing_sent : (s : Spot) (worker : ℕ) → Carry s worker [] []
+nothing_sent s worker = record { notes = tt; sent_on = λ to less. none s.out to } where
+  none : (o : Option Ship) (to : ℕ) → IsPermutation (sent o s.workers worker to []) []
+  none None to = IsPermutation-refl []
+  none (Some ship) to = IsPermutation-refl []
+
+pub each_wide : (fields : ℕ) (i : Instance) → AreWide fields i.left_kept → AreWide fields i.right_kept → (p : ℕ) → AreWide fields (kept_at i p)
+each_wide fields i left right zero = left
+each_wide fields i left right (suc zero) = right
+each_wide fields i left right (suc (suc p)) = tt
+
+pub stays : (o : Option Ship) (placed : Bag) → PlacesAtRoot o placed → Placed o (placed ++ []) placed
+stays None placed h = is_same (append-nil placed)
+stays (Some ship) placed h = h
+
+pub plus_none : (n : ℕ) → n ≡ n + 0
+plus_none n = omega arith
+
+-- ---- what a part says
+
+pub its_function : (p : Part) (f : WithFields) → (h : IsOperator p) → p.called ≡ Some f → h.function ≡ f
+its_function p f h e = same_Some h.function f (sym h.called ∙ e)
+
+pub its_fields : (p : Part) (f : WithFields) → IsOperator p → p.called ≡ Some f → f.fields ≡ p.fields
+its_fields p f h e = ap (λ (g : WithFields). g.fields) (sym (its_function p f h e)) ∙ h.fields
+
+kind_of_map : (kind : OpKind) → is_map kind ≡ true → kind ≡ Map
+kind_of_map Source e = absurd (cc)
+kind_of_map Map e = refl
+kind_of_map Reduce e = absurd (cc)
+kind_of_map Match e = absurd (cc)
+kind_of_map Cross e = absurd (cc)
+kind_of_map CoGroup e = absurd (cc)
+
+pub calls_of_map : (p : Part) (ops : PlanOps) (f : WithFields) → is_map p.kind ≡ true → IsOperator p → p.called ≡ Some f → AreOpsOf ops (part_of p) → (row : List Value) → ops.of_record p.at row ≡ Out f.fields f.function.body (of_record row)
+calls_of_map p ops f k h e a row =
+    let calls = subst (λ (kind : OpKind). Calls (spot_of (part_of p) ops) kind p.fields (body_in p.called)) (kind_of_map p.kind k) a.calls in
+    calls row ∙ (λ i. Out (sym (its_fields p f h e) i) (body_in (e i)) (of_record row))
+
+pub calls_of_pair : (p : Part) (ops : PlanOps) (f : WithFields) → is_pairing p.kind ≡ true → IsOperator p → p.called ≡ Some f → AreOpsOf ops (part_of p) → (l r : List Value) → ops.of_pair p.at l r ≡ Out f.fields f.function.body (of_pair l r)
+calls_of_pair p ops f k h e a l r = by p.kind k a.calls ∙ (λ i. Out (sym (its_fields p f h e) i) (body_in (e i)) (of_pair l r)) where
+  by : (kind : OpKind) → is_pairing kind ≡ true → Calls (spot_of (part_of p) ops) kind p.fields (body_in p.called) → ops.of_pair p.at l r ≡ Out p.fields (body_in p.called) (of_pair l r)
+  by Source k c = absurd (cc)
+  by Map k c = absurd (cc)
+  by Reduce k c = absurd (cc)
+  by Match k c = c l r
+  by Cross k c = c l r
+  by CoGroup k c = absurd (cc)
+
+-- ---- batches
+
+none_marked : (list : List (ℕ × Bag)) → marks_in (map batch_parcel list) ≡ []
+none_marked [] = refl
+none_marked (w ∷ list) = none_marked list
+
+all_batches : (list : List (ℕ × Bag)) → batches_in (map batch_parcel list) ≡ list
+all_batches [] = refl
+all_batches (w ∷ list) = ap (λ (l : List (ℕ × Bag)). w ∷ l) (all_batches list)
+
+not_all : (a b : Bool) (port : ℕ) (flag : Bool) → (port ≡ 0) ⊎ ((port ≡ 1) × (a ≡ true)) → flag ≡ false → ((port ≡ 0) → flag ≡ a) → ((port ≡ 1) → flag ≡ b) → (a && b) ≡ false
+not_all a b port flag (inl zero_port) e f g = and_left a b (sym (f zero_port) ∙ e)
+not_all a b port flag (inr one_port) e f g = and_right a b (sym (g one_port.0) ∙ e)
+
+module _ {L : Type 0} (rows : L → Bag) (keys : L → List ℕ) (is_sealed : L → Bool) (s : State L) (port : ℕ) (ready : IsReady rows keys is_sealed s port) where
+  pub still_taking : all_ended (seen rows s) ≡ false
+  still_taking = not_all (port_ended (seen rows s) 0) (port_ended (seen rows s) 1) port (port_ended (seen rows s) port) ready.which ready.not_ended (λ e. ap (port_ended (seen rows s)) e) (λ e. ap (port_ended (seen rows s)) e)
+
+  -- what works at once gave for a batch
+  pub took_given : (t : State L) (ops : PlanOps) (from : ℕ) (batch out real : Bag) → works_at_once s.part.kind ≡ true → GivesAtOnce (spot_of (part_of s.part) ops) s.part.kind port (rows s.left) (Batch batch) out → IsPermutation out real
+      → KeepsRows s.part.kind (kept_with (kept_at (seen rows s)) port (Batch batch)) (kept_at (seen rows s)) → t ≡ record s { queue = t.queue; placed = t.placed; given = t.given } → t.given ≡ count_of (s.given + length real)
+      → HasGiven (part_of s.part) real s.placed t.placed t.queue.items → Took (spot_of (part_of s.part) ops) s.part.worker (seen rows s) port from (Batch batch) (seen rows t)
+  took_given t ops from batch out real at_once gives same kept frame counted given =
+      let spot = spot_of (part_of s.part) ops in
+      let all : all_ended (seen rows t) ≡ false = ap (λ (u : State L). all_ended (seen rows u)) frame ∙ still_taking in
+      let wide : (p : ℕ) → AreWide s.part.fields (kept_at (seen rows s) p) = each_wide s.part.fields (seen rows s) ready.sound.left_wide ready.sound.right_wide in
+      took_of spot s.part.worker (seen rows s) (seen rows t) port from (Batch batch) out real same
+      (subst (λ (b : Bool). GivesNow b spot s.part.worker (seen rows s) (seen rows t) port (Batch batch) out) (sym at_once) gives)
+      (ap (λ (u : State L). part_of u.part) frame) (ap (λ (u : State L). u.finished) frame) (λ p k. ap (λ (u : State L). ended_at (seen rows u) p k) frame)
+      (λ e. subst (λ (u : State L). KeepsRows s.part.kind (kept_with (kept_at (seen rows s)) port (Batch batch)) (kept_at (seen rows u))) (sym frame) kept)
+      (subst (λ (u : State L). (p : ℕ) → AreWide s.part.fields (kept_at (seen rows u) p)) (sym frame) wide)
+      (subst (Carry spot s.part.worker real) (sym (ap batches_in given.is ∙ all_batches given.list)) (given.carries ops))
+      (no_marks spot s.part.worker (all_ended (seen rows t)) (marks_in t.queue.items) all (ap marks_in given.is ∙ none_marked given.list))
+      given.places given.wide counted
+
+  -- what is kept of a batch
+  pub took_kept : (t : State L) (ops : PlanOps) (from : ℕ) (batch : Bag) → GivesNow (works_at_once s.part.kind) (spot_of (part_of s.part) ops) s.part.worker (seen rows s) (seen rows t) port (Batch batch) []
+      → KeepsRows s.part.kind (kept_with (kept_at (seen rows s)) port (Batch batch)) (kept_at (seen rows t)) → ((p : ℕ) → AreWide s.part.fields (kept_at (seen rows t) p)) → t ≡ record s { left = t.left; right = t.right }
+      → Took (spot_of (part_of s.part) ops) s.part.worker (seen rows s) port from (Batch batch) (seen rows t)
+  took_kept t ops from batch gives kept wide frame =
+      let spot = spot_of (part_of s.part) ops in
+      let all : all_ended (seen rows t) ≡ false = ap (λ (u : State L). all_ended (seen rows u)) frame ∙ still_taking in
+      let queue : t.queue.items ≡ [] = ap (λ (u : State L). u.queue.items) frame ∙ ready.none in
+      let sound = ready.sound in
+      took_of spot s.part.worker (seen rows s) (seen rows t) port from (Batch batch) [] [] (IsPermutation-refl []) gives
+      (ap (λ (u : State L). part_of u.part) frame) (ap (λ (u : State L). u.finished) frame) (λ p k. ap (λ (u : State L). ended_at (seen rows u) p k) frame)
+      (λ e. kept) wide
+      (subst (Carry spot s.part.worker []) (sym (ap batches_in queue)) (nothing_sent spot s.part.worker))
+      (no_marks spot s.part.worker (all_ended (seen rows t)) (marks_in t.queue.items) all (ap marks_in queue))
+      (subst (λ (u : State L). Placed s.part.out (s.placed ++ []) u.placed) (sym frame) (stays s.part.out s.placed sound.placed_at_root))
+      (subst (λ (u : State L). AreWide s.part.fields u.placed) (sym frame) sound.placed_wide)
+      (ap (λ (u : State L). u.given) frame ∙ sound.counted ∙ ap count_of (plus_none s.given))
+
+-- ---- a Map
+
+gives_map : (p : Part) (ops : PlanOps) (kept : Bag) (kind : OpKind) (batch out : Bag) → is_map kind ≡ true → out ≡ flat_map (ops.of_record p.at) batch → GivesAtOnce (spot_of (part_of p) ops) kind 0 kept (Batch batch) out
+gives_map p ops kept Source batch out k e = absurd (cc)
+gives_map p ops kept Map batch out k e = e
+gives_map p ops kept Reduce batch out k e = absurd (cc)
+gives_map p ops kept Match batch out k e = absurd (cc)
+gives_map p ops kept Cross batch out k e = absurd (cc)
+gives_map p ops kept CoGroup batch out k e = absurd (cc)
+
+map_keeps : (kind : OpKind) (taken kept : ℕ → Bag) → is_map kind ≡ true → KeepsRows kind taken kept
+map_keeps Source taken kept k = tt
+map_keeps Map taken kept k = tt
+map_keeps Reduce taken kept k = absurd (cc)
+map_keeps Match taken kept k = absurd (cc)
+map_keeps Cross taken kept k = absurd (cc)
+map_keeps CoGroup taken kept k = absurd (cc)
+
+map_at_once : (kind : OpKind) → is_map kind ≡ true → works_at_once kind ≡ true
+map_at_once Source k = refl
+map_at_once Map k = refl
+map_at_once Reduce k = absurd (cc)
+map_at_once Match k = refl
+map_at_once Cross k = refl
+map_at_once CoGroup k = absurd (cc)
+
+pub took_map : {L : Type 0} (rows : L → Bag) (keys : L → List ℕ) (is_sealed : L → Bool) (s t : State L) (f : WithFields) (batch out : Bag) → IsReady rows keys is_sealed s 0 → is_map s.part.kind ≡ true → s.part.called ≡ Some f
+    → out ≡ flat_map (λ row. Out f.fields f.function.body (of_record row)) batch → t ≡ record s { queue = t.queue; placed = t.placed; given = t.given } → t.given ≡ count_of (s.given + length out) → HasGiven (part_of s.part) out s.placed t.placed t.queue.items
+    → (from : ℕ) (ops : PlanOps) → AreOpsOf ops (part_of s.part) → Took (spot_of (part_of s.part) ops) s.part.worker (seen rows s) 0 from (Batch batch) (seen rows t)
+took_map rows keys is_sealed s t f batch out ready k e o frame counted given from ops a =
+    let calls = calls_of_map s.part ops f k ready.sound.operator e a in
+    took_given rows keys is_sealed s 0 ready t ops from batch out out (map_at_once s.part.kind k) (gives_map s.part ops (rows s.left) s.part.kind batch out k (o ∙ (λ i. flat_map (λ row. sym (calls row) i) batch)))
+    (IsPermutation-refl out) (map_keeps s.part.kind _ _ k) frame counted given
+
+-- ---- a Match or a Cross
+
+key_none : (kind : OpKind) (keys : ℕ) (left right : List ℕ) → kind ≡ Cross → HasKeyLists kind keys left right → (left ≡ []) × (right ≡ [])
+key_none kind keys left right e h = subst (λ (k : OpKind). HasKeyLists k keys left right) e h
+
+gives_pair : (p : Part) (ops : PlanOps) (kept : Bag) (kind : OpKind) (keys : ℕ) (batch out : Bag) → is_pairing kind ≡ true → HasKeyLists kind keys p.left_keys p.right_keys → ops.left_keys p.at ≡ p.left_keys → ops.right_keys p.at ≡ p.right_keys
+    → out ≡ crossed (matched (ops.of_pair p.at) p.left_keys p.right_keys) kept batch → GivesAtOnce (spot_of (part_of p) ops) kind 1 kept (Batch batch) out
+gives_pair p ops kept Source keys batch out k h l r e = absurd (cc)
+gives_pair p ops kept Map keys batch out k h l r e = absurd (cc)
+gives_pair p ops kept Reduce keys batch out k h l r e = absurd (cc)
+gives_pair p ops kept Match keys batch out k h l r e = e ∙ (λ i. crossed (matched (ops.of_pair p.at) (sym l i) (sym r i)) kept batch)
+gives_pair p ops kept Cross keys batch out k h l r e = e ∙ (λ i. crossed (matched (ops.of_pair p.at) (h.0 i) (h.1 i)) kept batch)
+gives_pair p ops kept CoGroup keys batch out k h l r e = absurd (cc)
+
+pair_keeps : (kind : OpKind) (i : Instance) (batch : Bag) → is_pairing kind ≡ true → KeepsRows kind (kept_with (kept_at i) 1 (Batch batch)) (kept_at i)
+pair_keeps Source i batch k = tt
+pair_keeps Map i batch k = tt
+pair_keeps Reduce i batch k = absurd (cc)
+pair_keeps Match i batch k = is_same (append-nil i.left_kept)
+pair_keeps Cross i batch k = is_same (append-nil i.left_kept)
+pair_keeps CoGroup i batch k = absurd (cc)
+
+pair_at_once : (kind : OpKind) → is_pairing kind ≡ true → works_at_once kind ≡ true
+pair_at_once Source k = refl
+pair_at_once Map k = refl
+pair_at_once Reduce k = absurd (cc)
+pair_at_once Match k = refl
+pair_at_once Cross k = refl
+pair_at_once CoGroup k = absurd (cc)
+
+pub took_pair : {L : Type 0} (rows : L → Bag) (keys : L → List ℕ) (is_sealed : L → Bool) (s t : State L) (batch real : Bag) → IsReady rows keys is_sealed s 1 → is_pairing s.part.kind ≡ true → ArePairsGiven rows keys s batch real
+    → t ≡ record s { queue = t.queue; placed = t.placed; given = t.given } → t.given ≡ count_of (s.given + length real) → HasGiven (part_of s.part) real s.placed t.placed t.queue.items → (from : ℕ) (ops : PlanOps) → AreOpsOf ops (part_of s.part)
+    → Took (spot_of (part_of s.part) ops) s.part.worker (seen rows s) 1 from (Batch batch) (seen rows t)
+took_pair rows keys is_sealed s t batch real ready k pairs frame counted given from ops a =
+    let f = ready.sound.operator.function in
+    let e = ready.sound.operator.called in
+    let calls = calls_of_pair s.part ops f k ready.sound.operator e a in
+    let out = crossed (matched (λ l r. Out f.fields f.function.body (of_pair l r)) (keys s.left) s.part.right_keys) (rows s.left) batch in
+    let own : out ≡ crossed (matched (ops.of_pair s.part.at) s.part.left_keys s.part.right_keys) (rows s.left) batch = λ i. crossed (matched (λ l r. sym (calls l r) i) (ready.sound.left_keys i) s.part.right_keys) (rows s.left) batch in
+    took_given rows keys is_sealed s 1 ready t ops from batch out real (pair_at_once s.part.kind k)
+    (gives_pair s.part ops (rows s.left) s.part.kind ready.sound.operator.function.function.keys batch out k ready.sound.operator.keys (sym a.left_keys) (sym a.right_keys) own) (pairs f e) (pair_keeps s.part.kind (seen rows s) batch k) frame counted given
+
+kind_of_cross : (kind : OpKind) → is_cross kind ≡ true → kind ≡ Cross
+kind_of_cross Source e = absurd (cc)
+kind_of_cross Map e = absurd (cc)
+kind_of_cross Reduce e = absurd (cc)
+kind_of_cross Match e = absurd (cc)
+kind_of_cross Cross e = refl
+kind_of_cross CoGroup e = absurd (cc)
+
+-- a Cross has no keys
+pub no_keys : {L : Type 0} (rows : L → Bag) (keys : L → List ℕ) (is_sealed : L → Bool) (s : State L) → IsSound rows keys is_sealed s → is_cross s.part.kind ≡ true → (keys s.left ≡ []) × (s.part.right_keys ≡ [])
+no_keys rows keys is_sealed s h k =
+    let none = subst (λ (kind : OpKind). HasKeyLists kind h.operator.function.function.keys s.part.left_keys s.part.right_keys) (kind_of_cross s.part.kind k) h.operator.keys in
+    (h.left_keys ∙ none.0, none.1)
+
+pub pairs_crossed : {L : Type 0} (rows : L → Bag) (keys : L → List ℕ) (is_sealed : L → Bool) (s : State L) (g : WithFields) (rights out : Bag) → IsSound rows keys is_sealed s → is_cross s.part.kind ≡ true → s.part.called ≡ Some g
+    → IsPermutation (crossed (λ l r. Out g.fields g.function.body (of_pair l r)) (rows s.left) rights) out → ArePairsGiven rows keys s rights out
+pairs_crossed rows keys is_sealed s g rights out h k e p = λ f called.
+    let none = no_keys rows keys is_sealed s h k in
+    let same : g ≡ f = same_Some g f (sym e ∙ called) in
+    joined (is_same (λ i. crossed (matched (λ l r. Out ((sym same i).fields) ((sym same i).function.body) (of_pair l r)) (none.0 i) (none.1 i)) (rows s.left) rights)) p
+
+pub pairs_matched : {L : Type 0} (rows : L → Bag) (keys : L → List ℕ) (s : State L) (g : WithFields) (rights out : Bag) → s.part.called ≡ Some g
+    → IsPermutation (crossed (matched (λ l r. Out g.fields g.function.body (of_pair l r)) (keys s.left) s.part.right_keys) (rows s.left) rights) out → ArePairsGiven rows keys s rights out
+pairs_matched rows keys s g rights out e p = λ f called.
+    let same : g ≡ f = same_Some g f (sym e ∙ called) in
+    joined (is_same (λ i. crossed (matched (λ l r. Out ((sym same i).fields) ((sym same i).function.body) (of_pair l r)) (keys s.left) s.part.right_keys) (rows s.left) rights)) p
+
+-- ---- rows that are kept
+
+gives_kept_left : (p : Part) (ops : PlanOps) (i j : Instance) (kind : OpKind) (batch : Bag) → is_map kind ≡ false → all_ended j ≡ false → GivesNow (works_at_once kind) (record (spot_of (part_of p) ops) { kind = kind }) p.worker i j 0 (Batch batch) []
+gives_kept_left p ops i j Source batch k e = refl
+gives_kept_left p ops i j Map batch k e = absurd (cc)
+gives_kept_left p ops i j Reduce batch k e = rw e refl
+gives_kept_left p ops i j Match batch k e = refl
+gives_kept_left p ops i j Cross batch k e = refl
+gives_kept_left p ops i j CoGroup batch k e = rw e refl
+
+left_keeps : (kind : OpKind) (i j : Instance) (batch : Bag) → is_map kind ≡ false → IsPermutation (i.left_kept ++ batch) j.left_kept → j.right_kept ≡ i.right_kept → KeepsRows kind (kept_with (kept_at i) 0 (Batch batch)) (kept_at j)
+left_keeps Source i j batch k p r = tt
+left_keeps Map i j batch k p r = tt
+left_keeps Reduce i j batch k p r = p
+left_keeps Match i j batch k p r = p
+left_keeps Cross i j batch k p r = p
+left_keeps CoGroup i j batch k p r = (p, is_same (append-nil i.right_kept ∙ sym r))
+
+pub took_left : {L : Type 0} (rows : L → Bag) (keys : L → List ℕ) (is_sealed : L → Bool) (s t : State L) (batch : Bag) → IsReady rows keys is_sealed s 0 → is_map s.part.kind ≡ false → t ≡ record s { left = t.left; right = t.right } → rows t.right ≡ rows s.right
+    → IsPermutation (rows s.left ++ batch) (rows t.left) → AreWide s.part.fields (rows t.left) → (from : ℕ) (ops : PlanOps) → AreOpsOf ops (part_of s.part) → Took (spot_of (part_of s.part) ops) s.part.worker (seen rows s) 0 from (Batch batch) (seen rows t)
+took_left rows keys is_sealed s t batch ready k frame right p wide from ops a =
+    let all : all_ended (seen rows t) ≡ false = ap (λ (u : State _). all_ended (seen rows u)) frame ∙ still_taking rows keys is_sealed s 0 ready in
+    took_kept rows keys is_sealed s 0 ready t ops from batch (gives_kept_left s.part ops (seen rows s) (seen rows t) s.part.kind batch k all)
+    (left_keeps s.part.kind (seen rows s) (seen rows t) batch k p right) (each_wide s.part.fields (seen rows t) wide (subst (AreWide s.part.fields) (sym right) ready.sound.right_wide)) frame

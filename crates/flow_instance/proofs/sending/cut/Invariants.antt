@@ -1,0 +1,7 @@
+use Rattle.std.proofs.Common.{ℕ}
+use Rattle.flow_instance.specs.Sending.{AreCarriedBut}
+use Rattle.pact_record.specs.Widths.{AreWide}
+use Rattle.flow_instance.proofs.sending.cut.Given as goal
+
+abbrev pub invariant-loop-row : goal.invariant-loop-row
+invariant-loop-row l = (fields : ℕ) → AreWide fields l.fn.rows → AreCarriedBut fields l.to l.yielded l.fn.queue.items l.queue.items l.held

@@ -1,0 +1,8 @@
+use Rattle.flow_instance.proofs.Carried.{all_carried, all_held}
+use Rattle.flow_instance.proofs.sending.send_to.Goals as goal
+
+pub returns : goal.returns
+returns c = λ fields wide.
+    let queue = c.args.queue.now.items in
+    all_carried fields c.args.to c.args.rows queue c.stow.new.queue.items c.in_ok-_none._none c.in_ok-_none.ensures.few
+    (c.in_ok-_none.ensures.stowed fields c.args.rows queue (all_held fields c.args.to c.args.rows queue wide))

@@ -1,0 +1,11 @@
+use Rattle.std.proofs.Common.{◌<◌, length, sym, subst, arith}
+use Rattle.pact_operators.specs.Allowed.{Bag}
+use Rattle.flow_instance.specs.Sending.{AreCarriedBut}
+use Rattle.flow_instance.proofs.Carried.{stowed}
+use Rattle.flow_instance.proofs.sending.stow.Goals as goal
+
+pub returns-clause-stowed : goal.returns-clause-stowed
+returns-clause-stowed c = λ fields done old h.
+    let some : 0 < length c.args.rows = omega arith in
+    subst (λ (held : Bag). AreCarriedBut fields c.args.to done old c.push_back.new.self.items held) (sym c.new.ensures)
+    (stowed fields c.args.to done c.args.rows old c.args.queue.now.items c.push_back.new.self.items some c.in_ok-push_back.ensures.items h)

@@ -1,0 +1,18 @@
+use Rattle.std.proofs.Common.{◌≡◌, true, set, get_or, length, refl, ap, sym, ◌∙◌, length-set}
+use Rattle.std.specs.Vec.{with_item}
+use Rattle.flow_model.specs.Notes.{all_below}
+use Rattle.flow_instance.proofs.EndMarks.{sound_built}
+use Rattle.flow_instance.proofs.Results.{on_ok_three}
+use Rattle.flow_instance.proofs.states.State.end_left.Goals as goal
+
+pub returns-clause-sound : goal.returns-clause-sound
+returns-clause-sound g c = on_ok_three c.seal.result (λ rows keys sealed.
+    let old = c.args.self.now in
+    let flags = set old.left_ended.items c.args.from true in
+    let value : c.deref.result.now ≡ flags = c.deref.ensures.value in
+    let long : length flags ≡ old.part.workers = length-set old.left_ended.items c.args.from true ∙ c.requires.sound.left_flags in
+    let all : all_below old.part.workers (λ k. get_or flags k true) ≡ true =
+    (λ i. all_below (sym (ap length value ∙ long) i) (λ k. get_or (sym value i) k true)) ∙ sym c.all_set.ensures ∙ c.if-not-all_set.false in
+    sound_built g.L.Local.rows g.L.Local.key_fields g.L.Local.is_sealed old (record old { left_ended = with_item old.left_ended c.args.from true; left = c.seal.new.self }) c.requires.sound refl long rows keys sealed
+    (sym c.pairs.ensures ∙ c.if-not-pairs.false) all)
+    c.seal.ensures.rows c.seal.ensures.keys c.seal.ensures.sealed

@@ -1,0 +1,67 @@
+-- What is given for groups of kept records.
+use Rattle.std.specs.Prelude.{◌≡◌, ◌<◌, ◌++◌, ℕ, Bool, true, false, List, [], ◌∷◌, length}
+use Rattle.std.specs.List.{AllByRecursion}
+use Rattle.std.specs.List.Sorted.{IsPermutation}
+use Rattle.pact_bag.specs.Groups.{group_of_key}
+use Rattle.pact_operators.specs.Allowed.{Bag, CoGrouped, Grouped, keys_in, keys_in_either}
+use Rattle.pact_record.specs.Widths.{AreBelow, AreWide}
+use Rattle.pact_record.specs.declared.values.Value.{Value}
+use Rattle.tac_syntax.specs.Valid.{WithFields}
+use Rattle.tac_syntax.specs.declared.functions.Kind.TheVariants.{CoGroup}
+
+-- for each of the keys a part
+abbrev pub EachGives : (List Value → Bag → Type 0) → List (List Value) → Bag → Type 0
+EachGives Gives [] out = out ≡ []
+EachGives Gives (k ∷ ks) out = (part : Bag) × (rest : Bag) × Gives k part × (out ≡ part ++ rest) × EachGives Gives ks rest
+
+-- each of the keys has a record
+abbrev pub HaveGroups : List ℕ → Bag → List (List Value) → Type 0
+HaveGroups keys rows ks = AllByRecursion (λ k. 0 < length (group_of_key keys rows k)) ks
+
+-- ---- of one bag
+
+-- a call over the group of a key in some order
+abbrev pub IsCalled : (List Value → Bag → Bag) → List ℕ → Bag → List Value → Bag → Type 0
+IsCalled f keys rows k out = (group : Bag) × IsPermutation (group_of_key keys rows k) group × (out ≡ f k group)
+
+-- what the calls for all keys give, in some order
+pub record AreGroupsGiven (f : List Value → Bag → Bag) (keys : List ℕ) (rows out : Bag) : Type 0 where
+  pub other : Bag
+  pub grouped : Grouped f keys rows (keys_in keys rows) other
+  pub same : IsPermutation other out
+
+-- ---- of two
+
+-- the function of a CoGroup, its keys, and the kept records of both sides
+pub record AreSides (f : WithFields) (left_keys right_keys left_fields right_fields : List ℕ) (ls rs : Bag) : Type 0 where
+  pub kind : f.function.kind ≡ CoGroup
+  pub left_count : length left_keys ≡ f.function.keys
+  pub right_count : length right_keys ≡ f.function.keys
+  pub left_below : AreBelow f.fields left_keys
+  pub right_below : AreBelow f.fields right_keys
+  pub left_same : left_fields ≡ left_keys
+  pub right_same : right_fields ≡ right_keys
+  pub left_wide : AreWide f.fields ls
+  pub right_wide : AreWide f.fields rs
+
+-- a call over the groups of a key in some order
+abbrev pub IsCoCalled : (List Value → Bag → Bag → Bag) → (left_keys right_keys : List ℕ) → (ls rs : Bag) → List Value → Bag → Type 0
+IsCoCalled f left_keys right_keys ls rs k out =
+    (left : Bag) × (right : Bag) × IsPermutation (group_of_key left_keys ls k) left × IsPermutation (group_of_key right_keys rs k) right × (out ≡ f k left right)
+
+abbrev pub has_none : Bag → Bool
+has_none [] = true
+has_none (row ∷ rows) = false
+
+-- a call for a key that the left side lacks, and nothing for another
+abbrev pub IsCalledIf : Bool → (Bag → Type 0) → Bag → Type 0
+IsCalledIf true Gives out = Gives out
+IsCalledIf false Gives out = out ≡ []
+
+abbrev pub IsCalledAlone : (List Value → Bag → Bag → Bag) → (left_keys right_keys : List ℕ) → (ls rs : Bag) → List Value → Bag → Type 0
+IsCalledAlone f left_keys right_keys ls rs k out = IsCalledIf (has_none (group_of_key left_keys ls k)) (IsCoCalled f left_keys right_keys ls rs k) out
+
+pub record AreCoGroupsGiven (f : List Value → Bag → Bag → Bag) (left_keys right_keys : List ℕ) (ls rs out : Bag) : Type 0 where
+  pub other : Bag
+  pub grouped : CoGrouped f left_keys right_keys ls rs (keys_in_either left_keys right_keys ls rs) other
+  pub same : IsPermutation other out

@@ -1,0 +1,8 @@
+pub mod Sending
+pub mod States
+pub mod Steps
+pub mod Keeping
+pub mod Grouping
+pub mod Starting
+pub mod InstanceCode
+pub mod Limits

@@ -1,0 +1,46 @@
+-- What an instance keeps of a program and a physical plan, and instances at their start.
+use Rattle.std.specs.Prelude.{◌≡◌, ℕ, Option, Some, None, List, map, slice_get}
+use Rattle.flow_model.specs.Spots.{ports_of}
+use Rattle.pact_operators.specs.Allowed.{Bag}
+use Rattle.pact_operators.specs.PlanOps.{body_at, kind_at, left_keys_in, plan_ops, right_keys_in}
+use Rattle.pact_operators.specs.Programs.{HasKeyLists, IsKindFor, ProgramData}
+use Rattle.pact_record.specs.Widths.{AreBelow}
+use Rattle.plan_trees.specs.Sending.{share_from}
+use Rattle.plan_trees.specs.Physicals.{PhysicalData, ship_at}
+use Rattle.plan_trees.specs.Plans.{subtree_of}
+use Rattle.tac_syntax.specs.Valid.{WithFields}
+use Rattle.tac_syntax.specs.declared.declarations.OpKind.TheVariants.{Source}
+use Rattle.flow_instance.specs.States.{port_of}
+use Rattle.flow_instance.specs.declared.parts.Part.{Part}
+
+-- ---- of the program
+
+-- where it is a source, the rows are the worker's share
+abbrev pub IsShareOf : ProgramData → List Bag → (at workers worker : ℕ) → Bag → Type 0
+IsShareOf p inputs at workers worker rows = kind_at p.ops at ≡ Source → rows ≡ share_from 0 workers worker ((plan_ops p inputs).rows at)
+
+-- the function that an operator calls; a source has none
+pub record IsFunctionAt (p : ProgramData) (at : ℕ) (f : WithFields) : Type 0 where
+  pub fields : f.fields ≡ p.fields
+  pub body : f.function.body ≡ body_at p at
+  pub kind : IsKindFor (kind_at p.ops at) f.function.kind
+  pub keys : HasKeyLists (kind_at p.ops at) f.function.keys (left_keys_in (slice_get p.ops at)) (right_keys_in (slice_get p.ops at))
+  pub left_below : AreBelow p.fields (left_keys_in (slice_get p.ops at))
+  pub right_below : AreBelow p.fields (right_keys_in (slice_get p.ops at))
+
+abbrev pub IsCalledAt : ProgramData → ℕ → Option WithFields → Type 0
+IsCalledAt p at None = kind_at p.ops at ≡ Source
+IsCalledAt p at (Some f) = IsFunctionAt p at f
+
+pub record IsPartAt (p : ProgramData) (physical : PhysicalData) (number worker_number size : ℕ) (part : Part) : Type 0 where
+  pub at : part.at ≡ number
+  pub kind : part.kind ≡ kind_at p.ops number
+  pub called : IsCalledAt p number part.called
+  pub left_keys : part.left_keys ≡ left_keys_in (slice_get p.ops number)
+  pub right_keys : part.right_keys ≡ right_keys_in (slice_get p.ops number)
+  pub fields : part.fields ≡ p.fields
+  pub worker : part.worker ≡ worker_number
+  pub workers : part.workers ≡ physical.workers
+  pub batch : part.batch ≡ size
+  pub ports : map port_of part.ports.items ≡ ports_of physical (subtree_of number physical.tree)
+  pub out : part.out ≡ ship_at physical number

@@ -1,0 +1,215 @@
+-- The fields of an instance, and the instance that they stand for.
+use Rattle.std.specs.Prelude.{◌≡◌, ◌≤◌, ◌<◌, ◌+◌, ◌&&◌, ◌||◌, ◌==◌, ◌⊎◌, ℕ, Bool, true, false, List, [], length, map, not, slice_get, Option, Some, None}
+use Rattle.flow_model.specs.Instances.{Instance, Part as PartData, all_ended, ended_at, kept_at, port_ended}
+use Rattle.flow_model.specs.Local.{Calls, IsGiven, Placed, works_at_once}
+use Rattle.flow_model.specs.Spots.{Port as PortData, Spot, is_edge}
+use Rattle.flow_model.specs.Steps.{Carry, Mark, Took}
+use Rattle.flow_model.specs.declared.notes.Note.{Note}
+use Rattle.pact_operators.specs.Allowed.{Bag, count_of, crossed, matched}
+use Rattle.pact_operators.specs.PlanOps.{PlanOps}
+use Rattle.pact_operators.specs.Programs.{HasKeyLists, IsKindFor, takes}
+use Rattle.pact_record.specs.Widths.{AreBelow, AreWide}
+use Rattle.plan_trees.specs.declared.physicals.Ship.{Ship}
+use Rattle.tac_syntax.specs.Call.{Out, of_pair}
+use Rattle.tac_syntax.specs.Code.{Code, stop}
+use Rattle.tac_syntax.specs.Valid.{WithFields}
+use Rattle.tac_syntax.specs.declared.declarations.OpKind.{OpKind}
+use Rattle.tac_syntax.specs.declared.declarations.OpKind.TheVariants.{Map, Reduce, Match, Cross}
+use Rattle.std.specs.List.{AllByRecursion}
+use Rattle.std.specs.VecDeque.{deque_capacity, deque_len}
+use Rattle.std.specs.List.Sorted.{IsPermutation}
+use Rattle.flow_instance.specs.Sending.{IsInOrder, batches_in, marks_in}
+use Rattle.flow_instance.specs.declared.parcels.Parcel.{Parcel}
+use Rattle.flow_instance.specs.declared.parts.Part.{Part}
+use Rattle.flow_instance.specs.declared.parts.Port.{Port}
+use Rattle.flow_instance.specs.declared.states.State.{State}
+
+-- ---- what they stand for
+
+abbrev pub port_of : Port → PortData
+port_of p = record { edge = p.edge; ship = p.ship }
+
+abbrev pub body_in : Option WithFields → Code
+body_in None = stop
+body_in (Some f) = f.function.body
+
+abbrev pub part_of : Part → PartData
+part_of p = record {
+  at = p.at;
+  kind = p.kind;
+  body = body_in p.called;
+  left_keys = p.left_keys;
+  right_keys = p.right_keys;
+  fields = p.fields;
+  worker = p.worker;
+  workers = p.workers;
+  ports = map port_of p.ports.items;
+  out = p.out;
+}
+
+abbrev pub seen : {L : Type 0} → (L → Bag) → State L → Instance
+seen rows s = record {
+  part = part_of s.part;
+  left_ended = s.left_ended.items;
+  right_ended = s.right_ended.items;
+  left_kept = rows s.left;
+  right_kept = rows s.right;
+  waiting = batches_in s.queue.items;
+  marks = marks_in s.queue.items;
+  receiver = s.receiver;
+  placed = s.placed;
+  given = s.given;
+  finished = s.finished;
+}
+
+-- ---- what its program and plan say
+
+-- what a part says of its operator, and the sources and operators of its program the rest
+abbrev pub spot_of : PartData → PlanOps → Spot
+spot_of p ops = record { at = p.at; kind = p.kind; workers = p.workers; fields = p.fields; ports = p.ports; out = p.out; ops = ops }
+
+-- its function and its keys are those of its operator
+pub record AreOpsOf (ops : PlanOps) (p : PartData) : Type 0 where
+  pub calls : Calls (spot_of p ops) p.kind p.fields p.body
+  pub left_keys : p.left_keys ≡ ops.left_keys p.at
+  pub right_keys : p.right_keys ≡ ops.right_keys p.at
+
+-- what waits stands in order, for workers that there are
+pub record AreOrderly (workers : ℕ) (queue : List Parcel) : Type 0 where
+  pub order : IsInOrder queue
+  pub receivers : AllByRecursion (λ p. p.to < workers) queue
+
+-- one more sender has ended at a port, and what is kept of port 0 may stand in another order
+pub record HasEnded {L : Type 0} (rows : L → Bag) (s : State L) (port from : ℕ) (t : State L) : Type 0 where
+  pub same : t ≡ record s { left_ended = t.left_ended; right_ended = t.right_ended; left = t.left }
+  pub ended : (p k : ℕ) → ended_at (seen rows t) p k ≡ (((p == port) && (k == from)) || ended_at (seen rows s) p k)
+  pub kept : IsPermutation (rows s.left) (rows t.left)
+
+-- what is given once all senders have ended, where that is waited for
+abbrev pub GivesLast : Bool → (Bag → Type 0) → Bag → Type 0
+GivesLast true Given out = out ≡ []
+GivesLast false Given out = Given out
+
+abbrev pub AreGivenLast : {L : Type 0} → (L → Bag) → State L → Bag → Type 0
+AreGivenLast rows s out = (ops : PlanOps) → AreOpsOf ops (part_of s.part)
+    → GivesLast (works_at_once s.part.kind) (IsGiven (spot_of (part_of s.part) ops) s.part.kind (map port_of s.part.ports.items) s.part.worker (kept_at (seen rows s))) out
+
+-- what the function gives for the pairs of the kept left records and these right ones that match, in some order
+abbrev pub ArePairsGiven : {L : Type 0} → (L → Bag) → (L → List ℕ) → State L → (rights out : Bag) → Type 0
+ArePairsGiven rows keys s rights out = (f : WithFields) → s.part.called ≡ Some f
+    → IsPermutation (crossed (matched (λ l r. Out f.fields f.function.body (of_pair l r)) (keys s.left) s.part.right_keys) (rows s.left) rights) out
+
+-- it took a note at a port from a sender
+abbrev pub HasTaken : {L : Type 0} → (L → Bag) → State L → (port from : ℕ) → Note → State L → Type 0
+HasTaken rows s port from note t = (ops : PlanOps) → AreOpsOf ops (part_of s.part) → Took (spot_of (part_of s.part) ops) s.part.worker (seen rows s) port from note (seen rows t)
+
+-- ---- the start
+
+-- nothing was taken or given, and nothing waits
+pub record IsFresh {L : Type 0} (rows : L → Bag) (keys : L → List ℕ) (is_sealed : L → Bool) (own : Part) (s : State L) : Type 0 where
+  pub part : s.part ≡ own
+  pub left_flags : length s.left_ended.items ≡ own.workers
+  pub right_flags : length s.right_ended.items ≡ own.workers
+  pub left_ended : (from : ℕ) → from < own.workers → ended_at (seen rows s) 0 from ≡ not (is_edge (slice_get (map port_of own.ports.items) 0) from own.worker)
+  pub right_ended : (from : ℕ) → from < own.workers → ended_at (seen rows s) 1 from ≡ not (is_edge (slice_get (map port_of own.ports.items) 1) from own.worker)
+  pub left_none : rows s.left ≡ []
+  pub right_none : rows s.right ≡ []
+  pub left_keys : keys s.left ≡ own.left_keys
+  pub right_keys : keys s.right ≡ own.right_keys
+  pub left_sealed : is_sealed s.left ≡ false
+  pub right_sealed : is_sealed s.right ≡ false
+  pub queue : s.queue.items ≡ []
+  pub receiver : s.receiver ≡ own.workers
+  pub placed : s.placed ≡ []
+  pub given : s.given ≡ 0
+  pub finished : s.finished ≡ false
+
+-- it gave these, and owes end marks where nothing is to come
+pub record HasBegun {L : Type 0} (rows : L → Bag) (s : State L) (out : Bag) (t : State L) : Type 0 where
+  pub same : t ≡ record s { queue = t.queue; placed = t.placed; given = t.given }
+  pub counted : t.given ≡ count_of (s.given + length out)
+  pub carries : (ops : PlanOps) → Carry (spot_of (part_of s.part) ops) s.part.worker out (batches_in t.queue.items)
+  pub marks : (ops : PlanOps) → Mark (spot_of (part_of s.part) ops) s.part.worker (all_ended (seen rows t)) (marks_in t.queue.items)
+  pub places : Placed s.part.out out t.placed
+  pub wide : AreWide s.part.fields t.placed
+  pub orderly : AreOrderly s.part.workers t.queue.items
+
+-- ---- what is always true of one that still takes
+
+-- it calls a function of its kind, its keys are fields, and it has the ports of its kind
+pub record IsOperator (p : Part) : Type 0 where
+  pub function : WithFields
+  pub called : p.called ≡ Some function
+  pub fields : function.fields ≡ p.fields
+  pub kind : IsKindFor p.kind function.function.kind
+  pub keys : HasKeyLists p.kind function.function.keys p.left_keys p.right_keys
+  pub left_below : AreBelow p.fields p.left_keys
+  pub right_below : AreBelow p.fields p.right_keys
+  pub arity : takes p.kind ≡ length p.ports.items
+
+abbrev pub is_map : OpKind → Bool
+is_map Map = true
+is_map kind = false
+
+abbrev pub is_pairing : OpKind → Bool
+is_pairing Match = true
+is_pairing Cross = true
+is_pairing kind = false
+
+abbrev pub is_cross : OpKind → Bool
+is_cross Cross = true
+is_cross kind = false
+
+abbrev pub is_reduce : OpKind → Bool
+is_reduce Reduce = true
+is_reduce kind = false
+
+-- what is kept of port 0 is sealed once port 0 has ended, where each row of port 1 asks for it
+abbrev pub is_built : OpKind → (left_ended : Bool) → Bool
+is_built kind left_ended = is_pairing kind && left_ended
+
+-- what isn't the root places nothing
+abbrev pub PlacesAtRoot : Option Ship → Bag → Type 0
+PlacesAtRoot None placed = Unit {0}
+PlacesAtRoot (Some ship) placed = placed ≡ []
+
+pub record IsSound {L : Type 0} (rows : L → Bag) (keys : L → List ℕ) (is_sealed : L → Bool) (s : State L) : Type 0 where
+  pub batch : 1 ≤ s.part.batch
+  pub worker : s.part.worker < s.part.workers
+  pub operator : IsOperator s.part
+  pub left_flags : length s.left_ended.items ≡ s.part.workers
+  pub right_flags : length s.right_ended.items ≡ s.part.workers
+  pub left_wide : AreWide s.part.fields (rows s.left)
+  pub right_wide : AreWide s.part.fields (rows s.right)
+  pub left_keys : keys s.left ≡ s.part.left_keys
+  pub right_keys : keys s.right ≡ s.part.right_keys
+  pub left_sealed : is_sealed s.left ≡ is_built s.part.kind (port_ended (seen rows s) 0)
+  pub right_sealed : is_sealed s.right ≡ false
+  pub placed_wide : AreWide s.part.fields s.placed
+  pub placed_at_root : PlacesAtRoot s.part.out s.placed
+  pub counted : s.given ≡ count_of s.given
+
+-- it may take a note at the port
+pub record IsReady {L : Type 0} (rows : L → Bag) (keys : L → List ℕ) (is_sealed : L → Bool) (s : State L) (port : ℕ) : Type 0 where
+  pub sound : IsSound rows keys is_sealed s
+  pub none : s.queue.items ≡ []
+  pub there : port < length s.part.ports.items
+  pub not_ended : port_ended (seen rows s) port ≡ false
+  pub which : (port ≡ 0) ⊎ ((port ≡ 1) × (port_ended (seen rows s) 0 ≡ true))
+
+-- no more flags than workers
+pub record HasFlags {L : Type 0} (s : State L) : Type 0 where
+  pub left : length s.left_ended.items ≤ s.part.workers
+  pub right : length s.right_ended.items ≤ s.part.workers
+
+abbrev pub IsSoundIfTaking : {L : Type 0} → (L → Bag) → (L → List ℕ) → (L → Bool) → State L → Type 0
+IsSoundIfTaking rows keys is_sealed s = all_ended (seen rows s) ≡ false → IsSound rows keys is_sealed s
+
+-- ---- what is always true of one
+
+-- There are no more flags than workers, what waits stands in order, and where a note is out there is room to take it back.
+pub record IsWhole {L : Type 0} (rows : L → Bag) (keys : L → List ℕ) (is_sealed : L → Bool) (s : State L) : Type 0 where
+  pub taking : IsSoundIfTaking rows keys is_sealed s
+  pub flags : HasFlags s
+  pub orderly : AreOrderly s.part.workers s.queue.items
+  pub room : s.receiver < s.part.workers → deque_len s.queue < deque_capacity s.queue

@@ -1,0 +1,158 @@
+//! End marks that an instance takes.
+
+ghost use Rattle.std.specs.Prelude.{◌≡◌, ◌<◌, ◌∷◌, [], true, false, IfOk, OnOk};
+ghost use Rattle.flow_model.specs.Local.{works_at_once};
+ghost use Rattle.flow_model.specs.Notes.{AreNotes};
+ghost use Rattle.flow_model.specs.declared.notes.Note.TheVariants.{End};
+ghost use Rattle.pact_record.specs.Widths.{AreWide};
+ghost use Rattle.flow_instance.specs.States.{AreGivenLast, AreOrderly, HasEnded, HasFlags, HasTaken, IsReady, IsSound, IsSoundIfTaking, IsWhole, is_reduce};
+
+use crate::flags::all_set;
+use crate::grouping::{cogroup_kept, reduce_kept};
+use crate::states::State;
+use flow_model::Note;
+use local_strategy::Local;
+use pact_bag::Rows;
+use pact_record::OutOfMemory;
+
+impl<L: Local> State<L> {
+    // What a Match or a Cross keeps is sealed once its left side has come.
+    fn end_left(&mut self, from: u32) -> Result<(), OutOfMemory>
+        requires sound { IsSound L.rows L.key_fields L.is_sealed self.old }
+        requires from { from < self.old.part.workers }
+        requires not_sealed { L.is_sealed self.old.left ≡ false }
+        ensures ended { OnOk result (HasEnded L.rows self.old 0 from self.new) }
+        ensures sound { OnOk result (IsSound L.rows L.key_fields L.is_sealed self.new) }
+    {
+        self.left_ended[from as usize] = true;
+        if !self.part.pairs() {
+            return Ok(());
+        }
+        if !all_set(&self.left_ended) {
+            return Ok(());
+        }
+        self.left.seal()
+    }
+
+    fn end_right(&mut self, from: u32)
+        requires sound { IsSound L.rows L.key_fields L.is_sealed self.old }
+        requires from { from < self.old.part.workers }
+        ensures ended { HasEnded L.rows self.old 1 from self.new }
+        ensures sound { IsSound L.rows L.key_fields L.is_sealed self.new }
+    {
+        self.right_ended[from as usize] = true;
+    }
+
+    fn end_sender(&mut self, port: u32, from: u32) -> Result<(), OutOfMemory>
+        requires ready { IsReady L.rows L.key_fields L.is_sealed self.old port }
+        requires from { from < self.old.part.workers }
+        ensures ended { OnOk result (HasEnded L.rows self.old port from self.new) }
+        ensures sound { OnOk result (IsSound L.rows L.key_fields L.is_sealed self.new) }
+    {
+        if port == 0 {
+            return self.end_left(from);
+        }
+        self.end_right(from);
+        Ok(())
+    }
+
+    fn reduce(&mut self) -> Result<Rows, OutOfMemory>
+        requires sound { IsSound L.rows L.key_fields L.is_sealed self.old }
+        requires kind { is_reduce self.old.part.kind ≡ true }
+        ensures same { IfOk result (λ _. self.new ≡ record self.old { left = self.new.left; right = self.new.right }) }
+        ensures given { IfOk result (AreGivenLast L.rows self.old) }
+        ensures left_wide { IfOk result (λ _. AreWide self.old.part.fields (L.rows self.new.left)) }
+        ensures right_wide { IfOk result (λ _. AreWide self.old.part.fields (L.rows self.new.right)) }
+        ensures widths { IfOk result (AreWide self.old.part.fields) }
+    {
+        self.left.seal()?;
+        let part = &self.part;
+        reduce_kept(self.alloc, part.function(), &part.left_keys, &self.left)
+    }
+
+    fn cogroup(&mut self) -> Result<Rows, OutOfMemory>
+        requires sound { IsSound L.rows L.key_fields L.is_sealed self.old }
+        requires waits { works_at_once self.old.part.kind ≡ false }
+        requires kind { is_reduce self.old.part.kind ≡ false }
+        ensures same { IfOk result (λ _. self.new ≡ record self.old { left = self.new.left; right = self.new.right }) }
+        ensures given { IfOk result (AreGivenLast L.rows self.old) }
+        ensures left_wide { IfOk result (λ _. AreWide self.old.part.fields (L.rows self.new.left)) }
+        ensures right_wide { IfOk result (λ _. AreWide self.old.part.fields (L.rows self.new.right)) }
+        ensures widths { IfOk result (AreWide self.old.part.fields) }
+    {
+        self.left.seal()?;
+        self.right.seal()?;
+        let part = &self.part;
+        cogroup_kept(
+            self.alloc,
+            part.function(),
+            &part.left_keys,
+            &part.right_keys,
+            &self.left,
+            &self.right,
+        )
+    }
+
+    // What a Reduce or a CoGroup gives for all groups.
+    fn groups(&mut self) -> Result<Rows, OutOfMemory>
+        requires sound { IsSound L.rows L.key_fields L.is_sealed self.old }
+        ensures same { IfOk result (λ _. self.new ≡ record self.old { left = self.new.left; right = self.new.right }) }
+        ensures given { IfOk result (AreGivenLast L.rows self.old) }
+        ensures left_wide { IfOk result (λ _. AreWide self.old.part.fields (L.rows self.new.left)) }
+        ensures right_wide { IfOk result (λ _. AreWide self.old.part.fields (L.rows self.new.right)) }
+        ensures widths { IfOk result (AreWide self.old.part.fields) }
+    {
+        if self.part.works_at_once() {
+            return Ok(Rows::new(self.alloc));
+        }
+        if self.part.reduces() {
+            return self.reduce();
+        }
+        self.cogroup()
+    }
+
+    /// Takes an end mark at a port. With the last one, what waited for it is given, and end marks go out.
+    pub(crate) fn take_end(&mut self, port: u32, from: u32) -> Result<(), OutOfMemory>
+        requires ready { IsReady L.rows L.key_fields L.is_sealed self.old port }
+        requires from { from < self.old.part.workers }
+        ensures took { OnOk result (HasTaken L.rows self.old port from End self.new) }
+        ensures sound { OnOk result (IsSoundIfTaking L.rows L.key_fields L.is_sealed self.new) }
+        ensures orderly { OnOk result (AreOrderly self.new.part.workers self.new.queue.items) }
+        ensures flags { OnOk result (HasFlags self.new) }
+    {
+        self.end_sender(port, from)?;
+        if !self.all_ended() {
+            return Ok(());
+        }
+        let out = self.groups()?;
+        self.give(out)?;
+        self.mark()
+    }
+
+    /// Takes a note at a port.
+    pub(crate) fn take(&mut self, port: u32, from: u32, note: Note) -> Result<(), OutOfMemory>
+        requires ready { IsReady L.rows L.key_fields L.is_sealed self.old port }
+        requires from { from < self.old.part.workers }
+        requires note { AreNotes self.old.part.fields (note ∷ []) }
+        ensures took { OnOk result (HasTaken L.rows self.old port from note self.new) }
+        ensures sound { OnOk result (IsSoundIfTaking L.rows L.key_fields L.is_sealed self.new) }
+        ensures orderly { OnOk result (AreOrderly self.new.part.workers self.new.queue.items) }
+        ensures flags { OnOk result (HasFlags self.new) }
+    {
+        match note {
+            Note::Batch(rows) => self.take_batch(port, rows),
+            Note::End => self.take_end(port, from),
+        }
+    }
+
+    /// Nothing is wanted any more.
+    pub(crate) fn close(&mut self)
+        ensures { IsWhole L.rows L.key_fields L.is_sealed self.new }
+    {
+        self.left_ended.clear();
+        self.right_ended.clear();
+        self.queue.clear();
+        self.finished = true;
+        self.receiver = self.part.workers;
+    }
+}

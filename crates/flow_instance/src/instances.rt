@@ -1,0 +1,205 @@
+//! One operator or source on one worker.
+
+ghost use Rattle.std.specs.Prelude.{◌≡◌, ◌≤◌, ◌<◌, ◌∷◌, [], ℕ, true, false, List, Some, length, map, slice_get, IfOk, OnOk};
+ghost use Rattle.flow_model.specs.Instances.{Instance as InstanceData, ended_at, want};
+ghost use Rattle.flow_model.specs.Local.{IsLocal};
+ghost use Rattle.flow_model.specs.Notes.{AreNotes};
+ghost use Rattle.flow_model.specs.Spots.{Spot, is_edge, setting, spot};
+ghost use Rattle.flow_model.specs.Steps.{Added, AddedTo, Started, Took, finish, next_note, offered};
+ghost use Rattle.flow_model.specs.declared.notes.Note.{Note as NoteData};
+ghost use Rattle.pact_operators.specs.Allowed.{Bag};
+ghost use Rattle.pact_operators.specs.PlanOps.{is_source_kind, kind_at};
+ghost use Rattle.pact_operators.specs.Programs.{IsPlanOf};
+ghost use Rattle.pact_record.specs.Widths.{AreWide};
+ghost use Rattle.plan_trees.specs.Plans.{has, subtree_of};
+ghost use Rattle.flow_instance.specs.Limits.{batch_limit};
+ghost use Rattle.flow_instance.specs.Starting.{IsShareOf};
+
+use crate::flags::{all_set, is_set};
+use crate::parcels::Parcel;
+use crate::starting::part_at;
+use crate::states::State;
+use flow_model::{Note, Want};
+use local_strategy::Local;
+use pact_bag::Rows;
+use pact_operators::{Physical, Program};
+use pact_record::OutOfMemory;
+use std::alloc::Global;
+use std::marker::Model;
+
+/// A batch has at most so many records.
+pub const MAX_BATCH: u32 = 1024;
+
+/// One operator or source on one worker. It tells what it wants next, and is handed the notes that it takes and asked for those that it puts.
+#[derive(Drop)]
+pub struct Instance<L: Local> {
+    state: State<L>,
+}
+
+impl<L: Local> Model for Instance<L> {
+    ghost use Rattle.flow_model.specs.Instances.{Instance as InstanceData};
+    ghost use Rattle.flow_instance.specs.InstanceCode.{coded_instance};
+    ghost use Rattle.flow_instance.specs.States.{IsWhole, seen};
+
+    ghost Value = { InstanceData };
+
+    ghost coded = { coded_instance };
+
+    ghost view = { λ i. seen L.rows i.state };
+
+    ghost invariant = { λ i. IsWhole L.rows L.key_fields L.is_sealed i.state };
+}
+
+impl<L: Local> Instance<L> {
+    /// The instance of an operator or a source of the plan on a worker, with batches of at most so many records. `rows` is the worker's share where
+    /// it is a source, else empty. Want of memory is the only error.
+    pub fn start(
+        alloc: Global,
+        program: &Program,
+        physical: &Physical,
+        at: u32,
+        worker: u32,
+        batch: u32,
+        rows: Rows,
+    ) -> Result<Instance<L>, OutOfMemory>
+        requires plan { IsPlanOf program.now.functions program.now.ops physical.now.tree }
+        requires has { has at physical.now.tree ≡ true }
+        requires worker { worker < physical.now.workers }
+        requires some { 1 ≤ batch }
+        requires few { batch ≤ batch_limit }
+        requires widths { AreWide program.now.fields rows }
+        requires no_rows { is_source_kind (kind_at program.now.ops at) ≡ false → rows ≡ [] }
+        ensures number { IfOk result (λ i. i.part.at ≡ at) }
+        ensures worker { IfOk result (λ i. i.part.worker ≡ worker) }
+        ensures started { IfOk result (λ i. (inputs : List Bag) → IsShareOf program.now inputs at physical.now.workers worker rows → Started (spot (setting program.now inputs physical.now) (subtree_of at physical.now.tree)) worker i) }
+        ensures local { IfOk result (λ i. (inputs : List Bag) → IsShareOf program.now inputs at physical.now.workers worker rows
+            → IsLocal (spot (setting program.now inputs physical.now) (subtree_of at physical.now.tree)) worker i (λ port from. []) (λ to. [])) }
+    {
+        let part = part_at(alloc, program, physical, at, worker, batch)?;
+        let mut state = State::fresh(alloc, part)?;
+        state.begin(rows)?;
+        Ok(Instance { state })
+    }
+
+    /// What it can do next.
+    pub fn want(&self) -> Want
+        ensures { result ≡ want self.now }
+    {
+        if let Some(parcel) = self.state.queue.front() {
+            return Want::Put(parcel.to);
+        }
+        if !all_set(&self.state.left_ended) {
+            return Want::Take(0);
+        }
+        if !all_set(&self.state.right_ended) {
+            return Want::Take(1);
+        }
+        if self.state.finished {
+            Want::Done
+        } else {
+            Want::End
+        }
+    }
+
+    /// Takes a note that a worker sent, at the port that is wanted. After want of memory it may only be dropped.
+    pub fn took(&mut self, port: u32, from: u32, note: Note) -> Result<(), OutOfMemory>
+        requires want { want self.old ≡ Want.Take port }
+        requires edge { is_edge (slice_get self.old.part.ports port) from self.old.part.worker ≡ true }
+        requires from { from < self.old.part.workers }
+        requires not_ended { ended_at self.old port from ≡ false }
+        requires note { AreNotes self.old.part.fields (note ∷ []) }
+        ensures took { OnOk result ((s : Spot) (taken : ℕ → ℕ → List NoteData) (put : ℕ → List NoteData) → IsLocal s self.old.part.worker self.old taken put → Took s self.old.part.worker self.old port from note self.new) }
+        ensures local { OnOk result ((s : Spot) (taken new : ℕ → ℕ → List NoteData) (put : ℕ → List NoteData) → IsLocal s self.old.part.worker self.old taken put
+            → Added taken port from note new → IsLocal s self.old.part.worker self.new new put) }
+    {
+        if let Err(refused) = self.state.take(port, from, note) {
+            self.state.close();
+            return Err(refused);
+        }
+        self.state.receiver = self.state.part.workers;
+        Ok(())
+    }
+
+    /// Takes the note that a Put is wanted for out of it.
+    pub fn offer(&mut self) -> Note
+        requires put { (to : ℕ) × (want self.old ≡ Want.Put to) }
+        ensures note { result ≡ next_note self.old.waiting }
+        ensures offered { self.new ≡ offered self.old }
+        ensures out { self.new.receiver < self.new.part.workers }
+        ensures local { (s : Spot) (taken : ℕ → ℕ → List NoteData) (put new : ℕ → List NoteData) (to : ℕ) → IsLocal s self.old.part.worker self.old taken put → want self.old ≡ Want.Put to
+            → AddedTo put to result new → IsLocal s self.old.part.worker self.new taken new }
+    {
+        match self.state.queue.pop_front() {
+            Some(parcel) => {
+                self.state.receiver = parcel.to;
+                parcel.note
+            }
+            None => unreachable!(),
+        }
+    }
+
+    /// Takes back the note that `offer` gave last, where nothing was done since. Then no note is out.
+    pub fn back(&mut self, note: Note)
+        requires offered { (before : InstanceData) × (to : ℕ) × (want before ≡ Want.Put to) × (self.old ≡ offered before) × (note ≡ next_note before.waiting) }
+        requires out { self.old.receiver < self.old.part.workers }
+        ensures back { (before : InstanceData) (to : ℕ) → want before ≡ Want.Put to → self.old ≡ offered before → note ≡ next_note before.waiting → self.new ≡ record before { receiver = self.old.part.workers } }
+        ensures wants { (before : InstanceData) (to : ℕ) → want before ≡ Want.Put to → self.old ≡ offered before → note ≡ next_note before.waiting → want self.new ≡ Want.Put to }
+        ensures local { (before : InstanceData) (to : ℕ) (s : Spot) (taken : ℕ → ℕ → List NoteData) (put : ℕ → List NoteData) → want before ≡ Want.Put to → self.old ≡ offered before → note ≡ next_note before.waiting
+            → IsLocal s self.old.part.worker before taken put → IsLocal s self.old.part.worker self.new taken put }
+    {
+        let to = self.state.receiver;
+        self.state.queue.push_front_reserved(Parcel { to, note });
+        self.state.receiver = self.state.part.workers;
+    }
+
+    /// It ends, where it wants to. It is done then.
+    pub fn end(&mut self)
+        requires { want self.old ≡ Want.End }
+        ensures ended { self.new ≡ finish self.old }
+        ensures local { (s : Spot) (taken : ℕ → ℕ → List NoteData) (put : ℕ → List NoteData) → IsLocal s self.old.part.worker self.old taken put → IsLocal s self.old.part.worker self.new taken put }
+    {
+        self.state.finished = true;
+    }
+
+    /// The records that an instance of the root has given so far; none of another.
+    pub fn placed(&self) -> &Rows
+        ensures { result.now ≡ self.now.placed }
+    {
+        &self.state.placed
+    }
+
+    pub fn into_placed(self) -> Rows
+        ensures { result ≡ self.placed }
+    {
+        let state = self.state;
+        state.placed
+    }
+
+    /// How many records it has given so far, where the greatest u64 stands for more.
+    pub fn given(&self) -> u64
+        ensures { result ≡ self.now.given }
+    {
+        self.state.given
+    }
+
+    /// The number of what sends along the edge of the port.
+    pub fn edge(&self, port: u32) -> u32
+        requires { port < length self.now.part.ports }
+        ensures { slice_get (map (λ p. p.edge) self.now.part.ports) port ≡ Some result }
+    {
+        self.state.part.ports[port as usize].edge
+    }
+
+    /// Whether the worker's end mark was taken at the port. Of a worker that doesn't send there nothing is waited for.
+    pub fn ended(&self, port: u32, from: u32) -> bool
+        requires port { port < length self.now.part.ports }
+        requires from { from < self.now.part.workers }
+        ensures { result ≡ ended_at self.now port from }
+    {
+        match port {
+            0 => is_set(&self.state.left_ended, from),
+            1 => is_set(&self.state.right_ended, from),
+            _ => true,
+        }
+    }
+}

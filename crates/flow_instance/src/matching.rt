@@ -1,0 +1,85 @@
+//! Calls for the pairs of kept records and those of a batch.
+
+ghost use Rattle.std.specs.Prelude.{◌≡◌, ◌⊎◌, ◌++◌, [], true, flat_map, length, IfOk, OnOk};
+ghost use Rattle.std.specs.List.Sorted.{IsPermutation};
+ghost use Rattle.tac_syntax.specs.Call.{Out, of_pair};
+ghost use Rattle.tac_syntax.specs.declared.functions.Kind.TheVariants.{Cross, Match};
+ghost use Rattle.pact_operators.specs.Allowed.{crossed, matched};
+ghost use Rattle.pact_record.specs.Widths.{AreBelow, AreWide};
+
+use bag_calls::cross_rows;
+use local_strategy::Local;
+use pact_bag::Rows;
+use pact_record::{Keys, OutOfMemory, Record};
+use std::alloc::Global;
+use tac_interp::call_pair;
+use tac_syntax::Valid;
+
+// The calls for the pairs of one right record, behind what was given before.
+fn append_pairs(
+    alloc: Global,
+    f: &Valid,
+    lefts: &Rows,
+    right: &Record,
+    out: &mut Rows,
+) -> Result<(), OutOfMemory>
+    requires kind { (f.now.function.kind ≡ Match) ⊎ (f.now.function.kind ≡ Cross) }
+    requires left_widths { AreWide f.now.fields lefts.now }
+    requires right_width { length right.now ≡ f.now.fields }
+    requires widths { AreWide f.now.fields out.old }
+    ensures given { OnOk result (out.new ≡ out.old ++ flat_map (λ l. Out f.now.fields f.now.function.body (of_pair l right.now)) lefts.now) }
+    ensures widths { OnOk result (AreWide f.now.fields out.new) }
+{
+    for left in lefts.rows() {
+        let mut emitted = call_pair(alloc, f, left, right)?;
+        out.append(&mut emitted)?;
+    }
+    Ok(())
+}
+
+/// What a Match gives for its kept left records and these right ones, in any order.
+pub(crate) fn match_kept<L: Local>(
+    alloc: Global,
+    f: &Valid,
+    kept: &L,
+    right_keys: &Keys,
+    rights: &Rows,
+) -> Result<Rows, OutOfMemory>
+    requires kind { (f.now.function.kind ≡ Match) ⊎ (f.now.function.kind ≡ Cross) }
+    requires sealed { L.is_sealed kept.now ≡ true }
+    requires keys { length right_keys.now ≡ length (L.key_fields kept.now) }
+    requires right_below { AreBelow f.now.fields right_keys.now }
+    requires left_widths { AreWide f.now.fields (L.rows kept.now) }
+    requires right_widths { AreWide f.now.fields rights.now }
+    ensures given { IfOk result (IsPermutation (crossed (matched (λ l r. Out f.now.fields f.now.function.body (of_pair l r)) (L.key_fields kept.now) right_keys.now) (L.rows kept.now) rights.now)) }
+    ensures widths { IfOk result (AreWide f.now.fields) }
+{
+    let mut out = Rows::new(alloc);
+    for right in rights.rows() {
+        let lefts = kept.group_of(alloc, right, right_keys)?;
+        append_pairs(alloc, f, &lefts, right, &mut out)?;
+    }
+    Ok(out)
+}
+
+/// What a Cross gives for its kept left records, which have no keys, and these right ones, in any order. The kept ones are asked for once.
+pub(crate) fn cross_kept<L: Local>(
+    alloc: Global,
+    f: &Valid,
+    kept: &L,
+    rights: &Rows,
+) -> Result<Rows, OutOfMemory>
+    requires kind { f.now.function.kind ≡ Cross }
+    requires sealed { L.is_sealed kept.now ≡ true }
+    requires no_keys { L.key_fields kept.now ≡ [] }
+    requires left_widths { AreWide f.now.fields (L.rows kept.now) }
+    requires right_widths { AreWide f.now.fields rights.now }
+    ensures given { IfOk result (IsPermutation (crossed (λ l r. Out f.now.fields f.now.function.body (of_pair l r)) (L.rows kept.now) rights.now)) }
+    ensures widths { IfOk result (AreWide f.now.fields) }
+{
+    if rights.len() == 0 {
+        return Ok(Rows::new(alloc));
+    }
+    let lefts = kept.group_of(alloc, rights.at(0), &Keys::new())?;
+    cross_rows(alloc, f, &lefts, rights)
+}

@@ -1,0 +1,10 @@
+//! Notes with their receivers.
+
+use flow_model::Note;
+
+/// A note, and the worker that it is for.
+#[derive(Debug, Drop)]
+pub(crate) struct Parcel {
+    pub(crate) to: u32,
+    pub(crate) note: Note,
+}

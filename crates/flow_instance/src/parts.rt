@@ -1,0 +1,78 @@
+//! What an instance keeps of a program and of a physical plan.
+
+ghost use Rattle.std.specs.Prelude.{◌≡◌, Some, IsSome};
+ghost use Rattle.flow_model.specs.Local.{works_at_once};
+ghost use Rattle.flow_instance.specs.States.{is_cross, is_map, is_pairing, is_reduce};
+
+use pact_record::Keys;
+use plan_trees::Ship;
+use tac_syntax::{OpKind, Valid};
+
+/// An edge that comes in at a port, by the number of what sends along it.
+#[derive(Clone, Copy, Debug)]
+pub(crate) struct Port {
+    pub(crate) edge: u32,
+    pub(crate) ship: Ship,
+}
+
+/// One source or operator on one worker.
+#[derive(Drop)]
+pub(crate) struct Part {
+    pub(crate) at: u32,
+    pub(crate) kind: OpKind,
+    /// A source has none.
+    pub(crate) called: Option<Valid>,
+    pub(crate) left_keys: Keys,
+    pub(crate) right_keys: Keys,
+    pub(crate) fields: u32,
+    pub(crate) worker: u32,
+    pub(crate) workers: u32,
+    /// A batch has at most so many records.
+    pub(crate) batch: u32,
+    pub(crate) ports: Vec<Port>,
+    /// The root has none.
+    pub(crate) out: Option<Ship>,
+}
+
+impl Part {
+    pub(crate) fn function(&self) -> &Valid
+        requires { IsSome self.now.called }
+        ensures { self.now.called ≡ Some result.now }
+    {
+        match &self.called {
+            Some(function) => function,
+            None => unreachable!(),
+        }
+    }
+
+    pub(crate) fn maps(&self) -> bool
+        ensures { result ≡ is_map self.now.kind }
+    {
+        self.kind == OpKind::Map
+    }
+
+    pub(crate) fn pairs(&self) -> bool
+        ensures { result ≡ is_pairing self.now.kind }
+    {
+        matches!(self.kind, OpKind::Match | OpKind::Cross)
+    }
+
+    pub(crate) fn crosses(&self) -> bool
+        ensures { result ≡ is_cross self.now.kind }
+    {
+        self.kind == OpKind::Cross
+    }
+
+    pub(crate) fn reduces(&self) -> bool
+        ensures { result ≡ is_reduce self.now.kind }
+    {
+        self.kind == OpKind::Reduce
+    }
+
+    /// Whether it gives records before all have come.
+    pub(crate) fn works_at_once(&self) -> bool
+        ensures { result ≡ works_at_once self.now.kind }
+    {
+        !matches!(self.kind, OpKind::Reduce | OpKind::CoGroup)
+    }
+}

@@ -1,0 +1,127 @@
+//! The fields of an instance.
+
+ghost use Rattle.std.specs.Prelude.{◌≡◌, ◌≤◌, ◌<◌, ◌+◌, [], true, length, IfOk, OnOk};
+ghost use Rattle.flow_model.specs.Instances.{all_ended};
+ghost use Rattle.pact_operators.specs.Allowed.{count_of};
+ghost use Rattle.pact_record.specs.Widths.{AreWide};
+ghost use Rattle.flow_instance.specs.Steps.{HasGiven, HasMarked};
+ghost use Rattle.flow_instance.specs.States.{AreOrderly, HasBegun, IsFresh, PlacesAtRoot, part_of, seen};
+
+use crate::flags::{all_set, ended_at_start};
+use crate::parcels::Parcel;
+use crate::parts::Part;
+use crate::sending::{mark, send};
+use local_strategy::Local;
+use pact_bag::Rows;
+use pact_record::OutOfMemory;
+use std::alloc::Global;
+use std::collections::VecDeque;
+
+/// For each port the senders that have ended, by their numbers, and the rows that are kept; what waits, with its receivers, batches before end
+/// marks; what the root gave, and how many records were given.
+#[derive(Drop)]
+pub(crate) struct State<L: Local> {
+    pub(crate) alloc: Global,
+    pub(crate) part: Part,
+    pub(crate) left_ended: Vec<bool>,
+    pub(crate) right_ended: Vec<bool>,
+    pub(crate) left: L,
+    pub(crate) right: L,
+    pub(crate) queue: VecDeque<Parcel>,
+    pub(crate) receiver: u32,
+    pub(crate) placed: Rows,
+    pub(crate) given: u64,
+    pub(crate) finished: bool,
+}
+
+impl<L: Local> State<L> {
+    /// Nothing was taken or given, and nothing waits.
+    pub(crate) fn fresh(alloc: Global, part: Part) -> Result<State<L>, OutOfMemory>
+        ensures { IfOk result (IsFresh L.rows L.key_fields L.is_sealed part) }
+    {
+        let left = L::start(alloc, &part.left_keys)?;
+        let right = L::start(alloc, &part.right_keys)?;
+        let left_ended = ended_at_start(alloc, &part.ports, 0, part.worker, part.workers)?;
+        let right_ended = ended_at_start(alloc, &part.ports, 1, part.worker, part.workers)?;
+        let receiver = part.workers;
+        Ok(State {
+            alloc,
+            part,
+            left_ended,
+            right_ended,
+            left,
+            right,
+            queue: VecDeque::new(alloc),
+            receiver,
+            placed: Rows::new(alloc),
+            given: 0,
+            finished: false,
+        })
+    }
+
+    pub(crate) fn all_ended(&self) -> bool
+        requires left { length self.now.left_ended.items ≡ self.now.part.workers }
+        requires right { length self.now.right_ended.items ≡ self.now.part.workers }
+        ensures { result ≡ all_ended (seen L.rows self.now) }
+    {
+        all_set(&self.left_ended) && all_set(&self.right_ended)
+    }
+
+    /// A source gives its rows and owes its end marks.
+    pub(crate) fn begin(&mut self, rows: Rows) -> Result<(), OutOfMemory>
+        requires batch { 1 ≤ self.old.part.batch }
+        requires worker { self.old.part.worker < self.old.part.workers }
+        requires left { length self.old.left_ended.items ≡ self.old.part.workers }
+        requires right { length self.old.right_ended.items ≡ self.old.part.workers }
+        requires wide { AreWide self.old.part.fields rows }
+        requires placed { self.old.placed ≡ [] }
+        requires none { self.old.queue.items ≡ [] }
+        ensures { OnOk result (HasBegun L.rows self.old rows self.new) }
+    {
+        self.give(rows)?;
+        if !self.all_ended() {
+            return Ok(());
+        }
+        self.mark()
+    }
+
+    /// Sends the records on, or places them where no edge leaves.
+    pub(crate) fn give(&mut self, rows: Rows) -> Result<(), OutOfMemory>
+        requires batch { 1 ≤ self.old.part.batch }
+        requires worker { self.old.part.worker < self.old.part.workers }
+        requires wide { AreWide self.old.part.fields rows }
+        requires placed_wide { AreWide self.old.part.fields self.old.placed }
+        requires at_root { PlacesAtRoot self.old.part.out self.old.placed }
+        requires none { self.old.queue.items ≡ [] }
+        ensures same { OnOk result (self.new ≡ record self.old { queue = self.new.queue; placed = self.new.placed; given = self.new.given }) }
+        ensures counted { OnOk result (self.new.given ≡ count_of (self.old.given + length rows)) }
+        ensures sent { OnOk result (HasGiven (part_of self.old.part) rows self.old.placed self.new.placed self.new.queue.items) }
+        ensures orderly { OnOk result (AreOrderly self.old.part.workers self.new.queue.items) }
+    {
+        self.given = self.given.saturating_add(rows.len() as u64);
+        let Some(ship) = &self.part.out else {
+            let mut rows = rows;
+            return self.placed.append(&mut rows);
+        };
+        send(
+            self.alloc,
+            ship,
+            self.part.worker,
+            self.part.workers,
+            self.part.batch,
+            rows,
+            &mut self.queue,
+        )
+    }
+
+    /// Puts the end marks behind what waits.
+    pub(crate) fn mark(&mut self) -> Result<(), OutOfMemory>
+        ensures same { OnOk result (self.new ≡ record self.old { queue = self.new.queue }) }
+        ensures marked { OnOk result (HasMarked (part_of self.old.part) self.old.queue.items self.new.queue.items) }
+    {
+        match &self.part.out {
+            Some(ship) => mark(ship, self.part.worker, self.part.workers, &mut self.queue),
+            None => Ok(()),
+        }
+    }
+}

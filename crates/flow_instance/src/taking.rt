@@ -1,0 +1,107 @@
+//! Batches that an instance takes.
+
+ghost use Rattle.std.specs.Prelude.{◌≡◌, [], ℕ, true, false, IfOk, OnOk};
+ghost use Rattle.flow_model.specs.Instances.{all_ended};
+ghost use Rattle.flow_model.specs.declared.notes.Note.TheVariants.{Batch};
+ghost use Rattle.pact_record.specs.Widths.{AreWide};
+ghost use Rattle.flow_instance.specs.States.{AreOrderly, ArePairsGiven, HasFlags, HasTaken, IsReady, IsSound, is_map, is_pairing};
+
+use crate::keeping::keep;
+use crate::matching::{cross_kept, match_kept};
+use crate::states::State;
+use bag_calls::map_rows;
+use local_strategy::Local;
+use pact_bag::Rows;
+use pact_record::OutOfMemory;
+
+impl<L: Local> State<L> {
+    // A Map gives records at once.
+    fn map_batch(&mut self, rows: &Rows) -> Result<(), OutOfMemory>
+        requires ready { IsReady L.rows L.key_fields L.is_sealed self.old 0 }
+        requires kind { is_map self.old.part.kind ≡ true }
+        requires wide { AreWide self.old.part.fields rows.now }
+        ensures took { OnOk result ((from : ℕ) → HasTaken L.rows self.old 0 from (Batch rows.now) self.new) }
+        ensures sound { OnOk result (IsSound L.rows L.key_fields L.is_sealed self.new) }
+        ensures orderly { OnOk result (AreOrderly self.new.part.workers self.new.queue.items) }
+        ensures flags { OnOk result (HasFlags self.new) }
+    {
+        let out = map_rows(self.alloc, self.part.function(), rows)?;
+        self.give(out)
+    }
+
+    // What a Match or a Cross gives for right records.
+    fn pairs(&self, rows: &Rows) -> Result<Rows, OutOfMemory>
+        requires ready { IsReady L.rows L.key_fields L.is_sealed self.now 1 }
+        requires kind { is_pairing self.now.part.kind ≡ true }
+        requires wide { AreWide self.now.part.fields rows.now }
+        ensures given { IfOk result (ArePairsGiven L.rows L.key_fields self.now rows.now) }
+        ensures widths { IfOk result (AreWide self.now.part.fields) }
+    {
+        let part = &self.part;
+        if part.crosses() {
+            return cross_kept(self.alloc, part.function(), &self.left, rows);
+        }
+        match_kept(
+            self.alloc,
+            part.function(),
+            &self.left,
+            &part.right_keys,
+            rows,
+        )
+    }
+
+    // They are given at once.
+    fn match_batch(&mut self, rows: &Rows) -> Result<(), OutOfMemory>
+        requires ready { IsReady L.rows L.key_fields L.is_sealed self.old 1 }
+        requires kind { is_pairing self.old.part.kind ≡ true }
+        requires wide { AreWide self.old.part.fields rows.now }
+        ensures took { OnOk result ((from : ℕ) → HasTaken L.rows self.old 1 from (Batch rows.now) self.new) }
+        ensures sound { OnOk result (IsSound L.rows L.key_fields L.is_sealed self.new) }
+        ensures orderly { OnOk result (AreOrderly self.new.part.workers self.new.queue.items) }
+        ensures flags { OnOk result (HasFlags self.new) }
+    {
+        let out = self.pairs(rows)?;
+        self.give(out)
+    }
+
+    fn keep_left(&mut self, rows: Rows) -> Result<(), OutOfMemory>
+        requires ready { IsReady L.rows L.key_fields L.is_sealed self.old 0 }
+        requires kind { is_map self.old.part.kind ≡ false }
+        requires wide { AreWide self.old.part.fields rows }
+        ensures took { OnOk result ((from : ℕ) → HasTaken L.rows self.old 0 from (Batch rows) self.new) }
+        ensures sound { OnOk result (IsSound L.rows L.key_fields L.is_sealed self.new) }
+        ensures orderly { OnOk result (AreOrderly self.new.part.workers self.new.queue.items) }
+        ensures flags { OnOk result (HasFlags self.new) }
+    {
+        keep(&mut self.left, self.part.fields, rows)
+    }
+
+    fn keep_right(&mut self, rows: Rows) -> Result<(), OutOfMemory>
+        requires ready { IsReady L.rows L.key_fields L.is_sealed self.old 1 }
+        requires kind { is_pairing self.old.part.kind ≡ false }
+        requires wide { AreWide self.old.part.fields rows }
+        ensures took { OnOk result ((from : ℕ) → HasTaken L.rows self.old 1 from (Batch rows) self.new) }
+        ensures sound { OnOk result (IsSound L.rows L.key_fields L.is_sealed self.new) }
+        ensures orderly { OnOk result (AreOrderly self.new.part.workers self.new.queue.items) }
+        ensures flags { OnOk result (HasFlags self.new) }
+    {
+        keep(&mut self.right, self.part.fields, rows)
+    }
+
+    /// Takes a batch at a port.
+    pub(crate) fn take_batch(&mut self, port: u32, rows: Rows) -> Result<(), OutOfMemory>
+        requires ready { IsReady L.rows L.key_fields L.is_sealed self.old port }
+        requires wide { AreWide self.old.part.fields rows }
+        ensures took { OnOk result ((from : ℕ) → HasTaken L.rows self.old port from (Batch rows) self.new) }
+        ensures sound { OnOk result (IsSound L.rows L.key_fields L.is_sealed self.new) }
+        ensures orderly { OnOk result (AreOrderly self.new.part.workers self.new.queue.items) }
+        ensures flags { OnOk result (HasFlags self.new) }
+    {
+        match (port == 0, self.part.maps(), self.part.pairs()) {
+            (true, true, _) => self.map_batch(&rows),
+            (true, false, _) => self.keep_left(rows),
+            (false, _, true) => self.match_batch(&rows),
+            (false, _, false) => self.keep_right(rows),
+        }
+    }
+}

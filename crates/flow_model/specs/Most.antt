@@ -1,0 +1,88 @@
+-- A bound on the events of a run. It is finite, and not tight.
+use Rattle.std.specs.Prelude.{◌≤◌, ◌+◌, ◌*◌, ℕ, List, length}
+use Rattle.tac_syntax.specs.declared.declarations.OpKind.{OpKind}
+use Rattle.tac_syntax.specs.declared.declarations.OpKind.TheVariants.{Map, Reduce, Match, Cross, CoGroup}
+use Rattle.plan_trees.specs.Plans.{PlanTree, leaf, over, both}
+use Rattle.pact_operators.specs.Allowed.{Bag}
+use Rattle.pact_operators.specs.PlanOps.{PlanOps, body_at}
+use Rattle.pact_operators.specs.Programs.{ProgramData}
+use Rattle.tac_syntax.specs.Call.{turns}
+use Rattle.pact_record.specs.declared.values.Value.{Value}
+use Rattle.flow_model.specs.declared.notes.Note.{Note}
+use Rattle.flow_model.specs.declared.notes.Want.TheVariants.{Done}
+use Rattle.flow_model.specs.Instances.{want}
+use Rattle.flow_model.specs.Local.{one_if}
+use Rattle.flow_model.specs.Spots.{Setting}
+use Rattle.flow_model.specs.Spread.{sum_below}
+use Rattle.flow_model.specs.Worlds.{World, History, does_want}
+
+-- A call of an operator's function gives no more records than `most` tells, by the operator and the length of the longest list.
+pub record IsBounded (o : PlanOps) (most : ℕ → ℕ → ℕ) : Type 0 where
+  pub of_record : (n : ℕ) (row : List Value) → length (o.of_record n row) ≤ most n 0
+  pub of_pair : (n : ℕ) (left right : List Value) → length (o.of_pair n left right) ≤ most n 0
+  pub of_group : (n m : ℕ) (key : List Value) (group : Bag) → length group ≤ m → length (o.of_group n key group) ≤ most n m
+  pub of_groups : (n m : ℕ) (key : List Value) (left right : Bag) → length left ≤ m → length right ≤ m → length (o.of_groups n key left right) ≤ most n m
+
+-- as many as the steps of a call, for the functions of a program
+abbrev pub program_turns : ProgramData → (n longest : ℕ) → ℕ
+program_turns p n longest = turns longest (body_at p n)
+
+-- ---- records
+
+-- what the instances of an operator give at most, from what those of its inputs give
+abbrev pub most_of_one : OpKind → (workers x : ℕ) → (ℕ → ℕ) → ℕ
+most_of_one Map workers x turns = workers * (x * turns 0)
+most_of_one Reduce workers x turns = workers * (x * turns x)
+most_of_one kind workers x turns = 0
+
+abbrev pub most_of_two : OpKind → (workers x y : ℕ) → (ℕ → ℕ) → ℕ
+most_of_two Match workers x y turns = workers * ((x * y) * turns 0)
+most_of_two Cross workers x y turns = workers * ((x * y) * turns 0)
+most_of_two CoGroup workers x y turns = workers * ((x + y) * turns (x + y))
+most_of_two kind workers x y turns = 0
+
+abbrev pub most_given : Setting → (turns : ℕ → ℕ → ℕ) → PlanTree → ℕ
+most_given g turns (leaf n) = length (g.ops.rows n)
+most_given g turns (over n t) = most_of_one (g.ops.kind n) g.physical.workers (most_given g turns t) (turns n)
+most_given g turns (both n t u) = most_of_two (g.ops.kind n) g.physical.workers (most_given g turns t) (most_given g turns u) (turns n)
+
+-- ---- events
+
+-- of a source or operator other than the root: the ends of its instances, and each note put and taken
+abbrev pub own_most : Setting → (turns : ℕ → ℕ → ℕ) → PlanTree → ℕ
+own_most g turns t = g.physical.workers + 2 * (g.physical.workers * most_given g turns t + g.physical.workers * g.physical.workers)
+
+abbrev pub most_below : Setting → (turns : ℕ → ℕ → ℕ) → PlanTree → ℕ
+most_below g turns (leaf n) = own_most g turns (leaf n)
+most_below g turns (over n t) = own_most g turns (over n t) + most_below g turns t
+most_below g turns (both n t u) = own_most g turns (both n t u) + (most_below g turns t + most_below g turns u)
+
+-- the root has ends alone
+abbrev pub most_of : Setting → (turns : ℕ → ℕ → ℕ) → PlanTree → ℕ
+most_of g turns (leaf n) = g.physical.workers
+most_of g turns (over n t) = g.physical.workers + most_below g turns t
+most_of g turns (both n t u) = g.physical.workers + (most_below g turns t + most_below g turns u)
+
+abbrev pub most : Setting → (turns : ℕ → ℕ → ℕ) → ℕ
+most g turns = most_of g turns g.physical.tree
+
+-- ---- the events so far
+
+abbrev pub notes_on : Setting → (ℕ → ℕ → ℕ → List Note) → (edge : ℕ) → ℕ
+notes_on g lists edge = sum_below g.physical.workers (λ from. sum_below g.physical.workers (λ to. length (lists edge from to)))
+
+abbrev pub done_at : Setting → World → ℕ → ℕ
+done_at g w at = sum_below g.physical.workers (λ worker. one_if (does_want (want (w.instance at worker)) Done))
+
+abbrev pub events_at : Setting → World → History → ℕ → ℕ
+events_at g w h at = done_at g w at + (notes_on g h.put at + notes_on g h.taken at)
+
+-- the sum over the numbers of a tree
+abbrev pub tree_sum : (ℕ → ℕ) → PlanTree → ℕ
+tree_sum f (leaf n) = f n
+tree_sum f (over n t) = f n + tree_sum f t
+tree_sum f (both n t u) = f n + (tree_sum f t + tree_sum f u)
+
+-- the notes put, the notes taken and the instances that are done
+abbrev pub events : Setting → World → History → ℕ
+events g w h = tree_sum (events_at g w h) g.physical.tree

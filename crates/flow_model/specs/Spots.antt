@@ -1,0 +1,73 @@
+-- What a program and a physical plan say of the instances of one source or operator.
+use Rattle.std.specs.Prelude.{ℕ, Bool, false, Option, Some, None, List, [], ◌∷◌}
+use Rattle.tac_syntax.specs.declared.declarations.OpKind.{OpKind}
+use Rattle.plan_trees.specs.declared.physicals.Ship.{Ship}
+use Rattle.plan_trees.specs.Physicals.{PhysicalData, ship_at, ship_of}
+use Rattle.plan_trees.specs.Plans.{PlanTree, leaf, over, both, root_of}
+use Rattle.plan_trees.specs.Sending as sending
+use Rattle.plan_trees.specs.Sending.{has_pipe}
+use Rattle.pact_operators.specs.Allowed.{Bag}
+use Rattle.pact_operators.specs.PlanOps.{PlanOps, plan_ops}
+use Rattle.pact_operators.specs.Programs.{ProgramData}
+
+-- What the sources and operators do, how many fields a record has, and a physical plan.
+pub record Setting : Type 0 where
+  pub ops : PlanOps
+  pub fields : ℕ
+  pub physical : PhysicalData
+
+-- of a program with the rows of its sources
+abbrev pub setting : ProgramData → List Bag → PhysicalData → Setting
+setting p inputs physical = record { ops = plan_ops p inputs; fields = p.fields; physical = physical }
+
+-- An edge that comes in at a port: the number of what sends along it, and how.
+pub record Port : Type 0 where
+  pub edge : ℕ
+  pub ship : Ship
+
+-- One source or operator: its number, kind and ports, and how its records go to its consumer, which the root doesn't have.
+pub record Spot : Type 0 where
+  pub at : ℕ
+  pub kind : OpKind
+  pub workers : ℕ
+  pub fields : ℕ
+  pub ports : List Port
+  pub out : Option Ship
+  pub ops : PlanOps
+
+abbrev pub port_from : PhysicalData → PlanTree → Port
+port_from p t = record { edge = root_of t; ship = ship_of p t }
+
+abbrev pub ports_of : PhysicalData → PlanTree → List Port
+ports_of p (leaf n) = []
+ports_of p (over n t) = port_from p t ∷ []
+ports_of p (both n t u) = port_from p t ∷ port_from p u ∷ []
+
+-- the one at the root of a tree
+abbrev pub spot : Setting → PlanTree → Spot
+spot g t = record {
+  at = root_of t;
+  kind = g.ops.kind (root_of t);
+  workers = g.physical.workers;
+  fields = g.fields;
+  ports = ports_of g.physical t;
+  out = ship_at g.physical (root_of t);
+  ops = g.ops;
+}
+
+-- ---- its pipes
+
+-- whether a worker's instance has a pipe to another worker
+abbrev pub has_out : Option Ship → (from to : ℕ) → Bool
+has_out None from to = false
+has_out (Some ship) from to = has_pipe ship from to
+
+-- whether a worker's instance has a pipe from another worker at a port
+abbrev pub is_edge : Option Port → (from worker : ℕ) → Bool
+is_edge None from worker = false
+is_edge (Some port) from worker = has_pipe port.ship from worker
+
+-- those of a worker's records that go to another
+abbrev pub sent : Option Ship → (workers from to : ℕ) → Bag → Bag
+sent None workers from to given = []
+sent (Some ship) workers from to given = sending.sent ship workers from to given

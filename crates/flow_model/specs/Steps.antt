@@ -1,0 +1,127 @@
+-- What a note does to an instance.
+use Rattle.std.specs.Prelude.{◌≡◌, ◌≢◌, ◌<◌, ◌+◌, ◌&&◌, ◌||◌, ◌⊎◌, ◌==◌, ℕ, suc, Bool, true, false, cond, List, [], ◌∷◌, ◌++◌, length, slice_get}
+use Rattle.std.specs.List.{AllByRecursion}
+use Rattle.std.specs.List.Sorted.{IsPermutation}
+use Rattle.pact_record.specs.Widths.{AreWide}
+use Rattle.tac_syntax.specs.declared.declarations.OpKind.{OpKind}
+use Rattle.tac_syntax.specs.declared.declarations.OpKind.TheVariants.{Map, Match, Cross}
+use Rattle.pact_operators.specs.Allowed.{Bag, Gives, GivesBoth, count_of}
+use Rattle.flow_model.specs.declared.notes.Note.{Note}
+use Rattle.flow_model.specs.declared.notes.Note.TheVariants.{Batch, End}
+use Rattle.flow_model.specs.Instances.{Instance, all_ended, ended_at, kept_at}
+use Rattle.flow_model.specs.Local.{Gave, IsGiven, IsPartOf, IsReceiver, IsWaiting, KeepsRows, Placed, marks_for, one_if, rows_for, sender_ended, works_at_once}
+use Rattle.flow_model.specs.Spots.{Spot, has_out, sent}
+
+abbrev pub is_end : Note → Bool
+is_end (Batch rows) = false
+is_end End = true
+
+abbrev pub note_rows : Note → Bag
+note_rows (Batch rows) = rows
+note_rows End = []
+
+-- ---- a note is taken
+
+-- what an operator that works at once gives for one note, over the rows that it keeps of port 0
+abbrev pub GivesAtOnce : Spot → OpKind → (port : ℕ) → (kept : Bag) → Note → Bag → Type 0
+GivesAtOnce s Map port kept (Batch rows) out = Gives s.ops Map s.at rows out
+GivesAtOnce s Match (suc port) kept (Batch rows) out = GivesBoth s.ops Match s.at kept rows out
+GivesAtOnce s Cross (suc port) kept (Batch rows) out = GivesBoth s.ops Cross s.at kept rows out
+GivesAtOnce s kind port kept note out = out ≡ []
+
+-- the rows that are kept, with those of a note at a port
+abbrev pub kept_with : (ℕ → Bag) → (port : ℕ) → Note → ℕ → Bag
+kept_with kept port note p = kept p ++ cond (p == port) (note_rows note) []
+
+-- what an instance gives for one note
+abbrev pub GivesNow : (at_once : Bool) → Spot → (worker : ℕ) → (i j : Instance) → (port : ℕ) → Note → Bag → Type 0
+GivesNow true s worker i j port note out = GivesAtOnce s s.kind port (kept_at i 0) note out
+GivesNow false s worker i j port note out = Gave (all_ended j) (IsGiven s s.kind s.ports worker (kept_with (kept_at i) port note)) out
+
+-- batches carry these records to all that they go to
+pub record Carry (s : Spot) (worker : ℕ) (out : Bag) (waiting : List (ℕ × Bag)) : Type 0 where
+  pub notes : AllByRecursion (IsWaiting s worker) waiting
+  pub sent_on : (to : ℕ) → to < s.workers → IsPermutation (sent s.out s.workers worker to out) (rows_for to waiting)
+
+-- one end mark waits for each receiver where they are owed, and else none does
+pub record Mark (s : Spot) (worker : ℕ) (owed : Bool) (marks : List ℕ) : Type 0 where
+  pub receivers : AllByRecursion (IsReceiver s worker) marks
+  pub each : (to : ℕ) → to < s.workers → marks_for to marks ≡ one_if (has_out s.out worker to && owed)
+
+-- An instance i, with nothing that waits, took a note at a port from a sender, and is j.
+pub record Took (s : Spot) (worker : ℕ) (i : Instance) (port from : ℕ) (note : Note) (j : Instance) : Type 0 where
+  pub out : Bag
+  pub gives : GivesNow (works_at_once s.kind) s worker i j port note out
+  pub part : j.part ≡ i.part
+  pub finished : j.finished ≡ i.finished
+  pub ended : (p k : ℕ) → ended_at j p k ≡ ((is_end note && ((p == port) && (k == from))) || ended_at i p k)
+  pub kept : all_ended j ≡ false → KeepsRows s.kind (kept_with (kept_at i) port note) (kept_at j)
+  pub kept_wide : (p : ℕ) → AreWide s.fields (kept_at j p)
+  pub carries : Carry s worker out j.waiting
+  pub marks : Mark s worker (all_ended j) j.marks
+  pub placed : Placed s.out (i.placed ++ out) j.placed
+  pub placed_wide : AreWide s.fields j.placed
+  pub given : j.given ≡ count_of (i.given + length out)
+
+-- ---- a note goes out
+
+-- the note that goes out next
+abbrev pub next_note : (waiting : List (ℕ × Bag)) → Note
+next_note [] = End
+next_note (w ∷ waiting) = Batch w.1
+
+abbrev pub later : {A : Type 0} → List A → List A
+later [] = []
+later (x ∷ xs) = xs
+
+abbrev pub later_marks : (waiting : List (ℕ × Bag)) → List ℕ → List ℕ
+later_marks [] marks = later marks
+later_marks (w ∷ waiting) marks = marks
+
+-- and for whom
+abbrev pub next_receiver : (waiting : List (ℕ × Bag)) → List ℕ → ℕ
+next_receiver [] [] = 0
+next_receiver [] (m ∷ marks) = m
+next_receiver (w ∷ waiting) marks = w.0
+
+-- without it
+abbrev pub offered : Instance → Instance
+offered i = record i { waiting = later i.waiting; marks = later_marks i.waiting i.marks; receiver = next_receiver i.waiting i.marks }
+
+-- with it again
+abbrev pub returned : Instance → Note → Instance
+returned i (Batch rows) = record i { waiting = (i.receiver, rows) ∷ i.waiting }
+returned i End = record i { marks = i.receiver ∷ i.marks }
+
+-- ---- an instance ends
+
+abbrev pub finish : Instance → Instance
+finish i = record i { finished = true }
+
+-- ---- lists of notes
+
+-- one note more on one of the lists
+pub record Added (old : ℕ → ℕ → List Note) (a b : ℕ) (note : Note) (new : ℕ → ℕ → List Note) : Type 0 where
+  pub here : new a b ≡ old a b ++ note ∷ []
+  pub elsewhere : (c d : ℕ) → (c ≢ a) ⊎ (d ≢ b) → new c d ≡ old c d
+
+-- one note more on one of an instance's lists
+pub record AddedTo (old : ℕ → List Note) (a : ℕ) (note : Note) (new : ℕ → List Note) : Type 0 where
+  pub here : new a ≡ old a ++ note ∷ []
+  pub elsewhere : (c : ℕ) → c ≢ a → new c ≡ old c
+
+-- ---- an instance at its start
+
+pub record Started (s : Spot) (worker : ℕ) (i : Instance) : Type 0 where
+  pub out : Bag
+  pub gives : Gave (works_at_once s.kind || all_ended i) (IsGiven s s.kind s.ports worker (λ port. [])) out
+  pub part : IsPartOf s worker i.part
+  pub ended : (port from : ℕ) → from < s.workers → ended_at i port from ≡ sender_ended (slice_get s.ports port) from worker []
+  pub kept : KeepsRows s.kind (λ port. []) (kept_at i)
+  pub kept_wide : (port : ℕ) → AreWide s.fields (kept_at i port)
+  pub carries : Carry s worker out i.waiting
+  pub marks : Mark s worker (all_ended i) i.marks
+  pub placed : Placed s.out out i.placed
+  pub placed_wide : AreWide s.fields i.placed
+  pub given : i.given ≡ count_of (length out)
+  pub finished : i.finished ≡ false
