@@ -12,6 +12,7 @@ use Rattle.flow_model.specs.Worlds.{World, History, enabled, reader_of}
 
 -- ---- lists and instances
 
+-- whether the pipe has this edge, sender and receiver
 abbrev pub is_pipe : PipeId → (edge from to : ℕ) → Bool
 is_pipe p edge from to = (edge == p.edge) && ((from == p.from) && (to == p.to))
 
@@ -28,26 +29,31 @@ pub record ListChanged (old : ℕ → ℕ → ℕ → List Note) (p : PipeId) (l
 abbrev pub OthersSame : World → (at worker : ℕ) → World → Type 0
 OthersSame w at worker v = (a b : ℕ) → (a ≢ at) ⊎ (b ≢ worker) → v.instance a b ≡ w.instance a b
 
+-- an empty list has none, and an end mark stands for it
 abbrev pub first_note : List Note → Note
 first_note [] = notes.End
 first_note (n ∷ ns) = n
 
 -- ---- worlds
 
+-- the note that a sender wants to put stands last on its pipe
 pub record Puts (w : World) (p : PipeId) (v : World) : Type 0 where
   pub instance : v.instance p.edge p.from ≡ offered (w.instance p.edge p.from)
   pub others : OthersSame w p.edge p.from v
   pub queue : ListChanged w.queue p (w.queue p.edge p.from p.to ++ next_note (w.instance p.edge p.from).waiting ∷ []) v.queue
 
+-- the first note of a pipe was taken by the operator that reads it, at its port
 pub record Takes (g : Setting) (w : World) (p : PipeId) (at port : ℕ) (v : World) : Type 0 where
   pub instance : Took (spot g (subtree_of at g.physical.tree)) p.to (w.instance at p.to) port p.from (first_note (w.queue p.edge p.from p.to)) (v.instance at p.to)
   pub others : OthersSame w at p.to v
   pub queue : ListChanged w.queue p (later (w.queue p.edge p.from p.to)) v.queue
 
+-- by the reader of the edge, where there is one
 abbrev pub TakesBy : Setting → World → PipeId → Option (ℕ × ℕ) → World → Type 0
 TakesBy g w p None v = ⊥
 TakesBy g w p (Some reader) v = Takes g w p reader.0 reader.1 v
 
+-- an instance has ended, and every pipe has the same notes
 pub record Ends (w : World) (at worker : ℕ) (v : World) : Type 0 where
   pub instance : v.instance at worker ≡ finish (w.instance at worker)
   pub others : OthersSame w at worker v

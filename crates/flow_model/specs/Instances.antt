@@ -56,6 +56,7 @@ kept_at i port = of_port i.left_kept i.right_kept [] port
 abbrev pub port_ended : Instance → ℕ → Bool
 port_ended i port = all_below i.part.workers (ended_at i port)
 
+-- whether every sender of every port has ended
 abbrev pub all_ended : Instance → Bool
 all_ended i = port_ended i 0 && port_ended i 1
 
@@ -68,5 +69,6 @@ want_by [] [] true false finished = Take 1
 want_by [] [] true true false = End
 want_by [] [] true true true = Done
 
+-- What waits goes out first, then port 0 is taken and then port 1; at the end the instance ends.
 abbrev pub want : Instance → Want
 want i = want_by i.waiting i.marks (port_ended i 0) (port_ended i 1) i.finished

@@ -92,6 +92,7 @@ abbrev pub rows_for : ℕ → List (ℕ × Bag) → Bag
 rows_for to [] = []
 rows_for to (w ∷ waiting) = cond (w.0 == to) w.1 [] ++ rows_for to waiting
 
+-- as a number
 abbrev pub one_if : Bool → ℕ
 one_if b = cond b 1 0
 

@@ -35,12 +35,14 @@ most_of_one Map workers x turns = workers * (x * turns 0)
 most_of_one Reduce workers x turns = workers * (x * turns x)
 most_of_one kind workers x turns = 0
 
+-- the same of an operator with two inputs
 abbrev pub most_of_two : OpKind → (workers x y : ℕ) → (ℕ → ℕ) → ℕ
 most_of_two Match workers x y turns = workers * ((x * y) * turns 0)
 most_of_two Cross workers x y turns = workers * ((x * y) * turns 0)
 most_of_two CoGroup workers x y turns = workers * ((x + y) * turns (x + y))
 most_of_two kind workers x y turns = 0
 
+-- what the instances at the root of a tree give at most together
 abbrev pub most_given : Setting → (turns : ℕ → ℕ → ℕ) → PlanTree → ℕ
 most_given g turns (leaf n) = length (g.ops.rows n)
 most_given g turns (over n t) = most_of_one (g.ops.kind n) g.physical.workers (most_given g turns t) (turns n)
@@ -52,6 +54,7 @@ most_given g turns (both n t u) = most_of_two (g.ops.kind n) g.physical.workers 
 abbrev pub own_most : Setting → (turns : ℕ → ℕ → ℕ) → PlanTree → ℕ
 own_most g turns t = g.physical.workers + 2 * (g.physical.workers * most_given g turns t + g.physical.workers * g.physical.workers)
 
+-- of all sources and operators of a tree whose root has an edge
 abbrev pub most_below : Setting → (turns : ℕ → ℕ → ℕ) → PlanTree → ℕ
 most_below g turns (leaf n) = own_most g turns (leaf n)
 most_below g turns (over n t) = own_most g turns (over n t) + most_below g turns t
@@ -63,17 +66,21 @@ most_of g turns (leaf n) = g.physical.workers
 most_of g turns (over n t) = g.physical.workers + most_below g turns t
 most_of g turns (both n t u) = g.physical.workers + (most_below g turns t + most_below g turns u)
 
+-- at most so many events
 abbrev pub most : Setting → (turns : ℕ → ℕ → ℕ) → ℕ
 most g turns = most_of g turns g.physical.tree
 
 -- ---- the events so far
 
+-- how many notes stand on the lists of an edge
 abbrev pub notes_on : Setting → (ℕ → ℕ → ℕ → List Note) → (edge : ℕ) → ℕ
 notes_on g lists edge = sum_below g.physical.workers (λ from. sum_below g.physical.workers (λ to. length (lists edge from to)))
 
+-- how many instances of an operator are done
 abbrev pub done_at : Setting → World → ℕ → ℕ
 done_at g w at = sum_below g.physical.workers (λ worker. one_if (does_want (want (w.instance at worker)) Done))
 
+-- the ends of an operator, and the notes that its instances put and that were taken of them
 abbrev pub events_at : Setting → World → History → ℕ → ℕ
 events_at g w h at = done_at g w at + (notes_on g h.put at + notes_on g h.taken at)
 

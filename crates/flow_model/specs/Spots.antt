@@ -35,9 +35,11 @@ pub record Spot : Type 0 where
   pub out : Option Ship
   pub ops : PlanOps
 
+-- the port that reads the root of a tree
 abbrev pub port_from : PhysicalData → PlanTree → Port
 port_from p t = record { edge = root_of t; ship = ship_of p t }
 
+-- those of the root of a tree
 abbrev pub ports_of : PhysicalData → PlanTree → List Port
 ports_of p (leaf n) = []
 ports_of p (over n t) = port_from p t ∷ []

@@ -12,10 +12,12 @@ use Rattle.flow_model.specs.Instances.{Instance, all_ended, ended_at, kept_at}
 use Rattle.flow_model.specs.Local.{Gave, IsGiven, IsPartOf, IsReceiver, IsWaiting, KeepsRows, Placed, marks_for, one_if, rows_for, sender_ended, works_at_once}
 use Rattle.flow_model.specs.Spots.{Spot, has_out, sent}
 
+-- whether it is an end mark
 abbrev pub is_end : Note → Bool
 is_end (Batch rows) = false
 is_end End = true
 
+-- the records of a batch, and none of an end mark
 abbrev pub note_rows : Note → Bag
 note_rows (Batch rows) = rows
 note_rows End = []
@@ -70,10 +72,12 @@ abbrev pub next_note : (waiting : List (ℕ × Bag)) → Note
 next_note [] = End
 next_note (w ∷ waiting) = Batch w.1
 
+-- without the first
 abbrev pub later : {A : Type 0} → List A → List A
 later [] = []
 later (x ∷ xs) = xs
 
+-- end marks go out once no batch waits
 abbrev pub later_marks : (waiting : List (ℕ × Bag)) → List ℕ → List ℕ
 later_marks [] marks = later marks
 later_marks (w ∷ waiting) marks = marks
@@ -95,6 +99,7 @@ returned i End = record i { marks = i.receiver ∷ i.marks }
 
 -- ---- an instance ends
 
+-- nothing else changes
 abbrev pub finish : Instance → Instance
 finish i = record i { finished = true }
 
@@ -112,6 +117,7 @@ pub record AddedTo (old : ℕ → List Note) (a : ℕ) (note : Note) (new : ℕ 
 
 -- ---- an instance at its start
 
+-- Nothing was taken or put. A source has given its share, which waits or is placed, and owes its end marks.
 pub record Started (s : Spot) (worker : ℕ) (i : Instance) : Type 0 where
   pub out : Bag
   pub gives : Gave (works_at_once s.kind || all_ended i) (IsGiven s s.kind s.ports worker (λ port. [])) out

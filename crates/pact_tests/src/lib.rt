@@ -1,4 +1,5 @@
-//! Tests of calls, from the words of the command line to what is written, over what the libraries make public.
+//! Tests of calls over files in memory: how files are read, and what is left where a read or a write fails. What a user of the program can see is for
+//! `examples/check`.
 //!
 //! A crate with tests is proved twice, with them and without, so the tests stand apart.
 #![tactic(auto)]
@@ -6,12 +7,4 @@
 #[cfg(test)]
 mod calls;
 #[cfg(test)]
-mod choice_tests;
-#[cfg(test)]
-mod operator_tests;
-#[cfg(test)]
-mod rule_tests;
-#[cfg(test)]
 mod run_tests;
-#[cfg(test)]
-mod sets_tests;

@@ -9,14 +9,14 @@ pub struct Options {
     pub plans: u32,
     /// `--batch`: how many records go along a pipe at once at most.
     pub batch: u32,
-    /// `--depth`: how many batches a pipe holds at most.
+    /// `--depth`: how many notes, batches and end marks, a pipe holds at most.
     pub depth: u32,
 }
 
 /// A command with its operands and options.
 ///
 /// Where the words don't tell, there are 4 workers (1 to 16), at most 256 plans (1 to 1,000), batches of 64 records (1 to 1,024) and pipes of
-/// 4 batches (1 to 64).
+/// 4 notes (1 to 64).
 #[derive(Clone, Copy, Debug, PartialEq, Eq)]
 pub enum Command<'a> {
     /// `run PROGRAM`: the program in the file of that name is run, and its rows are written.

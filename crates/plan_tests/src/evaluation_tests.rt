@@ -5,7 +5,7 @@ use std::alloc::Global;
 use std::test::Fail;
 
 // The Cross gives each pair of equal numbers twice; the CoGroup gives the records of both groups.
-const PAIRS: &str = "pact 1
+pub const PAIRS: &str = "pact 1
 fields 6
 source l l.csv int:0 int:1
 source r r.csv int:2 int:3

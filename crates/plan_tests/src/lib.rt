@@ -1,5 +1,5 @@
 //! Tests of programs and their plans, over what the libraries make public: what a program has, what its plans put out, which operators may change
-//! places, which plans are listed, what they cost, and their certificates.
+//! places, which plans are listed, what they cost, how they run in parts, and their certificates.
 //!
 //! A crate with tests is proved twice, with them and without, so the tests stand apart.
 #![tactic(auto)]
@@ -18,3 +18,5 @@ mod listing_tests;
 mod program_tests;
 #[cfg(test)]
 mod programs;
+#[cfg(test)]
+mod world_tests;

@@ -1,4 +1,4 @@
-use pact_words::{Command, Options, Refused, read_words};
+use pact_words::{Command, Options, read_words};
 use std::process::Abort;
 
 fn run(workers: u32, plans: u32, counts: bool) -> Command<'static> {
@@ -22,11 +22,6 @@ fn piped(workers: u32, plans: u32, batch: u32, depth: u32, counts: bool) -> Comm
 fn asks(rt: &(impl Abort + AllocGlobal), words: &[&str], command: Command) {
     let met = read_words(rt.alloc(), &*words) == Ok(command);
     assert!(rt; met, "{words:?} don't ask for {command:?}");
-}
-
-fn refuses(rt: &(impl Abort + AllocGlobal), words: &[&str]) {
-    let met = read_words(rt.alloc(), &*words) == Err(Refused::Usage);
-    assert!(rt; met, "{words:?} aren't refused");
 }
 
 #[test]
@@ -109,19 +104,4 @@ fn words_ask_for_other_commands(rt: HostRuntime) {
     );
     asks(&rt, &["sets", "-"], Command::Sets { program: "-" });
     asks(&rt, &["sets", "help"], Command::Sets { program: "help" });
-}
-
-// Further words that are refused stand in `examples/check`.
-#[test]
-fn words_are_refused(rt: HostRuntime) {
-    refuses(&rt, &[]);
-    refuses(&rt, &["Run", "p.pact"]);
-    refuses(&rt, &["check", "p.pact"]);
-    refuses(&rt, &["run", "p.pact", "--help"]);
-    refuses(&rt, &["plan", "p.pact", "--counts"]);
-    refuses(&rt, &["run", "p.pact", "--workers", "17"]);
-    refuses(&rt, &["run", "p.pact", "--batch", "0"]);
-    refuses(&rt, &["run", "p.pact", "--batch", "1025"]);
-    refuses(&rt, &["run", "p.pact", "--depth", "65"]);
-    refuses(&rt, &["plan", "p.pact", "--depth", "4"]);
 }

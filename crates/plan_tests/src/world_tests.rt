@@ -1,0 +1,254 @@
+//! Worlds of instances and pipes, stepped by hand and run alone.
+
+ghost use Rattle.std.specs.Prelude.{◌≡◌, ◌≤◌, ◌<◌, IfOk};
+ghost use Rattle.plan_trees.specs.Physicals.{worker_limit};
+ghost use Rattle.flow_core.specs.Worlds.{StandsForSome};
+
+use crate::evaluation_tests::PAIRS;
+use crate::listing_tests::PUSH;
+use crate::programs::{inputs, program};
+use flow_core::{Event, PipeId, Replay, World, replay, run_alone};
+use local_strategy::ListLocal;
+use pact_bag::sort_rows;
+use ship_strategy::{layout, layouts};
+use slow_eval::evaluate;
+use std::alloc::Global;
+use std::process::Abort;
+use std::test::Fail;
+
+const TWICE: &str = "pact 1
+fields 4
+source d d.csv int:0 int:1
+function two map
+  r0 = copy in
+  emit r0
+  emit r0
+end
+map m two d
+sink m 0 1
+";
+
+const MATCH: &str = "pact 1
+fields 4
+source a a.csv int:0 int:1
+source b b.csv int:2 int:3
+function both match
+  r0 = copy join
+  emit r0
+end
+match j both a b by 0 = 2
+sink j 0 1 3
+";
+
+// The first layout of the program's plan as written, at its start.
+fn world(
+    alloc: Global,
+    text: &str,
+    rows: &[&str],
+    workers: u32,
+    batch: u32,
+    depth: u32,
+) -> Result<World<ListLocal>, Fail>
+    requires workers { (1 ≤ workers) × (workers ≤ worker_limit) }
+    requires batch { (1 ≤ batch) × (batch ≤ 1024) }
+    requires depth { (1 ≤ depth) × (depth ≤ 64) }
+    ensures { IfOk result StandsForSome }
+{
+    let program = program(alloc, text.as_bytes())?;
+    let inputs = inputs(alloc, &program, rows)?;
+    let _some = layouts(&program, program.plan());
+    let physical = layout(&program, program.plan(), 0, workers);
+    let world = World::start(alloc, &program, &physical, &inputs, batch, depth)?;
+    Ok(world)
+}
+
+fn pipe(edge: u32, from: u32, to: u32) -> PipeId {
+    PipeId { edge, from, to }
+}
+
+fn put(edge: u32, from: u32, to: u32) -> Event {
+    Event::Put(pipe(edge, from, to))
+}
+
+fn take(edge: u32, from: u32, to: u32) -> Event {
+    Event::Take(pipe(edge, from, to))
+}
+
+// How many of the events are enabled, each behind those before it, and how many rows the root gives where they are all followed, or up to the
+// first that isn't.
+fn followed(world: World<ListLocal>, events: &[Event]) -> Result<(usize, usize), Fail>
+    requires { StandsForSome world }
+{
+    let (count, left) = match replay(world, events) {
+        Ok(left) => (events.len(), left),
+        Err(Replay::NotEnabled { index, world }) => (index, world),
+        Err(Replay::Memory) => return Err(Fail::new("no memory")),
+    };
+    let outcome = run_alone(left)?;
+    Ok((count, outcome.rows.len()))
+}
+
+fn end(at: u32, worker: u32) -> Event {
+    Event::End { at, worker }
+}
+
+#[test]
+fn nothing_can_be_taken_at_the_start(rt: HostRuntime) -> Result<(), Fail> {
+    let world = world(rt.alloc(), TWICE, &["1,5\n1,5\n"], 2, 64, 4)?;
+    assert_eq!(rt; followed(world, &[take(0, 0, 0)])?, (0, 4));
+    Ok(())
+}
+
+// So many of the events are enabled, on one worker, and the two records of `b` match that of `a`.
+fn follows(
+    rt: &(impl Abort + AllocGlobal),
+    depth: u32,
+    events: &[Event],
+    count: usize,
+) -> Result<(), Fail>
+    requires { (1 ≤ depth) × (depth ≤ 64) }
+{
+    let world = world(rt.alloc(), MATCH, &["1,5\n", "1,8\n1,9\n"], 1, 64, depth)?;
+    assert_eq!(rt; followed(world, events)?, (count, 2));
+    Ok(())
+}
+
+#[test]
+fn a_match_is_stepped_by_hand(rt: HostRuntime) -> Result<(), Fail> {
+    let (from_a, from_b) = (put(0, 0, 0), put(1, 0, 0));
+    let (to_left, to_right) = (take(0, 0, 0), take(1, 0, 0));
+    let all = [
+        from_a,
+        from_b,
+        from_a,
+        end(0, 0),
+        to_left,
+        to_left,
+        to_right,
+        from_b,
+        to_right,
+        end(1, 0),
+        end(2, 0),
+    ];
+    follows(&rt, 2, &all, 11)?;
+    // the right side isn't wanted before the left side has ended
+    follows(&rt, 2, &[from_b, to_right], 1)?;
+    follows(&rt, 2, &[from_b, from_a, to_left, to_right], 3)?;
+    // the pipe is full; nothing is left to take; the left side hasn't ended; the root puts nothing; it has ended
+    follows(&rt, 1, &[from_a, from_a], 1)?;
+    follows(&rt, 2, &[from_a, to_left, to_left], 2)?;
+    follows(&rt, 2, &[end(2, 0)], 0)?;
+    follows(&rt, 2, &[put(2, 0, 0)], 0)?;
+    follows(&rt, 2, &[from_a, from_a, end(0, 0), end(0, 0)], 3)?;
+    // there is no such source, worker or edge
+    follows(&rt, 2, &[end(3, 0)], 0)?;
+    follows(&rt, 2, &[put(0, 1, 0)], 0)?;
+    follows(&rt, 2, &[from_a, take(2, 0, 0)], 1)?;
+    Ok(())
+}
+
+// So many notes the source puts for its three records: batches, and an end mark behind them.
+fn source_puts(rt: &(impl Abort + AllocGlobal), batch: u32, notes: usize) -> Result<(), Fail>
+    requires { (1 ≤ batch) × (batch ≤ 1024) }
+{
+    let world = world(rt.alloc(), TWICE, &["1,5\n2,5\n3,5\n"], 1, batch, 64)?;
+    let note = put(0, 0, 0);
+    assert_eq!(rt;
+        followed(world, &[note, note, note, note, note])?,
+        (notes, 6)
+    );
+    Ok(())
+}
+
+#[test]
+fn batches_have_at_most_so_many_records(rt: HostRuntime) -> Result<(), Fail> {
+    source_puts(&rt, 1, 4)?;
+    source_puts(&rt, 2, 3)?;
+    source_puts(&rt, 3, 2)?;
+    source_puts(&rt, 1024, 2)?;
+    Ok(())
+}
+
+// What all instances of each source and operator gave together, and how many rows the root gave.
+fn counts(world: World<ListLocal>, alloc: Global) -> Result<(Vec<u64>, usize), Fail>
+    requires { StandsForSome world }
+{
+    let outcome = run_alone(world)?;
+    let mut counts = Vec::new(alloc);
+    for at in 0..outcome.counts.len() {
+        counts.push(outcome.counts.at(at))?;
+    }
+    Ok((counts, outcome.rows.len()))
+}
+
+#[test]
+fn instances_count_together(rt: HostRuntime) -> Result<(), Fail> {
+    let rows = ["1,10\n2,20\n1,10\n", "1,5\n4,5\n1,6\n9,9\n", "1,0\n7,0\n"];
+    for workers in 1..17u32 {
+        let world = world(rt.alloc(), PAIRS, &rows, workers, 1, 1)?;
+        let (counts, root) = counts(world, rt.alloc())?;
+        assert_eq!(rt; counts.as_slice(), [3, 4, 2, 8, 10].as_slice());
+        assert_eq!(rt; root, 10);
+    }
+    Ok(())
+}
+
+// Whether a run on the layout with this number gives the rows and the counts of the plain evaluation, where there is such a layout.
+fn agrees(
+    alloc: Global,
+    text: &str,
+    rows: &[&str],
+    number: u32,
+    workers: u32,
+    depth: u32,
+) -> Result<bool, Fail>
+    requires workers { (1 ≤ workers) × (workers ≤ worker_limit) }
+    requires depth { (1 ≤ depth) × (depth ≤ 64) }
+{
+    let program = program(alloc, text.as_bytes())?;
+    let inputs = inputs(alloc, &program, rows)?;
+    if number >= layouts(&program, program.plan()) {
+        return Ok(true);
+    }
+    let physical = layout(&program, program.plan(), number, workers);
+    let world = World::<ListLocal>::start(alloc, &program, &physical, &inputs, 2, depth)?;
+    let found = run_alone(world)?;
+    let wanted = evaluate(alloc, &program, program.plan(), &inputs)?;
+    for at in 0..wanted.counts.len() {
+        if found.counts.at(at) != wanted.counts.at(at) {
+            return Ok(false);
+        }
+    }
+    let found = sort_rows(found.rows)?;
+    let wanted = sort_rows(wanted.rows)?;
+    Ok(found.rows() == wanted.rows())
+}
+
+#[test]
+fn runs_give_what_the_evaluation_gives(rt: HostRuntime) -> Result<(), Fail> {
+    let matched = [
+        "1,10\n2,20\n1,10\n3,7\n5,5\n",
+        "1,5\n4,5\n1,6\n9,9\n5,1\n5,2\n",
+    ];
+    let paired = ["1,10\n2,20\n1,10\n", "1,5\n4,5\n1,6\n9,9\n", "1,0\n7,0\n"];
+    let grouped = ["1,1\n2,1\n3,1\n4,1\n5,1\n1,1\n2,1\n3,1\n4,1\n5,1\n1,2\n"];
+    for workers in 1..4u32 {
+        for number in 0..8u32 {
+            for depth in 1..3u32 {
+                assert_eq!(rt;
+                    agrees(rt.alloc(), MATCH, &matched, number, workers, depth)?,
+                    true
+                );
+                assert_eq!(rt;
+                    agrees(rt.alloc(), PAIRS, &paired, number, workers, depth)?,
+                    true
+                );
+                assert_eq!(rt;
+                    agrees(rt.alloc(), PUSH, &grouped, number, workers, depth)?,
+                    true
+                );
+            }
+        }
+    }
+    Ok(())
+}
