@@ -12,7 +12,7 @@ use Rattle.pact_operators.specs.PlanOps.{is_source_kind, kind_at, kind_in, sourc
 use Rattle.pact_operators.specs.Programs.{ProgramData}
 use Rattle.pact_operators.specs.declared.operators.Op.{Op}
 use Rattle.pact_record.specs.Widths.{AreWide}
-use Rattle.slow_eval.proofs.SourceRows.{input_widths}
+use Rattle.pact_operators.proofs.SourceRows.{input_widths}
 use Rattle.std.proofs.lemmas.Option.{get_or_from_slice_get, slice_get-get_or}
 use Rattle.tac_syntax.specs.declared.declarations.OpKind.TheVariants.{Source}
 use Rattle.flow_core.specs.Starting.{HasShare}

@@ -27,6 +27,7 @@ pub record IsStarted (g : Setting) (at worker : ℕ) (s : StationData) : Type 0 
 abbrev pub AreBelow : Setting → (at count : ℕ) → List StationData → Type 0
 AreBelow g at count row = (worker : ℕ) → worker < count → IsStarted g at worker (get_or row worker no_station)
 
+-- one on each worker
 pub record AreStartedAt (g : Setting) (at : ℕ) (row : List StationData) : Type 0 where
   pub long : length row ≡ g.physical.workers
   pub each : AreBelow g at g.physical.workers row

@@ -33,10 +33,11 @@ pub record IsReadyFor (i : Instance) (on port sender : ℕ) (note : Note) : Type
 
 -- ---- what the stations of a row leave
 
--- how many records a worker's instance gave, and those that it placed
+-- how many records a worker's instance gave
 abbrev pub given_by : List StationData → (worker : ℕ) → ℕ
 given_by row worker = (get_or row worker no_station).instance.given
 
+-- those that it placed
 abbrev pub placed_by : List StationData → (worker : ℕ) → Bag
 placed_by row worker = (get_or row worker no_station).instance.placed
 

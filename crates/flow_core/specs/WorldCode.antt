@@ -9,14 +9,17 @@ use Rattle.flow_model.specs.contracts.notes.Note.{the_row as note_row}
 use Rattle.flow_model.specs.declared.notes.Note.{Note}
 use Rattle.flow_core.specs.Worlds.{StationData, WorldData}
 
+-- an instance and its pipes
 abbrev pub coded_station : Coded StationData
 coded_station =
     code_by (Instance × List (List Note)) (coded× coded_instance (coded_list (coded_list note_row.coded))) (λ s. (s.instance, s.queues))
     (λ q. record { instance = q.0; queues = q.1 }) (λ _. refl)
 
+-- those of one operator
 abbrev pub coded_row : Coded (List StationData)
 coded_row = coded_list coded_station
 
+-- all of them, with the physical plan and the depth
 abbrev pub coded_world : Coded WorldData
 coded_world =
     code_by (PhysicalData × (ℕ × List (List StationData))) (coded× coded_physical (coded× coded_ℕ (coded_list coded_row)))

@@ -45,18 +45,23 @@ no_instance = record {
   finished = true;
 }
 
+-- an instance that is done, with no pipe
 abbrev pub no_station : StationData
 no_station = record { instance = no_instance; queues = [] }
 
+-- the instance of an operator on a worker with the pipes that leave it
 abbrev pub station_in : List (List StationData) → (at worker : ℕ) → StationData
 station_in stations at worker = get_or (get_or stations at []) worker no_station
 
+-- the instance alone
 abbrev pub instance_in : List (List StationData) → (at worker : ℕ) → Instance
 instance_in stations at worker = (station_in stations at worker).instance
 
+-- the notes on the pipe of an edge from one worker to another
 abbrev pub queue_in : List (List StationData) → (edge from to : ℕ) → List Note
 queue_in stations edge from to = get_or (station_in stations edge from).queues to []
 
+-- the world that these stations stand for
 abbrev pub seen : WorldData → World
 seen w = record { instance = λ at worker. instance_in w.stations at worker; queue = λ edge from to. queue_in w.stations edge from to }
 

@@ -49,6 +49,7 @@ abbrev pub IsCoCalled : (List Value → Bag → Bag → Bag) → (left_keys righ
 IsCoCalled f left_keys right_keys ls rs k out =
     (left : Bag) × (right : Bag) × IsPermutation (group_of_key left_keys ls k) left × IsPermutation (group_of_key right_keys rs k) right × (out ≡ f k left right)
 
+-- whether there is no record
 abbrev pub has_none : Bag → Bool
 has_none [] = true
 has_none (row ∷ rows) = false
@@ -58,9 +59,11 @@ abbrev pub IsCalledIf : Bool → (Bag → Type 0) → Bag → Type 0
 IsCalledIf true Gives out = Gives out
 IsCalledIf false Gives out = out ≡ []
 
+-- the call for a key of the right side, where the left side has none
 abbrev pub IsCalledAlone : (List Value → Bag → Bag → Bag) → (left_keys right_keys : List ℕ) → (ls rs : Bag) → List Value → Bag → Type 0
 IsCalledAlone f left_keys right_keys ls rs k out = IsCalledIf (has_none (group_of_key left_keys ls k)) (IsCoCalled f left_keys right_keys ls rs k) out
 
+-- what a CoGroup gives, in some order
 pub record AreCoGroupsGiven (f : List Value → Bag → Bag → Bag) (left_keys right_keys : List ℕ) (ls rs out : Bag) : Type 0 where
   pub other : Bag
   pub grouped : CoGrouped f left_keys right_keys ls rs (keys_in_either left_keys right_keys ls rs) other

@@ -37,6 +37,7 @@ coded_part =
     })
     (λ _. refl)
 
+-- the whole instance
 abbrev pub coded_instance : Coded Instance
 coded_instance =
     code_by (Part × (List Bool × (List Bool × (Bag × (Bag × (List (ℕ × Bag) × (List ℕ × (ℕ × (Bag × (ℕ × Bool))))))))))

@@ -28,10 +28,12 @@ pub record IsFunctionAt (p : ProgramData) (at : ℕ) (f : WithFields) : Type 0 w
   pub left_below : AreBelow p.fields (left_keys_in (slice_get p.ops at))
   pub right_below : AreBelow p.fields (right_keys_in (slice_get p.ops at))
 
+-- a source calls none
 abbrev pub IsCalledAt : ProgramData → ℕ → Option WithFields → Type 0
 IsCalledAt p at None = kind_at p.ops at ≡ Source
 IsCalledAt p at (Some f) = IsFunctionAt p at f
 
+-- what an instance keeps is what the program and the plan say at its number
 pub record IsPartAt (p : ProgramData) (physical : PhysicalData) (number worker_number size : ℕ) (part : Part) : Type 0 where
   pub at : part.at ≡ number
   pub kind : part.kind ≡ kind_at p.ops number

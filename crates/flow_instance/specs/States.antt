@@ -26,13 +26,16 @@ use Rattle.flow_instance.specs.declared.states.State.{State}
 
 -- ---- what they stand for
 
+-- a port as data
 abbrev pub port_of : Port → PortData
 port_of p = record { edge = p.edge; ship = p.ship }
 
+-- the body of the function that is called; a source calls none
 abbrev pub body_in : Option WithFields → Code
 body_in None = stop
 body_in (Some f) = f.function.body
 
+-- what an instance keeps of the program and the plan, as data
 abbrev pub part_of : Part → PartData
 part_of p = record {
   at = p.at;
@@ -47,6 +50,7 @@ part_of p = record {
   out = p.out;
 }
 
+-- the instance that these fields stand for, with the rows that a strategy keeps
 abbrev pub seen : {L : Type 0} → (L → Bag) → State L → Instance
 seen rows s = record {
   part = part_of s.part;
@@ -90,6 +94,7 @@ abbrev pub GivesLast : Bool → (Bag → Type 0) → Bag → Type 0
 GivesLast true Given out = out ≡ []
 GivesLast false Given out = Given out
 
+-- what a Reduce or a CoGroup gives for what it has kept
 abbrev pub AreGivenLast : {L : Type 0} → (L → Bag) → State L → Bag → Type 0
 AreGivenLast rows s out = (ops : PlanOps) → AreOpsOf ops (part_of s.part)
     → GivesLast (works_at_once s.part.kind) (IsGiven (spot_of (part_of s.part) ops) s.part.kind (map port_of s.part.ports.items) s.part.worker (kept_at (seen rows s))) out
@@ -147,10 +152,12 @@ pub record IsOperator (p : Part) : Type 0 where
   pub right_below : AreBelow p.fields p.right_keys
   pub arity : takes p.kind ≡ length p.ports.items
 
+-- whether the kind is the one that it is named for
 abbrev pub is_map : OpKind → Bool
 is_map Map = true
 is_map kind = false
 
+-- a Match or a Cross
 abbrev pub is_pairing : OpKind → Bool
 is_pairing Match = true
 is_pairing Cross = true
@@ -173,6 +180,7 @@ abbrev pub PlacesAtRoot : Option Ship → Bag → Type 0
 PlacesAtRoot None placed = Unit {0}
 PlacesAtRoot (Some ship) placed = placed ≡ []
 
+-- one that can take notes: its fields fit its part, and what it has kept and placed has the program's fields
 pub record IsSound {L : Type 0} (rows : L → Bag) (keys : L → List ℕ) (is_sealed : L → Bool) (s : State L) : Type 0 where
   pub batch : 1 ≤ s.part.batch
   pub worker : s.part.worker < s.part.workers
@@ -202,6 +210,7 @@ pub record HasFlags {L : Type 0} (s : State L) : Type 0 where
   pub left : length s.left_ended.items ≤ s.part.workers
   pub right : length s.right_ended.items ≤ s.part.workers
 
+-- once every sender has ended, nothing more is taken
 abbrev pub IsSoundIfTaking : {L : Type 0} → (L → Bag) → (L → List ℕ) → (L → Bool) → State L → Type 0
 IsSoundIfTaking rows keys is_sealed s = all_ended (seen rows s) ≡ false → IsSound rows keys is_sealed s
 

@@ -168,6 +168,7 @@ impl<L: Local> Instance<L> {
         &self.state.placed
     }
 
+    /// The same, of an instance that isn't used any more.
     pub fn into_placed(self) -> Rows
         ensures { result ≡ self.placed }
     {

@@ -30,6 +30,7 @@ pub record IsNumbered (keys : List ℕ) (rows front : List (List Value)) (firsts
   pub numbers : AllByRecursion (λ n. n < length rows) firsts
   pub each_once : map (key_at keys rows) firsts ≡ distinct_keys (map (key_of keys) front)
 
+-- once sealed, the first row of each key is known
 abbrev pub IsIndexed : Bool → List ℕ → List (List Value) → List ℕ → Type 0
 IsIndexed false keys rows firsts = Unit {0}
 IsIndexed true keys rows firsts = IsNumbered keys rows rows firsts

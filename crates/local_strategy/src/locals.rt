@@ -23,6 +23,7 @@ pub trait Local: Sized + Send + Drop {
     /// The key values, by their numbers.
     ghost order: { Self → List (List FieldValue) };
 
+    /// Keeps nothing yet, by the values of these fields.
     fn start(alloc: Global, keys: &Keys) -> Result<Self, OutOfMemory>
         ensures rows { IfOk result (λ local. rows local ≡ []) }
         ensures keys { IfOk result (λ local. key_fields local ≡ keys.now) }

@@ -36,3 +36,4 @@ pub mod EverySubtree
 pub mod ChosenForKeys
 pub mod PermutedEvaluations
 pub mod DifferentNames
+pub mod SourceRows

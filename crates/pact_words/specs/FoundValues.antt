@@ -13,6 +13,7 @@ number_written digits = cond (is_numeral digits && nat_lt (digits_value 10 digit
 abbrev pub number_said : Text → Option ℕ
 number_said text = number_written (without_leading_plus text)
 
+-- the number of an option of that name
 abbrev pub number_of : Text → List Row → Option ℕ
 number_of name rows = option_and_then number_said (one_of name rows)
 
@@ -20,16 +21,20 @@ number_of name rows = option_and_then number_said (one_of name rows)
 abbrev pub flag_said : Text → Option Bool
 flag_said text = cond (bytes_eq text (codes "true")) (Some true) (cond (bytes_eq text (codes "false")) (Some false) None)
 
+-- whether a flag of that name stands there
 abbrev pub flag_of : Text → List Row → Option Bool
 flag_of name rows = option_and_then flag_said (one_of name rows)
 
 -- ---- several values, where each is there
 
+-- a function of two of them
 abbrev pub all_two : {A B C : Type 0} → (A → B → C) → Option A → Option B → Option C
 all_two f a b = option_and_then (λ x. option_map (f x) b) a
 
+-- of three
 abbrev pub all_three : {A B C D : Type 0} → (A → B → C → D) → Option A → Option B → Option C → Option D
 all_three f a b c = option_and_then (λ x. all_two (f x) b c) a
 
+-- of four
 abbrev pub all_four : {A B C D E : Type 0} → (A → B → C → D → E) → Option A → Option B → Option C → Option D → Option E
 all_four f a b c d = option_and_then (λ x. all_three (f x) b c d) a

@@ -32,6 +32,7 @@ pub data Asked : Type 0 where
   -- `sets PROGRAM`
   to_tell_sets : (program : List ℕ) → Asked
 
+-- a command as data
 abbrev pub asked : Command → Asked
 asked (commands.Run program options counts) = to_run program.now options counts
 asked (commands.Plan program workers plans) = to_plan program.now workers plans
@@ -39,12 +40,14 @@ asked (commands.Cert program workers plans) = to_certify program.now workers pla
 asked (commands.Check program certificate) = to_check program.now certificate.now
 asked (commands.Sets program) = to_tell_sets program.now
 
+-- workers and plans
 pub record AreInRange (workers plans : ℕ) : Type 0 where
   pub least_workers : 1 ≤ workers
   pub most_workers : workers ≤ 16
   pub least_plans : 1 ≤ plans
   pub most_plans : plans ≤ 1000
 
+-- these, and how plans run in parts
 pub record AreOptionsInRange (o : Options) : Type 0 where
   pub limits : AreInRange o.workers o.plans
   pub least_batch : 1 ≤ o.batch
@@ -62,6 +65,7 @@ IsInRange (to_tell_sets program) = Unit {0}
 
 -- ---- words
 
+-- the word of a command
 abbrev pub name_of : Kind → List ℕ
 name_of Run = codes "run"
 name_of Plan = codes "plan"
@@ -69,6 +73,7 @@ name_of Cert = codes "cert"
 name_of Check = codes "check"
 name_of Sets = codes "sets"
 
+-- a word's command is this one, or that of the others
 abbrev pub named : List ℕ → Kind → Option Kind → Option Kind
 named word kind other = cond (bytes_eq word (name_of kind)) (Some kind) other
 
@@ -81,9 +86,11 @@ abbrev pub kind_in : List (List ℕ) → Option Kind
 kind_in [] = None
 kind_in (word ∷ words) = kind_named word
 
+-- as one record
 abbrev pub options : (workers plans batch depth : ℕ) → Options
 options workers plans batch depth = record { workers = workers; plans = plans; batch = batch; depth = depth }
 
+-- those that clap found, where it found each
 abbrev pub options_of : List Row → Option Options
 options_of rows = all_four options (number_of (codes "workers") rows) (number_of (codes "plans") rows) (number_of (codes "batch") rows) (number_of (codes "depth") rows)
 
@@ -107,6 +114,7 @@ pub record IsAsked (words : List (List ℕ)) (command : Asked) : Type 0 where
   pub taken : fault_of (app_for kind) words ≡ []
   pub values : asked_of kind (matches_of (app_for kind) words) ≡ Some command
 
+-- no command takes them, or the named one refuses them
 abbrev pub AreRefusedBy : Option Kind → List (List ℕ) → Type 0
 AreRefusedBy None words = Unit {0}
 AreRefusedBy (Some kind) words = fault_of (app_for kind) words ≢ []

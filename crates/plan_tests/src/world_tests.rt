@@ -10,6 +10,7 @@ use crate::programs::{inputs, program};
 use flow_core::{Event, PipeId, Replay, World, replay, run_alone};
 use local_strategy::ListLocal;
 use pact_bag::sort_rows;
+use plan_trees::Ship;
 use ship_strategy::{layout, layouts};
 use slow_eval::evaluate;
 use std::alloc::Global;
@@ -147,25 +148,65 @@ fn a_match_is_stepped_by_hand(rt: HostRuntime) -> Result<(), Fail> {
     Ok(())
 }
 
-// So many notes the source puts for its three records: batches, and an end mark behind them.
-fn source_puts(rt: &(impl Abort + AllocGlobal), batch: u32, notes: usize) -> Result<(), Fail>
+const GROUP: &str = "pact 1
+fields 2
+source s s.csv int:0 int:1
+function one reduce 1
+  r0 = copy first
+  emit r0
+end
+reduce r one s by 0
+sink r 0
+";
+
+const CROSS: &str = "pact 1
+fields 4
+source a a.csv int:0 int:1
+source b b.csv int:2 int:3
+function both cross
+  r0 = copy join
+  emit r0
+end
+cross x both a b
+sink x 0 2
+";
+
+// How many notes the source with this number puts in a world of one worker, if not more than five: batches, and an end mark behind them.
+fn notes_put(
+    alloc: Global,
+    text: &str,
+    rows: &[&str],
+    source: u32,
+    batch: u32,
+) -> Result<usize, Fail>
     requires { (1 ≤ batch) × (batch ≤ 1024) }
 {
-    let world = world(rt.alloc(), TWICE, &["1,5\n2,5\n3,5\n"], 1, batch, 64)?;
-    let note = put(0, 0, 0);
-    assert_eq!(rt;
-        followed(world, &[note, note, note, note, note])?,
-        (notes, 6)
-    );
-    Ok(())
+    let world = world(alloc, text, rows, 1, batch, 64)?;
+    let note = put(source, 0, 0);
+    Ok(followed(world, &[note, note, note, note, note])?.0)
+}
+
+// How the source with this number ships in that world.
+fn shipped(alloc: Global, text: &str, source: u32) -> Result<Option<Ship>, Fail> {
+    let program = program(alloc, text.as_bytes())?;
+    let _some = layouts(&program, program.plan());
+    Ok(layout(&program, program.plan(), 0, 1).ship(source))
 }
 
 #[test]
 fn batches_have_at_most_so_many_records(rt: HostRuntime) -> Result<(), Fail> {
-    source_puts(&rt, 1, 4)?;
-    source_puts(&rt, 2, 3)?;
-    source_puts(&rt, 3, 2)?;
-    source_puts(&rt, 1024, 2)?;
+    let three = "1,5\n2,5\n3,5\n";
+    assert!(rt; shipped(rt.alloc(), TWICE, 0)? == Some(Ship::Forward));
+    assert_eq!(rt; notes_put(rt.alloc(), TWICE, &[three], 0, 1)?, 4);
+    assert_eq!(rt; notes_put(rt.alloc(), TWICE, &[three], 0, 2)?, 3);
+    assert_eq!(rt; notes_put(rt.alloc(), TWICE, &[three], 0, 3)?, 2);
+    assert_eq!(rt; notes_put(rt.alloc(), TWICE, &[three], 0, 1024)?, 2);
+    assert!(rt; matches!(shipped(rt.alloc(), GROUP, 0)?, Some(Ship::Partition(_))));
+    assert_eq!(rt; notes_put(rt.alloc(), GROUP, &[three], 0, 1)?, 4);
+    assert_eq!(rt; notes_put(rt.alloc(), GROUP, &[three], 0, 2)?, 3);
+    assert!(rt; shipped(rt.alloc(), CROSS, 0)? == Some(Ship::Broadcast));
+    assert_eq!(rt; notes_put(rt.alloc(), CROSS, &[three, three], 0, 1)?, 4);
+    assert_eq!(rt; notes_put(rt.alloc(), CROSS, &[three, three], 0, 2)?, 3);
     Ok(())
 }
 

@@ -32,6 +32,7 @@ abbrev pub left_over : List Op → ℕ → ℕ
 left_over [] number = number
 left_over (op ∷ ops) number = left_over ops number / choices_of op.kind
 
+-- the remainder there
 abbrev pub choice_at : List Op → ℕ → ℕ → ℕ
 choice_at [] number n = 0
 choice_at (op ∷ ops) number zero = left_over ops number % choices_of op.kind
@@ -53,11 +54,13 @@ ways_of ops number n = way_of (kind_at ops n) (choice_at ops number n)
 abbrev pub ship_by_key : List ℕ → Placement → Ship
 ship_by_key keys below = if is_exactly keys below then Forward else Partition keys
 
+-- how the left input travels
 abbrev pub left_ship : Way → List ℕ → Placement → Ship
 left_ship ByKey keys below = ship_by_key keys below
 left_ship LeftEverywhere keys below = Broadcast
 left_ship RightEverywhere keys below = Forward
 
+-- how the right input travels
 abbrev pub right_ship : Way → List ℕ → Placement → Ship
 right_ship ByKey keys below = ship_by_key keys below
 right_ship LeftEverywhere keys below = Forward
@@ -103,6 +106,7 @@ abbrev pub choices : List Op → ℕ → List ℕ
 choices [] number = []
 choices (op ∷ ops) number = left_over ops number % choices_of op.kind ∷ choices ops number
 
+-- one for each, of so many as its kind has
 abbrev pub AreChoices : List Op → List ℕ → Type 0
 AreChoices [] [] = Unit {0}
 AreChoices (op ∷ ops) (c ∷ cs) = (c < choices_of op.kind) × AreChoices ops cs

@@ -23,6 +23,7 @@ abbrev pub passed : FieldSet → Placement → Placement
 passed bad None = None
 passed bad (Some keys) = cond (list_any bad keys) None (Some keys)
 
+-- the left one where there is one
 abbrev pub first_of_both : Placement → Placement → Placement
 first_of_both None other = other
 first_of_both (Some keys) other = Some keys
@@ -33,6 +34,7 @@ edge_placement Forward below = below
 edge_placement (Partition keys) below = Some keys
 edge_placement Broadcast below = None
 
+-- whether each worker gets every record
 abbrev pub is_broadcast : Ship → Bool
 is_broadcast Broadcast = true
 is_broadcast ship = false
@@ -75,6 +77,7 @@ placement_both kind x left_all right_all left_edge right_edge = None
 abbrev pub placed_over : NodeFacts → Ship → Placement → Placement
 placed_over x ship below = placement_over x.kind x.writes (edge_placement ship below)
 
+-- the same of an operator of two inputs
 abbrev pub placed_both : NodeFacts → (left_ship right_ship : Ship) → (left right : Placement) → Placement
 placed_both x left_ship right_ship left right =
     placement_both x.kind x (is_broadcast left_ship) (is_broadcast right_ship) (edge_placement left_ship left) (edge_placement right_ship right)
@@ -97,6 +100,7 @@ IsLegalOver kind keys all edge = ⊥
 abbrev pub GoesEverywhere : Bool → Bool → Type 0
 GoesEverywhere left_all right_all = ((left_all ≡ true) × (right_all ≡ false)) ⊎ ((left_all ≡ false) × (right_all ≡ true))
 
+-- each side lies by exactly its own keys
 abbrev pub AreByKey : (left_keys right_keys : List ℕ) → (left_edge right_edge : Placement) → Type 0
 AreByKey left_keys right_keys left_edge right_edge = (left_edge ≡ Some left_keys) × (right_edge ≡ Some right_keys)
 
@@ -111,6 +115,7 @@ IsLegalBoth kind left_keys right_keys left_all right_all left_edge right_edge = 
 abbrev pub AllowsOver : NodeFacts → Ship → Placement → Type 0
 AllowsOver x ship below = IsLegalOver x.kind x.left_keys (is_broadcast ship) (edge_placement ship below)
 
+-- the same of an operator of two inputs
 abbrev pub AllowsBoth : NodeFacts → (left_ship right_ship : Ship) → (left right : Placement) → Type 0
 AllowsBoth x left_ship right_ship left right =
     IsLegalBoth x.kind x.left_keys x.right_keys (is_broadcast left_ship) (is_broadcast right_ship) (edge_placement left_ship left) (edge_placement right_ship right)
@@ -121,6 +126,7 @@ IsLegal f p (leaf n) = Unit {0}
 IsLegal f p (over n t) = AllowsOver (f n) (ship_of p t) (placement f p t) × IsLegal f p t
 IsLegal f p (both n t u) = AllowsBoth (f n) (ship_of p t) (ship_of p u) (placement f p t) (placement f p u) × IsLegal f p t × IsLegal f p u
 
+-- of the whole physical plan
 abbrev pub LegalShip : Facts → PhysicalData → Type 0
 LegalShip f p = IsLegal f p p.tree
 
@@ -142,24 +148,29 @@ abbrev pub is_exactly : List ℕ → Placement → Bool
 is_exactly keys None = false
 is_exactly keys (Some fields) = same_keys fields keys
 
+-- as `IsLegalOver`
 abbrev pub legal_over : OpKind → List ℕ → Bool → Placement → Bool
 legal_over Map keys all edge = not all
 legal_over Reduce keys all edge = is_within keys edge
 legal_over kind keys all edge = false
 
+-- as `GoesEverywhere`
 abbrev pub goes_everywhere : Bool → Bool → Bool
 goes_everywhere true right_all = not right_all
 goes_everywhere false right_all = right_all
 
+-- as `AreByKey`
 abbrev pub are_by_key : (left_keys right_keys : List ℕ) → (left_edge right_edge : Placement) → Bool
 are_by_key left_keys right_keys left_edge right_edge = is_exactly left_keys left_edge && is_exactly right_keys right_edge
 
+-- as `IsLegalBoth`
 abbrev pub legal_both : OpKind → (left_keys right_keys : List ℕ) → (left_all right_all : Bool) → (left_edge right_edge : Placement) → Bool
 legal_both Match left_keys right_keys left_all right_all left_edge right_edge = are_by_key left_keys right_keys left_edge right_edge || goes_everywhere left_all right_all
 legal_both Cross left_keys right_keys left_all right_all left_edge right_edge = goes_everywhere left_all right_all
 legal_both CoGroup left_keys right_keys left_all right_all left_edge right_edge = are_by_key left_keys right_keys left_edge right_edge
 legal_both kind left_keys right_keys left_all right_all left_edge right_edge = false
 
+-- as `AllowsOver` and `AllowsBoth`
 abbrev pub allows_over : NodeFacts → Ship → Placement → Bool
 allows_over x ship below = legal_over x.kind x.left_keys (is_broadcast ship) (edge_placement ship below)
 
@@ -167,6 +178,7 @@ abbrev pub allows_both : NodeFacts → (left_ship right_ship : Ship) → (left r
 allows_both x left_ship right_ship left right =
     legal_both x.kind x.left_keys x.right_keys (is_broadcast left_ship) (is_broadcast right_ship) (edge_placement left_ship left) (edge_placement right_ship right)
 
+-- as `IsLegal`
 abbrev pub is_legal : Facts → PhysicalData → PlanTree → Bool
 is_legal f p (leaf n) = true
 is_legal f p (over n t) = allows_over (f n) (ship_of p t) (placement f p t) && is_legal f p t

@@ -12,6 +12,7 @@ use Rattle.ship_strategy.specs.declared.ways.Ways.{Ways}
 use Rattle.ship_strategy.specs.Facts.{NodeFacts, Facts}
 use Rattle.ship_strategy.specs.Layouts.{choices_of, left_over, way_of}
 
+-- the facts of an operator, with its sets as functions
 abbrev pub known_of : OpFacts → NodeFacts
 known_of x = record {
   kind = x.kind;
@@ -37,10 +38,12 @@ unknown = record {
   anchor_right = false;
 }
 
+-- where an operator is, and where none is
 abbrev pub known_in : Option OpFacts → NodeFacts
 known_in None = unknown
 known_in (Some x) = known_of x
 
+-- what a table says, by number
 abbrev pub facts_in : Table → Facts
 facts_in t n = known_in (slice_get t.nodes n)
 

@@ -1,5 +1,4 @@
 pub mod KeyGroups
 pub mod Called
 pub mod PlanCounts
-pub mod SourceRows
 pub mod KnownKeys

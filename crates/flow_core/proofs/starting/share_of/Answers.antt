@@ -3,7 +3,7 @@ use Rattle.std.proofs.lemmas.Result.{IfOk-weaker}
 use Rattle.pact_operators.specs.PlanOps.{kind_at, source_place}
 use Rattle.pact_operators.specs.declared.operators.Op.{Op}
 use Rattle.tac_syntax.specs.declared.declarations.OpKind.TheVariants.{Source}
-use Rattle.slow_eval.proofs.SourceRows.{place_below}
+use Rattle.pact_operators.proofs.SourceRows.{place_below}
 use Rattle.flow_core.proofs.Dealing.{has_share, kind_found, no_share}
 use Rattle.flow_core.proofs.starting.share_of.Goals as goal
 

@@ -11,7 +11,7 @@ use Rattle.slow_eval.specs.GivenRows.{rows_of}
 use Rattle.plan_trees.proofs.RootParts.{is_both, is_leaf, is_over}
 use Rattle.slow_eval.proofs.Called.{at_below}
 use Rattle.slow_eval.proofs.PlanCounts.{counted-both, counted-leaf, counted-over, others-both, others-leaf, others-over}
-use Rattle.slow_eval.proofs.SourceRows.{input_widths, is_source, place_below}
+use Rattle.pact_operators.proofs.SourceRows.{input_widths, is_source, place_below}
 use Rattle.pact_record.specs.Widths.{AreWide}
 use Rattle.pact_record.proofs.Lists.{AllByRecursion-slice_get}
 use Rattle.slow_eval.proofs.evaluating.+evaluate_into.Goals as goal
