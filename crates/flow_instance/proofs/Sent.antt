@@ -11,7 +11,7 @@ use Rattle.pact_record.specs.declared.values.Value.{Value}
 use Rattle.plan_trees.specs.Sending.{goes, has_pipe, sent}
 use Rattle.plan_trees.specs.declared.physicals.Ship.{Ship}
 use Rattle.plan_trees.specs.declared.physicals.Ship.TheVariants.{Forward, Partition, Broadcast}
-use Rattle.flow_instance.specs.Sending.{AreCarried, AreMarked, AreSent, IsBatchFor, IsReached, IsSent, IsSplit, batch_parcel, mark_parcel}
+use Rattle.flow_instance.specs.Sending.{AreCarried, AreFew, AreMarked, AreSent, IsBatchFor, IsReached, IsSent, IsSplit, batch_parcel, mark_parcel}
 use Rattle.flow_instance.specs.declared.parcels.Parcel.{Parcel}
 use Rattle.flow_instance.proofs.Carried.{rows_for-append}
 use Rattle.flow_instance.proofs.Split.{read}
@@ -24,6 +24,9 @@ as_sent : (fields workers to from : ℕ) (ship : Ship) (more : List (ℕ × Bag)
 as_sent fields workers to from ship [] below pipe h = tt
 as_sent fields workers to from ship (w ∷ more) below pipe h =
     (((subst (λ (n : ℕ). n < workers) (sym h.0.0) below, subst (λ (n : ℕ). has_pipe ship from n ≡ true) (sym h.0.0) pipe), h.0.1, h.0.2), as_sent fields workers to from ship more below pipe h.1)
+
+pub none_few : (most : ℕ) (queue : List Parcel) → queue ≡ [] → AreFew most queue
+none_few most queue e = subst (AreFew most) (sym e) tt
 
 pub none_sent : (fields workers from : ℕ) (ship : Ship) (rows : Bag) (queue : List Parcel) → queue ≡ [] → AreSent fields workers ship from 0 rows queue
 none_sent fields workers from ship rows queue e = record { list = []; is = e; batches = tt; each = λ t less. absurd (omega (arith, less)); later = λ t above. refl }

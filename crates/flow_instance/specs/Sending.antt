@@ -41,6 +41,15 @@ mark_parcel to = record { to = to; note = End }
 abbrev pub IsInOrder : List Parcel → Type 0
 IsInOrder queue = queue ≡ map batch_parcel (batches_in queue) ++ map mark_parcel (marks_in queue)
 
+-- a batch of at most so many records, or an end mark
+abbrev pub IsFew : ℕ → Note → Type 0
+IsFew most (Batch rows) = length rows ≤ most
+IsFew most End = Unit {0}
+
+-- each note of a queue is
+abbrev pub AreFew : ℕ → List Parcel → Type 0
+AreFew most queue = AllByRecursion (λ p. IsFew most p.note) queue
+
 -- ---- batches for one receiver
 
 -- a batch for this worker

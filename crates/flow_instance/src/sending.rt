@@ -4,7 +4,7 @@ ghost use Rattle.std.specs.Prelude.{◌≡◌, ◌<◌, ◌≤◌, ◌+◌, ◌^
 ghost use Rattle.plan_trees.specs.Sending as flows;
 ghost use Rattle.pact_operators.specs.Allowed.{Bag};
 ghost use Rattle.pact_record.specs.Widths.{AreWide};
-ghost use Rattle.flow_instance.specs.Sending.{AreCarried, AreCarriedBut, AreMarked, AreSent, IsSplit};
+ghost use Rattle.flow_instance.specs.Sending.{AreCarried, AreCarriedBut, AreFew, AreMarked, AreSent, IsSplit};
 ghost use Rattle.flow_instance.specs.declared.parcels.Parcel.{Parcel as Sealed};
 
 use crate::parcels::Parcel;
@@ -27,6 +27,7 @@ fn stow(
     requires { 1 ≤ least }
     ensures stowed { IfOk result (λ held. (fields : ℕ) (done : Bag) (old : List Sealed) → AreCarriedBut fields to done old queue.old.items rows → AreCarriedBut fields to done old queue.new.items held) }
     ensures few { IfOk result (λ held. length held < least) }
+    ensures batches { IfOk result (λ _. (most : ℕ) → length rows ≤ most → AreFew most queue.old.items → AreFew most queue.new.items) }
 {
     if rows.len() < least as usize {
         return Ok(rows);
@@ -47,7 +48,8 @@ fn cut(
     queue: &mut VecDeque<Parcel>,
 ) -> Result<(), OutOfMemory>
     requires { 1 ≤ batch }
-    ensures { OnOk result ((fields : ℕ) → AreWide fields rows → AreCarried fields to rows queue.old.items queue.new.items) }
+    ensures carried { OnOk result ((fields : ℕ) → AreWide fields rows → AreCarried fields to rows queue.old.items queue.new.items) }
+    ensures batches { OnOk result (AreFew batch queue.old.items → AreFew batch queue.new.items) }
 {
     // they have one width
     let _same = rows.rows();
@@ -69,7 +71,8 @@ fn send_to(
     queue: &mut VecDeque<Parcel>,
 ) -> Result<(), OutOfMemory>
     requires { 1 ≤ batch }
-    ensures { OnOk result ((fields : ℕ) → AreWide fields rows → AreCarried fields to rows queue.old.items queue.new.items) }
+    ensures carried { OnOk result ((fields : ℕ) → AreWide fields rows → AreCarried fields to rows queue.old.items queue.new.items) }
+    ensures batches { OnOk result (AreFew batch queue.old.items → AreFew batch queue.new.items) }
 {
     if rows.len() > batch as usize {
         return cut(alloc, to, batch, rows, queue);
@@ -114,8 +117,9 @@ fn send_parts(
     requires some { 1 ≤ batch }
     requires none { queue.old.items ≡ [] }
     requires few { length parts.items < 2 ^ 32 }
-    ensures { OnOk result ((fields : ℕ) (keys : List ℕ) (from : ℕ) (rows : Bag) → AreWide fields rows → IsSplit keys (length parts.items) rows parts.items
+    ensures sent { OnOk result ((fields : ℕ) (keys : List ℕ) (from : ℕ) (rows : Bag) → AreWide fields rows → IsSplit keys (length parts.items) rows parts.items
         → AreSent fields (length parts.items) (Ship.Partition keys) from (length parts.items) rows queue.new.items) }
+    ensures batches { OnOk result (AreFew batch queue.new.items) }
 {
     let mut to = 0;
     for part in parts {
@@ -135,7 +139,8 @@ fn send_all(
 ) -> Result<(), OutOfMemory>
     requires some { 1 ≤ batch }
     requires none { queue.old.items ≡ [] }
-    ensures { OnOk result ((fields from : ℕ) → AreWide fields rows.now → AreSent fields workers Ship.Broadcast from workers rows.now queue.new.items) }
+    ensures sent { OnOk result ((fields from : ℕ) → AreWide fields rows.now → AreSent fields workers Ship.Broadcast from workers rows.now queue.new.items) }
+    ensures batches { OnOk result (AreFew batch queue.new.items) }
 {
     for to in 0..workers {
         send_to(alloc, to, batch, rows.copy(alloc)?, queue)?;
@@ -156,7 +161,8 @@ pub(crate) fn send(
     requires some { 1 ≤ batch }
     requires below { from < workers }
     requires none { queue.old.items ≡ [] }
-    ensures { OnOk result ((fields : ℕ) → AreWide fields rows → AreSent fields workers ship.now from workers rows queue.new.items) }
+    ensures sent { OnOk result ((fields : ℕ) → AreWide fields rows → AreSent fields workers ship.now from workers rows queue.new.items) }
+    ensures batches { OnOk result (AreFew batch queue.new.items) }
 {
     match ship {
         Ship::Forward => send_to(alloc, from, batch, rows, queue),

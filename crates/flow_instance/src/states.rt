@@ -4,6 +4,7 @@ ghost use Rattle.std.specs.Prelude.{◌≡◌, ◌≤◌, ◌<◌, ◌+◌, [], 
 ghost use Rattle.flow_model.specs.Instances.{all_ended};
 ghost use Rattle.pact_operators.specs.Allowed.{count_of};
 ghost use Rattle.pact_record.specs.Widths.{AreWide};
+ghost use Rattle.flow_instance.specs.Sending.{AreFew};
 ghost use Rattle.flow_instance.specs.Steps.{HasGiven, HasMarked};
 ghost use Rattle.flow_instance.specs.States.{AreOrderly, HasBegun, IsFresh, PlacesAtRoot, part_of, seen};
 
@@ -97,6 +98,7 @@ impl<L: Local> State<L> {
         ensures counted { OnOk result (self.new.given ≡ count_of (self.old.given + length rows)) }
         ensures sent { OnOk result (HasGiven (part_of self.old.part) rows self.old.placed self.new.placed self.new.queue.items) }
         ensures orderly { OnOk result (AreOrderly self.old.part.workers self.new.queue.items) }
+        ensures batches { OnOk result (AreFew self.old.part.batch self.new.queue.items) }
     {
         self.given = self.given.saturating_add(rows.len() as u64);
         let Some(ship) = &self.part.out else {

@@ -1,8 +1,10 @@
 use Rattle.std.proofs.Common.{ℕ}
 use Rattle.pact_record.specs.Widths.{AreWide}
 use Rattle.plan_trees.specs.declared.physicals.Ship.TheVariants.{Broadcast}
-use Rattle.flow_instance.specs.Sending.{AreSent}
+use Rattle.flow_instance.specs.Sending.{AreFew, AreSent}
 use Rattle.flow_instance.proofs.sending.send_all.Given as goal
 
 abbrev pub invariant-loop-to : goal.invariant-loop-to
-invariant-loop-to l = (fields from : ℕ) → AreWide fields l.rows → AreSent fields l.workers Broadcast from l.to l.rows l.queue.items
+invariant-loop-to l =
+    ((fields from : ℕ) → AreWide fields l.rows → AreSent fields l.workers Broadcast from l.to l.rows l.queue.items)
+    × AreFew l.batch l.queue.items

@@ -13,7 +13,7 @@ returns-in_default-clause-sent g c =
 
 pub returns-clause-sent : goal.returns-clause-sent
 returns-clause-sent g c = on_ok_weaker c.send.result (λ h. given_sent (part_of c.args.self.now.part) c.in-Some.ship c.args.rows c.args.self.now.placed c.send.new.queue.items c.in-Some.is c.requires.at_root c.requires.placed_wide
-    (h c.args.self.now.part.fields c.requires.wide)) c.send.ensures
+    (h c.args.self.now.part.fields c.requires.wide)) c.send.ensures.sent
 
 pub returns-in_default-clause-orderly : goal.returns-in_default-clause-orderly
 returns-in_default-clause-orderly g c =
@@ -23,4 +23,4 @@ returns-in_default-clause-orderly g c =
 pub returns-clause-orderly : goal.returns-clause-orderly
 returns-clause-orderly g c = on_ok_weaker c.send.result (λ h. orderly_given (part_of c.args.self.now.part) c.args.rows c.args.self.now.placed c.args.self.now.placed c.send.new.queue.items
     (given_sent (part_of c.args.self.now.part) c.in-Some.ship c.args.rows c.args.self.now.placed c.send.new.queue.items c.in-Some.is c.requires.at_root c.requires.placed_wide
-    (h c.args.self.now.part.fields c.requires.wide))) c.send.ensures
+    (h c.args.self.now.part.fields c.requires.wide))) c.send.ensures.sent
