@@ -10,3 +10,4 @@ pub mod DigitWords
 pub mod LineRuns
 pub mod FirstLines
 pub mod LinePlaces
+pub mod ReadOperands

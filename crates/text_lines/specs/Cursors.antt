@@ -1,0 +1,30 @@
+-- What reading the words of a line one after the other answers.
+use Rattle.std.specs.Prelude.{◌≡◌, ℕ, Option, None, List, [], ◌∷◌, Result, Ok, Err}
+use Rattle.text_lines.specs.LineGrammar.{LineWord}
+use Rattle.text_lines.specs.LineReading.{IsFaultOf}
+use Rattle.text_lines.specs.Slots.{Slot, slot_fault, first_fault}
+use Rattle.text_lines.specs.declared.faults.NotRead.{NotRead}
+
+-- this word, which is no literal, is read, or has this fault
+abbrev pub ReadsPlain : {T : Type 0} → Option ℕ → (T → Type 0) → (T → List ℕ) → Result T NotRead → List ℕ → Type 0
+ReadsPlain fault Fits text (Ok x) read = (read ≡ text x) × Fits x × (fault ≡ None)
+ReadsPlain fault Fits text (Err e) read = IsFaultOf e fault
+
+-- this word is read for a slot
+abbrev pub ReadsWord : {T : Type 0} → Slot → (T → Type 0) → (T → LineWord) → Result T NotRead → LineWord → Type 0
+ReadsWord slot Fits word (Ok x) read = (read ≡ word x) × Fits x × (slot_fault slot read ≡ None)
+ReadsWord slot Fits word (Err e) read = IsFaultOf e (slot_fault slot read)
+
+-- the first fault of words whose first is read is that of the words behind it
+abbrev pub PassesOn : Slot → List LineWord → List LineWord → Type 0
+PassesOn slot old now = (slots : List Slot) → first_fault (slot ∷ slots) old ≡ first_fault slots now
+
+-- The first of these words is read for a slot, or its fault is that of the line, whatever is wanted behind it.
+abbrev pub ReadsNext : {T : Type 0} → Slot → (T → Type 0) → (T → LineWord) → Result T NotRead → List LineWord → List LineWord → Type 0
+ReadsNext slot Fits word (Ok x) old now = (old ≡ word x ∷ now) × Fits x × PassesOn slot old now
+ReadsNext slot Fits word (Err e) old now = (slots : List Slot) → IsFaultOf e (first_fault (slot ∷ slots) old)
+
+-- no word is left
+abbrev pub ReadsEnd : {T : Type 0} → Result T NotRead → List LineWord → Type 0
+ReadsEnd (Ok x) words = words ≡ []
+ReadsEnd (Err e) words = IsFaultOf e (first_fault [] words)
