@@ -14,81 +14,20 @@ use Rattle.text_lines.specs.CanonicalLines.{IsLineWord, AreLineWords}
 use Rattle.tac_syntax.specs.Grammar.{IsLoopName, IsLiteral, IsSpelledRecord}
 use Rattle.text_lines.specs.declared.line_words.LineWord.{LineWord}
 use Rattle.text_lines.specs.declared.line_words.LineWord.TheVariants.{Plain as plain_word, Literal as literal_word}
-use Rattle.tac_text.specs.Spelling.{record_word, list_word, op1_word, op2_word}
+use Rattle.tac_text.specs.Spelling.{op1_word, op2_word}
+use Rattle.text_lines.specs.OperandWords.{record_word, list_word}
 use Rattle.tac_text.specs.StatementLines.{LinePlace, MayStand, words_of_line}
-use Rattle.tac_text.specs.StatementFaults.{Slot, fixed, register, operand, number, signed, text, loop, list, is_target, slot_fault, first_fault, Wanted, to_value, to_record, wanted_by, form_fault, is_op1, is_op2, target_alone, assignment_fault, block_fault, word_fault, register_fault, statement_fault}
+use Rattle.tac_text.specs.StatementFaults.{is_target, Wanted, to_value, to_record, wanted_by, form_fault, is_op1, is_op2, target_alone, assignment_fault, block_fault, word_fault, statement_fault}
+use Rattle.text_lines.specs.Slots.{Slot, fixed, register, operand, number, signed, text, loop, list, slot_fault, first_fault, register_fault}
 use Rattle.text_lines.specs.Digits.{or_else}
 use Rattle.text_lines.proofs.DigitWords.{number_spelled}
 use Rattle.text_lines.proofs.Faultless.{by_cases, told_unless-none, or_else-none, same_word, is_plain-same}
-use Rattle.tac_text.proofs.SlotWords.{Numbered, register_spelled, operand_spelled, signed_spelled, list_spelled, name_spelled}
+use Rattle.text_lines.proofs.SlotWords.{Numbered, register_spelled, Taken, taken, none_left, behind, register_word, number_word, operand_word, signed_word, text_word, name_word, fixed_word, group_word}
 use Rattle.text_lines.specs.LineGrammar.{is_plain}
 
 -- the line whose words these are, which may stand
 abbrev pub LineFor : LinePlace → List LineWord → Type 0
 LineFor p words = (l : Line) × (words ≡ words_of_line l) × MayStand p l
-
--- ---- one word after the other
-
-pub record Taken (slot : Slot) (slots : List Slot) (words : List LineWord) : Type 0 where
-  pub first : LineWord
-  pub rest : List LineWord
-  pub parts : words ≡ first ∷ rest
-  pub fits : slot_fault slot first ≡ None
-  pub left : first_fault slots rest ≡ None
-
-pub taken : (slot : Slot) (slots : List Slot) (words : List LineWord) → first_fault (slot ∷ slots) words ≡ None → Taken slot slots words
-taken slot slots [] h = absurd cc
-taken slot slots (word ∷ words) h =
-    let parts = or_else-none (slot_fault slot word) (first_fault slots words) h in
-    record { first = word; rest = words; parts = refl; fits = parts.0; left = parts.1 }
-
-pub none_left : (words : List LineWord) → first_fault [] words ≡ None → words ≡ []
-none_left [] h = refl
-none_left (word ∷ words) h = absurd cc
-
-behind : {words rest more : List LineWord} {first word : LineWord} → words ≡ first ∷ rest → first ≡ word → rest ≡ more → words ≡ word ∷ more
-behind parts spelled next = parts ∙ (λ i. spelled i ∷ next i)
-
--- ---- the word of a slot
-
-pub record PlainNumber (letters : List ℕ) (low high : ℕ) (word : LineWord) : Type 0 where
-  pub n : ℕ
-  pub above : low ≤ n
-  pub below : n ≤ high
-  pub spelled : word ≡ plain_word (letters ++ decimal n)
-
-register_word : (letter : ℕ) (word : LineWord) → slot_fault (register letter) word ≡ None → PlainNumber (letter ∷ []) 0 255 word
-register_word letter (plain_word w) h = let s = register_spelled letter w h in record { n = s.number; above = s.above; below = s.below; spelled = ap plain_word s.spelled }
-register_word letter (literal_word w) h = absurd cc
-
-pub number_word : (low high : ℕ) (word : LineWord) → high < 2 ^ 64 → slot_fault (number low high) word ≡ None → PlainNumber [] low high word
-number_word low high (plain_word w) small h =
-    let s = number_spelled low high w small (told_unless-none _ _ h) in record { n = s.number; above = s.above; below = s.below; spelled = ap plain_word s.spelled }
-number_word low high (literal_word w) small h = absurd cc
-
-operand_word : (word : LineWord) → slot_fault operand word ≡ None → (from : Rec) × IsSpelledRecord from × (word ≡ plain_word (record_word from))
-operand_word (plain_word w) h = let s = operand_spelled w h in (s.from, s.fits, ap plain_word s.spelled)
-operand_word (literal_word w) h = absurd cc
-
-signed_word : (word : LineWord) → slot_fault signed word ≡ None → (z : ℤ) × FitsSigned w64 z × (word ≡ plain_word (signed_decimal z))
-signed_word (plain_word w) h = let s = signed_spelled w (told_unless-none _ _ h) in (s.value, s.fits, ap plain_word s.spelled)
-signed_word (literal_word w) h = absurd cc
-
-text_word : (word : LineWord) → slot_fault text word ≡ None → (bytes : List ℕ) × (word ≡ literal_word bytes)
-text_word (plain_word w) h = absurd cc
-text_word (literal_word w) h = (w, refl)
-
-name_word : (name : ℕ) (word : LineWord) → slot_fault (loop name) word ≡ None → IsLoopName name × (word ≡ plain_word (120 ∷ decimal name))
-name_word name (plain_word w) h = let s = name_spelled name w h in (s.0, ap plain_word s.1)
-name_word name (literal_word w) h = absurd cc
-
-fixed_word : (v : List ℕ) (word : LineWord) → slot_fault (fixed v) word ≡ None → word ≡ plain_word v
-fixed_word v (plain_word w) h = ap plain_word (same_word w v (told_unless-none _ _ h))
-fixed_word v (literal_word w) h = absurd cc
-
-group_word : (word : LineWord) → slot_fault list word ≡ None → (items : LoopList) × (word ≡ plain_word (list_word items))
-group_word (plain_word w) h = let s = list_spelled w (told_unless-none _ _ h) in (s.list, ap plain_word s.spelled)
-group_word (literal_word w) h = absurd cc
 
 -- ---- lines that are no assignments
 

@@ -13,8 +13,8 @@ use Rattle.text_lines.proofs.DigitWords.{is_in_range-decimal}
 use Rattle.tac_text.specs.FunctionFaults.{function_name_fault, kind_named, key_slots, keys_fault, kind_fault, named_fault, is_part_or_end, header_fault}
 use Rattle.tac_text.specs.FunctionLines.{header, header_words, IsHeader}
 use Rattle.tac_text.specs.Spelling.{kind_word, key_words}
-use Rattle.tac_text.specs.StatementFaults.{number, first_fault}
-use Rattle.tac_text.proofs.FaultlessWords.{taken, none_left, number_word}
+use Rattle.text_lines.specs.Slots.{number, first_fault}
+use Rattle.text_lines.proofs.SlotWords.{taken, none_left, number_word}
 use Rattle.text_lines.proofs.Faultless.{by_cases, told_unless-none, or_else-none, same_word, some_words}
 
 -- ---- a header's words have no fault

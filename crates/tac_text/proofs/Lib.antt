@@ -5,11 +5,8 @@ pub mod FunctionReads
 pub mod FunctionRuns
 pub mod HeaderWords
 pub mod LineForms
-pub mod OperandWords
 pub mod WrittenBodies
-pub mod SlotWords
 pub mod StatementWords
 pub mod FaultlessWords
-pub mod StatementReads
 pub mod WrittenWords
 pub mod WrittenFunctions

@@ -10,14 +10,15 @@ use Rattle.tac_syntax.specs.Limits.{nesting_limit}
 use Rattle.text_lines.specs.CanonicalLines.{word_text}
 use Rattle.tac_syntax.specs.Grammar.{IsNumber, IsLoopName, IsSpelledLine}
 use Rattle.text_lines.specs.declared.line_words.LineWord.{LineWord}
-use Rattle.tac_text.specs.Lines.{line_in}
-use Rattle.tac_text.specs.Spelling.{op1_word, op2_word, line_words, value_register, record_register}
+use Rattle.tac_text.specs.Spelling.{op1_word, op2_word, line_words}
+use Rattle.text_lines.specs.OperandWords.{value_register, record_register}
 use Rattle.tac_text.specs.StatementLines.{LinePlace, MayStand, words_of_line}
-use Rattle.tac_text.specs.StatementFaults.{register, is_target, to_value, wanted_by, name_fault, register_fault, statement_fault}
+use Rattle.tac_text.specs.StatementFaults.{is_target, to_value, wanted_by, statement_fault}
+use Rattle.text_lines.specs.Slots.{register, name_fault, register_fault}
 use Rattle.text_lines.proofs.DigitWords.{are_digits-decimal, is_signed_word-signed_decimal}
-use Rattle.tac_text.proofs.LineForms.{line_in-line_texts, word_bytes}
-use Rattle.tac_text.proofs.OperandWords.{bytes_eq-decimal}
-use Rattle.tac_text.proofs.SlotWords.{register_fault-letter, number_fits, turns_fit, operand_fault-record_word, is_list_word-list_word, name_fault-loop_name}
+use Rattle.tac_text.proofs.LineForms.{line_in, line_in-line_texts, word_bytes}
+use Rattle.text_lines.proofs.SlotWords.{bytes_eq-decimal}
+use Rattle.text_lines.proofs.SlotWords.{register_fault-letter, number_fits, turns_fit, operand_fault-record_word, is_list_word-list_word, name_fault-loop_name}
 
 -- ---- what may stand has no fault
 

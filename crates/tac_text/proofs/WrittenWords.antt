@@ -27,7 +27,8 @@ use Rattle.text_lines.proofs.FirstLines.{has_feed}
 use Rattle.text_lines.proofs.WrittenLines.{has_feed-append, has_feed-escaped}
 use Rattle.text_lines.proofs.Utf8Cuts.{IsUtf8-around_ascii}
 use Rattle.tac_text.specs.FunctionLines.{header_words, IsHeader}
-use Rattle.tac_text.specs.Spelling.{record_word, list_word, op1_word, op2_word, kind_word, key_words}
+use Rattle.tac_text.specs.Spelling.{op1_word, op2_word, kind_word, key_words}
+use Rattle.text_lines.specs.OperandWords.{record_word, list_word}
 use Rattle.tac_text.specs.StatementLines.{words_of_line}
 
 -- ---- words of letters, digits and signs

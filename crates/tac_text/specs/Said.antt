@@ -1,5 +1,5 @@
 -- What a line that was read says.
-use Rattle.std.specs.Prelude.{◌≡◌, Option, Some, None, MatchOption}
+use Rattle.std.specs.Prelude.{Option, Some, None}
 use Rattle.tac_syntax.specs.Code.{Line, simple, test, turns, over, otherwise, close}
 use Rattle.tac_syntax.specs.Trees.{Statement, one_line, choice, turning, going_through, statement_of}
 use Rattle.tac_text.specs.declared.lines.BodyLine.{BodyLine}
@@ -19,6 +19,3 @@ said (Repeat count) = Some (turns count)
 said (Each name list) = Some (over name list)
 said Else = Some otherwise
 said End = Some close
-
-abbrev pub Says : Option BodyLine → Line → Type 0
-Says found l = MatchOption found ⊥ (λ b. said b ≡ Some l)

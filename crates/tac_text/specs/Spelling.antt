@@ -5,41 +5,15 @@ use Rattle.pact_record.specs.declared.operations.Op1.{Op1}
 use Rattle.pact_record.specs.declared.operations.Op1.TheVariants.{Not, IsNull, Len}
 use Rattle.pact_record.specs.declared.operations.Op2.{Op2}
 use Rattle.pact_record.specs.declared.operations.Op2.TheVariants.{Add, Sub, Mul, Div, Rem, AddW, Min, Max, Lt, Le, Eq, And, Or, Cat}
-use Rattle.tac_syntax.specs.declared.statements.Rec.{Rec}
-use Rattle.tac_syntax.specs.declared.statements.Rec.TheVariants.{Reg, Loop, Input, Left, Right, Join, First}
-use Rattle.tac_syntax.specs.declared.statements.LoopList.{LoopList}
-use Rattle.tac_syntax.specs.declared.statements.LoopList.TheVariants.{Group, Left as LeftGroup, Right as RightGroup}
 use Rattle.tac_syntax.specs.Code.{Simple, load_int, load_text, load_null, move_value, get_field, get_key, apply_one, apply_two, new_record, copy_record, set_field, emit_record, Code, stop, plain, branch, again, each, Line, simple, test, turns, over, otherwise, close}
 use Rattle.tac_syntax.specs.Coding.{is_stop}
 use Rattle.tac_syntax.specs.declared.functions.Function.{Function}
 use Rattle.tac_syntax.specs.declared.functions.Kind.{Kind}
 use Rattle.tac_syntax.specs.declared.functions.Kind.TheVariants.{Map, Match, Cross, Reduce, CoGroup}
 use Rattle.text_lines.specs.CanonicalLines.{TextLine, line_text, literal}
+use Rattle.text_lines.specs.OperandWords.{value_register, record_register, loop_name, record_word, list_word}
 
 -- ---- words
-
-abbrev pub value_register : ℕ → List ℕ
-value_register n = codes "v" ++ decimal n
-
-abbrev pub record_register : ℕ → List ℕ
-record_register n = codes "r" ++ decimal n
-
-abbrev pub loop_name : ℕ → List ℕ
-loop_name n = codes "x" ++ decimal n
-
-abbrev pub record_word : Rec → List ℕ
-record_word (Reg k) = record_register k
-record_word (Loop name) = loop_name name
-record_word Input = codes "in"
-record_word Left = codes "left"
-record_word Right = codes "right"
-record_word Join = codes "join"
-record_word First = codes "first"
-
-abbrev pub list_word : LoopList → List ℕ
-list_word Group = codes "group"
-list_word LeftGroup = codes "left"
-list_word RightGroup = codes "right"
 
 abbrev pub op1_word : Op1 → List ℕ
 op1_word Not = codes "not"

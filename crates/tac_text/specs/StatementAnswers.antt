@@ -1,35 +1,52 @@
 -- What reading the words of a line answers.
-use Rattle.std.specs.Prelude.{◌≡◌, ℕ, Option, Some, Result, Ok, Err}
-use Rattle.tac_syntax.specs.Code.{Line}
+use Rattle.std.specs.Prelude.{◌≡◌, ℕ, List, ◌∷◌, Option, Some, Result, Ok, Err, codes}
+use Rattle.tac_syntax.specs.Code.{Simple, Line}
+use Rattle.tac_syntax.specs.Grammar.{IsSpelledSimple}
+use Rattle.tac_syntax.specs.Trees.{one_line, statement_of}
+use Rattle.tac_syntax.specs.declared.statements.Stmt.{Stmt}
+use Rattle.text_lines.specs.declared.line_words.LineWord.{LineWord}
+use Rattle.text_lines.specs.declared.line_words.LineWord.TheVariants.{Plain as plain_word}
+use Rattle.text_lines.specs.LineReading.{IsFaultOf}
+use Rattle.text_lines.specs.declared.faults.NotRead.{NotRead}
+use Rattle.text_lines.specs.declared.faults.NotRead.TheVariants.{Fault, Memory}
 use Rattle.tac_text.specs.declared.lines.BodyLine.{BodyLine}
-use Rattle.tac_text.specs.declared.statement_reading.NotLine.{NotLine}
-use Rattle.tac_text.specs.declared.statement_reading.NotLine.TheVariants.{Fault, Memory}
 use Rattle.tac_text.specs.Said.{said}
+use Rattle.tac_text.specs.StatementFaults.{wanted_by, form_fault, assignment_fault, statement_fault}
+use Rattle.tac_text.specs.StatementLines.{LinePlace, MayStand, words_of_simple, words_of_line}
 
--- a fault that is told is the one there is, and want of memory tells nothing
-abbrev pub IsFaultOf : NotLine → Option ℕ → Type 0
-IsFaultOf (Fault what) fault = fault ≡ Some what
-IsFaultOf Memory fault = Unit {0}
+-- ---- one line
+
+-- a statement of one line, whose words these are
+abbrev pub HasWordsOf : Stmt → List LineWord → Type 0
+HasWordsOf stmt words = (s : Simple) × (statement_of stmt ≡ one_line s) × (words ≡ words_of_simple s) × IsSpelledSimple s
+
+-- the statement whose words these are behind a target, `=` and a form, or their fault
+abbrev pub ReadsForm : (form target : List ℕ) → Result Stmt NotRead → List LineWord → Type 0
+ReadsForm form target (Ok stmt) words = HasWordsOf stmt (plain_word target ∷ plain_word (codes "=") ∷ plain_word form ∷ words)
+ReadsForm form target (Err e) words = IsFaultOf e (form_fault target (wanted_by form) words)
+
+-- the statement whose words these are behind a target, or their fault
+abbrev pub ReadsAssignment : List ℕ → Result Stmt NotRead → List LineWord → Type 0
+ReadsAssignment target (Ok stmt) words = HasWordsOf stmt (plain_word target ∷ words)
+ReadsAssignment target (Err e) words = IsFaultOf e (assignment_fault target words)
+
+-- the line of these words at a place
+abbrev pub IsLineAt : LinePlace → BodyLine → List LineWord → Type 0
+IsLineAt p line words = (l : Line) × (said line ≡ Some l) × (words ≡ words_of_line l) × MayStand p l
+
+abbrev pub ReadsLine : LinePlace → Result BodyLine NotRead → List LineWord → Type 0
+ReadsLine p (Ok line) words = IsLineAt p line words
+ReadsLine p (Err e) words = IsFaultOf e (statement_fault p words)
+
+-- ---- what follows
 
 -- this line, or want of memory
-abbrev pub GivesLine : Result BodyLine NotLine → Line → Type 0
+abbrev pub GivesLine : Result BodyLine NotRead → Line → Type 0
 GivesLine (Ok b) l = said b ≡ Some l
 GivesLine (Err (Fault what)) l = ⊥
 GivesLine (Err Memory) l = Unit {0}
 
--- no fault
-abbrev pub TellsNoFault : {A : Type 0} → Result A NotLine → Type 0
-TellsNoFault (Ok b) = Unit {0}
-TellsNoFault (Err (Fault what)) = ⊥
-TellsNoFault (Err Memory) = Unit {0}
-
--- this fault, or want of memory
-abbrev pub TellsLineFault : {A : Type 0} → Result A NotLine → ℕ → Type 0
-TellsLineFault (Ok b) what = ⊥
-TellsLineFault (Err (Fault told)) what = told ≡ what
-TellsLineFault (Err Memory) what = Unit {0}
-
 -- a fault leaves what was lent as it was
-abbrev pub IsUnchanged : {A : Type 0} → NotLine → A → A → Type 0
+abbrev pub IsUnchanged : {A : Type 0} → NotRead → A → A → Type 0
 IsUnchanged (Fault what) old now = now ≡ old
 IsUnchanged Memory old now = Unit {0}

@@ -5,7 +5,8 @@ use Rattle.tac_syntax.specs.Limits.{nesting_limit}
 use Rattle.tac_syntax.specs.Grammar.{IsSpelledSimple, IsSpelledLine}
 use Rattle.text_lines.specs.declared.line_words.LineWord.{LineWord}
 use Rattle.text_lines.specs.declared.line_words.LineWord.TheVariants.{Plain as plain_word, Literal as literal_word}
-use Rattle.tac_text.specs.Spelling.{simple_words, line_words, value_register}
+use Rattle.tac_text.specs.Spelling.{simple_words, line_words}
+use Rattle.text_lines.specs.OperandWords.{value_register}
 
 -- The words of a line; a literal is the bytes that it stands for.
 abbrev pub words_of_simple : Simple → List LineWord

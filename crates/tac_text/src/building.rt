@@ -9,8 +9,7 @@ ghost use Rattle.tac_syntax.specs.Limits.{nesting_limit};
 ghost use Rattle.tac_text.specs.Places.{lists_in, may_part, place_of};
 ghost use Rattle.tac_text.specs.Said.{said};
 
-use crate::lines::BodyLine;
-use crate::statement_faults::Place;
+use crate::lines::{BodyLine, Place};
 use pact_record::OutOfMemory;
 use std::alloc::Global;
 use std::marker::Model;

@@ -1,5 +1,6 @@
-//! What the lines of a body say.
+//! What the lines of a body say, and where they stand.
 
+use std::marker::Model;
 use tac_syntax::{LoopList, Stmt};
 
 /// What a line of a body says.
@@ -17,4 +18,23 @@ pub enum BodyLine {
     Else,
     /// The line that ends a block.
     End,
+}
+
+/// Where a line stands: in how many blocks, and how many of them are `each`, and whether the innermost is the
+/// first body of an `if`.
+#[derive(Clone, Copy, Debug, PartialEq, Eq)]
+pub struct Place {
+    pub blocks: u32,
+    pub lists: u32,
+    pub may_part: bool,
+}
+
+impl Model for Place {
+    ghost use Rattle.tac_text.specs.StatementLines.{LinePlace};
+
+    ghost Value = { LinePlace };
+
+    ghost view = { λ p. record { blocks = p.blocks; lists = p.lists; may_part = p.may_part } };
+
+    ghost inverse = { λ p. record { blocks = p.blocks; lists = p.lists; may_part = p.may_part } };
 }

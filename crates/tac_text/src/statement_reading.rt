@@ -1,240 +1,341 @@
 //! Lines of statements, read from their words.
 
-ghost use Rattle.std.specs.Prelude.{◌≡◌, ◌<◌, ℕ, None, Some, IfErr, IfOk, length};
+ghost use Rattle.std.specs.Prelude.{◌≡◌, ◌≤◌, ◌<◌, ◌∷◌, ℕ, None, Some, IfErr, IfOk, OnErr, OnOk, codes, length};
 ghost use Rattle.tac_syntax.specs.Code.{Line};
+ghost use Rattle.tac_syntax.specs.Grammar.{IsLiteral};
+ghost use Rattle.tac_syntax.specs.Limits.{nesting_limit};
 ghost use Rattle.text_lines.specs.CanonicalLines.{AreLineWords};
-ghost use Rattle.tac_text.specs.declared.statement_forms.Form.TheVariants.{Int, Text, Null, Mov, Get, Key, One, Two, New, Copy, Set, Emit, If, Repeat, Each};
-ghost use Rattle.tac_text.specs.Lines.{line_with};
-ghost use Rattle.tac_text.specs.Said.{said, Says};
-ghost use Rattle.tac_text.specs.StatementFaults.{statement_fault};
-ghost use Rattle.tac_text.specs.StatementForms.{HasPlainOperands, HasTextOperands, plain_texts, text_line};
-ghost use Rattle.tac_text.specs.StatementAnswers.{GivesLine, IsFaultOf, TellsLineFault, TellsNoFault};
+ghost use Rattle.text_lines.specs.Digits.{or_else};
+ghost use Rattle.text_lines.specs.declared.line_words.LineWord.TheVariants.{Plain as plain_word};
+ghost use Rattle.text_lines.specs.LineReading.{IsFaultOf, TellsFault, TellsNoFault};
+ghost use Rattle.text_lines.specs.declared.faults.NotRead.TheVariants.{Fault};
+ghost use Rattle.tac_text.specs.Said.{said};
+ghost use Rattle.tac_text.specs.Spelling.{op1_word, op2_word};
+ghost use Rattle.tac_text.specs.StatementAnswers.{GivesLine, ReadsAssignment, ReadsForm, ReadsLine};
+ghost use Rattle.tac_text.specs.StatementFaults.{is_target, statement_fault, target_alone};
 ghost use Rattle.tac_text.specs.StatementLines.{LinePlace, MayStand, words_of_line};
 
-use crate::lines::BodyLine;
-use crate::statement_faults::{Place, statement_fault};
-use crate::statement_forms::{Form, form_of};
-use crate::statement_operands::{
-    list_at, number_at, op1_at, op2_at, record_at, register_at, signed_at, text_at,
-};
-use pact_record::OutOfMemory;
+use crate::lines::{BodyLine, Place};
+use crate::operation_words::{op1_named, op2_named};
+use pact_record::{NotText, Op1, Op2, OutOfMemory, Text};
 use std::alloc::Global;
-use tac_syntax::Stmt;
-use text_lines::LineWord;
+use tac_syntax::{MAX_NESTING, Stmt};
+use text_lines::{
+    Cursor, LineWord, NotRead, is_in_form, is_in_range, is_word, record_in, value_in,
+};
 
-/// Why words are no line.
-#[derive(Clone, Copy, Debug, PartialEq, Eq)]
-pub enum NotLine {
-    /// The first fault of the words, by its number.
-    Fault { what: u32 },
-    Memory,
+// ---- assignments, behind the word that says what is assigned
+
+fn read_int(target: &[u8], words: &mut Cursor<'_>) -> Result<Stmt, NotRead>
+    ensures { ReadsForm (codes "int") target.now result words.old }
+{
+    let to = value_in(target)?;
+    let value = words.signed()?;
+    words.end()?;
+    Ok(Stmt::Int { to, value })
 }
 
-impl From<OutOfMemory> for NotLine {
-    ghost use Rattle.tac_text.specs.declared.statement_reading.NotLine.TheVariants.{Memory};
-
-    ghost from_gives = { λ _ e. e ≡ Memory };
-
-    fn from(_: OutOfMemory) -> NotLine {
-        NotLine::Memory
+fn text_of(alloc: Global, bytes: &[u8]) -> Result<Text, OutOfMemory>
+    requires { IsLiteral bytes.now }
+    ensures { IfOk result (λ text. text ≡ bytes.now) }
+{
+    match Text::from_bytes(alloc, bytes) {
+        Ok(text) => Ok(text),
+        Err(NotText::Memory) => Err(OutOfMemory),
+        Err(NotText::Utf8) => unreachable!(),
+        Err(NotText::Long) => unreachable!(),
     }
 }
 
-fn read_int(words: &[LineWord]) -> Option<BodyLine>
-    ensures { HasPlainOperands Int words.now → Says result (line_with Int (plain_texts words.now)) }
+fn read_text(alloc: Global, target: &[u8], words: &mut Cursor<'_>) -> Result<Stmt, NotRead>
+    requires { AreLineWords words.old }
+    ensures { ReadsForm (codes "text") target.now result words.old }
 {
-    Some(BodyLine::Plain(Stmt::Int {
-        to: register_at(words, 0)?,
-        value: signed_at(words, 3)?,
-    }))
+    let to = value_in(target)?;
+    let bytes = words.literal()?;
+    words.end()?;
+    let value = text_of(alloc, bytes)?;
+    Ok(Stmt::Text { to, value })
 }
 
-fn read_text(alloc: Global, words: &[LineWord]) -> Result<Option<BodyLine>, OutOfMemory>
-    ensures { IfOk result (λ found. HasTextOperands words.now → Says found (text_line words.now)) }
+fn read_null(target: &[u8], words: &mut Cursor<'_>) -> Result<Stmt, NotRead>
+    ensures { ReadsForm (codes "null") target.now result words.old }
 {
-    let Some(to) = register_at(words, 0) else {
-        return Ok(None);
+    let to = value_in(target)?;
+    words.end()?;
+    Ok(Stmt::Null { to })
+}
+
+fn read_mov(target: &[u8], words: &mut Cursor<'_>) -> Result<Stmt, NotRead>
+    ensures { ReadsForm (codes "mov") target.now result words.old }
+{
+    let to = value_in(target)?;
+    let from = words.value()?;
+    words.end()?;
+    Ok(Stmt::Mov { to, from })
+}
+
+fn read_get(target: &[u8], words: &mut Cursor<'_>) -> Result<Stmt, NotRead>
+    ensures { ReadsForm (codes "get") target.now result words.old }
+{
+    let to = value_in(target)?;
+    let from = words.operand()?;
+    let field = words.number(0, 255)?;
+    words.end()?;
+    Ok(Stmt::Get { to, from, field })
+}
+
+fn read_key(target: &[u8], words: &mut Cursor<'_>) -> Result<Stmt, NotRead>
+    ensures { ReadsForm (codes "key") target.now result words.old }
+{
+    let to = value_in(target)?;
+    let at = words.number(0, 255)?;
+    words.end()?;
+    Ok(Stmt::Key { to, at })
+}
+
+fn read_new(target: &[u8], words: &mut Cursor<'_>) -> Result<Stmt, NotRead>
+    ensures { ReadsForm (codes "new") target.now result words.old }
+{
+    let to = record_in(target)?;
+    words.end()?;
+    Ok(Stmt::New { to })
+}
+
+fn read_copy(target: &[u8], words: &mut Cursor<'_>) -> Result<Stmt, NotRead>
+    ensures { ReadsForm (codes "copy") target.now result words.old }
+{
+    let to = record_in(target)?;
+    let from = words.operand()?;
+    words.end()?;
+    Ok(Stmt::Copy { to, from })
+}
+
+fn read_one(op: Op1, target: &[u8], words: &mut Cursor<'_>) -> Result<Stmt, NotRead>
+    ensures { ReadsForm (op1_word op) target.now result words.old }
+{
+    let to = value_in(target)?;
+    let a = words.value()?;
+    words.end()?;
+    Ok(Stmt::One { to, op, a })
+}
+
+fn read_two(op: Op2, target: &[u8], words: &mut Cursor<'_>) -> Result<Stmt, NotRead>
+    ensures { ReadsForm (op2_word op) target.now result words.old }
+{
+    let to = value_in(target)?;
+    let a = words.value()?;
+    let b = words.value()?;
+    words.end()?;
+    Ok(Stmt::Two { to, op, a, b })
+}
+
+// The target's own fault, and else one behind it.
+fn target_or(target: &[u8], what: u32) -> NotRead
+    ensures { IsFaultOf result (or_else (target_alone target.now) (Some what)) }
+{
+    match target.split_first() {
+        Some((_, digits)) if is_in_range(0, 255, digits) => NotRead::Fault { what },
+        _ => NotRead::Fault { what: 7 },
+    }
+}
+
+fn read_form(
+    alloc: Global,
+    form: &[u8],
+    target: &[u8],
+    words: &mut Cursor<'_>,
+) -> Result<Stmt, NotRead>
+    requires { AreLineWords words.old }
+    ensures { ReadsForm form.now target.now result words.old }
+{
+    if is_word(form, b"int") {
+        read_int(target, words)
+    } else if is_word(form, b"text") {
+        read_text(alloc, target, words)
+    } else if is_word(form, b"null") {
+        read_null(target, words)
+    } else if is_word(form, b"mov") {
+        read_mov(target, words)
+    } else if is_word(form, b"get") {
+        read_get(target, words)
+    } else if is_word(form, b"key") {
+        read_key(target, words)
+    } else if is_word(form, b"new") {
+        read_new(target, words)
+    } else if is_word(form, b"copy") {
+        read_copy(target, words)
+    } else if let Some(op) = op1_named(form) {
+        read_one(op, target, words)
+    } else if let Some(op) = op2_named(form) {
+        read_two(op, target, words)
+    } else {
+        Err(target_or(target, 9))
+    }
+}
+
+// The words behind a target. The form tells which register the target is to be, so its fault is told behind one
+// of `=` and of the form.
+fn read_assignment(
+    alloc: Global,
+    target: &[u8],
+    words: &mut Cursor<'_>,
+) -> Result<Stmt, NotRead>
+    requires { AreLineWords words.old }
+    ensures { ReadsAssignment target.now result words.old }
+{
+    let Ok(equals) = words.next() else {
+        return Err(target_or(target, 4));
     };
-    match text_at(alloc, words, 3)? {
-        Some(value) => Ok(Some(BodyLine::Plain(Stmt::Text { to, value }))),
-        None => Ok(None),
+    if !equals.is_plain(b"=") {
+        return Err(target_or(target, 8));
+    }
+    match words.next() {
+        Ok(LineWord::Plain(form)) => read_form(alloc, form.bytes(), target, words),
+        Ok(LineWord::Literal(_)) => Err(target_or(target, 9)),
+        Err(_) => Err(target_or(target, 4)),
     }
 }
 
-fn read_null(words: &[LineWord]) -> Option<BodyLine>
-    ensures { HasPlainOperands Null words.now → Says result (line_with Null (plain_texts words.now)) }
+// ---- other lines, behind their first word
+
+fn read_set(words: &mut Cursor<'_>) -> Result<BodyLine, NotRead>
+    ensures { (p : LinePlace) → ReadsLine p result (plain_word (codes "set") ∷ words.old) }
 {
-    Some(BodyLine::Plain(Stmt::Null {
-        to: register_at(words, 0)?,
-    }))
+    let to = words.record()?;
+    let field = words.number(0, 255)?;
+    let value = words.value()?;
+    words.end()?;
+    Ok(BodyLine::Plain(Stmt::Set { to, field, value }))
 }
 
-fn read_mov(words: &[LineWord]) -> Option<BodyLine>
-    ensures { HasPlainOperands Mov words.now → Says result (line_with Mov (plain_texts words.now)) }
+fn read_emit(words: &mut Cursor<'_>) -> Result<BodyLine, NotRead>
+    ensures { (p : LinePlace) → ReadsLine p result (plain_word (codes "emit") ∷ words.old) }
 {
-    Some(BodyLine::Plain(Stmt::Mov {
-        to: register_at(words, 0)?,
-        from: register_at(words, 3)?,
-    }))
+    let from = words.record()?;
+    words.end()?;
+    Ok(BodyLine::Plain(Stmt::Emit { from }))
 }
 
-fn read_get(words: &[LineWord]) -> Option<BodyLine>
-    ensures { HasPlainOperands Get words.now → Says result (line_with Get (plain_texts words.now)) }
+// A block stands inside fewer than 64 others.
+fn room_for_block(place: Place) -> Result<(), NotRead>
+    ensures room { OnOk result (place.blocks < nesting_limit) }
+    ensures full { OnErr result (nesting_limit ≤ place.blocks) }
+    ensures fault { IfErr result (λ e. e ≡ Fault 10) }
 {
-    Some(BodyLine::Plain(Stmt::Get {
-        to: register_at(words, 0)?,
-        from: record_at(words, 3)?,
-        field: number_at(words, 4)?,
-    }))
-}
-
-fn read_key(words: &[LineWord]) -> Option<BodyLine>
-    ensures { HasPlainOperands Key words.now → Says result (line_with Key (plain_texts words.now)) }
-{
-    Some(BodyLine::Plain(Stmt::Key {
-        to: register_at(words, 0)?,
-        at: number_at(words, 3)?,
-    }))
-}
-
-fn read_one(words: &[LineWord]) -> Option<BodyLine>
-    ensures { HasPlainOperands One words.now → Says result (line_with One (plain_texts words.now)) }
-{
-    Some(BodyLine::Plain(Stmt::One {
-        to: register_at(words, 0)?,
-        op: op1_at(words, 2),
-        a: register_at(words, 3)?,
-    }))
-}
-
-fn read_two(words: &[LineWord]) -> Option<BodyLine>
-    ensures { HasPlainOperands Two words.now → Says result (line_with Two (plain_texts words.now)) }
-{
-    Some(BodyLine::Plain(Stmt::Two {
-        to: register_at(words, 0)?,
-        op: op2_at(words, 2),
-        a: register_at(words, 3)?,
-        b: register_at(words, 4)?,
-    }))
-}
-
-fn read_new(words: &[LineWord]) -> Option<BodyLine>
-    ensures { HasPlainOperands New words.now → Says result (line_with New (plain_texts words.now)) }
-{
-    Some(BodyLine::Plain(Stmt::New {
-        to: register_at(words, 0)?,
-    }))
-}
-
-fn read_copy(words: &[LineWord]) -> Option<BodyLine>
-    ensures { HasPlainOperands Copy words.now → Says result (line_with Copy (plain_texts words.now)) }
-{
-    Some(BodyLine::Plain(Stmt::Copy {
-        to: register_at(words, 0)?,
-        from: record_at(words, 3)?,
-    }))
-}
-
-fn read_set(words: &[LineWord]) -> Option<BodyLine>
-    ensures { HasPlainOperands Set words.now → Says result (line_with Set (plain_texts words.now)) }
-{
-    Some(BodyLine::Plain(Stmt::Set {
-        to: register_at(words, 1)?,
-        field: number_at(words, 2)?,
-        value: register_at(words, 3)?,
-    }))
-}
-
-fn read_emit(words: &[LineWord]) -> Option<BodyLine>
-    ensures { HasPlainOperands Emit words.now → Says result (line_with Emit (plain_texts words.now)) }
-{
-    Some(BodyLine::Plain(Stmt::Emit {
-        from: register_at(words, 1)?,
-    }))
-}
-
-fn read_if(words: &[LineWord]) -> Option<BodyLine>
-    ensures { HasPlainOperands If words.now → Says result (line_with If (plain_texts words.now)) }
-{
-    Some(BodyLine::If {
-        on: register_at(words, 1)?,
-    })
-}
-
-fn read_repeat(words: &[LineWord]) -> Option<BodyLine>
-    ensures { HasPlainOperands Repeat words.now → Says result (line_with Repeat (plain_texts words.now)) }
-{
-    Some(BodyLine::Repeat {
-        count: number_at(words, 1)?,
-    })
-}
-
-fn read_each(words: &[LineWord]) -> Option<BodyLine>
-    ensures { HasPlainOperands Each words.now → Says result (line_with Each (plain_texts words.now)) }
-{
-    Some(BodyLine::Each {
-        name: register_at(words, 1)?,
-        list: list_at(words, 3),
-    })
-}
-
-// The line of a form without a literal.
-fn read_plain(form: Form, words: &[LineWord]) -> Option<BodyLine>
-    ensures { HasPlainOperands form words.now → Says result (line_with form (plain_texts words.now)) }
-{
-    match form {
-        Form::Int => read_int(words),
-        Form::Text => None,
-        Form::Null => read_null(words),
-        Form::Mov => read_mov(words),
-        Form::Get => read_get(words),
-        Form::Key => read_key(words),
-        Form::One => read_one(words),
-        Form::Two => read_two(words),
-        Form::New => read_new(words),
-        Form::Copy => read_copy(words),
-        Form::Set => read_set(words),
-        Form::Emit => read_emit(words),
-        Form::If => read_if(words),
-        Form::Repeat => read_repeat(words),
-        Form::Each => read_each(words),
-        Form::Else => Some(BodyLine::Else),
-        Form::End => Some(BodyLine::End),
+    if place.blocks < MAX_NESTING {
+        Ok(())
+    } else {
+        Err(NotRead::Fault { what: 10 })
     }
 }
 
-fn read_form(alloc: Global, form: Form, words: &[LineWord]) -> Result<Option<BodyLine>, OutOfMemory>
-    ensures text { IfOk result (λ found. form ≡ Text → HasTextOperands words.now → Says found (text_line words.now)) }
-    ensures plain { IfOk result (λ found. HasPlainOperands form words.now → Says found (line_with form (plain_texts words.now))) }
+fn read_if(place: Place, words: &mut Cursor<'_>) -> Result<BodyLine, NotRead>
+    ensures { ReadsLine place result (plain_word (codes "if") ∷ words.old) }
 {
-    match form {
-        Form::Text => read_text(alloc, words),
-        _ => Ok(read_plain(form, words)),
+    room_for_block(place)?;
+    let on = words.value()?;
+    words.end()?;
+    Ok(BodyLine::If { on })
+}
+
+fn read_repeat(place: Place, words: &mut Cursor<'_>) -> Result<BodyLine, NotRead>
+    ensures { ReadsLine place result (plain_word (codes "repeat") ∷ words.old) }
+{
+    room_for_block(place)?;
+    let count = words.number(1, 1000)?;
+    words.end()?;
+    Ok(BodyLine::Repeat { count })
+}
+
+fn read_each(place: Place, words: &mut Cursor<'_>) -> Result<BodyLine, NotRead>
+    ensures { ReadsLine place result (plain_word (codes "each") ∷ words.old) }
+{
+    room_for_block(place)?;
+    let name = words.loop_name(place.lists + 1)?;
+    words.fixed(b"of")?;
+    let list = words.list()?;
+    words.end()?;
+    Ok(BodyLine::Each { name, list })
+}
+
+fn read_else(place: Place, words: &mut Cursor<'_>) -> Result<BodyLine, NotRead>
+    ensures { ReadsLine place result (plain_word (codes "else") ∷ words.old) }
+{
+    if !place.may_part {
+        return Err(NotRead::Fault { what: 10 });
+    }
+    words.end()?;
+    Ok(BodyLine::Else)
+}
+
+fn read_end(words: &mut Cursor<'_>) -> Result<BodyLine, NotRead>
+    ensures { (p : LinePlace) → ReadsLine p result (plain_word (codes "end") ∷ words.old) }
+{
+    words.end()?;
+    Ok(BodyLine::End)
+}
+
+// ---- lines
+
+fn is_target(word: &[u8]) -> bool
+    ensures { result ≡ is_target word.now }
+{
+    is_in_form(b'v', word) || is_in_form(b'r', word)
+}
+
+// By the line's first word, with the words behind it.
+fn read_behind(
+    alloc: Global,
+    place: Place,
+    first: &[u8],
+    words: &mut Cursor<'_>,
+) -> Result<BodyLine, NotRead>
+    requires { AreLineWords words.old }
+    ensures { ReadsLine place result (plain_word first.now ∷ words.old) }
+{
+    if is_word(first, b"set") {
+        read_set(words)
+    } else if is_word(first, b"emit") {
+        read_emit(words)
+    } else if is_word(first, b"if") {
+        read_if(place, words)
+    } else if is_word(first, b"repeat") {
+        read_repeat(place, words)
+    } else if is_word(first, b"each") {
+        read_each(place, words)
+    } else if is_word(first, b"else") {
+        read_else(place, words)
+    } else if is_word(first, b"end") {
+        read_end(words)
+    } else if is_target(first) {
+        Ok(BodyLine::Plain(read_assignment(alloc, first, words)?))
+    } else {
+        Err(NotRead::Fault { what: 3 })
     }
 }
 
-// The line that words are for.
-fn read_faultless(alloc: Global, words: &[LineWord]) -> Result<Option<BodyLine>, OutOfMemory>
-    ensures { IfOk result (λ found. (place : LinePlace) (l : Line) → MayStand place l → words.now ≡ words_of_line l → Says found l) }
+fn read_line(alloc: Global, place: Place, words: &[LineWord]) -> Result<BodyLine, NotRead>
+    requires some { 0 < length words.now }
+    requires words { AreLineWords words.now }
+    ensures { ReadsLine place result words.now }
 {
-    read_form(alloc, form_of(words), words)
+    let mut words = Cursor::new(words);
+    match words.next()? {
+        LineWord::Plain(first) => read_behind(alloc, place, first.bytes(), &mut words),
+        LineWord::Literal(_) => Err(NotRead::Fault { what: 3 }),
+    }
 }
 
 /// The line that words say at a place, or their first fault.
-pub fn read_statement(alloc: Global, place: Place, words: &[LineWord]) -> Result<BodyLine, NotLine>
+pub fn read_statement(alloc: Global, place: Place, words: &[LineWord]) -> Result<BodyLine, NotRead>
     requires some { 0 < length words.now }
     requires words { AreLineWords words.now }
     ensures line { IfOk result (λ b. (l : Line) × (said b ≡ Some l) × (words.now ≡ words_of_line l) × MayStand place l) }
     ensures fault { IfErr result (λ e. IsFaultOf e (statement_fault place words.now)) }
     ensures line_always { (l : Line) → MayStand place l → words.now ≡ words_of_line l → GivesLine result l }
     ensures faultless_always { statement_fault place words.now ≡ None → TellsNoFault result }
-    ensures fault_always { (what : ℕ) → statement_fault place words.now ≡ Some what → TellsLineFault result what }
+    ensures fault_always { (what : ℕ) → statement_fault place words.now ≡ Some what → TellsFault result what }
 {
-    if let Some(what) = statement_fault(place, words) {
-        return Err(NotLine::Fault { what });
-    }
-    match read_faultless(alloc, words)? {
-        Some(line) => Ok(line),
-        None => unreachable!(),
-    }
+    read_line(alloc, place, words)
 }

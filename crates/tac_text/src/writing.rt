@@ -4,44 +4,15 @@ ghost use Rattle.std.specs.Prelude.{◌≡◌, ◌≤◌, ◌+◌, ◌*◌, ◌+
 ghost use Rattle.std.specs.Fmt.{decimal};
 ghost use Rattle.tac_syntax.specs.Code.{load_int, load_text, load_null, move_value, get_field, get_key, apply_one, apply_two, new_record, copy_record, set_field, emit_record, test, turns, over, nesting};
 ghost use Rattle.tac_syntax.specs.Trees.{first_line, only};
-ghost use Rattle.tac_text.specs.Spelling.{body_text, deepest, line_words, list_word, op1_word, op2_word, record_word, simple_words};
+ghost use Rattle.tac_text.specs.Spelling.{body_text, deepest, line_words, op1_word, op2_word, simple_words};
+ghost use Rattle.text_lines.specs.OperandWords.{list_word, record_word};
 ghost use Rattle.text_lines.specs.CanonicalLines.{escaped, line_text, literal};
 
+use crate::operation_words::{op1_name, op2_name};
 use crate::words::Words;
 use pact_record::{Bytes, Op1, Op2, OutOfMemory, Text};
 use std::alloc::Global;
 use tac_syntax::{Body, LoopList, Rec, Stmt};
-
-fn op1_name(op: Op1) -> &'static [u8]
-    ensures { result.now ≡ op1_word op }
-{
-    match op {
-        Op1::Not => b"not",
-        Op1::IsNull => b"isnull",
-        Op1::Len => b"len",
-    }
-}
-
-fn op2_name(op: Op2) -> &'static [u8]
-    ensures { result.now ≡ op2_word op }
-{
-    match op {
-        Op2::Add => b"add",
-        Op2::Sub => b"sub",
-        Op2::Mul => b"mul",
-        Op2::Div => b"div",
-        Op2::Rem => b"rem",
-        Op2::AddW => b"addw",
-        Op2::Min => b"min",
-        Op2::Max => b"max",
-        Op2::Lt => b"lt",
-        Op2::Le => b"le",
-        Op2::Eq => b"eq",
-        Op2::And => b"and",
-        Op2::Or => b"or",
-        Op2::Cat => b"cat",
-    }
-}
 
 fn list_name(list: LoopList) -> &'static [u8]
     ensures { result.now ≡ list_word list }

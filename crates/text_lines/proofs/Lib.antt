@@ -11,3 +11,4 @@ pub mod LineRuns
 pub mod FirstLines
 pub mod LinePlaces
 pub mod ReadOperands
+pub mod SlotWords

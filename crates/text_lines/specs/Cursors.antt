@@ -1,19 +1,21 @@
 -- What reading the words of a line one after the other answers.
 use Rattle.std.specs.Prelude.{◌≡◌, ℕ, Option, None, List, [], ◌∷◌, Result, Ok, Err}
-use Rattle.text_lines.specs.LineGrammar.{LineWord}
+use Rattle.text_lines.specs.LineGrammar.{LineWord, plain_word, literal_word}
 use Rattle.text_lines.specs.LineReading.{IsFaultOf}
-use Rattle.text_lines.specs.Slots.{Slot, slot_fault, first_fault}
+use Rattle.text_lines.specs.Slots.{Slot, first_fault}
 use Rattle.text_lines.specs.declared.faults.NotRead.{NotRead}
+use Rattle.text_lines.specs.declared.faults.NotRead.TheVariants.{Fault}
 
 -- this word, which is no literal, is read, or has this fault
 abbrev pub ReadsPlain : {T : Type 0} → Option ℕ → (T → Type 0) → (T → List ℕ) → Result T NotRead → List ℕ → Type 0
 ReadsPlain fault Fits text (Ok x) read = (read ≡ text x) × Fits x × (fault ≡ None)
 ReadsPlain fault Fits text (Err e) read = IsFaultOf e fault
 
--- this word is read for a slot
-abbrev pub ReadsWord : {T : Type 0} → Slot → (T → Type 0) → (T → LineWord) → Result T NotRead → LineWord → Type 0
-ReadsWord slot Fits word (Ok x) read = (read ≡ word x) × Fits x × (slot_fault slot read ≡ None)
-ReadsWord slot Fits word (Err e) read = IsFaultOf e (slot_fault slot read)
+-- no word is there, or a literal
+abbrev pub IsNoPlain : ℕ → NotRead → List LineWord → Type 0
+IsNoPlain what e [] = e ≡ Fault 4
+IsNoPlain what e (plain_word bytes ∷ words) = ⊥
+IsNoPlain what e (literal_word bytes ∷ words) = e ≡ Fault what
 
 -- the first fault of words whose first is read is that of the words behind it
 abbrev pub PassesOn : Slot → List LineWord → List LineWord → Type 0

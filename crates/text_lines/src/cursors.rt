@@ -1,22 +1,25 @@
 //! The words of a line, read from the left.
 
-ghost use Rattle.std.specs.Prelude.{◌≡◌, ◌≤◌, ◌∷◌, [], IfErr, IfOk, decimal};
-ghost use Rattle.tac_syntax.specs.Grammar.{IsNumber, IsSpelledRecord};
-ghost use Rattle.text_lines.specs.Cursors.{ReadsEnd, ReadsNext};
+ghost use Rattle.std.specs.Prelude.{◌≡◌, ◌≤◌, ◌∷◌, [], FitsSigned, IfErr, IfOk, decimal};
+ghost use Rattle.std.specs.Fmt.{signed_decimal};
+ghost use Rattle.tac_syntax.specs.Grammar.{IsLoopName, IsNumber, IsSpelledRecord};
+ghost use Rattle.text_lines.specs.Cursors.{IsNoPlain, ReadsEnd, ReadsNext};
 ghost use Rattle.text_lines.specs.declared.faults.NotRead.TheVariants.{Fault};
-ghost use Rattle.text_lines.specs.LineGrammar.{plain_word};
-ghost use Rattle.text_lines.specs.OperandWords.{record_word, value_register};
-ghost use Rattle.text_lines.specs.Slots.{number, operand, register};
+ghost use Rattle.text_lines.specs.LineGrammar.{literal_word, plain_word};
+ghost use Rattle.text_lines.specs.OperandWords.{list_word, loop_name, record_register, record_word, value_register};
+ghost use Rattle.text_lines.specs.Slots.{fixed, list, loop, number, operand, register, signed, text};
+ghost use mir.Syntax.{w64};
 
 use crate::faults::NotRead;
 use crate::line_words::LineWord;
-use crate::operands::{number_in, operand_in, value_in};
+use crate::operands::{list_in, name_in, number_in, operand_in, record_in, signed_in, value_in};
 use std::marker::Model;
-use tac_syntax::Rec;
+use tac_syntax::{LoopList, Rec};
 
-/// The words of a line that aren't read yet. Each of its calls that reads a word moves behind it, or tells the
-/// first fault of these words: fault 4 where there is none, fault 7 for a number that isn't in range, fault 8 for
-/// another word than is wanted.
+/// The words of a line that aren't read yet. Each call that reads a word moves behind it, or tells the first fault
+/// of these words: fault 4 where there is none, fault 7 for a number out of range, fault 8 for a word of another
+/// kind. Behind a fault nothing is known of the place.
+#[derive(Debug, Drop)]
 pub struct Cursor<'a> {
     words: &'a [LineWord],
 }
@@ -51,28 +54,88 @@ impl<'a> Cursor<'a> {
         }
     }
 
+    // The next word, or this fault where it is a literal.
+    fn plain(&mut self, what: u32) -> Result<&'a [u8], NotRead>
+        ensures word { IfOk result (λ word. self.old ≡ plain_word word.now ∷ self.new) }
+        ensures fault { IfErr result (λ e. IsNoPlain what e self.old) }
+    {
+        match self.next()? {
+            LineWord::Plain(bytes) => Ok(bytes.bytes()),
+            LineWord::Literal(_) => Err(NotRead::Fault { what }),
+        }
+    }
+
+    /// The word of this name.
+    pub fn fixed(&mut self, name: &[u8]) -> Result<(), NotRead>
+        ensures { ReadsNext (fixed name.now) (λ _. Unit {0}) (λ _. plain_word name.now) result self.old self.new }
+    {
+        if self.next()?.is_plain(name) {
+            Ok(())
+        } else {
+            Err(NotRead::Fault { what: 8 })
+        }
+    }
+
     /// A value register, as its number.
     pub fn value(&mut self) -> Result<u32, NotRead>
         ensures { ReadsNext (register 118) IsNumber (λ n. plain_word (value_register n)) result self.old self.new }
     {
-        value_in(self.next()?)
+        value_in(self.plain(8)?)
+    }
+
+    /// A record register, as its number.
+    pub fn record(&mut self) -> Result<u32, NotRead>
+        ensures { ReadsNext (register 114) IsNumber (λ n. plain_word (record_register n)) result self.old self.new }
+    {
+        record_in(self.plain(8)?)
     }
 
     /// A record that is read: a register, a loop's name or a record of the kind.
     pub fn operand(&mut self) -> Result<Rec, NotRead>
         ensures { ReadsNext operand IsSpelledRecord (λ from. plain_word (record_word from)) result self.old self.new }
     {
-        operand_in(self.next()?)
+        operand_in(self.plain(8)?)
     }
 
     /// A number in a range.
     pub fn number(&mut self, low: u32, high: u32) -> Result<u32, NotRead>
         ensures { ReadsNext (number low high) (λ n. (low ≤ n) × (n ≤ high)) (λ n. plain_word (decimal n)) result self.old self.new }
     {
-        number_in(low, high, self.next()?)
+        number_in(low, high, self.plain(7)?)
     }
 
-    /// The line's end.
+    /// A number with or without a sign.
+    pub fn signed(&mut self) -> Result<i64, NotRead>
+        ensures { ReadsNext signed (FitsSigned w64) (λ z. plain_word (signed_decimal z)) result self.old self.new }
+    {
+        signed_in(self.plain(7)?)
+    }
+
+    /// A literal, as the bytes that it stands for.
+    pub fn literal(&mut self) -> Result<&'a [u8], NotRead>
+        ensures { ReadsNext text (λ _. Unit {0}) (λ bytes. literal_word bytes.now) result self.old self.new }
+    {
+        match self.next()? {
+            LineWord::Literal(bytes) => Ok(bytes.bytes()),
+            LineWord::Plain(_) => Err(NotRead::Fault { what: 8 }),
+        }
+    }
+
+    /// The name of a loop, as its number: fault 11 where it isn't the one that this place wants.
+    pub fn loop_name(&mut self, name: u32) -> Result<u32, NotRead>
+        ensures { ReadsNext (loop name) (λ n. (n ≡ name) × IsLoopName n) (λ n. plain_word (loop_name n)) result self.old self.new }
+    {
+        name_in(name, self.plain(8)?)
+    }
+
+    /// The list of a loop.
+    pub fn list(&mut self) -> Result<LoopList, NotRead>
+        ensures { ReadsNext list (λ _. Unit {0}) (λ items. plain_word (list_word items)) result self.old self.new }
+    {
+        list_in(self.plain(8)?)
+    }
+
+    /// The line's end: fault 5 where a word is left over.
     pub fn end(&mut self) -> Result<(), NotRead>
         ensures { ReadsEnd result self.old }
     {

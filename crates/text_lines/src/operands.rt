@@ -1,18 +1,19 @@
 //! Operands, each read from its word.
 
-ghost use Rattle.std.specs.Prelude.{◌≡◌, ◌≤◌, ◌<◌, ◌^◌, ◌∷◌, ℕ, IfSome, None, Some, decimal, false, if◌then◌else◌, true};
-ghost use Rattle.tac_syntax.specs.Grammar.{IsNumber, IsSpelledRecord};
-ghost use Rattle.text_lines.specs.Cursors.{ReadsPlain, ReadsWord};
-ghost use Rattle.text_lines.specs.Digits.{is_in_form, is_in_range};
-ghost use Rattle.text_lines.specs.LineGrammar.{plain_word};
-ghost use Rattle.text_lines.specs.OperandWords.{fixed_record, record_word, value_register};
-ghost use Rattle.text_lines.specs.Slots.{number, numbered_fault, operand, operand_fault, register};
+ghost use Rattle.std.specs.Prelude.{◌≡◌, ◌≤◌, ◌∷◌, FitsSigned, IfSome, None, Some, decimal, false, if◌then◌else◌, true};
+ghost use Rattle.std.specs.Fmt.{signed_decimal};
+ghost use Rattle.tac_syntax.specs.Grammar.{IsLoopName, IsNumber, IsSpelledRecord};
+ghost use Rattle.text_lines.specs.Cursors.{ReadsPlain};
+ghost use Rattle.text_lines.specs.Digits.{is_in_form, is_in_range, is_signed_word, told_unless};
+ghost use Rattle.text_lines.specs.OperandWords.{fixed_record, list_word, loop_name, record_register, record_word, value_register};
+ghost use Rattle.text_lines.specs.Slots.{is_list_word, name_fault, numbered_fault, operand_fault, register_fault};
+ghost use mir.Syntax.{w64};
 
 use crate::digits::{is_in_form, is_in_range};
 use crate::faults::NotRead;
-use crate::line_words::{LineWord, is_word};
-use crate::numbers::read_number;
-use tac_syntax::Rec;
+use crate::line_words::is_word;
+use crate::numbers::{read_number, read_signed};
+use tac_syntax::{LoopList, Rec};
 
 fn number_within(low: u32, high: u32, word: &[u8]) -> Option<u32>
     ensures some { IfSome result (λ n. (word.now ≡ decimal n) × (low ≤ n) × (n ≤ high)) }
@@ -23,6 +24,26 @@ fn number_within(low: u32, high: u32, word: &[u8]) -> Option<u32>
         return None;
     }
     read_number(word)
+}
+
+/// A number in a range.
+pub fn number_in(low: u32, high: u32, word: &[u8]) -> Result<u32, NotRead>
+    ensures { ReadsPlain (told_unless (is_in_range low high word.now) 7) (λ n. (low ≤ n) × (n ≤ high)) decimal result word.now }
+{
+    match number_within(low, high, word) {
+        Some(number) => Ok(number),
+        None => Err(NotRead::Fault { what: 7 }),
+    }
+}
+
+/// A number with or without a sign.
+pub fn signed_in(word: &[u8]) -> Result<i64, NotRead>
+    ensures { ReadsPlain (told_unless (is_signed_word word.now) 7) (FitsSigned w64) signed_decimal result word.now }
+{
+    match read_signed(word) {
+        Some(number) => Ok(number),
+        None => Err(NotRead::Fault { what: 7 }),
+    }
 }
 
 // A letter with a number behind it.
@@ -36,6 +57,32 @@ fn numbered(letter: u8, low: u32, high: u32, word: &[u8]) -> Result<u32, NotRead
     match number_within(low, high, &word[1..]) {
         Some(number) => Ok(number),
         None => Err(NotRead::Fault { what: 7 }),
+    }
+}
+
+/// A value register, as its number.
+pub fn value_in(word: &[u8]) -> Result<u32, NotRead>
+    ensures { ReadsPlain (register_fault 118 word.now) IsNumber value_register result word.now }
+{
+    numbered(b'v', 0, 255, word)
+}
+
+/// A record register, as its number.
+pub fn record_in(word: &[u8]) -> Result<u32, NotRead>
+    ensures { ReadsPlain (register_fault 114 word.now) IsNumber record_register result word.now }
+{
+    numbered(b'r', 0, 255, word)
+}
+
+/// The name of a loop, of which only this one may stand here.
+pub fn name_in(name: u32, word: &[u8]) -> Result<u32, NotRead>
+    ensures { ReadsPlain (name_fault name word.now) (λ n. (n ≡ name) × IsLoopName n) loop_name result word.now }
+{
+    let number = numbered(b'x', 1, 64, word)?;
+    if number == name {
+        Ok(number)
+    } else {
+        Err(NotRead::Fault { what: 11 })
     }
 }
 
@@ -57,7 +104,8 @@ fn fixed_record(word: &[u8]) -> Option<Rec>
     }
 }
 
-fn record_in(word: &[u8]) -> Result<Rec, NotRead>
+/// A record that is read: a register, a loop's name or a record of the kind.
+pub fn operand_in(word: &[u8]) -> Result<Rec, NotRead>
     ensures { ReadsPlain (operand_fault word.now) IsSpelledRecord record_word result word.now }
 {
     if let Some(from) = fixed_record(word) {
@@ -69,32 +117,17 @@ fn record_in(word: &[u8]) -> Result<Rec, NotRead>
     Ok(Rec::Loop(numbered(b'x', 1, 64, word)?))
 }
 
-pub fn value_in(word: &LineWord) -> Result<u32, NotRead>
-    ensures { ReadsWord (register 118) IsNumber (λ n. plain_word (value_register n)) result word.now }
+/// The list of a loop.
+pub fn list_in(word: &[u8]) -> Result<LoopList, NotRead>
+    ensures { ReadsPlain (told_unless (is_list_word word.now) 8) (λ _. Unit {0}) list_word result word.now }
 {
-    match word {
-        LineWord::Plain(bytes) => numbered(b'v', 0, 255, bytes.bytes()),
-        LineWord::Literal(_) => Err(NotRead::Fault { what: 8 }),
-    }
-}
-
-pub fn operand_in(word: &LineWord) -> Result<Rec, NotRead>
-    ensures { ReadsWord operand IsSpelledRecord (λ from. plain_word (record_word from)) result word.now }
-{
-    match word {
-        LineWord::Plain(bytes) => record_in(bytes.bytes()),
-        LineWord::Literal(_) => Err(NotRead::Fault { what: 8 }),
-    }
-}
-
-pub fn number_in(low: u32, high: u32, word: &LineWord) -> Result<u32, NotRead>
-    ensures { ReadsWord (number low high) (λ n. (low ≤ n) × (n ≤ high)) (λ n. plain_word (decimal n)) result word.now }
-{
-    match word {
-        LineWord::Plain(bytes) => match number_within(low, high, bytes.bytes()) {
-            Some(number) => Ok(number),
-            None => Err(NotRead::Fault { what: 7 }),
-        },
-        LineWord::Literal(_) => Err(NotRead::Fault { what: 7 }),
+    if is_word(word, b"group") {
+        Ok(LoopList::Group)
+    } else if is_word(word, b"left") {
+        Ok(LoopList::Left)
+    } else if is_word(word, b"right") {
+        Ok(LoopList::Right)
+    } else {
+        Err(NotRead::Fault { what: 8 })
     }
 }

@@ -1,4 +1,4 @@
-use Rattle.std.proofs.Common.{◌≡◌, true, sym, ◌∙◌, arith}
+use Rattle.std.proofs.Common.{◌≡◌, true, arith}
 use Rattle.text_lines.specs.Digits.{is_in_range}
 use Rattle.text_lines.proofs.ReadOperands.{Within, within}
 use Rattle.text_lines.proofs.operands.number_within.Goals as goal
