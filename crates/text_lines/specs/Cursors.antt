@@ -2,7 +2,7 @@
 use Rattle.std.specs.Prelude.{◌≡◌, ℕ, Option, None, List, [], ◌∷◌, Result, Ok, Err}
 use Rattle.text_lines.specs.LineGrammar.{LineWord, plain_word, literal_word}
 use Rattle.text_lines.specs.LineReading.{IsFaultOf}
-use Rattle.text_lines.specs.Slots.{Slot, first_fault}
+use Rattle.text_lines.specs.Slots.{Slot, slot_fault, first_fault}
 use Rattle.text_lines.specs.declared.faults.NotRead.{NotRead}
 use Rattle.text_lines.specs.declared.faults.NotRead.TheVariants.{Fault}
 
@@ -17,14 +17,15 @@ IsNoPlain what e [] = e ≡ Fault 4
 IsNoPlain what e (plain_word bytes ∷ words) = ⊥
 IsNoPlain what e (literal_word bytes ∷ words) = e ≡ Fault what
 
--- the first fault of words whose first is read is that of the words behind it
-abbrev pub PassesOn : Slot → List LineWord → List LineWord → Type 0
-PassesOn slot old now = (slots : List Slot) → first_fault (slot ∷ slots) old ≡ first_fault slots now
+-- no word stands where one is wanted, or one with this fault
+abbrev pub FailsAt : Slot → NotRead → List LineWord → Type 0
+FailsAt slot e [] = e ≡ Fault 4
+FailsAt slot e (word ∷ words) = IsFaultOf e (slot_fault slot word)
 
--- The first of these words is read for a slot, or its fault is that of the line, whatever is wanted behind it.
+-- The first of these words is read for a slot, or has this fault.
 abbrev pub ReadsNext : {T : Type 0} → Slot → (T → Type 0) → (T → LineWord) → Result T NotRead → List LineWord → List LineWord → Type 0
-ReadsNext slot Fits word (Ok x) old now = (old ≡ word x ∷ now) × Fits x × PassesOn slot old now
-ReadsNext slot Fits word (Err e) old now = (slots : List Slot) → IsFaultOf e (first_fault (slot ∷ slots) old)
+ReadsNext slot Fits word (Ok x) old now = (old ≡ word x ∷ now) × Fits x × (slot_fault slot (word x) ≡ None)
+ReadsNext slot Fits word (Err e) old now = FailsAt slot e old
 
 -- no word is left
 abbrev pub ReadsEnd : {T : Type 0} → Result T NotRead → List LineWord → Type 0
