@@ -1,28 +1,23 @@
 -- Words without a fault are the words of a line.
-use Rattle.std.proofs.Common.{◌≡◌, ◌++◌, ℤ, FitsSigned, w64, length, ◌≤◌, ◌<◌, ◌^◌, ◌+◌, inl, inr, ℕ, Bool, true, false, nat_lt, if◌then◌else◌, List, [], ◌∷◌, Option, Some, None, codes, bytes_eq, decimal, refl, ap, subst, ◌∙◌, arith}
-use Rattle.std.specs.Fmt.{signed_decimal}
+use Rattle.std.proofs.Common.{◌≡◌, length, ◌<◌, ◌+◌, inl, inr, ℕ, Bool, true, false, nat_lt, if◌then◌else◌, List, [], ◌∷◌, Option, Some, None, codes, bytes_eq, refl, subst, arith}
 use Rattle.std.proofs.lemmas.Bool.{ltb-true, or_cases}
 use Rattle.pact_record.specs.declared.operations.Op1.{Op1}
 use Rattle.pact_record.specs.declared.operations.Op1.TheVariants.{Not, IsNull, Len}
 use Rattle.pact_record.specs.declared.operations.Op2.{Op2}
 use Rattle.pact_record.specs.declared.operations.Op2.TheVariants.{Add, Sub, Mul, Div, Rem, AddW, Min, Max, Lt, Le, Eq, And, Or, Cat}
 use Rattle.tac_syntax.specs.Code.{load_int, load_text, load_null, move_value, get_field, get_key, apply_one, apply_two, new_record, copy_record, set_field, emit_record, Line, simple, test, turns, over, otherwise, close}
-use Rattle.tac_syntax.specs.declared.statements.Rec.{Rec}
-use Rattle.tac_syntax.specs.declared.statements.LoopList.{LoopList}
 use Rattle.tac_syntax.specs.Limits.{nesting_limit}
 use Rattle.text_lines.specs.CanonicalLines.{IsLineWord, AreLineWords}
-use Rattle.tac_syntax.specs.Grammar.{IsLoopName, IsLiteral, IsSpelledRecord}
+use Rattle.tac_syntax.specs.Grammar.{IsLiteral}
 use Rattle.text_lines.specs.declared.line_words.LineWord.{LineWord}
 use Rattle.text_lines.specs.declared.line_words.LineWord.TheVariants.{Plain as plain_word, Literal as literal_word}
 use Rattle.tac_text.specs.Spelling.{op1_word, op2_word}
-use Rattle.text_lines.specs.OperandWords.{record_word, list_word}
 use Rattle.tac_text.specs.StatementLines.{LinePlace, MayStand, words_of_line}
 use Rattle.tac_text.specs.StatementFaults.{is_target, Wanted, to_value, to_record, wanted_by, form_fault, is_op1, is_op2, target_alone, assignment_fault, block_fault, word_fault, statement_fault}
-use Rattle.text_lines.specs.Slots.{Slot, fixed, register, operand, number, signed, text, loop, list, slot_fault, first_fault, register_fault}
+use Rattle.text_lines.specs.Slots.{Slot, fixed, register, operand, number, signed, text, loop, list, first_fault, register_fault}
 use Rattle.text_lines.specs.Digits.{or_else}
-use Rattle.text_lines.proofs.DigitWords.{number_spelled}
-use Rattle.text_lines.proofs.Faultless.{by_cases, told_unless-none, or_else-none, same_word, is_plain-same}
-use Rattle.text_lines.proofs.SlotWords.{Numbered, register_spelled, Taken, taken, none_left, behind, register_word, number_word, operand_word, signed_word, text_word, name_word, fixed_word, group_word}
+use Rattle.text_lines.proofs.Faultless.{by_cases, or_else-none, same_word, is_plain-same}
+use Rattle.text_lines.proofs.SlotWords.{Numbered, register_spelled, taken, none_left, behind, register_word, number_word, operand_word, signed_word, text_word, name_word, fixed_word, group_word}
 use Rattle.text_lines.specs.LineGrammar.{is_plain}
 
 -- the line whose words these are, which may stand

@@ -1,5 +1,5 @@
 -- A line is told from its words: no two lines that may stand have the same.
-use Rattle.std.proofs.Common.{◌≡◌, ◌<◌, ◌^◌, ◌==◌, inr, inl, ℕ, suc, ℤ, pos, negsuc, neg_ℤ, if◌then◌else◌, Option, None, unwrap_or, FitsSigned, List, [], ◌∷◌, ◌++◌, map, length, drop, get_or, nat_lt, codes, bytes_eq, decimal, refl, ap, sym, ◌∙◌, arith, w64}
+use Rattle.std.proofs.Common.{◌≡◌, ◌<◌, ◌^◌, ◌==◌, inr, inl, ℕ, suc, ℤ, pos, negsuc, neg_ℤ, if◌then◌else◌, Option, None, unwrap_or, FitsSigned, List, [], ◌∷◌, ◌++◌, map, length, drop, get_or, nat_lt, codes, bytes_eq, decimal, refl, ap, ◌∙◌, arith, w64}
 use Rattle.std.specs.Fmt.{signed_decimal}
 use Rattle.std.specs.Str.Parse.{AllDigits, digits_value}
 use Rattle.std.proofs.lemmas.Fmt.{decimal_is_IsNumeral}

@@ -1,5 +1,5 @@
 -- The words without a fault are those of the lines that may stand.
-use Rattle.std.proofs.Common.{◌≡◌, ◌≢◌, ◌+◌, inr, ℕ, true, false, List, [], ◌∷◌, map, None, codes, bytes_eq, decimal, refl, ap, sym, subst, ◌∙◌, arith}
+use Rattle.std.proofs.Common.{◌≡◌, ◌≢◌, ◌+◌, inr, ℕ, true, false, List, [], ◌∷◌, map, Option, Some, None, Result, Ok, Err, codes, bytes_eq, decimal, refl, ap, sym, subst, ◌∙◌, arith}
 use Rattle.std.proofs.lemmas.Bool.{lt-ltb}
 use Rattle.pact_record.specs.declared.operations.Op1.{Op1}
 use Rattle.pact_record.specs.declared.operations.Op1.TheVariants.{Not, IsNull, Len}
@@ -13,6 +13,12 @@ use Rattle.text_lines.specs.declared.line_words.LineWord.{LineWord}
 use Rattle.tac_text.specs.Spelling.{op1_word, op2_word, line_words}
 use Rattle.text_lines.specs.OperandWords.{value_register, record_register}
 use Rattle.tac_text.specs.StatementLines.{LinePlace, MayStand, words_of_line}
+use Rattle.text_lines.specs.LineReading.{TellsFault}
+use Rattle.text_lines.specs.declared.faults.NotRead.{NotRead}
+use Rattle.text_lines.specs.declared.faults.NotRead.TheVariants.{Fault, Memory}
+use Rattle.tac_text.specs.declared.lines.BodyLine.{BodyLine}
+use Rattle.tac_text.specs.Said.{said}
+use Rattle.tac_text.specs.StatementAnswers.{GivesLine, IsLineAt, ReadsLine}
 use Rattle.tac_text.specs.StatementFaults.{is_target, to_value, wanted_by, statement_fault}
 use Rattle.text_lines.specs.Slots.{register, name_fault, register_fault}
 use Rattle.text_lines.proofs.DigitWords.{are_digits-decimal, is_signed_word-signed_decimal}
@@ -125,3 +131,23 @@ words_of_line-some lists l h e =
     let same : l ≡ line_of [] = sym (line_in-line_texts lists l h) ∙ ap line_of e in
     let none : words_of_line (line_of []) ≡ [] = subst (λ (m : Line). words_of_line m ≡ []) same e in
     cc
+
+-- ---- what a line's reader answers
+
+gives_line : (p : LinePlace) (said : Option Line) (words : List LineWord) → IsLineAt p said words → (l : Line) → MayStand p l → words ≡ words_of_line l → said ≡ Some l
+gives_line p None words read l may e = absurd read
+gives_line p (Some m) words read l may e = ap Some (words_of_one_line p p m l read.1 may (sym read.0 ∙ e))
+
+no_fault : (p : LinePlace) (said : Option Line) (words : List LineWord) → IsLineAt p said words → statement_fault p words ≡ None
+no_fault p None words read = absurd read
+no_fault p (Some l) words read = ap (statement_fault p) read.0 ∙ statement_fault-words_of_line p l read.1
+
+pub GivesLine-read : (p : LinePlace) (r : Result BodyLine NotRead) (words : List LineWord) → ReadsLine p r words → (l : Line) → MayStand p l → words ≡ words_of_line l → GivesLine r l
+GivesLine-read p (Ok line) words read l may e = gives_line p (said line) words read l may e
+GivesLine-read p (Err (Fault what)) words read l may e = let none = ap (statement_fault p) e ∙ statement_fault-words_of_line p l may in absurd cc
+GivesLine-read p (Err Memory) words read l may e = tt
+
+pub TellsFault-read : (p : LinePlace) (r : Result BodyLine NotRead) (words : List LineWord) → ReadsLine p r words → (what : ℕ) → statement_fault p words ≡ Some what → TellsFault r what
+TellsFault-read p (Ok line) words read what h = let none = no_fault p (said line) words read in absurd cc
+TellsFault-read p (Err (Fault told)) words read what h = cc
+TellsFault-read p (Err Memory) words read what h = tt

@@ -1,6 +1,6 @@
 -- What reading the words of a line answers.
 use Rattle.std.specs.Prelude.{◌≡◌, ℕ, List, ◌∷◌, Option, Some, None, Result, Ok, Err, codes}
-use Rattle.tac_syntax.specs.Code.{Simple, Line}
+use Rattle.tac_syntax.specs.Code.{Line}
 use Rattle.tac_syntax.specs.Grammar.{IsSpelledSimple}
 use Rattle.tac_syntax.specs.Trees.{Statement, one_line, choice, turning, going_through, statement_of}
 use Rattle.tac_syntax.specs.declared.statements.Stmt.{Stmt}

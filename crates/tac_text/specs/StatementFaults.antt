@@ -1,9 +1,9 @@
 -- What is wrong with a line that should be a statement's: the first fault from the left.
-use Rattle.std.specs.Prelude.{ℕ, ◌+◌, ◌==◌, Bool, ◌||◌, if◌then◌else◌, nat_lt, Option, Some, None, List, [], ◌∷◌, codes, bytes_eq}
+use Rattle.std.specs.Prelude.{ℕ, ◌+◌, Bool, ◌||◌, if◌then◌else◌, nat_lt, Option, Some, None, List, [], ◌∷◌, codes, bytes_eq}
 use Rattle.tac_syntax.specs.Limits.{nesting_limit}
 use Rattle.text_lines.specs.declared.line_words.LineWord.{LineWord}
 use Rattle.text_lines.specs.declared.line_words.LineWord.TheVariants.{Plain as plain_word, Literal as literal_word}
-use Rattle.text_lines.specs.Digits.{is_in_form, is_in_range, is_signed_word, told_unless, or_else}
+use Rattle.text_lines.specs.Digits.{is_in_form, or_else}
 use Rattle.tac_text.specs.StatementLines.{LinePlace}
 use Rattle.text_lines.specs.LineGrammar.{is_plain}
 use Rattle.text_lines.specs.Slots.{Slot, fixed, register, operand, number, signed, text, loop, list, numbered_fault, register_fault, first_fault}

@@ -1,9 +1,8 @@
 //! The words of operations, for reading and for writing.
 
-ghost use Rattle.std.specs.Prelude.{◌≡◌, IfNone, IfSome};
-ghost use Rattle.pact_record.specs.declared.operations.Op1.{Op1};
-ghost use Rattle.pact_record.specs.declared.operations.Op2.{Op2};
+ghost use Rattle.std.specs.Prelude.{◌≡◌, IfNone, IfSome, false};
 ghost use Rattle.tac_text.specs.Spelling.{op1_word, op2_word};
+ghost use Rattle.tac_text.specs.StatementFaults.{is_op1, is_op2};
 
 use pact_record::{Op1, Op2};
 use text_lines::is_word;
@@ -61,7 +60,7 @@ pub fn op2_name(op: Op2) -> &'static [u8]
 /// The operation of one operand that has this word.
 pub fn op1_named(word: &[u8]) -> Option<Op1>
     ensures some { IfSome result (λ op. word.now ≡ op1_word op) }
-    ensures none { IfNone result ((op : Op1) → word.now ≡ op1_word op → ⊥) }
+    ensures none { IfNone result (is_op1 word.now ≡ false) }
 {
     for op in &OPS1 {
         if is_word(word, op1_name(*op)) {
@@ -74,7 +73,7 @@ pub fn op1_named(word: &[u8]) -> Option<Op1>
 /// The operation of two operands that has this word.
 pub fn op2_named(word: &[u8]) -> Option<Op2>
     ensures some { IfSome result (λ op. word.now ≡ op2_word op) }
-    ensures none { IfNone result ((op : Op2) → word.now ≡ op2_word op → ⊥) }
+    ensures none { IfNone result (is_op2 word.now ≡ false) }
 {
     for op in &OPS2 {
         if is_word(word, op2_name(*op)) {

@@ -176,11 +176,7 @@ fn read_form(
 
 // The words behind a target. The form tells which register the target is to be, so its fault is told behind one
 // of `=` and of the form.
-fn read_assignment(
-    alloc: Global,
-    target: &[u8],
-    words: &mut Cursor<'_>,
-) -> Result<Stmt, NotRead>
+fn read_assignment(alloc: Global, target: &[u8], words: &mut Cursor<'_>) -> Result<Stmt, NotRead>
     requires { AreLineWords words.old }
     ensures { ReadsAssignment target.now result words.old }
 {
@@ -252,7 +248,7 @@ fn read_each(place: Place, words: &mut Cursor<'_>) -> Result<BodyLine, NotRead>
     ensures { ReadsLine place result (plain_word (codes "each") ∷ words.old) }
 {
     room_for_block(place)?;
-    let name = words.loop_name(place.lists + 1)?;
+    let name = words.loop_name(u64::from(place.lists) + 1)?;
     words.fixed(b"of")?;
     let list = words.list()?;
     words.end()?;

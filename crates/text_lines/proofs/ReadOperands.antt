@@ -42,9 +42,9 @@ pub signed_reads : (word : List ℕ) (found : Option ℤ) (z : ℤ) → found �
     → (word ≡ signed_decimal z) × FitsSigned w64 z × (told_unless (is_signed_word word) 7 ≡ None)
 signed_reads word found z is other read = elim (either_bool (is_signed_word word)) [
   | inl h ↦
-    let f = signed_found word found h read in
-    let same : f.value ≡ z = let p : Some f.value ≡ Some z = sym f.is ∙ is in cc in
-    (f.spelled ∙ ap signed_decimal same, subst (FitsSigned w64) same f.fits, rw h refl)
+      let f = signed_found word found h read in
+      let same : f.value ≡ z = let p : Some f.value ≡ Some z = sym f.is ∙ is in cc in
+      (f.spelled ∙ ap signed_decimal same, subst (FitsSigned w64) same f.fits, rw h refl)
   | inr h ↦ let none = other h in absurd cc
 ]
 

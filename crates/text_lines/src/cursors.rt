@@ -122,7 +122,7 @@ impl<'a> Cursor<'a> {
     }
 
     /// The name of a loop, as its number: fault 11 where it isn't the one that this place wants.
-    pub fn loop_name(&mut self, name: u32) -> Result<u32, NotRead>
+    pub fn loop_name(&mut self, name: u64) -> Result<u32, NotRead>
         ensures { ReadsNext (loop name) (λ n. (n ≡ name) × IsLoopName n) (λ n. plain_word (loop_name n)) result self.old self.new }
     {
         name_in(name, self.plain(8)?)

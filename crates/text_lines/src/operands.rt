@@ -75,11 +75,11 @@ pub fn record_in(word: &[u8]) -> Result<u32, NotRead>
 }
 
 /// The name of a loop, of which only this one may stand here.
-pub fn name_in(name: u32, word: &[u8]) -> Result<u32, NotRead>
+pub fn name_in(name: u64, word: &[u8]) -> Result<u32, NotRead>
     ensures { ReadsPlain (name_fault name word.now) (λ n. (n ≡ name) × IsLoopName n) loop_name result word.now }
 {
     let number = numbered(b'x', 1, 64, word)?;
-    if number == name {
+    if u64::from(number) == name {
         Ok(number)
     } else {
         Err(NotRead::Fault { what: 11 })
