@@ -3,7 +3,8 @@
 ghost use Rattle.std.specs.Prelude.{◌≡◌, ◌<◌, ℕ, None, Some, IfErr, IfOk, length};
 ghost use Rattle.tac_syntax.specs.Declarations.{IsSpelledDecl};
 ghost use Rattle.tac_syntax.specs.declared.declarations.Decl.{Decl as DeclData};
-ghost use Rattle.program_text.specs.DeclarationAnswers.{GivesDecl, GivesSomeDecl, IsFaultOf, TellsFault};
+ghost use Rattle.program_text.specs.DeclarationAnswers.{GivesDecl};
+ghost use Rattle.text_lines.specs.LineReading.{TellsNoFault, IsFaultOf, TellsFault};
 ghost use Rattle.program_text.specs.DeclarationFaults.{declaration_fault};
 ghost use Rattle.program_text.specs.DeclarationReading.{decl_in, keys_at, kind_in, op_in, right_in};
 ghost use Rattle.program_text.specs.DeclarationWords.{words_of_decl};
@@ -15,25 +16,7 @@ use crate::declaration_parts::{
 use pact_record::{OutOfMemory, Word};
 use std::alloc::Global;
 use tac_syntax::{Decl, OpKind};
-use text_lines::{LineWord, is_word};
-
-/// Why words declare nothing.
-#[derive(Clone, Copy, Debug, PartialEq, Eq)]
-pub enum NotDeclaration {
-    /// The first fault of the words, by its number.
-    Fault { what: u32 },
-    Memory,
-}
-
-impl From<OutOfMemory> for NotDeclaration {
-    ghost use Rattle.program_text.specs.declared.declaration_reading.NotDeclaration.TheVariants.{Memory};
-
-    ghost from_gives = { λ _ e. e ≡ Memory };
-
-    fn from(_: OutOfMemory) -> NotDeclaration {
-        NotDeclaration::Memory
-    }
-}
+use text_lines::{LineWord, NotRead, is_word};
 
 fn kind_in(word: &[u8]) -> OpKind
     ensures { result ≡ kind_in word.now }
@@ -105,16 +88,16 @@ fn decl_in(alloc: Global, words: &[LineWord]) -> Result<Decl, OutOfMemory>
 }
 
 /// The declaration that a line's words make, or their first fault.
-pub fn read_declaration(alloc: Global, words: &[LineWord]) -> Result<Decl, NotDeclaration>
+pub fn read_declaration(alloc: Global, words: &[LineWord]) -> Result<Decl, NotRead>
     requires some { 0 < length words.now }
     ensures decl { IfOk result (λ d. IsSpelledDecl d × (words.now ≡ words_of_decl d)) }
     ensures fault { IfErr result (λ e. IsFaultOf e (declaration_fault words.now)) }
     ensures decl_always { (d : DeclData) → IsSpelledDecl d → words.now ≡ words_of_decl d → GivesDecl result d }
-    ensures faultless_always { declaration_fault words.now ≡ None → GivesSomeDecl result }
+    ensures faultless_always { declaration_fault words.now ≡ None → TellsNoFault result }
     ensures fault_always { (what : ℕ) → declaration_fault words.now ≡ Some what → TellsFault result what }
 {
     if let Some(what) = declaration_fault(words) {
-        return Err(NotDeclaration::Fault { what });
+        return Err(NotRead::Fault { what });
     }
     Ok(decl_in(alloc, words)?)
 }

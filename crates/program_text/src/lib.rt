@@ -14,7 +14,7 @@ mod first_lines;
 mod program_reading;
 mod program_writing;
 
-pub use declaration_reading::{NotDeclaration, read_declaration};
+pub use declaration_reading::read_declaration;
 pub use declaration_writing::write_declaration;
 pub use first_lines::{read_field_count, read_version};
 pub use program_reading::read_program;
