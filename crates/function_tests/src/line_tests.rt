@@ -1,13 +1,13 @@
 use std::alloc::Global;
 use std::test::Fail;
-use text_lines::{LineWord, LineWords, NotWords, first_line, line_at, read_words, trim_line};
+use text_lines::{LineWord, LineWords, NotRead, first_line, line_at, read_words, trim_line};
 
 // The fault that is told of a line, and 0 where it has words.
-fn fault(alloc: Global, line: &[u8]) -> Result<u32, NotWords> {
+fn fault(alloc: Global, line: &[u8]) -> Result<u32, NotRead> {
     match read_words(alloc, line) {
         Ok(_) => Ok(0),
-        Err(NotWords::Fault { what }) => Ok(what),
-        Err(NotWords::Memory) => Err(NotWords::Memory),
+        Err(NotRead::Fault { what }) => Ok(what),
+        Err(NotRead::Memory) => Err(NotRead::Memory),
     }
 }
 

@@ -6,7 +6,6 @@
 //! line as it is read. Whether what is declared fits together isn't looked at here.
 #![tactic(auto)]
 
-mod declaration_faults;
 mod declaration_parts;
 mod declaration_reading;
 mod declaration_writing;

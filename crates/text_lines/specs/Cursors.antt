@@ -1,6 +1,6 @@
 -- What reading the words of a line one after the other answers.
-use Rattle.std.specs.Prelude.{◌≡◌, ℕ, Option, None, List, [], ◌∷◌, Result, Ok, Err}
-use Rattle.text_lines.specs.LineGrammar.{LineWord, plain_word, literal_word}
+use Rattle.std.specs.Prelude.{◌≡◌, false, ℕ, Option, None, List, [], ◌∷◌, Result, Ok, Err}
+use Rattle.text_lines.specs.LineGrammar.{LineWord, plain_word, literal_word, is_plain}
 use Rattle.text_lines.specs.LineReading.{IsFaultOf}
 use Rattle.text_lines.specs.Slots.{Slot, slot_fault, first_fault}
 use Rattle.text_lines.specs.declared.faults.NotRead.{NotRead}
@@ -16,6 +16,11 @@ abbrev pub IsNoPlain : ℕ → NotRead → List LineWord → Type 0
 IsNoPlain what e [] = e ≡ Fault 4
 IsNoPlain what e (plain_word bytes ∷ words) = ⊥
 IsNoPlain what e (literal_word bytes ∷ words) = e ≡ Fault what
+
+-- the next word isn't the one of this name
+abbrev pub IsOther : List ℕ → List LineWord → Type 0
+IsOther name [] = Unit {0}
+IsOther name (word ∷ words) = is_plain name word ≡ false
 
 -- no word stands where one is wanted, or one with this fault
 abbrev pub FailsAt : Slot → NotRead → List LineWord → Type 0

@@ -1,9 +1,10 @@
 //! The words of a line, read from the left.
 
-ghost use Rattle.std.specs.Prelude.{◌≡◌, ◌≤◌, ◌∷◌, [], FitsSigned, IfErr, IfOk, decimal};
+ghost use Rattle.std.specs.Prelude.{◌≡◌, ◌≤◌, ◌∷◌, [], FitsSigned, IfErr, IfOk, decimal, length};
+ghost use Rattle.std.specs.Bool.{OnFalse, OnTrue};
 ghost use Rattle.std.specs.Fmt.{signed_decimal};
 ghost use Rattle.tac_syntax.specs.Grammar.{IsLoopName, IsNumber, IsSpelledRecord};
-ghost use Rattle.text_lines.specs.Cursors.{IsNoPlain, ReadsEnd, ReadsNext};
+ghost use Rattle.text_lines.specs.Cursors.{IsNoPlain, IsOther, ReadsEnd, ReadsNext};
 ghost use Rattle.text_lines.specs.declared.faults.NotRead.TheVariants.{Fault};
 ghost use Rattle.text_lines.specs.LineGrammar.{literal_word, plain_word};
 ghost use Rattle.text_lines.specs.OperandWords.{list_word, loop_name, record_register, record_word, value_register};
@@ -62,6 +63,30 @@ impl<'a> Cursor<'a> {
         match self.next()? {
             LineWord::Plain(bytes) => Ok(bytes.bytes()),
             LineWord::Literal(_) => Err(NotRead::Fault { what }),
+        }
+    }
+
+    /// How many words are left.
+    pub fn left(&self) -> usize
+        ensures { result ≡ length self.now }
+    {
+        self.words.len()
+    }
+
+    /// Whether the next word is the one of this name, which is then read.
+    pub fn skips(&mut self, name: &[u8]) -> bool
+        ensures yes { OnTrue result (self.old ≡ plain_word name.now ∷ self.new) }
+        ensures other { OnFalse result ((self.new ≡ self.old) × IsOther name.now self.old) }
+    {
+        match self.words.split_first() {
+            Some((word, words)) => {
+                if word.is_plain(name) {
+                    self.words = words;
+                    return true;
+                }
+                false
+            }
+            None => false,
         }
     }
 

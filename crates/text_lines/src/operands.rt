@@ -15,7 +15,8 @@ use crate::line_words::is_word;
 use crate::numbers::{read_number, read_signed};
 use tac_syntax::{LoopList, Rec};
 
-fn number_within(low: u32, high: u32, word: &[u8]) -> Option<u32>
+/// A number in a range, if the word is one.
+pub fn number_within(low: u32, high: u32, word: &[u8]) -> Option<u32>
     ensures some { IfSome result (λ n. (word.now ≡ decimal n) × (low ≤ n) × (n ≤ high)) }
     ensures fits { IfSome result (λ n. is_in_range low high word.now ≡ true) }
     ensures none { result ≡ None → is_in_range low high word.now ≡ false }

@@ -1,5 +1,5 @@
 -- The declaration that words without a fault are for. What doesn't fit is read as nothing, or as 0.
-use Rattle.std.specs.Prelude.{ℕ, Bool, true, false, if◌then◌else◌, nat_le, List, [], ◌∷◌, map, length, get_or, drop, codes, bytes_eq}
+use Rattle.std.specs.Prelude.{ℕ, true, false, if◌then◌else◌, nat_le, List, [], ◌∷◌, map, length, get_or, drop, codes, bytes_eq}
 use Rattle.std.specs.Str.Parse.{digits_value}
 use Rattle.pact_record.specs.declared.columns.Column.{Column}
 use Rattle.tac_syntax.specs.declared.declarations.OpKind.{OpKind}
@@ -10,6 +10,7 @@ use Rattle.pact_record.specs.declared.words.TheConstants.{MAX_WORD}
 use Rattle.text_lines.specs.declared.line_words.LineWord.{LineWord}
 use Rattle.text_lines.specs.declared.line_words.LineWord.TheVariants.{Plain as plain_word, Literal as literal_word}
 use Rattle.program_text.specs.DeclarationFaults.{begins_with, is_number}
+use Rattle.program_text.specs.DeclarationWriting.{has_right}
 use Rattle.text_lines.specs.LineGrammar.{is_plain}
 
 -- ---- single words
@@ -50,12 +51,6 @@ behind_equals [] = []
 behind_equals (word ∷ words) = if is_plain (codes "=") word then words else behind_equals words
 
 -- ---- declarations
-
-abbrev pub has_right : OpKind → Bool
-has_right Match = true
-has_right Cross = true
-has_right CoGroup = true
-has_right kind = false
 
 abbrev pub kind_in : List ℕ → OpKind
 kind_in word =
