@@ -23,7 +23,7 @@ use Rattle.program_text.proofs.DeclaredWords.{decl_in, numbers_in}
 use Rattle.program_text.specs.DeclarationWords.{column_word, key_pair_words, number_words, words_of_decl}
 use Rattle.program_text.proofs.ListWords.{behind_equals-pair, behind_equals-words, columns_fit, columns_in-words, fields_fit, key_pair_fits, keys_fit, numbers_in-pair, numbers_in-words}
 use Rattle.program_text.proofs.SpelledLines.{decl_of_words}
-use Rattle.tac_text.proofs.WrittenWords.{AreFine, AreLineWords-fine, IsFine}
+use Rattle.text_lines.proofs.FineWords.{AreFine, AreLineWords-fine, IsFine}
 use Rattle.program_text.proofs.WordBytes.{IsFine-text, is_word_text-decimal, is_word_text-file_name, is_word_text-name, word_bytes-decimal}
 
 -- ---- no fault

@@ -11,7 +11,7 @@ use Rattle.program_text.proofs.DeclaredWords.{number_in, plain_at}
 use Rattle.program_text.specs.FirstLines.{IsFieldCount, count_fault, count_word_fault, field_count_words, fields_fault, one_fault, version_fault, version_words}
 use Rattle.program_text.proofs.ItemWords.{number_in-decimal}
 use Rattle.text_lines.proofs.Faultless.{by_cases, is_plain-same, or_else-none, told_unless-none}
-use Rattle.tac_text.proofs.WrittenWords.{AreFine, AreLineWords-fine}
+use Rattle.text_lines.proofs.FineWords.{AreFine, AreLineWords-fine}
 use Rattle.program_text.proofs.WordBytes.{IsFine-text, is_word_text-decimal}
 
 -- ---- the version

@@ -4,9 +4,6 @@ pub mod LongerBodies
 pub mod FunctionReads
 pub mod FunctionRuns
 pub mod HeaderWords
-pub mod LineForms
 pub mod WrittenBodies
-pub mod StatementWords
-pub mod FaultlessWords
-pub mod WrittenWords
 pub mod WrittenFunctions
+pub mod WrittenHeaders

@@ -11,7 +11,7 @@ use Rattle.tac_text.specs.Building.{Build, build_start}
 use Rattle.text_lines.specs.declared.faults.NotRead.{NotRead}
 use Rattle.text_lines.specs.declared.faults.NotRead.TheVariants.{Fault, Memory}
 use Rattle.tac_text.specs.Places.{MayInside, built_on}
-use Rattle.tac_text.specs.StatementLines.{words_of_line}
+use Rattle.statement_lines.specs.StatementLines.{words_of_line}
 
 -- ---- a function as far as it was read
 
@@ -51,3 +51,8 @@ GivesHeader (Err Memory) name kind keys = Unit {0}
 abbrev pub TakesWords : Bool → List LineWord → OpenData → OpenData → Type 0
 TakesWords true words old now = (words ≡ words_of_line close) × (old.build.blocks ≡ []) × (now ≡ old)
 TakesWords false words old now = (l : Line) × (words ≡ words_of_line l) × MayInside old.build l × (now ≡ with_build old (built_on old.build l))
+
+-- a fault leaves what was lent as it was
+abbrev pub IsUnchanged : {A : Type 0} → NotRead → A → A → Type 0
+IsUnchanged (Fault what) old now = now ≡ old
+IsUnchanged Memory old now = Unit {0}

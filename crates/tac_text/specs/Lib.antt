@@ -1,10 +1,6 @@
 pub mod Spelling
-pub mod Said
 pub mod Building
 pub mod BuildCode
-pub mod StatementLines
-pub mod StatementFaults
-pub mod StatementAnswers
 pub mod Blocks
 pub mod Places
 pub mod FunctionLines

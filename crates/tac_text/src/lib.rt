@@ -11,11 +11,7 @@ pub mod building;
 mod function_reading;
 mod function_writing;
 mod headers;
-mod lines;
 pub mod open_functions;
-mod operation_words;
-pub mod statement_reading;
-mod words;
 mod writing;
 
 pub use function_reading::read_function;

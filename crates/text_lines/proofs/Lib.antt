@@ -12,3 +12,4 @@ pub mod FirstLines
 pub mod LinePlaces
 pub mod ReadOperands
 pub mod SlotWords
+pub mod FineWords
