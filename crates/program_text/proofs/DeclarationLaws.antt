@@ -1,6 +1,11 @@
 -- Declarations and their words: each declaration that a text can spell has words of its own, and those words are the ones without a fault.
-use Rattle.std.proofs.Common.{◌≡◌, ◌≢◌, ◌≤◌, ◌&&◌, ◌++◌, ℕ, Bool, true, false, if◌then◌else◌, nat_le, List, [], ◌∷◌, map, length, None, codes, decimal, refl, ap, sym, ◌∙◌, arith}
+use Rattle.std.proofs.Common.{◌≡◌, ◌≢◌, ◌≤◌, ◌&&◌, ◌++◌, ℕ, Bool, true, false, if◌then◌else◌, nat_le, List, [], ◌∷◌, map, length, Some, None, Result, Ok, Err, codes, decimal, refl, ap, sym, ◌∙◌, arith}
+use Rattle.std.specs.Prelude.{IfErr, IfOk}
 use Rattle.std.specs.List.{AllByRecursion}
+use Rattle.text_lines.specs.LineReading.{IsFaultOf, TellsFault}
+use Rattle.text_lines.specs.declared.faults.NotRead.{NotRead}
+use Rattle.text_lines.specs.declared.faults.NotRead.TheVariants.{Fault, Memory}
+use Rattle.program_text.specs.DeclarationAnswers.{GivesDecl}
 use Rattle.std.proofs.lemmas.Bool.{and_parts, le-leb, leb-true}
 use Rattle.pact_record.specs.declared.columns.Column.{Column}
 use Rattle.tac_syntax.specs.declared.declarations.OpKind.TheVariants.{Source as SourceKind, Map, Reduce, Match, Cross, CoGroup}
@@ -14,11 +19,11 @@ use Rattle.text_lines.specs.CanonicalLines.{AreLineWords}
 use Rattle.text_lines.specs.declared.line_words.LineWord.{LineWord}
 use Rattle.text_lines.specs.declared.line_words.LineWord.TheVariants.{Plain as plain_word}
 use Rattle.program_text.specs.DeclarationFaults.{declaration_fault}
-use Rattle.program_text.specs.DeclarationReading.{decl_in, numbers_in}
+use Rattle.program_text.proofs.DeclaredWords.{decl_in, numbers_in}
 use Rattle.program_text.specs.DeclarationWords.{column_word, key_pair_words, number_words, words_of_decl}
 use Rattle.program_text.proofs.ListWords.{behind_equals-pair, behind_equals-words, columns_fit, columns_in-words, fields_fit, key_pair_fits, keys_fit, numbers_in-pair, numbers_in-words}
 use Rattle.program_text.proofs.SpelledLines.{decl_of_words}
-use Rattle.tac_text.proofs.WrittenWords.{AreFine, AreLineWords-fine, IsFine}
+use Rattle.text_lines.proofs.FineWords.{AreFine, AreLineWords-fine, IsFine}
 use Rattle.program_text.proofs.WordBytes.{IsFine-text, is_word_text-decimal, is_word_text-file_name, is_word_text-name, word_bytes-decimal}
 
 -- ---- no fault
@@ -133,3 +138,20 @@ AreFine-words_of_decl (Sink input fields) h =
 
 pub AreDeclarationWords : (d : Decl) → IsSpelledDecl d → AreLineWords (words_of_decl d)
 AreDeclarationWords d h = AreLineWords-fine (words_of_decl d) (AreFine-words_of_decl d h)
+
+-- ---- what a declaration's reader answers
+
+abbrev ReadsIt : Decl → List LineWord → Type 0
+ReadsIt d words = IsSpelledDecl d × (words ≡ words_of_decl d)
+
+pub GivesDecl-read : (r : Result Decl NotRead) (words : List LineWord) → IfOk r (λ d. ReadsIt d words) → IfErr r (λ e. IsFaultOf e (declaration_fault words))
+    → (d : Decl) → IsSpelledDecl d → words ≡ words_of_decl d → GivesDecl r d
+GivesDecl-read (Ok found) words read told d h e = words_of_decl-unique found d read.0 h (sym read.1 ∙ e)
+GivesDecl-read (Err (Fault what)) words read told d h e = let none = ap declaration_fault e ∙ faultless d h in absurd cc
+GivesDecl-read (Err Memory) words read told d h e = tt
+
+pub TellsFault-decl : (r : Result Decl NotRead) (words : List LineWord) → IfOk r (λ d. ReadsIt d words) → IfErr r (λ e. IsFaultOf e (declaration_fault words))
+    → (what : ℕ) → declaration_fault words ≡ Some what → TellsFault r what
+TellsFault-decl (Ok found) words read told what h = let none = ap declaration_fault read.1 ∙ faultless found read.0 in absurd cc
+TellsFault-decl (Err (Fault e)) words read told what h = cc
+TellsFault-decl (Err Memory) words read told what h = tt

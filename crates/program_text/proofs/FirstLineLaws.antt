@@ -1,16 +1,17 @@
 -- The two lines that a program begins with, and their words.
-use Rattle.std.proofs.Common.{◌≡◌, ◌≢◌, ℕ, List, [], ◌∷◌, None, codes, decimal, refl, ap, sym, ◌∙◌, arith}
+use Rattle.std.proofs.Common.{◌≡◌, ◌≢◌, ℕ, List, [], ◌∷◌, Some, None, Result, Ok, Err, codes, decimal, refl, ap, sym, ◌∙◌, arith}
+use Rattle.std.specs.Prelude.{IfErr, IfOk}
 use Rattle.text_lines.proofs.DigitWords.{is_in_range-decimal, number_spelled}
 use Rattle.text_lines.specs.CanonicalLines.{AreLineWords}
 use Rattle.text_lines.specs.LineGrammar.{is_plain}
 use Rattle.text_lines.specs.declared.line_words.LineWord.{LineWord}
 use Rattle.text_lines.specs.declared.line_words.LineWord.TheVariants.{Plain as plain_word, Literal as literal_word}
 use Rattle.program_text.specs.DeclarationFaults.{nothing_left}
-use Rattle.program_text.specs.DeclarationReading.{number_in, plain_at}
+use Rattle.program_text.proofs.DeclaredWords.{number_in, plain_at}
 use Rattle.program_text.specs.FirstLines.{IsFieldCount, count_fault, count_word_fault, field_count_words, fields_fault, one_fault, version_fault, version_words}
 use Rattle.program_text.proofs.ItemWords.{number_in-decimal}
 use Rattle.text_lines.proofs.Faultless.{by_cases, is_plain-same, or_else-none, told_unless-none}
-use Rattle.tac_text.proofs.WrittenWords.{AreFine, AreLineWords-fine}
+use Rattle.text_lines.proofs.FineWords.{AreFine, AreLineWords-fine}
 use Rattle.program_text.proofs.WordBytes.{IsFine-text, is_word_text-decimal}
 
 -- ---- the version
@@ -84,3 +85,18 @@ field_count_declared (word ∷ words) some h = by_cases (is_plain (codes "fields
     let e = is_plain-same (codes "fields") word named in
     let s = count_left words rest in
     (s.0, (λ i. e i ∷ s.2 i), s.1)) (λ _ e. absurd cc) h
+
+-- ---- what the second line's reader answers
+
+abbrev ReadsIt : ℕ → List LineWord → Type 0
+ReadsIt count words = IsFieldCount count × (words ≡ field_count_words count)
+
+pub count_read : (r : Result ℕ ℕ) (words : List LineWord) → IfOk r (λ count. ReadsIt count words) → IfErr r (λ what. fields_fault words ≡ Some what)
+    → (count : ℕ) → IsFieldCount count → words ≡ field_count_words count → r ≡ Ok count
+count_read (Ok found) words read told count h e = ap Ok (field_count_words-unique found count read.0 h (sym read.1 ∙ e))
+count_read (Err what) words read told count h e = let none = ap fields_fault e ∙ field_count_faultless count h in absurd cc
+
+pub count_fault_told : (r : Result ℕ ℕ) (words : List LineWord) → IfOk r (λ count. ReadsIt count words) → IfErr r (λ what. fields_fault words ≡ Some what)
+    → (what : ℕ) → fields_fault words ≡ Some what → r ≡ Err what
+count_fault_told (Ok found) words read told what h = let none = ap fields_fault read.1 ∙ field_count_faultless found read.0 in absurd cc
+count_fault_told (Err e) words read told what h = cc

@@ -5,7 +5,7 @@ use Rattle.pact_record.specs.declared.columns.Column.{Column}
 use Rattle.tac_syntax.specs.Grammar.{IsNumber}
 use Rattle.text_lines.proofs.DigitWords.{is_in_range-decimal, number_spelled}
 use Rattle.program_text.specs.DeclarationFaults.{begins_with, column_fault, is_number}
-use Rattle.program_text.specs.DeclarationReading.{column_in, number_in}
+use Rattle.program_text.proofs.DeclaredWords.{column_in, number_in}
 use Rattle.program_text.specs.DeclarationWords.{column_text}
 use Rattle.text_lines.proofs.Faultless.{by_cases, same_word, told_unless-none}
 

@@ -1,3 +1,5 @@
+pub mod DeclaredWords
+pub mod ReadLists
 pub mod ItemWords
 pub mod ListWords
 pub mod WordBytes

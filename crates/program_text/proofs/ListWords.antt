@@ -4,14 +4,14 @@ use Rattle.std.specs.List.{AllByRecursion}
 use Rattle.std.proofs.lemmas.Bool.Decides.{nat_tests}
 use Rattle.pact_record.specs.declared.columns.Column.{Column}
 use Rattle.tac_syntax.specs.Declarations.{AreColumns, AreNumbers, AreSinkFields, IsKeyList, field_list_limit}
-use Rattle.program_text.specs.declared.declaration_faults.Item.{Item}
-use Rattle.program_text.specs.declared.declaration_faults.Item.TheVariants.{Column as ColumnItem, Number}
+use Rattle.program_text.specs.DeclarationFaults.{Item}
+use Rattle.program_text.specs.DeclarationFaults.{Column as ColumnItem, Number}
 use Rattle.tac_syntax.specs.Functions.{key_limit}
 use Rattle.tac_syntax.specs.Grammar.{IsNumber}
 use Rattle.text_lines.specs.declared.line_words.LineWord.{LineWord}
 use Rattle.text_lines.specs.declared.line_words.LineWord.TheVariants.{Plain as plain_word, Literal as literal_word}
 use Rattle.program_text.specs.DeclarationFaults.{is_number, item_fault, items_fault, key_pair_fault, left_keys_fault, list_fault}
-use Rattle.program_text.specs.DeclarationReading.{behind_equals, columns_in, numbers_in}
+use Rattle.program_text.proofs.DeclaredWords.{behind_equals, columns_in, numbers_in}
 use Rattle.program_text.specs.DeclarationWords.{column_word, key_pair_words, number_word, number_words}
 use Rattle.program_text.proofs.ItemWords.{column_fault-of, column_in-of, is_number-decimal, number_in-decimal, spells, spells_column}
 use Rattle.text_lines.proofs.Faultless.{by_cases, is_plain-same, or_else-none, same_word, told_unless-none}
@@ -19,7 +19,7 @@ use Rattle.text_lines.specs.LineGrammar.{is_plain}
 
 -- ---- single items
 
-number_fits : (n : ℕ) → IsNumber n → item_fault Number (number_word n) ≡ None
+pub number_fits : (n : ℕ) → IsNumber n → item_fault Number (number_word n) ≡ None
 number_fits n h = rw (is_number-decimal n h) refl
 
 column_fits : (c : Column) → IsNumber c.field → item_fault ColumnItem (column_word c) ≡ None

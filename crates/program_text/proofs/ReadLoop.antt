@@ -6,8 +6,8 @@ use Rattle.text_lines.specs.declared.lines.TextFault.TheVariants as told
 use Rattle.text_lines.specs.FirstFaults.{HasFault, IsFirstFault}
 use Rattle.text_lines.specs.TextLines.{lines_of}
 use Rattle.text_lines.proofs.LineRuns.{EndsEarly-run, IsFaultyLine-run, Runs-append, Runs-unique}
-use Rattle.program_text.specs.declared.declaration_reading.NotDeclaration.{NotDeclaration}
-use Rattle.program_text.specs.declared.declaration_reading.NotDeclaration.TheVariants as decl
+use Rattle.text_lines.specs.declared.faults.NotRead.{NotRead}
+use Rattle.text_lines.specs.declared.faults.NotRead.TheVariants as decl
 use Rattle.program_text.specs.ProgramReading.{EndsWith, GivesDraft, IsLineFault, TellsFirstFault, at_line}
 use Rattle.program_text.specs.ProgramStates.{MaySay, ProgramState, RunsTo, drafted, nothing_read, program_place, said_on, words_of_program_line}
 use Rattle.program_text.specs.ProgramTexts.{IsProgramText, ProgramText, program_fault, program_missing}
@@ -40,7 +40,7 @@ first_fault text rest behind line lines what s h e fault =
     inl (IsFaultyLine-run IsProgramText words_of_program_line MaySay said_on nothing_read program_place program_fault program_sayings program_faults reads_programs
     (lines_of text) h.front (lines_of behind) line (lines + 1) what s h.run (h.all ∙ ap (λ (x : List (List ℕ)). h.front ++ x) e) (omega (arith, h.counted)) fault)
 
-pub told_fault : (text rest behind line : List ℕ) (lines : ℕ) (s : ProgramState) (e : NotDeclaration) (answer : TextFault) → Reached text rest lines s → lines_of rest ≡ line ∷ lines_of behind → IsLineFault s line e
+pub told_fault : (text rest behind line : List ℕ) (lines : ℕ) (s : ProgramState) (e : NotRead) (answer : TextFault) → Reached text rest lines s → lines_of rest ≡ line ∷ lines_of behind → IsLineFault s line e
     → answer ≡ at_line (lines + 1) e → TellsFirstFault answer (lines_of text)
 told_fault text rest behind line lines s (decl.Fault what) answer h e fault is = rw is (first_fault text rest behind line lines what s h e fault)
 told_fault text rest behind line lines s decl.Memory answer h e fault is = rw is tt

@@ -7,12 +7,11 @@ use Rattle.tac_text.specs.FunctionAnswers.{OpenData, TakesWords, function_of}
 use Rattle.text_lines.specs.declared.line_words.LineWord.{LineWord}
 use Rattle.text_lines.specs.LineGrammar.{HasLineFault, IsLine}
 use Rattle.text_lines.specs.LineReading.{HasCause}
-use Rattle.text_lines.specs.declared.word_reading.NotWords.{NotWords}
-use Rattle.text_lines.specs.declared.word_reading.NotWords.TheVariants as words
+use Rattle.text_lines.specs.declared.faults.NotRead.{NotRead}
+use Rattle.text_lines.specs.declared.faults.NotRead.TheVariants.{Fault, Memory}
 use Rattle.text_lines.specs.TextLines.{trimmed}
-use Rattle.program_text.specs.declared.declaration_reading.NotDeclaration.{NotDeclaration}
 use Rattle.program_text.specs.declared.program_reading.State.{State}
-use Rattle.program_text.specs.ProgramReading.{IsLineFault, LeadsOn, of_words, state_of}
+use Rattle.program_text.specs.ProgramReading.{IsLineFault, LeadsOn, state_of}
 use Rattle.program_text.specs.ProgramStates.{inside, ProgramState, drafted, open_function, RunsTo, said_inside, with_function}
 use Rattle.program_text.proofs.ProgramRuns.{inside_stays}
 
@@ -20,7 +19,7 @@ ends_so : (d : DraftData) (o : OpenData) (blocks : List Block) → o.build.block
 ends_so d o blocks e none = rw (e, none) refl
 
 -- the function's own `end`
-pub ended_words : (d : DraftData) (old now : OpenData) (said : List LineWord) (ended : Bool) (r : Result State NotDeclaration) → ended ≡ true → TakesWords ended said old now
+pub ended_words : (d : DraftData) (old now : OpenData) (said : List LineWord) (ended : Bool) (r : Result State NotRead) → ended ≡ true → TakesWords ended said old now
     → IfOk r (λ t. state_of t ≡ drafted (with_function d (function_of now))) → IfOk r (λ t. LeadsOn (open_function d old) said (state_of t))
 ended_words d old now said ended (Err e) is taken h = tt
 ended_words d old now said ended (Ok t) is taken h =
@@ -46,6 +45,6 @@ said_line s t line at said e h led = inr (led.0, subst (λ (ws : List LineWord).
 
 -- ---- faults
 
-pub words_fault : (s : ProgramState) (line at : List ℕ) (e : NotWords) (told : NotDeclaration) → told ≡ of_words e → HasCause e at → at ≡ trimmed line → IsLineFault s line told
-words_fault s line at (words.Fault what) told is cause same = rw is (inl (subst (λ (x : List ℕ). HasLineFault what x) same cause))
-words_fault s line at words.Memory told is cause same = rw is tt
+pub words_fault : (s : ProgramState) (line at : List ℕ) (e : NotRead) → HasCause e at → at ≡ trimmed line → IsLineFault s line e
+words_fault s line at (Fault what) cause same = inl (subst (λ (x : List ℕ). HasLineFault what x) same cause)
+words_fault s line at Memory cause same = tt

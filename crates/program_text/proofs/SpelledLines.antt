@@ -4,10 +4,10 @@ use Rattle.tac_syntax.specs.declared.declarations.OpKind.TheVariants.{Map, Reduc
 use Rattle.tac_syntax.specs.declared.declarations.Decl.{Decl}
 use Rattle.tac_syntax.specs.declared.declarations.Decl.TheVariants.{Source, Op, Sink}
 use Rattle.tac_syntax.specs.Declarations.{IsKeyList, IsSpelledDecl}
-use Rattle.program_text.specs.declared.declaration_faults.Slot.{Slot}
-use Rattle.program_text.specs.declared.declaration_faults.Slot.TheVariants.{Name, FileName, By}
-use Rattle.program_text.specs.declared.declaration_faults.Tail.{Tail}
-use Rattle.program_text.specs.declared.declaration_faults.Tail.TheVariants.{Nothing, Columns, Fields, Keys, KeyPair}
+use Rattle.program_text.specs.DeclarationFaults.{Slot}
+use Rattle.program_text.specs.DeclarationFaults.{Name, FileName, By}
+use Rattle.program_text.specs.DeclarationFaults.{Tail}
+use Rattle.program_text.specs.DeclarationFaults.{Nothing, Columns, Fields, Keys, KeyPair}
 use Rattle.tac_syntax.specs.Names.{is_name}
 use Rattle.text_lines.specs.declared.line_words.LineWord.{LineWord}
 use Rattle.text_lines.specs.declared.line_words.LineWord.TheVariants.{Plain as plain_word, Literal as literal_word}

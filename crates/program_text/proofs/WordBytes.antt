@@ -5,7 +5,7 @@ use Rattle.std.proofs.lemmas.Bool.{and_parts, and_from}
 use Rattle.std.proofs.lemmas.Bool.Decides.{nat_tests}
 use Rattle.tac_syntax.specs.Names.{all_bytes, is_name, is_file_name, is_name_byte, is_file_byte}
 use Rattle.text_lines.proofs.DigitWords.{are_digits-decimal, no_other, some_digit}
-use Rattle.tac_text.proofs.WrittenWords.{IsFine, is_fine}
+use Rattle.text_lines.proofs.FineWords.{IsFine, is_fine}
 use Rattle.text_lines.specs.Digits.{is_digit}
 use Rattle.text_lines.specs.declared.line_words.LineWord.TheVariants.{Plain as plain_word}
 

@@ -14,7 +14,7 @@ use Rattle.tac_syntax.specs.Limits.{nesting_limit}
 use Rattle.tac_text.specs.FunctionLines.{SpellsFunction}
 use Rattle.tac_text.specs.Spelling.{function_spelling}
 use Rattle.tac_text.proofs.WrittenFunctions.{FunctionAt-written}
-use Rattle.tac_text.proofs.WrittenWords.{AreFine, AreLineWords-fine, has_feed-canonical_line}
+use Rattle.text_lines.proofs.FineWords.{AreFine, AreLineWords-fine, has_feed-canonical_line}
 use Rattle.text_lines.specs.CanonicalLines.{canonical_line}
 use Rattle.text_lines.specs.declared.line_words.LineWord.{LineWord}
 use Rattle.text_lines.specs.TextLines.{Say, lines_of}

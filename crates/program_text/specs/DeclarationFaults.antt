@@ -1,18 +1,31 @@
 -- What is wrong with a line that should be a declaration's: the first fault from the left.
 use Rattle.std.specs.Prelude.{ℕ, ◌-◌, ◌==◌, Bool, ◌||◌, if◌then◌else◌, Option, Some, None, List, [], ◌∷◌, length, take, drop, codes, bytes_eq}
 use Rattle.tac_syntax.specs.Declarations.{field_list_limit}
-use Rattle.program_text.specs.declared.declaration_faults.Slot.{Slot}
-use Rattle.program_text.specs.declared.declaration_faults.Slot.TheVariants.{Name, FileName, By}
-use Rattle.program_text.specs.declared.declaration_faults.Item.{Item}
-use Rattle.program_text.specs.declared.declaration_faults.Item.TheVariants.{Column, Number}
-use Rattle.program_text.specs.declared.declaration_faults.Tail.{Tail}
-use Rattle.program_text.specs.declared.declaration_faults.Tail.TheVariants.{Nothing, Columns, Fields, Keys, KeyPair}
 use Rattle.tac_syntax.specs.Functions.{key_limit}
 use Rattle.tac_syntax.specs.Names.{is_name, is_file_name}
 use Rattle.text_lines.specs.Digits.{is_in_range, told_unless, or_else}
 use Rattle.text_lines.specs.declared.line_words.LineWord.{LineWord}
 use Rattle.text_lines.specs.declared.line_words.LineWord.TheVariants.{Plain as plain_word, Literal as literal_word}
 use Rattle.text_lines.specs.LineGrammar.{is_plain}
+
+-- what is wanted at a single word's place: `by` is that word
+pub data Slot : Type 0 where
+  Name : Slot
+  FileName : Slot
+  By : Slot
+
+-- what a list has
+pub data Item : Type 0 where
+  Column : Item
+  Number : Item
+
+-- what a line ends with: two lists of keys have `=` between them
+pub data Tail : Type 0 where
+  Nothing : Tail
+  Columns : Tail
+  Fields : Tail
+  Keys : Tail
+  KeyPair : Tail
 
 -- ---- single words
 

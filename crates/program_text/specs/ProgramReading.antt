@@ -1,17 +1,13 @@
 -- What reading a program answers, line by line and as a whole.
 use Rattle.std.specs.Prelude.{◌≡◌, ℕ, Bool, false, max, List, ◌∷◌, Some, Result, Ok, Err, codes, bytes_eq}
 use Rattle.tac_syntax.specs.Drafts.{DraftData}
-use Rattle.tac_text.specs.declared.statement_reading.NotLine.{NotLine}
-use Rattle.tac_text.specs.declared.statement_reading.NotLine.TheVariants as line
+use Rattle.text_lines.specs.declared.faults.NotRead.{NotRead}
 use Rattle.text_lines.specs.declared.lines.TextFault.{TextFault}
 use Rattle.text_lines.specs.declared.lines.TextFault.TheVariants as told
 use Rattle.text_lines.specs.declared.line_words.LineWord.{LineWord}
 use Rattle.text_lines.specs.declared.line_words.LineWord.TheVariants.{Plain as plain_word}
-use Rattle.text_lines.specs.declared.word_reading.NotWords.{NotWords}
-use Rattle.text_lines.specs.declared.word_reading.NotWords.TheVariants as words
 use Rattle.text_lines.specs.FirstFaults.{HasFault, IsFirstFault}
-use Rattle.program_text.specs.declared.declaration_reading.NotDeclaration.{NotDeclaration}
-use Rattle.program_text.specs.declared.declaration_reading.NotDeclaration.TheVariants.{Fault, Memory}
+use Rattle.text_lines.specs.declared.faults.NotRead.TheVariants.{Fault, Memory}
 use Rattle.program_text.specs.declared.program_reading.State.{State}
 use Rattle.program_text.specs.declared.program_reading.State.TheVariants as state
 use Rattle.program_text.specs.ProgramStates.{ProgramLine, ProgramState, nothing_read, version_read, drafted, open_function, MaySay, program_place, said_on, words_of_program_line}
@@ -24,15 +20,7 @@ state_of state.VersionRead = version_read
 state_of (state.Drafted draft) = drafted draft
 state_of (state.Open draft function) = open_function draft function
 
-abbrev pub of_line : NotLine → NotDeclaration
-of_line (line.Fault what) = Fault what
-of_line line.Memory = Memory
-
-abbrev pub of_words : NotWords → NotDeclaration
-of_words (words.Fault what) = Fault what
-of_words words.Memory = Memory
-
-abbrev pub at_line : ℕ → NotDeclaration → TextFault
+abbrev pub at_line : ℕ → NotRead → TextFault
 at_line number (Fault what) = told.At number what
 at_line number Memory = told.Memory
 
@@ -45,7 +33,7 @@ abbrev pub LeadsOn : ProgramState → List LineWord → ProgramState → Type 0
 LeadsOn s words t = (l : ProgramLine) × (words ≡ words_of_program_line l) × MaySay s l × (t ≡ said_on s l)
 
 -- a fault that is told is the line's, and want of memory tells nothing
-abbrev pub IsLineFault : ProgramState → List ℕ → NotDeclaration → Type 0
+abbrev pub IsLineFault : ProgramState → List ℕ → NotRead → Type 0
 IsLineFault s line (Fault what) = HasFault (program_fault (program_place s)) line what
 IsLineFault s line Memory = Unit {0}
 

@@ -10,8 +10,8 @@ use Rattle.tac_syntax.specs.Limits.{nesting_limit}
 use Rattle.tac_text.specs.FunctionFaults.{header_fault}
 use Rattle.tac_text.specs.FunctionLines.{SpellsFunction}
 use Rattle.tac_text.specs.Spelling.{function_spelling}
-use Rattle.tac_text.specs.StatementFaults.{statement_fault}
-use Rattle.tac_text.specs.StatementLines.{LinePlace}
+use Rattle.statement_lines.specs.StatementFaults.{statement_fault}
+use Rattle.statement_lines.specs.StatementLines.{LinePlace}
 use Rattle.text_lines.specs.declared.line_words.LineWord.{LineWord}
 use Rattle.text_lines.specs.declared.line_words.LineWord.TheVariants.{Plain as plain_word, Literal as literal_word}
 use Rattle.text_lines.specs.CanonicalLines.{canonical_line}

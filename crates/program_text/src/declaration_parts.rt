@@ -1,126 +1,147 @@
-//! The parts of a declaration, read from words in which no fault stands.
+//! The parts of a declaration, read from its words.
 
-ghost use Rattle.std.specs.Prelude.{◌≡◌, IfOk, drop};
+ghost use Rattle.std.specs.Prelude.{◌≡◌, ◌≤◌, ◌++◌, ◌∷◌, [], OnOk};
 ghost use Rattle.tac_syntax.specs.Grammar.{IsNumber};
-ghost use Rattle.program_text.specs.DeclarationReading.{behind_equals, column_in, columns_in, has_right, name_at, number_in, numbers_in, plain_at, plain_text};
+ghost use Rattle.program_text.specs.DeclarationAnswers.{ReadsColumn, ReadsColumns, ReadsKeyPair, ReadsLeftKeys, ReadsNextColumn, ReadsNumbers, ReadsPlace};
+ghost use Rattle.program_text.specs.DeclarationFaults.{FileName, Name};
 
-use crate::declaration_faults::is_number;
-use pact_record::{Column, Columns, MAX_WORD, OutOfMemory, Word};
+use pact_record::{Column, Columns, MAX_KEYS, OutOfMemory, Word};
 use std::alloc::Global;
-use tac_syntax::{Numbers, OpKind};
-use text_lines::{LineWord, read_number};
+use tac_syntax::{Numbers, is_file_name, is_name};
+use text_lines::{Cursor, LineWord, NotRead, number_in};
 
-fn plain_text(word: &LineWord) -> &[u8]
-    ensures { result.now ≡ plain_text word.now }
+/// A source has at most so many columns, and a sink so many fields.
+pub const MAX_LISTED: usize = 64;
+
+/// A name: fault 6 for another word.
+pub fn read_name(alloc: Global, words: &mut Cursor<'_>) -> Result<Word, NotRead>
+    ensures { ReadsPlace Name result words.old words.new }
 {
-    match word {
-        LineWord::Plain(bytes) => bytes.bytes(),
-        LineWord::Literal(_) => b"",
+    match words.next()? {
+        LineWord::Plain(bytes) => {
+            if !is_name(bytes.bytes()) {
+                return Err(NotRead::Fault { what: 6 });
+            }
+            Ok(Word::from_bytes(alloc, bytes.bytes())?)
+        }
+        LineWord::Literal(_) => Err(NotRead::Fault { what: 6 }),
     }
 }
 
-/// A plain word by its place, empty where there is none.
-pub fn plain_at(words: &[LineWord], n: usize) -> &[u8]
-    ensures { result.now ≡ plain_at words.now n }
+/// A file's name: fault 6 for another word.
+pub fn read_file_name(alloc: Global, words: &mut Cursor<'_>) -> Result<Word, NotRead>
+    ensures { ReadsPlace FileName result words.old words.new }
 {
-    match words.get(n) {
-        Some(word) => plain_text(word),
-        None => b"",
+    match words.next()? {
+        LineWord::Plain(bytes) => {
+            if !is_file_name(bytes.bytes()) {
+                return Err(NotRead::Fault { what: 6 });
+            }
+            Ok(Word::from_bytes(alloc, bytes.bytes())?)
+        }
+        LineWord::Literal(_) => Err(NotRead::Fault { what: 6 }),
     }
 }
 
-/// The name at a place, empty where there is none.
-pub fn name_at(alloc: Global, words: &[LineWord], n: usize) -> Result<Word, OutOfMemory>
-    ensures { IfOk result (λ name. name ≡ name_at words.now n) }
+fn column_in(word: &[u8]) -> Result<Column, NotRead>
+    ensures { ReadsColumn result word.now }
 {
-    let text = plain_at(words, n);
-    if text.len() <= MAX_WORD {
-        Word::from_bytes(alloc, text)
-    } else {
-        Word::from_bytes(alloc, b"")
-    }
-}
-
-/// The number of a field or of a key that a word spells, and 0 where it spells none.
-pub fn number_in(word: &[u8]) -> u32
-    ensures is { result ≡ number_in word.now }
-    ensures number { IsNumber result }
-{
-    if !is_number(word) {
-        return 0;
-    }
-    read_number(word).unwrap_or(0)
-}
-
-fn bytes_from(bytes: &[u8], n: usize) -> &[u8]
-    ensures { result.now ≡ drop n bytes.now }
-{
-    bytes.get(n..).unwrap_or(b"")
-}
-
-fn column_in(word: &[u8]) -> Column
-    ensures { result ≡ column_in word.now }
-{
-    match word.strip_prefix(b"text:") {
-        Some(digits) => Column {
-            field: number_in(digits),
+    if let Some(digits) = word.strip_prefix(b"text:") {
+        return Ok(Column {
+            field: number_in(0, 255, digits)?,
             text: true,
-        },
-        None => Column {
-            field: number_in(bytes_from(word, 4)),
+        });
+    }
+    match word.strip_prefix(b"int:") {
+        Some(digits) => Ok(Column {
+            field: number_in(0, 255, digits)?,
             text: false,
-        },
+        }),
+        None => Err(NotRead::Fault { what: 8 }),
     }
 }
 
-/// The words from a place on.
-pub fn words_from(words: &[LineWord], n: usize) -> &[LineWord]
-    ensures { result.now ≡ drop n words.now }
+fn read_column(words: &mut Cursor<'_>) -> Result<Column, NotRead>
+    ensures { ReadsNextColumn result words.old words.new }
 {
-    words.get(n..).unwrap_or(&[])
+    match words.next()? {
+        LineWord::Plain(bytes) => column_in(bytes.bytes()),
+        LineWord::Literal(_) => Err(NotRead::Fault { what: 8 }),
+    }
 }
 
-pub fn columns_in(alloc: Global, words: &[LineWord]) -> Result<Columns, OutOfMemory>
-    ensures { IfOk result (λ columns. columns ≡ columns_in words.now) }
+fn add_column(columns: &mut Columns, column: Column) -> Result<(), OutOfMemory>
+    ensures { OnOk result (columns.new ≡ columns.old ++ column ∷ []) }
+{
+    columns.push(column)?;
+    Ok(())
+}
+
+fn add_number(numbers: &mut Numbers, number: u32) -> Result<(), OutOfMemory>
+    requires { IsNumber number }
+    ensures { OnOk result (numbers.new ≡ numbers.old ++ number ∷ []) }
+{
+    numbers.push(number)?;
+    Ok(())
+}
+
+/// The columns up to the line's end, one or more.
+pub fn read_columns(alloc: Global, words: &mut Cursor<'_>) -> Result<Columns, NotRead>
+    ensures { ReadsColumns result words.old }
 {
     let mut columns = Columns::new(alloc);
-    for word in words {
-        columns.push(column_in(plain_text(word)))?;
+    let first = read_column(words)?;
+    add_column(&mut columns, first)?;
+    while words.left() > 0 {
+        let column = read_column(words)?;
+        if columns.len() == MAX_LISTED {
+            return Err(NotRead::Fault { what: 5 });
+        }
+        add_column(&mut columns, column)?;
     }
     Ok(columns)
 }
 
-/// The numbers that words spell, up to a word `=` where there is one.
-pub fn numbers_in(alloc: Global, words: &[LineWord]) -> Result<Numbers, OutOfMemory>
-    ensures { IfOk result (λ numbers. numbers ≡ numbers_in words.now) }
+/// The numbers up to the line's end, one or more, and at most so many.
+pub fn read_numbers(alloc: Global, limit: usize, words: &mut Cursor<'_>) -> Result<Numbers, NotRead>
+    requires { 1 ≤ limit }
+    ensures { ReadsNumbers limit result words.old }
 {
     let mut numbers = Numbers::new(alloc);
-    for word in words {
-        if word.is_plain(b"=") {
-            return Ok(numbers);
+    let first = words.number(0, 255)?;
+    add_number(&mut numbers, first)?;
+    while words.left() > 0 {
+        let number = words.number(0, 255)?;
+        if numbers.len() == limit {
+            return Err(NotRead::Fault { what: 5 });
         }
-        numbers.push(number_in(plain_text(word)))?;
+        add_number(&mut numbers, number)?;
     }
     Ok(numbers)
 }
 
-/// The words behind a word `=`.
-pub fn behind_equals(words: &[LineWord]) -> &[LineWord]
-    ensures { result.now ≡ behind_equals words.now }
+// The keys of the left input, and `=`.
+fn read_left_keys(alloc: Global, words: &mut Cursor<'_>) -> Result<Numbers, NotRead>
+    ensures { ReadsLeftKeys result words.old words.new }
 {
-    match words.split_first() {
-        Some((word, words)) if word.is_plain(b"=") => words,
-        Some((_, words)) => behind_equals(words),
-        None => words,
+    let mut keys = Numbers::new(alloc);
+    let first = words.number(0, 255)?;
+    add_number(&mut keys, first)?;
+    while !words.skips(b"=") {
+        let key = words.number(0, 255)?;
+        if keys.len() == MAX_KEYS {
+            return Err(NotRead::Fault { what: 8 });
+        }
+        add_number(&mut keys, key)?;
     }
+    Ok(keys)
 }
 
-/// Whether operators of the kind have a second input.
-pub fn has_right(kind: OpKind) -> bool
-    ensures { result ≡ has_right kind }
+/// The keys of both inputs, up to the line's end.
+pub fn read_key_pair(alloc: Global, words: &mut Cursor<'_>) -> Result<(Numbers, Numbers), NotRead>
+    ensures { ReadsKeyPair result words.old }
 {
-    match kind {
-        OpKind::Source | OpKind::Map | OpKind::Reduce => false,
-        OpKind::Match | OpKind::Cross | OpKind::CoGroup => true,
-    }
+    let left_keys = read_left_keys(alloc, words)?;
+    let right_keys = read_numbers(alloc, MAX_KEYS, words)?;
+    Ok((left_keys, right_keys))
 }

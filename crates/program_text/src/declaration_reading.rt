@@ -1,120 +1,169 @@
 //! The lines of declarations, read from their words.
 
-ghost use Rattle.std.specs.Prelude.{◌≡◌, ◌<◌, ℕ, None, Some, IfErr, IfOk, length};
+ghost use Rattle.std.specs.Prelude.{◌≡◌, ◌<◌, ◌∷◌, ℕ, None, Some, IfErr, IfOk, codes, length};
 ghost use Rattle.tac_syntax.specs.Declarations.{IsSpelledDecl};
 ghost use Rattle.tac_syntax.specs.declared.declarations.Decl.{Decl as DeclData};
-ghost use Rattle.program_text.specs.DeclarationAnswers.{GivesDecl, GivesSomeDecl, IsFaultOf, TellsFault};
+ghost use Rattle.tac_syntax.specs.declared.declarations.OpKind.TheVariants.{CoGroup, Match};
+ghost use Rattle.text_lines.specs.LineReading.{IsFaultOf, TellsFault, TellsNoFault};
+ghost use Rattle.program_text.specs.DeclarationAnswers.{GivesDecl, ReadsDecl};
 ghost use Rattle.program_text.specs.DeclarationFaults.{declaration_fault};
-ghost use Rattle.program_text.specs.DeclarationReading.{decl_in, keys_at, kind_in, op_in, right_in};
 ghost use Rattle.program_text.specs.DeclarationWords.{words_of_decl};
 
-use crate::declaration_faults::declaration_fault;
 use crate::declaration_parts::{
-    behind_equals, columns_in, has_right, name_at, numbers_in, plain_at, words_from,
+    MAX_LISTED, read_columns, read_file_name, read_key_pair, read_name, read_numbers,
 };
-use pact_record::{OutOfMemory, Word};
+use pact_record::{MAX_KEYS, Word};
 use std::alloc::Global;
-use tac_syntax::{Decl, OpKind};
-use text_lines::{LineWord, is_word};
+use tac_syntax::{Decl, Numbers, OpKind};
+use text_lines::{Cursor, LineWord, NotRead, is_word};
 
-/// Why words declare nothing.
-#[derive(Clone, Copy, Debug, PartialEq, Eq)]
-pub enum NotDeclaration {
-    /// The first fault of the words, by its number.
-    Fault { what: u32 },
-    Memory,
-}
+// ---- behind a line's first word
 
-impl From<OutOfMemory> for NotDeclaration {
-    ghost use Rattle.program_text.specs.declared.declaration_reading.NotDeclaration.TheVariants.{Memory};
-
-    ghost from_gives = { λ _ e. e ≡ Memory };
-
-    fn from(_: OutOfMemory) -> NotDeclaration {
-        NotDeclaration::Memory
-    }
-}
-
-fn kind_in(word: &[u8]) -> OpKind
-    ensures { result ≡ kind_in word.now }
+fn read_source(alloc: Global, words: &mut Cursor<'_>) -> Result<Decl, NotRead>
+    ensures { ReadsDecl (codes "source") result words.old }
 {
-    if is_word(word, b"map") {
-        OpKind::Map
-    } else if is_word(word, b"reduce") {
-        OpKind::Reduce
-    } else if is_word(word, b"match") {
-        OpKind::Match
-    } else if is_word(word, b"cross") {
-        OpKind::Cross
-    } else {
-        OpKind::CoGroup
-    }
-}
-
-fn right_in(alloc: Global, kind: OpKind, words: &[LineWord]) -> Result<Word, OutOfMemory>
-    ensures { IfOk result (λ right. right ≡ right_in kind words.now) }
-{
-    if has_right(kind) {
-        name_at(alloc, words, 4)
-    } else {
-        Word::from_bytes(alloc, b"")
-    }
-}
-
-// The place of an operator's first key.
-fn keys_at(kind: OpKind) -> usize
-    ensures { result ≡ keys_at kind }
-{
-    if has_right(kind) { 6 } else { 5 }
-}
-
-fn op_in(alloc: Global, kind: OpKind, words: &[LineWord]) -> Result<Decl, OutOfMemory>
-    ensures { IfOk result (λ decl. decl ≡ op_in kind words.now) }
-{
-    let keys = words_from(words, keys_at(kind));
-    Ok(Decl::Op {
-        name: name_at(alloc, words, 1)?,
-        kind,
-        function: name_at(alloc, words, 2)?,
-        left: name_at(alloc, words, 3)?,
-        right: right_in(alloc, kind, words)?,
-        left_keys: numbers_in(alloc, keys)?,
-        right_keys: numbers_in(alloc, behind_equals(keys))?,
+    let name = read_name(alloc, words)?;
+    let file = read_file_name(alloc, words)?;
+    let columns = read_columns(alloc, words)?;
+    Ok(Decl::Source {
+        name,
+        file,
+        columns,
     })
 }
 
-// The declaration that words are for, where they have no fault.
-fn decl_in(alloc: Global, words: &[LineWord]) -> Result<Decl, OutOfMemory>
-    ensures { IfOk result (λ decl. decl ≡ decl_in words.now) }
+fn read_map(alloc: Global, words: &mut Cursor<'_>) -> Result<Decl, NotRead>
+    ensures { ReadsDecl (codes "map") result words.old }
 {
-    let word = plain_at(words, 0);
-    if is_word(word, b"source") {
-        Ok(Decl::Source {
-            name: name_at(alloc, words, 1)?,
-            file: name_at(alloc, words, 2)?,
-            columns: columns_in(alloc, words_from(words, 3))?,
-        })
-    } else if is_word(word, b"sink") {
-        Ok(Decl::Sink {
-            input: name_at(alloc, words, 1)?,
-            fields: numbers_in(alloc, words_from(words, 2))?,
-        })
+    let name = read_name(alloc, words)?;
+    let function = read_name(alloc, words)?;
+    let left = read_name(alloc, words)?;
+    words.end()?;
+    Ok(Decl::Op {
+        name,
+        kind: OpKind::Map,
+        function,
+        left,
+        right: Word::from_bytes(alloc, b"")?,
+        left_keys: Numbers::new(alloc),
+        right_keys: Numbers::new(alloc),
+    })
+}
+
+fn read_reduce(alloc: Global, words: &mut Cursor<'_>) -> Result<Decl, NotRead>
+    ensures { ReadsDecl (codes "reduce") result words.old }
+{
+    let name = read_name(alloc, words)?;
+    let function = read_name(alloc, words)?;
+    let left = read_name(alloc, words)?;
+    words.fixed(b"by")?;
+    let left_keys = read_numbers(alloc, MAX_KEYS, words)?;
+    Ok(Decl::Op {
+        name,
+        kind: OpKind::Reduce,
+        function,
+        left,
+        right: Word::from_bytes(alloc, b"")?,
+        left_keys,
+        right_keys: Numbers::new(alloc),
+    })
+}
+
+fn read_cross(alloc: Global, words: &mut Cursor<'_>) -> Result<Decl, NotRead>
+    ensures { ReadsDecl (codes "cross") result words.old }
+{
+    let name = read_name(alloc, words)?;
+    let function = read_name(alloc, words)?;
+    let left = read_name(alloc, words)?;
+    let right = read_name(alloc, words)?;
+    words.end()?;
+    Ok(Decl::Op {
+        name,
+        kind: OpKind::Cross,
+        function,
+        left,
+        right,
+        left_keys: Numbers::new(alloc),
+        right_keys: Numbers::new(alloc),
+    })
+}
+
+// An operator that matches the keys of two inputs.
+fn read_matching(alloc: Global, kind: OpKind, words: &mut Cursor<'_>) -> Result<Decl, NotRead>
+    ensures matching { kind ≡ Match → ReadsDecl (codes "match") result words.old }
+    ensures cogrouping { kind ≡ CoGroup → ReadsDecl (codes "cogroup") result words.old }
+{
+    let name = read_name(alloc, words)?;
+    let function = read_name(alloc, words)?;
+    let left = read_name(alloc, words)?;
+    let right = read_name(alloc, words)?;
+    words.fixed(b"by")?;
+    let (left_keys, right_keys) = read_key_pair(alloc, words)?;
+    Ok(Decl::Op {
+        name,
+        kind,
+        function,
+        left,
+        right,
+        left_keys,
+        right_keys,
+    })
+}
+
+fn read_sink(alloc: Global, words: &mut Cursor<'_>) -> Result<Decl, NotRead>
+    ensures { ReadsDecl (codes "sink") result words.old }
+{
+    let input = read_name(alloc, words)?;
+    let fields = read_numbers(alloc, MAX_LISTED, words)?;
+    Ok(Decl::Sink { input, fields })
+}
+
+// ---- lines
+
+fn read_behind(alloc: Global, first: &[u8], words: &mut Cursor<'_>) -> Result<Decl, NotRead>
+    ensures { ReadsDecl first.now result words.old }
+{
+    if is_word(first, b"source") {
+        read_source(alloc, words)
+    } else if is_word(first, b"map") {
+        read_map(alloc, words)
+    } else if is_word(first, b"reduce") {
+        read_reduce(alloc, words)
+    } else if is_word(first, b"match") {
+        read_matching(alloc, OpKind::Match, words)
+    } else if is_word(first, b"cross") {
+        read_cross(alloc, words)
+    } else if is_word(first, b"cogroup") {
+        read_matching(alloc, OpKind::CoGroup, words)
+    } else if is_word(first, b"sink") {
+        read_sink(alloc, words)
+    } else if is_word(first, b"else") || is_word(first, b"end") {
+        Err(NotRead::Fault { what: 10 })
     } else {
-        op_in(alloc, kind_in(word), words)
+        Err(NotRead::Fault { what: 3 })
+    }
+}
+
+fn read_line(alloc: Global, words: &[LineWord]) -> Result<Decl, NotRead>
+    requires { 0 < length words.now }
+    ensures decl { IfOk result (λ d. IsSpelledDecl d × (words.now ≡ words_of_decl d)) }
+    ensures fault { IfErr result (λ e. IsFaultOf e (declaration_fault words.now)) }
+{
+    let mut words = Cursor::new(words);
+    match words.next()? {
+        LineWord::Plain(first) => read_behind(alloc, first.bytes(), &mut words),
+        LineWord::Literal(_) => Err(NotRead::Fault { what: 3 }),
     }
 }
 
 /// The declaration that a line's words make, or their first fault.
-pub fn read_declaration(alloc: Global, words: &[LineWord]) -> Result<Decl, NotDeclaration>
+pub fn read_declaration(alloc: Global, words: &[LineWord]) -> Result<Decl, NotRead>
     requires some { 0 < length words.now }
     ensures decl { IfOk result (λ d. IsSpelledDecl d × (words.now ≡ words_of_decl d)) }
     ensures fault { IfErr result (λ e. IsFaultOf e (declaration_fault words.now)) }
     ensures decl_always { (d : DeclData) → IsSpelledDecl d → words.now ≡ words_of_decl d → GivesDecl result d }
-    ensures faultless_always { declaration_fault words.now ≡ None → GivesSomeDecl result }
+    ensures faultless_always { declaration_fault words.now ≡ None → TellsNoFault result }
     ensures fault_always { (what : ℕ) → declaration_fault words.now ≡ Some what → TellsFault result what }
 {
-    if let Some(what) = declaration_fault(words) {
-        return Err(NotDeclaration::Fault { what });
-    }
-    Ok(decl_in(alloc, words)?)
+    read_line(alloc, words)
 }

@@ -5,12 +5,21 @@ ghost use Rattle.tac_syntax.specs.declared.declarations.OpKind.TheVariants.{Matc
 ghost use Rattle.tac_syntax.specs.Declarations.{IsSpelledDecl, kind_word};
 ghost use Rattle.text_lines.specs.CanonicalLines.{canonical_line};
 ghost use Rattle.program_text.specs.DeclarationWords.{column_word, number_words, plain_words, words_of_decl};
-ghost use Rattle.program_text.specs.DeclarationWriting.{keys_words, right_words, words_text};
+ghost use Rattle.program_text.specs.DeclarationWriting.{has_right, keys_words, right_words, words_text};
 
-use crate::declaration_parts::has_right;
 use pact_record::{Bytes, Columns, OutOfMemory, Word};
 use std::alloc::Global;
 use tac_syntax::{Decl, Numbers, OpKind};
+
+// Whether operators of the kind have a second input.
+fn has_right(kind: OpKind) -> bool
+    ensures { result ≡ has_right kind }
+{
+    match kind {
+        OpKind::Source | OpKind::Map | OpKind::Reduce => false,
+        OpKind::Match | OpKind::Cross | OpKind::CoGroup => true,
+    }
+}
 
 fn put_word(line: &mut Bytes, word: &[u8]) -> Result<(), OutOfMemory>
     ensures { OnOk result (line.new ≡ line.old ++ 32 ∷ word.now) }

@@ -6,7 +6,6 @@
 //! line as it is read. Whether what is declared fits together isn't looked at here.
 #![tactic(auto)]
 
-mod declaration_faults;
 mod declaration_parts;
 mod declaration_reading;
 mod declaration_writing;
@@ -14,7 +13,7 @@ mod first_lines;
 mod program_reading;
 mod program_writing;
 
-pub use declaration_reading::{NotDeclaration, read_declaration};
+pub use declaration_reading::read_declaration;
 pub use declaration_writing::write_declaration;
 pub use first_lines::{read_field_count, read_version};
 pub use program_reading::read_program;

@@ -2,23 +2,23 @@
 
 ghost use Rattle.std.specs.Prelude.{◌≡◌, ◌<◌, ◌∷◌, [], true, false, length, IfErr, IfOk};
 ghost use Rattle.tac_syntax.specs.Drafts.{DraftData};
-ghost use Rattle.program_text.specs.DeclarationAnswers.{IsFaultOf};
+ghost use Rattle.text_lines.specs.LineReading.{IsFaultOf};
 ghost use Rattle.program_text.specs.ProgramReading as reading;
 ghost use Rattle.program_text.specs.ProgramReading.{EndsWith, GivesDraft, IsLineFault, LeadsOn, TellsFirstFault, begins_function, state_of};
 ghost use Rattle.program_text.specs.ProgramStates.{drafted, nothing_read, open_function, program_place, RunsTo, version_read, with_function};
 ghost use Rattle.program_text.specs.ProgramTexts.{ProgramText, program_fault};
-ghost use Rattle.program_text.specs.declared.declaration_reading.NotDeclaration.TheVariants.{Memory};
+ghost use Rattle.text_lines.specs.declared.faults.NotRead.TheVariants.{Memory};
 ghost use Rattle.tac_text.specs.FunctionAnswers.{function_of};
 ghost use Rattle.text_lines.specs.TextLines.{lines_of};
 ghost use Rattle.text_lines.specs.CanonicalLines.{AreLineWords};
 
-use crate::declaration_reading::{NotDeclaration, read_declaration};
+use crate::declaration_reading::read_declaration;
 use crate::first_lines::{read_field_count, read_version};
 use pact_record::OutOfMemory;
 use std::alloc::Global;
 use tac_syntax::Draft;
-use tac_text::{NotLine, OpenFunction, read_header};
-use text_lines::{LineWord, NotWords, TextFault, first_line, is_word, read_words, trim_line};
+use tac_text::{OpenFunction, read_header};
+use text_lines::{LineWord, NotRead, TextFault, first_line, is_word, read_words, trim_line};
 
 // What was read of a program.
 #[derive(Debug, Drop)]
@@ -30,54 +30,36 @@ enum State {
     Open(Draft, OpenFunction),
 }
 
-fn of_line(not: NotLine) -> NotDeclaration
-    ensures { result ≡ reading.of_line not }
-{
-    match not {
-        NotLine::Fault { what } => NotDeclaration::Fault { what },
-        NotLine::Memory => NotDeclaration::Memory,
-    }
-}
-
-fn of_words(not: NotWords) -> NotDeclaration
-    ensures { result ≡ reading.of_words not }
-{
-    match not {
-        NotWords::Fault { what } => NotDeclaration::Fault { what },
-        NotWords::Memory => NotDeclaration::Memory,
-    }
-}
-
-fn at_line(line: u64, not: NotDeclaration) -> TextFault
+fn at_line(line: u64, not: NotRead) -> TextFault
     ensures { result ≡ reading.at_line line not }
 {
     match not {
-        NotDeclaration::Fault { what } => TextFault::At { line, what },
-        NotDeclaration::Memory => TextFault::Memory,
+        NotRead::Fault { what } => TextFault::At { line, what },
+        NotRead::Memory => TextFault::Memory,
     }
 }
 
 // ---- one line's words
 
-fn first_words(words: &[LineWord]) -> Result<State, NotDeclaration>
+fn first_words(words: &[LineWord]) -> Result<State, NotRead>
     requires { 0 < length words.now }
     ensures leads { IfOk result (λ t. LeadsOn nothing_read words.now (state_of t)) }
     ensures fault { IfErr result (λ e. IsFaultOf e (program_fault (program_place nothing_read) words.now)) }
 {
     match read_version(words) {
         Ok(()) => Ok(State::VersionRead),
-        Err(what) => Err(NotDeclaration::Fault { what }),
+        Err(what) => Err(NotRead::Fault { what }),
     }
 }
 
-fn second_words(alloc: Global, words: &[LineWord]) -> Result<State, NotDeclaration>
+fn second_words(alloc: Global, words: &[LineWord]) -> Result<State, NotRead>
     requires { 0 < length words.now }
     ensures leads { IfOk result (λ t. LeadsOn version_read words.now (state_of t)) }
     ensures fault { IfErr result (λ e. IsFaultOf e (program_fault (program_place version_read) words.now)) }
 {
     match read_field_count(words) {
         Ok(fields) => Ok(State::Drafted(Draft::new(alloc, fields))),
-        Err(what) => Err(NotDeclaration::Fault { what }),
+        Err(what) => Err(NotRead::Fault { what }),
     }
 }
 
@@ -90,31 +72,26 @@ fn begins_function(words: &[LineWord]) -> bool
     }
 }
 
-fn open_words(alloc: Global, draft: Draft, words: &[LineWord]) -> Result<State, NotDeclaration>
+fn open_words(alloc: Global, draft: Draft, words: &[LineWord]) -> Result<State, NotRead>
     requires some { 0 < length words.now }
     requires begins { begins_function words.now ≡ true }
     ensures leads { IfOk result (λ t. LeadsOn (drafted draft) words.now (state_of t)) }
     ensures fault { IfErr result (λ e. IsFaultOf e (program_fault (program_place (drafted draft)) words.now)) }
 {
-    match read_header(alloc, words) {
-        Ok(function) => Ok(State::Open(draft, function)),
-        Err(not) => Err(of_line(not)),
-    }
+    let function = read_header(alloc, words)?;
+    Ok(State::Open(draft, function))
 }
 
-fn decl_words(alloc: Global, mut draft: Draft, words: &[LineWord]) -> Result<State, NotDeclaration>
+fn decl_words(alloc: Global, mut draft: Draft, words: &[LineWord]) -> Result<State, NotRead>
     requires some { 0 < length words.now }
     requires other { begins_function words.now ≡ false }
     ensures leads { IfOk result (λ t. LeadsOn (drafted draft) words.now (state_of t)) }
     ensures fault { IfErr result (λ e. IsFaultOf e (program_fault (program_place (drafted draft)) words.now)) }
 {
-    let decl = match read_declaration(alloc, words) {
-        Ok(decl) => decl,
-        Err(not) => return Err(not),
-    };
+    let decl = read_declaration(alloc, words)?;
     match draft.push(decl) {
         Ok(()) => Ok(State::Drafted(draft)),
-        Err(_) => Err(NotDeclaration::Memory),
+        Err(_) => Err(NotRead::Memory),
     }
 }
 
@@ -123,32 +100,33 @@ fn inside_words(
     draft: Draft,
     mut function: OpenFunction,
     words: &[LineWord],
-) -> Result<State, NotDeclaration>
+) -> Result<State, NotRead>
     requires some { 0 < length words.now }
     requires words { AreLineWords words.now }
     ensures leads { IfOk result (λ t. LeadsOn (open_function draft function) words.now (state_of t)) }
     ensures fault { IfErr result (λ e. IsFaultOf e (program_fault (program_place (open_function draft function)) words.now)) }
 {
-    match function.read_line(alloc, words) {
-        Ok(false) => Ok(State::Open(draft, function)),
-        Ok(true) => with_function(draft, function),
-        Err(not) => Err(of_line(not)),
+    let ended = function.read_line(alloc, words)?;
+    if ended {
+        with_function(draft, function)
+    } else {
+        Ok(State::Open(draft, function))
     }
 }
 
 // The draft with a function whose text has ended.
-fn with_function(mut draft: Draft, function: OpenFunction) -> Result<State, NotDeclaration>
+fn with_function(mut draft: Draft, function: OpenFunction) -> Result<State, NotRead>
     requires { function.build.blocks ≡ [] }
     ensures function { IfOk result (λ t. state_of t ≡ drafted (with_function draft (function_of function))) }
     ensures memory { IfErr result (λ e. e ≡ Memory) }
 {
     match draft.push_function(function.finish()) {
         Ok(()) => Ok(State::Drafted(draft)),
-        Err(_) => Err(NotDeclaration::Memory),
+        Err(_) => Err(NotRead::Memory),
     }
 }
 
-fn next(alloc: Global, state: State, words: &[LineWord]) -> Result<State, NotDeclaration>
+fn next(alloc: Global, state: State, words: &[LineWord]) -> Result<State, NotRead>
     requires some { 0 < length words.now }
     requires words { AreLineWords words.now }
     ensures leads { IfOk result (λ t. LeadsOn (state_of state) words.now (state_of t)) }
@@ -170,14 +148,11 @@ fn next(alloc: Global, state: State, words: &[LineWord]) -> Result<State, NotDec
 
 // ---- lines
 
-fn read_line(alloc: Global, state: State, line: &[u8]) -> Result<State, NotDeclaration>
+fn read_line(alloc: Global, state: State, line: &[u8]) -> Result<State, NotRead>
     ensures leads { IfOk result (λ t. RunsTo (state_of state) (line.now ∷ []) (state_of t)) }
     ensures fault { IfErr result (λ e. IsLineFault (state_of state) line.now e) }
 {
-    let words = match read_words(alloc, trim_line(line)) {
-        Ok(words) => words,
-        Err(not) => return Err(of_words(not)),
-    };
+    let words = read_words(alloc, trim_line(line))?;
     if words.words().is_empty() {
         return Ok(state);
     }

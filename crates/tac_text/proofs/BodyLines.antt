@@ -5,7 +5,8 @@ use Rattle.tac_syntax.specs.Coding.{is_stop, other_lines, lines_of}
 use Rattle.std.specs.List.{AllByRecursion}
 use Rattle.pact_record.proofs.Lists.{AllByRecursion-append}
 use Rattle.tac_syntax.specs.Grammar.{IsSpelledLine, IsSpelled}
-use Rattle.tac_text.specs.Spelling.{at_depth, body_text, line_words, other_text, words_of}
+use Rattle.tac_text.specs.Spelling.{at_depth, body_text, other_text, words_of}
+use Rattle.statement_lines.specs.Spelling.{line_words}
 use Rattle.text_lines.specs.CanonicalLines.{TextLine}
 
 other_text-append : (depth : ℕ) (empty : Bool) (lines rest more : List TextLine) → other_text depth empty lines rest ++ more ≡ other_text depth empty lines (rest ++ more)

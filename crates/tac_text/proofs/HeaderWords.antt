@@ -1,5 +1,6 @@
 -- The words of a header, which are those of no other, and words without a fault.
-use Rattle.std.proofs.Common.{◌≡◌, ◌≢◌, ◌≤◌, ◌<◌, ◌&&◌, nat_le, ℕ, Bool, true, false, if◌then◌else◌, List, [], ◌∷◌, map, length, Option, Some, None, codes, bytes_eq, decimal, refl, ap, sym, subst, ◌∙◌, arith}
+use Rattle.std.proofs.Common.{◌≡◌, ◌≢◌, ◌≤◌, ◌&&◌, nat_le, ℕ, Bool, true, false, if◌then◌else◌, List, [], ◌∷◌, map, length, Option, Some, None, Result, Ok, Err, codes, bytes_eq, decimal, refl, ap, sym, subst, ◌∙◌, arith}
+use Rattle.std.specs.Prelude.{IfErr, IfOk}
 use Rattle.std.specs.Str.Parse.{digits_value}
 use Rattle.std.proofs.lemmas.Bool.{and_parts, leb-true}
 use Rattle.std.proofs.lemmas.Fmt.{decimal_is_IsNumeral}
@@ -10,12 +11,17 @@ use Rattle.tac_syntax.specs.Names.{all_bytes, is_small_letter, is_name_byte, is_
 use Rattle.text_lines.specs.declared.line_words.LineWord.{LineWord}
 use Rattle.text_lines.specs.declared.line_words.LineWord.TheVariants.{Plain as plain_word, Literal as literal_word}
 use Rattle.text_lines.proofs.DigitWords.{is_in_range-decimal}
+use Rattle.text_lines.specs.LineReading.{IsFaultOf, TellsFault}
+use Rattle.text_lines.specs.declared.faults.NotRead.{NotRead}
+use Rattle.text_lines.specs.declared.faults.NotRead.TheVariants.{Fault, Memory}
+use Rattle.tac_text.specs.Building.{build_start}
+use Rattle.tac_text.specs.FunctionAnswers.{GivesHeader, OpenData, begun}
 use Rattle.tac_text.specs.FunctionFaults.{function_name_fault, kind_named, key_slots, keys_fault, kind_fault, named_fault, is_part_or_end, header_fault}
 use Rattle.tac_text.specs.FunctionLines.{header, header_words, IsHeader}
 use Rattle.tac_text.specs.Spelling.{kind_word, key_words}
-use Rattle.tac_text.specs.StatementFaults.{number, first_fault}
-use Rattle.tac_text.proofs.FaultlessWords.{taken, none_left, number_word}
-use Rattle.text_lines.proofs.Faultless.{by_cases, told_unless-none, or_else-none, same_word, some_words}
+use Rattle.text_lines.specs.Slots.{number, first_fault}
+use Rattle.text_lines.proofs.SlotWords.{taken, none_left, number_word}
+use Rattle.text_lines.proofs.Faultless.{by_cases, told_unless-none, or_else-none, same_word}
 
 -- ---- a header's words have no fault
 
@@ -124,16 +130,30 @@ one_header a b j k m n h l e =
     let keys = one_keys k m n (subst (λ (x : Kind). HasKeys x m) kind h.1) l.1 (subst (λ (x : Kind). map plain_word (key_words x m) ≡ map plain_word (key_words k n)) kind rest) in
     λ i. header (name i) (kind i) (keys i)
 
-pub header_found : (words : List LineWord) (told : Option ℕ) → 0 < length words → told ≡ header_fault words → told ≡ None → HeaderFor words
-header_found words told some e none = header_of_words words (some_words words some) (sym e ∙ none)
+-- ---- what a header's reader answers
 
--- the header that was found, where its parts were read
-pub header_read : (words : List LineWord) (told : Option ℕ) (name : List ℕ) (kind : Kind) (keys : ℕ) → 0 < length words → told ≡ header_fault words → told ≡ None
-    → ((n : List ℕ) (k : Kind) (m : ℕ) → IsHeader n k m → words ≡ header_words n k m → (name ≡ n) × (kind ≡ k) × (keys ≡ m)) → (words ≡ header_words name kind keys) × IsHeader name kind keys
-header_read words told name kind keys some e none read =
-    let found = header_found words told some e none in
-    let same = read found.0 found.1 found.2 found.4 found.3 in
-    rw (same.0, same.1, same.2) (found.3, found.4)
+abbrev ReadsOpen : OpenData → List LineWord → Type 0
+ReadsOpen o words = (words ≡ header_words o.name o.kind o.keys) × IsHeader o.name o.kind o.keys × (o.build ≡ build_start)
+
+-- The parts of a header are those of the only one with its words.
+same_begun : (o : OpenData) (name : List ℕ) (kind : Kind) (keys : ℕ) → header o.name o.kind o.keys ≡ header name kind keys → o.build ≡ build_start → o ≡ begun name kind keys
+same_begun o name kind keys e fresh =
+    let a : o.name ≡ name = cc in
+    let b : o.kind ≡ kind = cc in
+    let d : o.keys ≡ keys = cc in
+    λ i. record { name = a i; kind = b i; keys = d i; build = fresh i }
+
+pub GivesHeader-read : (r : Result OpenData NotRead) (words : List LineWord) → IfOk r (λ o. ReadsOpen o words) → IfErr r (λ e. IsFaultOf e (header_fault words))
+    → (name : List ℕ) (kind : Kind) (keys : ℕ) → IsHeader name kind keys → words ≡ header_words name kind keys → GivesHeader r name kind keys
+GivesHeader-read (Ok o) words read told name kind keys h e = same_begun o name kind keys (one_header o.name name o.kind kind o.keys keys read.1 h (sym read.0 ∙ e)) read.2
+GivesHeader-read (Err (Fault what)) words read told name kind keys h e = let none = ap header_fault e ∙ header_fault-header_words name kind keys h in absurd cc
+GivesHeader-read (Err Memory) words read told name kind keys h e = tt
+
+pub TellsFault-header : (r : Result OpenData NotRead) (words : List LineWord) → IfOk r (λ o. ReadsOpen o words) → IfErr r (λ e. IsFaultOf e (header_fault words))
+    → (what : ℕ) → header_fault words ≡ Some what → TellsFault r what
+TellsFault-header (Ok o) words read told what h = let none = ap header_fault read.0 ∙ header_fault-header_words o.name o.kind o.keys read.1 in absurd cc
+TellsFault-header (Err (Fault e)) words read told what h = cc
+TellsFault-header (Err Memory) words read told what h = tt
 
 -- ---- names
 

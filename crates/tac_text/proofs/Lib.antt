@@ -4,12 +4,6 @@ pub mod LongerBodies
 pub mod FunctionReads
 pub mod FunctionRuns
 pub mod HeaderWords
-pub mod LineForms
-pub mod OperandWords
 pub mod WrittenBodies
-pub mod SlotWords
-pub mod StatementWords
-pub mod FaultlessWords
-pub mod StatementReads
-pub mod WrittenWords
 pub mod WrittenFunctions
+pub mod WrittenHeaders

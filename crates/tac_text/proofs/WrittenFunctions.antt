@@ -19,11 +19,14 @@ use Rattle.text_lines.proofs.FirstLines.{lines_of-feed}
 use Rattle.text_lines.proofs.WrittenLines.{HasWords-canonical_line}
 use Rattle.tac_text.specs.Blocks.{SpellsBody}
 use Rattle.tac_text.specs.FunctionLines.{header_words, FunctionText, EndsWithEnd, FunctionAt}
-use Rattle.tac_text.specs.Spelling.{at_depth, body_text, line_words, words_of, header_texts, function_lines, function_spelling}
-use Rattle.tac_text.specs.StatementLines.{words_of_line}
+use Rattle.tac_text.specs.Spelling.{at_depth, body_text, words_of, header_texts, function_lines, function_spelling}
+use Rattle.statement_lines.specs.Spelling.{line_words}
+use Rattle.statement_lines.specs.StatementLines.{words_of_line}
 use Rattle.tac_text.proofs.BodyLines.{AreSpelledLines, AreSpelledLines-lines_of, words_of-append, words_of-body_text}
-use Rattle.tac_text.proofs.StatementWords.{map-word_text, words_of_line-some}
-use Rattle.tac_text.proofs.WrittenWords.{AreFine, AreFine-header_words, AreFine-words_of_line, AreLineWords-fine, has_feed-canonical_line}
+use Rattle.statement_lines.proofs.StatementWords.{map-word_text, words_of_line-some}
+use Rattle.text_lines.proofs.FineWords.{AreFine, AreLineWords-fine, has_feed-canonical_line}
+use Rattle.tac_text.proofs.WrittenHeaders.{AreFine-header_words}
+use Rattle.statement_lines.proofs.WrittenWords.{AreFine-words_of_line}
 
 -- ---- lines of text, and the words that they are made of
 

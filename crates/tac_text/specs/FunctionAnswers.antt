@@ -1,6 +1,5 @@
 -- A function as far as its lines were read, and what reading a line of it answers.
-use Rattle.std.specs.Prelude.{◌≡◌, ℕ, Bool, true, false, List, [], Option, Some, None, Result, Ok, Err, refl}
-use Rattle.std.specs.Borrow.{Bor}
+use Rattle.std.specs.Prelude.{◌≡◌, ℕ, Bool, true, false, List, [], Result, Ok, Err, refl}
 use Rattle.std.specs.Coded.{Coded, code_by, coded×, coded_list, coded_ℕ}
 use Rattle.tac_syntax.specs.Code.{Line, close}
 use Rattle.tac_syntax.specs.declared.functions.Function.{Function}
@@ -9,10 +8,10 @@ use Rattle.tac_syntax.specs.contracts.functions.Kind.{the_row}
 use Rattle.text_lines.specs.declared.line_words.LineWord.{LineWord}
 use Rattle.tac_text.specs.BuildCode.{coded_build}
 use Rattle.tac_text.specs.Building.{Build, build_start}
-use Rattle.tac_text.specs.declared.statement_reading.NotLine.{NotLine}
-use Rattle.tac_text.specs.declared.statement_reading.NotLine.TheVariants.{Fault, Memory}
+use Rattle.text_lines.specs.declared.faults.NotRead.{NotRead}
+use Rattle.text_lines.specs.declared.faults.NotRead.TheVariants.{Fault, Memory}
 use Rattle.tac_text.specs.Places.{MayInside, built_on}
-use Rattle.tac_text.specs.StatementLines.{words_of_line}
+use Rattle.statement_lines.specs.StatementLines.{words_of_line}
 
 -- ---- a function as far as it was read
 
@@ -41,13 +40,8 @@ coded_open =
 
 -- ---- answers
 
--- the parts of a header
-abbrev pub IsHeaderOf : Option (Bor (List ℕ) × Kind × ℕ) → List ℕ → Kind → ℕ → Type 0
-IsHeaderOf None name kind keys = ⊥
-IsHeaderOf (Some h) name kind keys = (h.0.now ≡ name) × (h.1 ≡ kind) × (h.2 ≡ keys)
-
 -- this header with no line behind it, or want of memory
-abbrev pub GivesHeader : Result OpenData NotLine → List ℕ → Kind → ℕ → Type 0
+abbrev pub GivesHeader : Result OpenData NotRead → List ℕ → Kind → ℕ → Type 0
 GivesHeader (Ok o) name kind keys = o ≡ begun name kind keys
 GivesHeader (Err (Fault what)) name kind keys = ⊥
 GivesHeader (Err Memory) name kind keys = Unit {0}
@@ -57,3 +51,8 @@ GivesHeader (Err Memory) name kind keys = Unit {0}
 abbrev pub TakesWords : Bool → List LineWord → OpenData → OpenData → Type 0
 TakesWords true words old now = (words ≡ words_of_line close) × (old.build.blocks ≡ []) × (now ≡ old)
 TakesWords false words old now = (l : Line) × (words ≡ words_of_line l) × MayInside old.build l × (now ≡ with_build old (built_on old.build l))
+
+-- a fault leaves what was lent as it was
+abbrev pub IsUnchanged : {A : Type 0} → NotRead → A → A → Type 0
+IsUnchanged (Fault what) old now = now ≡ old
+IsUnchanged Memory old now = Unit {0}

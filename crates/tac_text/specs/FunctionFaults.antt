@@ -7,8 +7,9 @@ use Rattle.tac_syntax.specs.Names.{is_name}
 use Rattle.text_lines.specs.declared.line_words.LineWord.{LineWord}
 use Rattle.text_lines.specs.declared.line_words.LineWord.TheVariants.{Plain as plain_word, Literal as literal_word}
 use Rattle.text_lines.specs.Digits.{told_unless, or_else}
-use Rattle.tac_text.specs.StatementFaults.{Slot, number, first_fault, statement_fault}
-use Rattle.tac_text.specs.StatementLines.{LinePlace}
+use Rattle.statement_lines.specs.StatementFaults.{statement_fault}
+use Rattle.text_lines.specs.Slots.{Slot, number, first_fault}
+use Rattle.statement_lines.specs.StatementLines.{LinePlace}
 
 -- before the header, inside the function, and behind its `end`
 pub data FunctionPlace : Type 0 where

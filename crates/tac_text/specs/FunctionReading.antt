@@ -4,19 +4,12 @@ use Rattle.tac_syntax.specs.declared.functions.Function.{Function}
 use Rattle.text_lines.specs.FirstFaults.{IsFirstFault}
 use Rattle.text_lines.specs.declared.lines.TextFault.{TextFault}
 use Rattle.text_lines.specs.declared.lines.TextFault.TheVariants.{At, Memory as NoMemory}
-use Rattle.text_lines.specs.declared.word_reading.NotWords.{NotWords}
-use Rattle.text_lines.specs.declared.word_reading.NotWords.TheVariants.{Fault as WordsFault, Memory as WordsMemory}
-use Rattle.tac_text.specs.declared.statement_reading.NotLine.{NotLine}
-use Rattle.tac_text.specs.declared.statement_reading.NotLine.TheVariants.{Fault, Memory}
+use Rattle.text_lines.specs.declared.faults.NotRead.{NotRead}
+use Rattle.text_lines.specs.declared.faults.NotRead.TheVariants.{Fault, Memory}
 use Rattle.tac_text.specs.FunctionFaults.{function_fault, function_missing}
 use Rattle.tac_text.specs.FunctionLines.{IsFunctionText}
 
--- a line without words is none for the same reason
-abbrev pub not_line : NotWords → NotLine
-not_line (WordsFault what) = Fault what
-not_line WordsMemory = Memory
-
-abbrev pub told_at : ℕ → NotLine → TextFault
+abbrev pub told_at : ℕ → NotRead → TextFault
 told_at line (Fault what) = At line what
 told_at line Memory = NoMemory
 

@@ -7,13 +7,13 @@ use Rattle.text_lines.specs.FirstFaults.{HasFault}
 use Rattle.text_lines.specs.Runs.{Runs}
 use Rattle.text_lines.specs.TextLines.{HasWords}
 use Rattle.tac_text.specs.declared.building.Block.{Block}
-use Rattle.tac_text.specs.declared.statement_reading.NotLine.{NotLine}
-use Rattle.tac_text.specs.declared.statement_reading.NotLine.TheVariants.{Fault, Memory}
+use Rattle.text_lines.specs.declared.faults.NotRead.{NotRead}
+use Rattle.text_lines.specs.declared.faults.NotRead.TheVariants.{Fault, Memory}
 use Rattle.tac_text.specs.FunctionAnswers.{OpenData, begun, function_of, with_build}
 use Rattle.tac_text.specs.FunctionFaults.{FunctionPlace, header_due, inside_body, function_ended, function_fault}
 use Rattle.tac_text.specs.FunctionLines.{FunctionLine, header, inside, words_of_function_line, IsHeader}
 use Rattle.tac_text.specs.Places.{built_on, place_of}
-use Rattle.tac_text.specs.StatementLines.{MayStand, words_of_line}
+use Rattle.statement_lines.specs.StatementLines.{MayStand, words_of_line}
 
 -- before the header, behind some lines of the function, and behind its `end`
 pub data FunctionState : Type 0 where
@@ -75,6 +75,6 @@ LeadsLine true line old now = (words : List LineWord) × HasWords line words × 
 LeadsLine false line old now = Leads (state_of old) (line ∷ []) (state_of now)
 
 -- a fault that is told is the line's own
-abbrev pub HasLineCause : NotLine → List ℕ → Option OpenData → Type 0
+abbrev pub HasLineCause : NotRead → List ℕ → Option OpenData → Type 0
 HasLineCause (Fault what) line old = HasFault (function_fault (place_at (state_of old))) line what
 HasLineCause Memory line old = Unit {0}

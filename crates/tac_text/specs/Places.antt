@@ -7,7 +7,7 @@ use Rattle.tac_text.specs.declared.building.Block.{Block}
 use Rattle.tac_text.specs.declared.building.Block.TheVariants.{If, Else, Repeat, Each}
 use Rattle.tac_text.specs.Blocks.{SpellsBody}
 use Rattle.tac_text.specs.Building.{Build, built}
-use Rattle.tac_text.specs.StatementLines.{LinePlace, MayStand}
+use Rattle.statement_lines.specs.StatementLines.{LinePlace, MayStand}
 
 -- ---- places
 

@@ -7,11 +7,10 @@ ghost use Rattle.tac_syntax.specs.Trees.{only};
 ghost use Rattle.tac_text.specs.Building.{IsBuilt, build_start, built, closed, finished, with_statement};
 ghost use Rattle.tac_syntax.specs.Limits.{nesting_limit};
 ghost use Rattle.tac_text.specs.Places.{lists_in, may_part, place_of};
-ghost use Rattle.tac_text.specs.Said.{said};
+ghost use Rattle.statement_lines.specs.Said.{said};
 
-use crate::lines::BodyLine;
-use crate::statement_faults::Place;
 use pact_record::OutOfMemory;
+use statement_lines::{BodyLine, Place};
 use std::alloc::Global;
 use std::marker::Model;
 use std::mem;

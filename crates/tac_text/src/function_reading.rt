@@ -10,33 +10,19 @@ ghost use Rattle.tac_text.specs.FunctionFaults.{function_fault};
 ghost use Rattle.tac_text.specs.FunctionLines.{FunctionAt};
 ghost use Rattle.tac_text.specs.FunctionReading.{GivesFunction, IsFunctionFault, told_at};
 ghost use Rattle.tac_text.specs.FunctionStates.{HasLineCause, LeadsLine, LeadsOn, place_at, state_of};
-ghost use Rattle.tac_text.specs.StatementAnswers.{IsFaultOf};
+ghost use Rattle.text_lines.specs.LineReading.{IsFaultOf};
 
 use crate::open_functions::{OpenFunction, read_header};
-use crate::statement_reading::NotLine;
 use std::alloc::Global;
 use tac_syntax::Function;
-use text_lines::{LineWord, NotWords, TextFault, line_at, read_words, trim_line};
-
-impl From<NotWords> for NotLine {
-    ghost use Rattle.tac_text.specs.FunctionReading.{not_line};
-
-    ghost from_gives = { λ words line. line ≡ not_line words };
-
-    fn from(words: NotWords) -> NotLine {
-        match words {
-            NotWords::Fault { what } => NotLine::Fault { what },
-            NotWords::Memory => NotLine::Memory,
-        }
-    }
-}
+use text_lines::{LineWord, NotRead, TextFault, line_at, read_words, trim_line};
 
 // Takes the words of one line more, and tells whether they were the function's own `end`.
 fn take_words(
     alloc: Global,
     begun: &mut Option<OpenFunction>,
     words: &[LineWord],
-) -> Result<bool, NotLine>
+) -> Result<bool, NotRead>
     requires some { 0 < length words.now }
     requires words { AreLineWords words.now }
     ensures taken { IfOk result (λ ended. LeadsOn ended words.now begun.old begun.new) }
@@ -52,7 +38,7 @@ fn take_words(
 }
 
 // Takes one line more, and tells whether it was the function's own `end`.
-fn take_line(alloc: Global, begun: &mut Option<OpenFunction>, line: &[u8]) -> Result<bool, NotLine>
+fn take_line(alloc: Global, begun: &mut Option<OpenFunction>, line: &[u8]) -> Result<bool, NotRead>
     ensures taken { IfOk result (λ ended. LeadsLine ended line.now begun.old begun.new) }
     ensures fault { IfErr result (λ e. HasLineCause e line.now begun.old) }
 {
@@ -74,12 +60,12 @@ fn finished(begun: Option<OpenFunction>) -> Function
     }
 }
 
-fn fault_at(line: u64, why: NotLine) -> TextFault
+fn fault_at(line: u64, why: NotRead) -> TextFault
     ensures { result ≡ told_at line why }
 {
     match why {
-        NotLine::Fault { what } => TextFault::At { line, what },
-        NotLine::Memory => TextFault::Memory,
+        NotRead::Fault { what } => TextFault::At { line, what },
+        NotRead::Memory => TextFault::Memory,
     }
 }
 

@@ -5,9 +5,9 @@ ghost use Rattle.tac_syntax.specs.Functions.{IsSpelledFunction};
 ghost use Rattle.tac_text.specs.FunctionLines.{FunctionAt};
 ghost use Rattle.tac_text.specs.Spelling.{function_spelling, header_texts, kind_word};
 
-use crate::words::Words;
-use crate::writing::{put_line, put_word, write_lines};
+use crate::writing::write_lines;
 use pact_record::{Bytes, OutOfMemory};
+use statement_lines::{Words, put_line, put_word};
 use std::alloc::Global;
 use tac_syntax::{Function, Kind};
 

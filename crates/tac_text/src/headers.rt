@@ -1,27 +1,32 @@
 //! The first line of a function: `function`, its name, its kind and for some kinds its number of keys.
 
-ghost use Rattle.std.specs.Prelude.{◌≡◌, ℕ, List, map, Some};
-ghost use Rattle.tac_syntax.specs.declared.functions.Kind.{Kind};
-ghost use Rattle.tac_syntax.specs.Functions.{HasKeys};
-ghost use Rattle.text_lines.specs.declared.line_words.LineWord.TheVariants.{Plain as plain_word};
-ghost use Rattle.tac_text.specs.FunctionAnswers.{IsHeaderOf};
-ghost use Rattle.tac_text.specs.FunctionFaults.{function_name_fault, header_fault, is_part_or_end, key_slots, keys_fault, kind_fault, kind_named, kind_of_word, named_fault};
-ghost use Rattle.tac_text.specs.FunctionLines.{IsHeader, header_words};
-ghost use Rattle.tac_text.specs.Spelling.{key_words};
-ghost use Rattle.tac_text.specs.WantedSlots.{slot_meant};
+ghost use Rattle.std.specs.Prelude.{◌≡◌, ◌<◌, length};
+ghost use Rattle.tac_text.specs.FunctionFaults.{is_part_or_end, kind_named, kind_of_word};
+ghost use Rattle.tac_text.specs.HeaderReading.{ReadsFirst, ReadsHeader, ReadsKeys, ReadsKind, ReadsName};
 
-use crate::slots::{Slot, first_fault, or_else, told_unless};
 use tac_syntax::{Kind, is_name};
-use text_lines::{LineWord, is_word, read_number};
+use text_lines::{Cursor, LineWord, NotRead, is_word};
 
-// ---- faults
+/// What a header says.
+#[derive(Clone, Copy, Debug)]
+pub struct Header<'a> {
+    pub name: &'a [u8],
+    pub kind: Kind,
+    pub keys: u32,
+}
 
-fn name_fault(word: &LineWord) -> Option<u32>
-    ensures { result ≡ function_name_fault word.now }
+fn read_name<'a>(words: &mut Cursor<'a>) -> Result<&'a [u8], NotRead>
+    ensures { ReadsName result words.old words.new }
 {
-    match word {
-        LineWord::Plain(bytes) => told_unless(is_name(bytes.bytes()), 6),
-        LineWord::Literal(_) => Some(6),
+    match words.next()? {
+        LineWord::Plain(bytes) => {
+            if is_name(bytes.bytes()) {
+                Ok(bytes.bytes())
+            } else {
+                Err(NotRead::Fault { what: 6 })
+            }
+        }
+        LineWord::Literal(_) => Err(NotRead::Fault { what: 6 }),
     }
 }
 
@@ -52,37 +57,25 @@ fn kind_of_word(word: &LineWord) -> Option<Kind>
     }
 }
 
+fn read_kind(words: &mut Cursor<'_>) -> Result<Kind, NotRead>
+    ensures { ReadsKind result words.old words.new }
+{
+    match kind_of_word(words.next()?) {
+        Some(kind) => Ok(kind),
+        None => Err(NotRead::Fault { what: 9 }),
+    }
+}
+
 // What stands behind a kind.
-fn keys_fault(kind: Option<Kind>, words: &[LineWord]) -> Option<u32>
-    ensures { result ≡ keys_fault kind words.now }
+fn read_keys(kind: Kind, words: &mut Cursor<'_>) -> Result<u32, NotRead>
+    ensures { ReadsKeys kind result words.old }
 {
-    match kind {
-        Some(Kind::Map | Kind::Match | Kind::Cross) => first_fault(&[], words),
-        Some(Kind::Reduce | Kind::CoGroup) => first_fault(
-            &[Slot::Number { low: 1, high: 8 }],
-            words,
-        ),
-        None => Some(9),
-    }
-}
-
-fn kind_fault(words: &[LineWord]) -> Option<u32>
-    ensures { result ≡ kind_fault words.now }
-{
-    match words.split_first() {
-        Some((word, words)) => keys_fault(kind_of_word(word), words),
-        None => Some(4),
-    }
-}
-
-// What stands behind `function`.
-fn named_fault(words: &[LineWord]) -> Option<u32>
-    ensures { result ≡ named_fault words.now }
-{
-    match words.split_first() {
-        Some((word, words)) => or_else(name_fault(word), kind_fault(words)),
-        None => Some(4),
-    }
+    let keys = match kind {
+        Kind::Map | Kind::Match | Kind::Cross => 0,
+        Kind::Reduce | Kind::CoGroup => words.number(1, 8)?,
+    };
+    words.end()?;
+    Ok(keys)
 }
 
 fn is_part_or_end(word: &[u8]) -> bool
@@ -91,45 +84,34 @@ fn is_part_or_end(word: &[u8]) -> bool
     is_word(word, b"else") || is_word(word, b"end")
 }
 
-/// The first fault of words that should be a header's, and None where they are one or where there are none.
-pub fn header_fault(words: &[LineWord]) -> Option<u32>
-    ensures { result ≡ header_fault words.now }
+// The word `function`.
+fn read_first(words: &mut Cursor<'_>) -> Result<(), NotRead>
+    requires { 0 < length words.old }
+    ensures { ReadsFirst result words.old words.new }
 {
-    match words.split_first() {
-        Some((LineWord::Plain(bytes), words)) => {
+    match words.next()? {
+        LineWord::Plain(bytes) => {
             if is_word(bytes.bytes(), b"function") {
-                named_fault(words)
+                Ok(())
             } else if is_part_or_end(bytes.bytes()) {
-                Some(10)
+                Err(NotRead::Fault { what: 10 })
             } else {
-                Some(3)
+                Err(NotRead::Fault { what: 3 })
             }
         }
-        Some((LineWord::Literal(_), _)) => Some(3),
-        None => None,
+        LineWord::Literal(_) => Err(NotRead::Fault { what: 3 }),
     }
 }
 
-// ---- reading
-
-// The number of keys behind the kind, 0 where there is no such word.
-fn keys_in(words: &[LineWord]) -> Option<u32>
-    ensures { (kind : Kind) (keys : ℕ) → HasKeys kind keys → words.now ≡ map plain_word (key_words kind keys) → result ≡ Some keys }
+/// What the words of a header say.
+pub fn read_parts<'a>(words: &'a [LineWord]) -> Result<Header<'a>, NotRead>
+    requires { 0 < length words.now }
+    ensures { ReadsHeader result words.now }
 {
-    match words {
-        [LineWord::Plain(digits)] => read_number(digits.bytes()),
-        _ => Some(0),
-    }
-}
-
-/// The name, the kind and the number of keys that a header says.
-pub fn header_in(words: &[LineWord]) -> Option<(&[u8], Kind, u32)>
-    ensures { (name : List ℕ) (kind : Kind) (keys : ℕ) → IsHeader name kind keys → words.now ≡ header_words name kind keys → IsHeaderOf result name kind keys }
-{
-    match words {
-        [_, LineWord::Plain(name), kind, keys @ ..] => {
-            Some((name.bytes(), kind_of_word(kind)?, keys_in(keys)?))
-        }
-        _ => None,
-    }
+    let mut words = Cursor::new(words);
+    read_first(&mut words)?;
+    let name = read_name(&mut words)?;
+    let kind = read_kind(&mut words)?;
+    let keys = read_keys(kind, &mut words)?;
+    Ok(Header { name, kind, keys })
 }

@@ -11,17 +11,9 @@ pub mod building;
 mod function_reading;
 mod function_writing;
 mod headers;
-mod lines;
 pub mod open_functions;
-mod slots;
-mod statement_faults;
-mod statement_forms;
-mod statement_operands;
-pub mod statement_reading;
-mod words;
 mod writing;
 
 pub use function_reading::read_function;
 pub use function_writing::write_function;
 pub use open_functions::{OpenFunction, read_header};
-pub use statement_reading::NotLine;

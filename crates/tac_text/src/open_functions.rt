@@ -7,23 +7,22 @@ ghost use Rattle.tac_syntax.specs.declared.functions.Kind.{Kind};
 ghost use Rattle.text_lines.specs.CanonicalLines.{AreLineWords};
 ghost use Rattle.tac_text.specs.declared.building.Block.{Block};
 ghost use Rattle.tac_text.specs.Building.{build_start};
-ghost use Rattle.tac_text.specs.FunctionAnswers.{begun, function_of, GivesHeader, TakesWords, with_build};
+ghost use Rattle.tac_text.specs.FunctionAnswers.{begun, function_of, GivesHeader, IsUnchanged, TakesWords, with_build};
 ghost use Rattle.tac_text.specs.FunctionFaults.{header_fault};
 ghost use Rattle.tac_text.specs.FunctionLines.{header_words, IsHeader, IsWritable};
 ghost use Rattle.tac_text.specs.Places.{built_on, IsInside, MayInside, place_of};
-ghost use Rattle.tac_text.specs.Said.{said};
-ghost use Rattle.tac_text.specs.StatementAnswers.{IsFaultOf, IsUnchanged, TellsLineFault, TellsNoFault};
-ghost use Rattle.tac_text.specs.StatementFaults.{statement_fault};
+ghost use Rattle.statement_lines.specs.Said.{said};
+ghost use Rattle.text_lines.specs.LineReading.{IsFaultOf, TellsFault, TellsNoFault};
+ghost use Rattle.statement_lines.specs.StatementFaults.{statement_fault};
 
 use crate::building::Builder;
-use crate::headers::{header_fault, header_in};
-use crate::lines::BodyLine;
-use crate::statement_reading::{NotLine, read_statement};
+use crate::headers::read_parts;
 use pact_record::{OutOfMemory, Word};
+use statement_lines::{BodyLine, read_statement};
 use std::alloc::Global;
 use std::marker::Model;
 use tac_syntax::{Function, Kind};
-use text_lines::LineWord;
+use text_lines::{LineWord, NotRead};
 
 /// A function whose header was read, with some lines of its body. Where memory is wanting the lines are lost.
 #[derive(Debug, Drop)]
@@ -49,27 +48,30 @@ impl Model for OpenFunction {
     ghost invariant = { λ f. IsHeader f.name f.kind f.keys × FitsBuild f.builder };
 }
 
+fn begin(alloc: Global, words: &[LineWord]) -> Result<OpenFunction, NotRead>
+    requires { 0 < length words.now }
+    ensures header { IfOk result (λ f. (words.now ≡ header_words f.name f.kind f.keys) × IsHeader f.name f.kind f.keys × (f.build ≡ build_start)) }
+    ensures fault { IfErr result (λ e. IsFaultOf e (header_fault words.now)) }
+{
+    let header = read_parts(words)?;
+    Ok(OpenFunction {
+        name: Word::from_bytes(alloc, header.name)?,
+        kind: header.kind,
+        keys: header.keys,
+        builder: Builder::new(alloc),
+    })
+}
+
 /// The function that a header's words begin.
-pub fn read_header(alloc: Global, words: &[LineWord]) -> Result<OpenFunction, NotLine>
+pub fn read_header(alloc: Global, words: &[LineWord]) -> Result<OpenFunction, NotRead>
     requires some { 0 < length words.now }
     ensures header { IfOk result (λ f. (words.now ≡ header_words f.name f.kind f.keys) × IsHeader f.name f.kind f.keys × (f.build ≡ build_start)) }
     ensures fault { IfErr result (λ e. IsFaultOf e (header_fault words.now)) }
     ensures header_always { (name : List ℕ) (kind : Kind) (keys : ℕ) → IsHeader name kind keys → words.now ≡ header_words name kind keys → GivesHeader result name kind keys }
     ensures faultless_always { header_fault words.now ≡ None → TellsNoFault result }
-    ensures fault_always { (what : ℕ) → header_fault words.now ≡ Some what → TellsLineFault result what }
+    ensures fault_always { (what : ℕ) → header_fault words.now ≡ Some what → TellsFault result what }
 {
-    if let Some(what) = header_fault(words) {
-        return Err(NotLine::Fault { what });
-    }
-    let Some((name, kind, keys)) = header_in(words) else {
-        unreachable!()
-    };
-    Ok(OpenFunction {
-        name: Word::from_bytes(alloc, name)?,
-        kind,
-        keys,
-        builder: Builder::new(alloc),
-    })
+    begin(alloc, words)
 }
 
 fn is_end(line: &BodyLine) -> bool
@@ -103,14 +105,14 @@ impl OpenFunction {
     }
 
     /// Takes the words of one line more, and tells whether they were the function's own `end`.
-    pub fn read_line(&mut self, alloc: Global, words: &[LineWord]) -> Result<bool, NotLine>
+    pub fn read_line(&mut self, alloc: Global, words: &[LineWord]) -> Result<bool, NotRead>
         requires some { 0 < length words.now }
         requires words { AreLineWords words.now }
         ensures taken { IfOk result (λ ended. TakesWords ended words.now self.old self.new) }
         ensures fault { IfErr result (λ e. IsFaultOf e (statement_fault (place_of self.old.build) words.now)) }
         ensures unchanged { IfErr result (λ e. IsUnchanged e self.old self.new) }
         ensures faultless_always { statement_fault (place_of self.old.build) words.now ≡ None → TellsNoFault result }
-        ensures fault_always { (what : ℕ) → statement_fault (place_of self.old.build) words.now ≡ Some what → TellsLineFault result what }
+        ensures fault_always { (what : ℕ) → statement_fault (place_of self.old.build) words.now ≡ Some what → TellsFault result what }
     {
         let line = read_statement(alloc, self.builder.place(), words)?;
         if self.builder.is_outside() && is_end(&line) {

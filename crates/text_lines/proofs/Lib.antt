@@ -10,3 +10,6 @@ pub mod DigitWords
 pub mod LineRuns
 pub mod FirstLines
 pub mod LinePlaces
+pub mod ReadOperands
+pub mod SlotWords
+pub mod FineWords

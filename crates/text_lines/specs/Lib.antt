@@ -6,3 +6,6 @@ pub mod Digits
 pub mod TextLines
 pub mod FirstFaults
 pub mod Runs
+pub mod OperandWords
+pub mod Slots
+pub mod Cursors

@@ -5,15 +5,21 @@
 //! and which faults a line can have before its words are looked at.
 #![tactic(auto)]
 
+mod cursors;
 mod digits;
+pub mod faults;
 pub mod line_words;
 pub mod lines;
 mod numbers;
+mod operands;
 mod scanning;
 pub mod word_reading;
 
+pub use cursors::Cursor;
 pub use digits::{is_in_form, is_in_range, is_signed_word};
+pub use faults::NotRead;
 pub use line_words::{LineWord, LineWords, is_word};
 pub use lines::{TextFault, first_line, line_at, trim_line};
 pub use numbers::{read_number, read_number_behind, read_signed};
-pub use word_reading::{NotWords, read_words};
+pub use operands::{number_in, number_within, record_in, value_in};
+pub use word_reading::read_words;

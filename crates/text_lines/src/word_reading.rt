@@ -6,30 +6,11 @@ ghost use Rattle.text_lines.specs.CanonicalLines.{AreLineWords, canonical_line};
 ghost use Rattle.text_lines.specs.LineGrammar.{HasLineFault, has_return, IsGarbled, IsLine, LineWord};
 ghost use Rattle.text_lines.specs.LineReading.{GivesWords, HasCause, TellsFault};
 
+use crate::faults::NotRead;
 use crate::line_words::LineWords;
 use crate::scanning::scan;
-use pact_record::OutOfMemory;
 use std::alloc::Global;
 use std::str;
-
-/// Why a line has no words.
-#[derive(Clone, Copy, Debug, PartialEq, Eq)]
-pub enum NotWords {
-    /// Fault 1: the line isn't UTF-8, or has a carriage return. Fault 2: a literal of it isn't closed, has an
-    /// escape that there isn't, is too long, or is followed by neither a blank nor a comment.
-    Fault { what: u32 },
-    Memory,
-}
-
-impl From<OutOfMemory> for NotWords {
-    ghost use Rattle.text_lines.specs.declared.word_reading.NotWords.TheVariants.{Memory};
-
-    ghost from_gives = { λ _ e. e ≡ Memory };
-
-    fn from(_: OutOfMemory) -> NotWords {
-        NotWords::Memory
-    }
-}
 
 fn is_garbled(line: &[u8]) -> bool
     ensures garbled { OnTrue result (IsGarbled line.now) }
@@ -38,8 +19,10 @@ fn is_garbled(line: &[u8]) -> bool
     str::from_utf8(line).is_err() || line.contains(&b'\r')
 }
 
-/// The words of a line, whose own line end is cut off.
-pub fn read_words(alloc: Global, line: &[u8]) -> Result<LineWords, NotWords>
+/// The words of a line, whose own line end is cut off. Fault 1: the line isn't UTF-8, or has a carriage return.
+/// Fault 2: a literal of it isn't closed, has an escape that there isn't, is too long, or is followed by neither a
+/// blank nor a comment.
+pub fn read_words(alloc: Global, line: &[u8]) -> Result<LineWords, NotRead>
     ensures words { IfOk result (λ words. IsLine line.now words) }
     ensures fault { IfErr result (λ e. HasCause e line.now) }
     ensures words_always { (words : List LineWord) → IsLine line.now words → GivesWords result words }
@@ -51,10 +34,10 @@ pub fn read_words(alloc: Global, line: &[u8]) -> Result<LineWords, NotWords>
         → GivesWords result words }
 {
     if is_garbled(line) {
-        return Err(NotWords::Fault { what: 1 });
+        return Err(NotRead::Fault { what: 1 });
     }
     match scan(alloc, line)? {
         Some(words) => Ok(words),
-        None => Err(NotWords::Fault { what: 2 }),
+        None => Err(NotRead::Fault { what: 2 }),
     }
 }

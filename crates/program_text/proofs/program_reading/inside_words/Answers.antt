@@ -1,10 +1,10 @@
 use Rattle.program_text.proofs.ReadSteps.{ended_words, inner_words}
 use Rattle.program_text.proofs.program_reading.inside_words.Goals as goal
 
-pub returns-in-Ok-true-clause-leads : goal.returns-in-Ok-true-clause-leads
-returns-in-Ok-true-clause-leads c =
-    ended_words c.args.draft c.args.function c.read_line.new.self c.args.words.now c.in-Ok-true.field-0 c.with_function.result c.in-Ok-true.field-0-test c.in-Ok-true.ensures.taken c.with_function.ensures.function
+pub returns-then-ended-clause-leads : goal.returns-then-ended-clause-leads
+returns-then-ended-clause-leads c =
+    ended_words c.args.draft c.args.function c.read_line.new.self c.args.words.now c.in_ok-ended.ended c.with_function.result c.if-ended.true c.in_ok-ended.ensures.taken c.with_function.ensures.function
 
-pub returns-in-Ok-false-clause-leads : goal.returns-in-Ok-false-clause-leads
-returns-in-Ok-false-clause-leads c =
-    inner_words c.args.draft c.args.function c.read_line.new.self c.args.words.now c.in-Ok-false.field-0 c.in-Ok-false.field-0-test c.in-Ok-false.ensures.taken
+pub returns-else-ended-clause-leads : goal.returns-else-ended-clause-leads
+returns-else-ended-clause-leads c =
+    inner_words c.args.draft c.args.function c.read_line.new.self c.args.words.now c.in_ok-ended.ended c.if-ended.false c.in_ok-ended.ensures.taken

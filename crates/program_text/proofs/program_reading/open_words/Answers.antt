@@ -4,8 +4,8 @@ use Rattle.tac_text.specs.FunctionAnswers.{with_build}
 use Rattle.program_text.specs.ProgramStates.{begins, open_function}
 use Rattle.program_text.proofs.program_reading.open_words.Goals as goal
 
-pub returns-in-Ok-clause-leads : goal.returns-in-Ok-clause-leads
-returns-in-Ok-clause-leads c =
-    let f = c.in-Ok.function in
-    let h = c.in-Ok.ensures.header in
+pub returns-clause-leads : goal.returns-clause-leads
+returns-clause-leads c =
+    let f = c.in_ok-function.function in
+    let h = c.in_ok-function.ensures.header in
     (begins f.name f.kind f.keys, h.0, h.1, ap (λ (b : Build). open_function c.args.draft (with_build f b)) h.2)

@@ -1,0 +1,4 @@
+pub mod LineForms
+pub mod StatementWords
+pub mod FaultlessWords
+pub mod WrittenWords

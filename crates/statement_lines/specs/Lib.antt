@@ -1,0 +1,5 @@
+pub mod Spelling
+pub mod StatementLines
+pub mod StatementFaults
+pub mod Said
+pub mod StatementAnswers

@@ -1,0 +1,51 @@
+-- What reading the words of a line answers.
+use Rattle.std.specs.Prelude.{◌≡◌, ℕ, List, ◌∷◌, Option, Some, None, Result, Ok, Err, codes}
+use Rattle.tac_syntax.specs.Code.{Line}
+use Rattle.tac_syntax.specs.Grammar.{IsSpelledSimple}
+use Rattle.tac_syntax.specs.Trees.{Statement, one_line, choice, turning, going_through, statement_of}
+use Rattle.tac_syntax.specs.declared.statements.Stmt.{Stmt}
+use Rattle.text_lines.specs.declared.line_words.LineWord.{LineWord}
+use Rattle.text_lines.specs.declared.line_words.LineWord.TheVariants.{Plain as plain_word}
+use Rattle.text_lines.specs.LineReading.{IsFaultOf}
+use Rattle.text_lines.specs.declared.faults.NotRead.{NotRead}
+use Rattle.text_lines.specs.declared.faults.NotRead.TheVariants.{Fault, Memory}
+use Rattle.statement_lines.specs.declared.lines.BodyLine.{BodyLine}
+use Rattle.statement_lines.specs.Said.{said}
+use Rattle.statement_lines.specs.StatementFaults.{wanted_by, form_fault, assignment_fault, statement_fault}
+use Rattle.statement_lines.specs.StatementLines.{LinePlace, MayStand, words_of_simple, words_of_line}
+
+-- ---- one line
+
+-- a statement of one line, whose words these are
+abbrev pub HasWordsOf : Statement → List LineWord → Type 0
+HasWordsOf (one_line s) words = (words ≡ words_of_simple s) × IsSpelledSimple s
+HasWordsOf (choice on body other) words = ⊥
+HasWordsOf (turning count body) words = ⊥
+HasWordsOf (going_through name list body) words = ⊥
+
+-- the statement whose words these are behind a target, `=` and a form, or their fault
+abbrev pub ReadsForm : (form target : List ℕ) → Result Stmt NotRead → List LineWord → Type 0
+ReadsForm form target (Ok stmt) words = HasWordsOf (statement_of stmt) (plain_word target ∷ plain_word (codes "=") ∷ plain_word form ∷ words)
+ReadsForm form target (Err e) words = IsFaultOf e (form_fault target (wanted_by form) words)
+
+-- the statement whose words these are behind a target, or their fault
+abbrev pub ReadsAssignment : List ℕ → Result Stmt NotRead → List LineWord → Type 0
+ReadsAssignment target (Ok stmt) words = HasWordsOf (statement_of stmt) (plain_word target ∷ words)
+ReadsAssignment target (Err e) words = IsFaultOf e (assignment_fault target words)
+
+-- the line of these words at a place
+abbrev pub IsLineAt : LinePlace → Option Line → List LineWord → Type 0
+IsLineAt p None words = ⊥
+IsLineAt p (Some l) words = (words ≡ words_of_line l) × MayStand p l
+
+abbrev pub ReadsLine : LinePlace → Result BodyLine NotRead → List LineWord → Type 0
+ReadsLine p (Ok line) words = IsLineAt p (said line) words
+ReadsLine p (Err e) words = IsFaultOf e (statement_fault p words)
+
+-- ---- what follows
+
+-- this line, or want of memory
+abbrev pub GivesLine : Result BodyLine NotRead → Line → Type 0
+GivesLine (Ok b) l = said b ≡ Some l
+GivesLine (Err (Fault what)) l = ⊥
+GivesLine (Err Memory) l = Unit {0}

@@ -1,0 +1,88 @@
+-- What is wrong with a line that should be a statement's: the first fault from the left.
+use Rattle.std.specs.Prelude.{ℕ, ◌+◌, Bool, ◌||◌, if◌then◌else◌, nat_lt, Option, Some, None, List, [], ◌∷◌, codes, bytes_eq}
+use Rattle.tac_syntax.specs.Limits.{nesting_limit}
+use Rattle.text_lines.specs.declared.line_words.LineWord.{LineWord}
+use Rattle.text_lines.specs.declared.line_words.LineWord.TheVariants.{Plain as plain_word, Literal as literal_word}
+use Rattle.text_lines.specs.Digits.{is_in_form, or_else}
+use Rattle.statement_lines.specs.StatementLines.{LinePlace}
+use Rattle.text_lines.specs.LineGrammar.{is_plain}
+use Rattle.text_lines.specs.Slots.{Slot, fixed, register, operand, number, signed, text, loop, list, numbered_fault, register_fault, first_fault}
+
+-- ---- assignments
+
+abbrev pub is_op1 : List ℕ → Bool
+is_op1 word = bytes_eq word (codes "not") || bytes_eq word (codes "isnull") || bytes_eq word (codes "len")
+
+abbrev pub is_op2 : List ℕ → Bool
+is_op2 word =
+    bytes_eq word (codes "add") || bytes_eq word (codes "sub") || bytes_eq word (codes "mul") || bytes_eq word (codes "div") || bytes_eq word (codes "rem")
+    || bytes_eq word (codes "addw") || bytes_eq word (codes "min") || bytes_eq word (codes "max") || bytes_eq word (codes "lt") || bytes_eq word (codes "le")
+    || bytes_eq word (codes "eq") || bytes_eq word (codes "and") || bytes_eq word (codes "or") || bytes_eq word (codes "cat")
+
+-- what the word behind `=` wants: the letter of the target, and the words behind it
+pub record Wanted : Type 0 where
+  pub letter : ℕ
+  pub slots : List Slot
+
+abbrev pub to_value : List Slot → Option Wanted
+to_value slots = Some (record { letter = 118; slots = slots })
+
+abbrev pub to_record : List Slot → Option Wanted
+to_record slots = Some (record { letter = 114; slots = slots })
+
+abbrev pub wanted_by : List ℕ → Option Wanted
+wanted_by word =
+    if bytes_eq word (codes "int") then to_value (signed ∷ [])
+    else (if bytes_eq word (codes "text") then to_value (text ∷ [])
+    else (if bytes_eq word (codes "null") then to_value []
+    else (if bytes_eq word (codes "mov") then to_value (register 118 ∷ [])
+    else (if bytes_eq word (codes "get") then to_value (operand ∷ number 0 255 ∷ [])
+    else (if bytes_eq word (codes "key") then to_value (number 0 255 ∷ [])
+    else (if bytes_eq word (codes "new") then to_record []
+    else (if bytes_eq word (codes "copy") then to_record (operand ∷ [])
+    else (if is_op1 word then to_value (register 118 ∷ [])
+    else (if is_op2 word then to_value (register 118 ∷ register 118 ∷ []) else None)))))))))
+
+abbrev pub form_wanted : LineWord → Option Wanted
+form_wanted (plain_word word) = wanted_by word
+form_wanted (literal_word bytes) = None
+
+-- the target by itself, where no form says which is wanted
+abbrev pub target_alone : List ℕ → Option ℕ
+target_alone word = numbered_fault 0 255 word
+
+abbrev pub form_fault : List ℕ → Option Wanted → List LineWord → Option ℕ
+form_fault target None words = or_else (target_alone target) (Some 9)
+form_fault target (Some w) words = or_else (register_fault w.letter target) (first_fault w.slots words)
+
+-- the words behind the target
+abbrev pub assignment_fault : List ℕ → List LineWord → Option ℕ
+assignment_fault target [] = or_else (target_alone target) (Some 4)
+assignment_fault target (equals ∷ []) = or_else (target_alone target) (if is_plain (codes "=") equals then Some 4 else Some 8)
+assignment_fault target (equals ∷ form ∷ words) = if is_plain (codes "=") equals then form_fault target (form_wanted form) words else or_else (target_alone target) (Some 8)
+
+-- ---- lines
+
+-- A block inside 64 others is told at its first word, before the line's other faults.
+abbrev pub block_fault : LinePlace → List Slot → List LineWord → Option ℕ
+block_fault p slots words = if nat_lt p.blocks nesting_limit then first_fault slots words else Some 10
+
+abbrev pub is_target : List ℕ → Bool
+is_target word = is_in_form 118 word || is_in_form 114 word
+
+abbrev pub word_fault : LinePlace → List ℕ → List LineWord → Option ℕ
+word_fault p word words =
+    if bytes_eq word (codes "set") then first_fault (register 114 ∷ number 0 255 ∷ register 118 ∷ []) words
+    else (if bytes_eq word (codes "emit") then first_fault (register 114 ∷ []) words
+    else (if bytes_eq word (codes "if") then block_fault p (register 118 ∷ []) words
+    else (if bytes_eq word (codes "repeat") then block_fault p (number 1 1000 ∷ []) words
+    else (if bytes_eq word (codes "each") then block_fault p (loop (p.lists + 1) ∷ fixed (codes "of") ∷ list ∷ []) words
+    else (if bytes_eq word (codes "else") then (if p.may_part then first_fault [] words else Some 10)
+    else (if bytes_eq word (codes "end") then first_fault [] words
+    else (if is_target word then assignment_fault word words else Some 3)))))))
+
+-- the fault of a line with words, and None where it has none
+abbrev pub statement_fault : LinePlace → List LineWord → Option ℕ
+statement_fault p [] = None
+statement_fault p (plain_word word ∷ words) = word_fault p word words
+statement_fault p (literal_word bytes ∷ words) = Some 3

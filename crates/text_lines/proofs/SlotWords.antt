@@ -1,0 +1,233 @@
+-- The words that fill slots.
+use Rattle.std.proofs.Common.{◌≡◌, ◌≤◌, ◌<◌, ◌^◌, ◌==◌, ◌&&◌, ◌⊎◌, ◌++◌, inl, inr, false, ℕ, zero, suc, nat_le, nat_lt, ◌-◌, ℤ, pos, negsuc, true, List, [], ◌∷◌, None, FitsSigned, w64, codes, bytes_eq, decimal, refl, ap, sym, ◌∙◌, arith}
+use Rattle.std.specs.Fmt.{signed_decimal}
+use Rattle.std.specs.Str.Parse.{AllDigits, digits_value}
+use Rattle.std.proofs.lemmas.Bool.{and_from, and_parts, eq-eqb, eqb-true, le-leb, ltb-true, or_cases}
+use Rattle.std.proofs.lemmas.Bool.Decides.{nat_tests}
+use Rattle.std.proofs.lemmas.Fmt.{decimal_is_IsNumeral}
+use Rattle.std.proofs.lemmas.Str.Parse.{digit_from_value}
+use Rattle.tac_syntax.specs.declared.statements.Rec.{Rec}
+use Rattle.tac_syntax.specs.declared.statements.Rec.TheVariants.{Reg, Loop, Input, Left, Right, Join, First}
+use Rattle.tac_syntax.specs.declared.statements.LoopList.{LoopList}
+use Rattle.tac_syntax.specs.declared.statements.LoopList.TheVariants.{Group, Left as LeftGroup, Right as RightGroup}
+use Rattle.tac_syntax.specs.Grammar.{IsNumber, IsLoopName, IsTurnCount, IsSpelledRecord}
+use Rattle.text_lines.specs.OperandWords.{record_word, list_word}
+use Rattle.text_lines.specs.Slots.{Slot, fixed, register, operand, number, signed, text, loop, list, slot_fault, first_fault, numbered_fault, register_fault, is_fixed_record, operand_fault, name_fault, is_list_word}
+use Rattle.text_lines.specs.Digits.{is_in_form, is_in_range, is_number_word, is_signed_word}
+use Rattle.text_lines.specs.LineGrammar.{LineWord, plain_word, literal_word}
+use Rattle.text_lines.proofs.Faultless.{by_cases, same_word, told_unless-none, or_else-none}
+use Rattle.text_lines.proofs.DigitWords.{are_digits-decimal, is_in_range-decimal, number_spelled}
+
+-- ---- words that are no numbers
+
+-- no digit is another byte
+pub digit_other : (b k : ℕ) (bs : List ℕ) → AllDigits 10 (b ∷ bs) → (k < 48) ⊎ (57 < k) → (b == k) ≡ false
+digit_other b k bs h apart = let d = digit_from_value b h.0 in grind (arith, nat_tests)
+
+-- digits are no word that another byte begins
+bytes_eq-digits : (w : List ℕ) (k : ℕ) (v : List ℕ) → AllDigits 10 w → (k < 48) ⊎ (57 < k) → bytes_eq w (k ∷ v) ≡ false
+bytes_eq-digits [] k v h apart = refl
+bytes_eq-digits (b ∷ bs) k v h apart = let e = digit_other b k bs h apart in rw e refl
+
+pub bytes_eq-decimal : (n k : ℕ) (v : List ℕ) → n < 2 ^ 64 → (k < 48) ⊎ (57 < k) → bytes_eq (decimal n) (k ∷ v) ≡ false
+bytes_eq-decimal n k v h apart = bytes_eq-digits (decimal n) k v (decimal_is_IsNumeral n h).0.1 apart
+
+-- ---- what fills a slot has no fault
+
+pub number_fits : (n : ℕ) → IsNumber n → is_in_range 0 255 (decimal n) ≡ true
+number_fits n h = is_in_range-decimal 0 255 n (omega arith) h (omega (arith, h))
+
+pub register_fault-letter : (letter n : ℕ) → (letter == letter) ≡ true → IsNumber n → register_fault letter (letter ∷ decimal n) ≡ None
+register_fault-letter letter n same h =
+    rw (number_fits n h, same, are_digits-decimal n (omega (arith, h))) refl
+
+pub turns_fit : (n : ℕ) → IsTurnCount n → is_in_range 1 1000 (decimal n) ≡ true
+turns_fit n h = is_in_range-decimal 1 1000 n h.0 h.1 (omega (arith, h.1))
+
+pub operand_fault-record_word : (from : Rec) → IsSpelledRecord from → operand_fault (record_word from) ≡ None
+operand_fault-record_word (Reg k) h =
+    let other = bytes_eq-decimal k 105 (codes "ght") (omega (arith, h)) (inr (omega arith)) in
+    rw (other, number_fits k h, are_digits-decimal k (omega (arith, h))) refl
+operand_fault-record_word (Loop name) h =
+    rw (is_in_range-decimal 1 64 name h.0 h.1 (omega (arith, h.1)), are_digits-decimal name (omega (arith, h.1))) refl
+operand_fault-record_word Input h = refl
+operand_fault-record_word Left h = refl
+operand_fault-record_word Right h = refl
+operand_fault-record_word Join h = refl
+operand_fault-record_word First h = refl
+
+pub is_list_word-list_word : (l : LoopList) → is_list_word (list_word l) ≡ true
+is_list_word-list_word Group = refl
+is_list_word-list_word LeftGroup = refl
+is_list_word-list_word RightGroup = refl
+
+pub name_fault-loop_name : (n : ℕ) → IsLoopName n → name_fault n (120 ∷ decimal n) ≡ None
+name_fault-loop_name n h =
+    let small : n < 2 ^ 64 = omega (arith, h.1) in
+    rw (is_in_range-decimal 1 64 n h.0 h.1 small, are_digits-decimal n small, (decimal_is_IsNumeral n small).1, eq-eqb n n refl) refl
+
+-- ---- what has no fault fills its slot
+
+-- a number behind a letter
+pub record Numbered (letter low high : ℕ) (word : List ℕ) : Type 0 where
+  pub number : ℕ
+  pub above : low ≤ number
+  pub below : number ≤ high
+  pub spelled : word ≡ letter ∷ decimal number
+
+pub numbered_spelled : (letter low high : ℕ) (word : List ℕ) → high < 2 ^ 64 → is_in_form letter word ≡ true → numbered_fault low high word ≡ None → Numbered letter low high word
+numbered_spelled letter low high [] small form h = absurd cc
+numbered_spelled letter low high (b ∷ bytes) small form h =
+    let same = eqb-true b letter (and_parts (b == letter) _ form).0 in
+    let n = number_spelled low high bytes small (told_unless-none _ _ h) in
+    record { number = n.number; above = n.above; below = n.below; spelled = λ i. same i ∷ n.spelled i }
+
+pub register_spelled : (letter : ℕ) (word : List ℕ) → register_fault letter word ≡ None → Numbered letter 0 255 word
+register_spelled letter word h = by_cases (is_in_form letter word) _ _
+    (λ form rest. numbered_spelled letter 0 255 word (omega arith) form rest) (λ _ e. absurd cc) h
+
+-- a word of the kind, with what it stands for
+pub record RecordSpelled (word : List ℕ) : Type 0 where
+  pub from : Rec
+  pub fits : IsSpelledRecord from
+  pub spelled : word ≡ record_word from
+
+fixed_spelled : (word : List ℕ) → is_fixed_record word ≡ true → RecordSpelled word
+fixed_spelled word h = elim (or_cases _ (bytes_eq word (codes "first")) h) [
+  | inr e ↦ record { from = First; fits = tt; spelled = same_word word _ e }
+  | inl h4 ↦ elim (or_cases _ (bytes_eq word (codes "join")) h4) [
+    | inr e ↦ record { from = Join; fits = tt; spelled = same_word word _ e }
+    | inl h3 ↦ elim (or_cases _ (bytes_eq word (codes "right")) h3) [
+      | inr e ↦ record { from = Right; fits = tt; spelled = same_word word _ e }
+      | inl h2 ↦ elim (or_cases (bytes_eq word (codes "in")) (bytes_eq word (codes "left")) h2) [
+        | inl e ↦ record { from = Input; fits = tt; spelled = same_word word _ e }
+        | inr e ↦ record { from = Left; fits = tt; spelled = same_word word _ e }
+      ]
+    ]
+  ]
+]
+
+pub operand_spelled : (word : List ℕ) → operand_fault word ≡ None → RecordSpelled word
+operand_spelled word h = by_cases (is_fixed_record word) _ _ (λ e _. fixed_spelled word e)
+    (λ _ next. by_cases (is_in_form 114 word) _ _
+    (λ form rest. let n = numbered_spelled 114 0 255 word (omega arith) form rest in record { from = Reg n.number; fits = n.below; spelled = n.spelled })
+    (λ _ last. by_cases (is_in_form 120 word) _ _
+    (λ form rest. let n = numbered_spelled 120 1 64 word (omega arith) form rest in record { from = Loop n.number; fits = (n.above, n.below); spelled = n.spelled })
+    (λ _ e. absurd cc) last) next) h
+
+pub record SignedSpelled (word : List ℕ) : Type 0 where
+  pub value : ℤ
+  pub fits : FitsSigned w64 value
+  pub spelled : word ≡ signed_decimal value
+
+minus_spelled : (word : List ℕ) (n : ℕ) → 1 ≤ n → n ≤ 2 ^ 63 → word ≡ 45 ∷ decimal n → SignedSpelled word
+minus_spelled word zero above below e = absurd (omega (arith, above))
+minus_spelled word (suc n) above below e = record { value = negsuc n; fits = omega (arith, below); spelled = e }
+
+bare_spelled : (word : List ℕ) → (is_number_word word && nat_lt (digits_value 10 word) (2 ^ 63)) ≡ true → SignedSpelled word
+bare_spelled word h =
+    let parts = and_parts (is_number_word word) _ h in
+    let below = ltb-true (digits_value 10 word) (2 ^ 63) parts.1 in
+    let lower = and_from (is_number_word word) _ parts.0 (le-leb 0 (digits_value 10 word) (omega arith)) in
+    let fits = and_from (is_number_word word && nat_le 0 (digits_value 10 word)) _ lower (le-leb (digits_value 10 word) (2 ^ 63 - 1) (omega (arith, below))) in
+    let n = number_spelled 0 (2 ^ 63 - 1) word (omega arith) fits in
+    record { value = pos n.number; fits = omega (arith, n.below); spelled = n.spelled }
+
+pub signed_spelled : (word : List ℕ) → is_signed_word word ≡ true → SignedSpelled word
+signed_spelled [] h = absurd cc
+signed_spelled (b ∷ bytes) h = by_cases (b == 45) _ _
+    (λ minus rest.
+    let sign = eqb-true b 45 minus in
+    let n = number_spelled 1 (2 ^ 63) bytes (omega arith) rest in
+    minus_spelled (b ∷ bytes) n.number n.above n.below (λ i. sign i ∷ n.spelled i))
+    (λ _ rest. bare_spelled (b ∷ bytes) rest) h
+
+pub record ListSpelled (word : List ℕ) : Type 0 where
+  pub list : LoopList
+  pub spelled : word ≡ list_word list
+
+pub list_spelled : (word : List ℕ) → is_list_word word ≡ true → ListSpelled word
+list_spelled word h = elim (or_cases _ (bytes_eq word (codes "right")) h) [
+  | inr e ↦ record { list = RightGroup; spelled = same_word word _ e }
+  | inl h1 ↦ elim (or_cases (bytes_eq word (codes "group")) (bytes_eq word (codes "left")) h1) [
+    | inl e ↦ record { list = Group; spelled = same_word word _ e }
+    | inr e ↦ record { list = LeftGroup; spelled = same_word word _ e }
+  ]
+]
+
+pub name_spelled : (name : ℕ) (word : List ℕ) → name_fault name word ≡ None → IsLoopName name × (word ≡ 120 ∷ decimal name)
+name_spelled name [] h = absurd cc
+name_spelled name (b ∷ bytes) h = by_cases (is_in_form 120 (b ∷ bytes)) _ _
+    (λ form rest. by_cases (is_in_range 1 64 bytes) _ _
+    (λ fits last.
+    let letter = eqb-true b 120 (and_parts (b == 120) _ form).0 in
+    let n = number_spelled 1 64 bytes (omega arith) fits in
+    let told = eqb-true (digits_value 10 bytes) name (told_unless-none _ _ last) in
+    let value = (decimal_is_IsNumeral n.number (omega (arith, n.below))).1 in
+    let same : n.number ≡ name = sym (ap (digits_value 10) n.spelled ∙ value) ∙ told in
+    ((omega (arith, n.above, same), omega (arith, n.below, same)), λ i. letter i ∷ (n.spelled ∙ ap decimal same) i))
+    (λ _ e. absurd cc) rest)
+    (λ _ e. absurd cc) h
+
+-- ---- one word after the other
+
+pub record Taken (slot : Slot) (slots : List Slot) (words : List LineWord) : Type 0 where
+  pub first : LineWord
+  pub rest : List LineWord
+  pub parts : words ≡ first ∷ rest
+  pub fits : slot_fault slot first ≡ None
+  pub left : first_fault slots rest ≡ None
+
+pub taken : (slot : Slot) (slots : List Slot) (words : List LineWord) → first_fault (slot ∷ slots) words ≡ None → Taken slot slots words
+taken slot slots [] h = absurd cc
+taken slot slots (word ∷ words) h =
+    let parts = or_else-none (slot_fault slot word) (first_fault slots words) h in
+    record { first = word; rest = words; parts = refl; fits = parts.0; left = parts.1 }
+
+pub none_left : (words : List LineWord) → first_fault [] words ≡ None → words ≡ []
+none_left [] h = refl
+none_left (word ∷ words) h = absurd cc
+
+pub behind : {words rest more : List LineWord} {first word : LineWord} → words ≡ first ∷ rest → first ≡ word → rest ≡ more → words ≡ word ∷ more
+behind parts spelled next = parts ∙ (λ i. spelled i ∷ next i)
+
+-- ---- the word of a slot that has no fault
+
+pub record PlainNumber (letters : List ℕ) (low high : ℕ) (word : LineWord) : Type 0 where
+  pub n : ℕ
+  pub above : low ≤ n
+  pub below : n ≤ high
+  pub spelled : word ≡ plain_word (letters ++ decimal n)
+
+pub register_word : (letter : ℕ) (word : LineWord) → slot_fault (register letter) word ≡ None → PlainNumber (letter ∷ []) 0 255 word
+register_word letter (plain_word w) h = let s = register_spelled letter w h in record { n = s.number; above = s.above; below = s.below; spelled = ap plain_word s.spelled }
+register_word letter (literal_word w) h = absurd cc
+
+pub number_word : (low high : ℕ) (word : LineWord) → high < 2 ^ 64 → slot_fault (number low high) word ≡ None → PlainNumber [] low high word
+number_word low high (plain_word w) small h =
+    let s = number_spelled low high w small (told_unless-none _ _ h) in record { n = s.number; above = s.above; below = s.below; spelled = ap plain_word s.spelled }
+number_word low high (literal_word w) small h = absurd cc
+
+pub operand_word : (word : LineWord) → slot_fault operand word ≡ None → (from : Rec) × IsSpelledRecord from × (word ≡ plain_word (record_word from))
+operand_word (plain_word w) h = let s = operand_spelled w h in (s.from, s.fits, ap plain_word s.spelled)
+operand_word (literal_word w) h = absurd cc
+
+pub signed_word : (word : LineWord) → slot_fault signed word ≡ None → (z : ℤ) × FitsSigned w64 z × (word ≡ plain_word (signed_decimal z))
+signed_word (plain_word w) h = let s = signed_spelled w (told_unless-none _ _ h) in (s.value, s.fits, ap plain_word s.spelled)
+signed_word (literal_word w) h = absurd cc
+
+pub text_word : (word : LineWord) → slot_fault text word ≡ None → (bytes : List ℕ) × (word ≡ literal_word bytes)
+text_word (plain_word w) h = absurd cc
+text_word (literal_word w) h = (w, refl)
+
+pub name_word : (name : ℕ) (word : LineWord) → slot_fault (loop name) word ≡ None → IsLoopName name × (word ≡ plain_word (120 ∷ decimal name))
+name_word name (plain_word w) h = let s = name_spelled name w h in (s.0, ap plain_word s.1)
+name_word name (literal_word w) h = absurd cc
+
+pub fixed_word : (v : List ℕ) (word : LineWord) → slot_fault (fixed v) word ≡ None → word ≡ plain_word v
+fixed_word v (plain_word w) h = ap plain_word (same_word w v (told_unless-none _ _ h))
+fixed_word v (literal_word w) h = absurd cc
+
+pub group_word : (word : LineWord) → slot_fault list word ≡ None → (items : LoopList) × (word ≡ plain_word (list_word items))
+group_word (plain_word w) h = let s = list_spelled w (told_unless-none _ _ h) in (s.list, ap plain_word s.spelled)
+group_word (literal_word w) h = absurd cc

@@ -1,0 +1,39 @@
+-- The words of operands.
+use Rattle.std.specs.Prelude.{ℕ, List, ◌++◌, Option, Some, None, if◌then◌else◌, codes, bytes_eq}
+use Rattle.std.specs.Fmt.{decimal}
+use Rattle.tac_syntax.specs.declared.statements.Rec.{Rec}
+use Rattle.tac_syntax.specs.declared.statements.Rec.TheVariants.{Reg, Loop, Input, Left, Right, Join, First}
+use Rattle.tac_syntax.specs.declared.statements.LoopList.{LoopList}
+use Rattle.tac_syntax.specs.declared.statements.LoopList.TheVariants.{Group, Left as LeftGroup, Right as RightGroup}
+
+abbrev pub value_register : ℕ → List ℕ
+value_register n = codes "v" ++ decimal n
+
+abbrev pub record_register : ℕ → List ℕ
+record_register n = codes "r" ++ decimal n
+
+abbrev pub loop_name : ℕ → List ℕ
+loop_name n = codes "x" ++ decimal n
+
+abbrev pub record_word : Rec → List ℕ
+record_word (Reg k) = record_register k
+record_word (Loop name) = loop_name name
+record_word Input = codes "in"
+record_word Left = codes "left"
+record_word Right = codes "right"
+record_word Join = codes "join"
+record_word First = codes "first"
+
+abbrev pub list_word : LoopList → List ℕ
+list_word Group = codes "group"
+list_word LeftGroup = codes "left"
+list_word RightGroup = codes "right"
+
+-- the record of a word that has no number
+abbrev pub fixed_record : List ℕ → Option Rec
+fixed_record word =
+    if bytes_eq word (codes "in") then Some Input
+    else (if bytes_eq word (codes "left") then Some Left
+    else (if bytes_eq word (codes "right") then Some Right
+    else (if bytes_eq word (codes "join") then Some Join
+    else (if bytes_eq word (codes "first") then Some First else None))))

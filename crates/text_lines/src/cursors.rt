@@ -1,0 +1,173 @@
+//! The words of a line, read from the left.
+
+ghost use Rattle.std.specs.Prelude.{◌≡◌, ◌≤◌, ◌∷◌, [], FitsSigned, IfErr, IfOk, decimal, length};
+ghost use Rattle.std.specs.Bool.{OnFalse, OnTrue};
+ghost use Rattle.std.specs.Fmt.{signed_decimal};
+ghost use Rattle.tac_syntax.specs.Grammar.{IsLoopName, IsNumber, IsSpelledRecord};
+ghost use Rattle.text_lines.specs.Cursors.{IsNoPlain, IsOther, ReadsEnd, ReadsNext};
+ghost use Rattle.text_lines.specs.declared.faults.NotRead.TheVariants.{Fault};
+ghost use Rattle.text_lines.specs.LineGrammar.{literal_word, plain_word};
+ghost use Rattle.text_lines.specs.OperandWords.{list_word, loop_name, record_register, record_word, value_register};
+ghost use Rattle.text_lines.specs.Slots.{fixed, list, loop, number, operand, register, signed, text};
+ghost use mir.Syntax.{w64};
+
+use crate::faults::NotRead;
+use crate::line_words::LineWord;
+use crate::operands::{list_in, name_in, number_in, operand_in, record_in, signed_in, value_in};
+use std::marker::Model;
+use tac_syntax::{LoopList, Rec};
+
+/// The words of a line that aren't read yet. Each call that reads a word moves behind it, or tells the first fault
+/// of these words: fault 4 where there is none, fault 7 for a number out of range, fault 8 for a word of another
+/// kind. Behind a fault nothing is known of the place.
+#[derive(Debug, Drop)]
+pub struct Cursor<'a> {
+    words: &'a [LineWord],
+}
+
+impl<'a> Model for Cursor<'a> {
+    ghost use Rattle.std.specs.Prelude.{List};
+    ghost use Rattle.text_lines.specs.LineGrammar.{LineWord};
+
+    ghost Value = { List LineWord };
+
+    ghost view = { λ c. c.words.now };
+}
+
+impl<'a> Cursor<'a> {
+    pub fn new(words: &'a [LineWord]) -> Cursor<'a>
+        ensures { result ≡ words.now }
+    {
+        Cursor { words }
+    }
+
+    /// The next word, whatever it is.
+    pub fn next(&mut self) -> Result<&'a LineWord, NotRead>
+        ensures word { IfOk result (λ word. self.old ≡ word.now ∷ self.new) }
+        ensures fault { IfErr result (λ e. (e ≡ Fault 4) × (self.old ≡ [])) }
+    {
+        match self.words.split_first() {
+            Some((word, words)) => {
+                self.words = words;
+                Ok(word)
+            }
+            None => Err(NotRead::Fault { what: 4 }),
+        }
+    }
+
+    // The next word, or this fault where it is a literal.
+    fn plain(&mut self, what: u32) -> Result<&'a [u8], NotRead>
+        ensures word { IfOk result (λ word. self.old ≡ plain_word word.now ∷ self.new) }
+        ensures fault { IfErr result (λ e. IsNoPlain what e self.old) }
+    {
+        match self.next()? {
+            LineWord::Plain(bytes) => Ok(bytes.bytes()),
+            LineWord::Literal(_) => Err(NotRead::Fault { what }),
+        }
+    }
+
+    /// How many words are left.
+    pub fn left(&self) -> usize
+        ensures { result ≡ length self.now }
+    {
+        self.words.len()
+    }
+
+    /// Whether the next word is the one of this name, which is then read.
+    pub fn skips(&mut self, name: &[u8]) -> bool
+        ensures yes { OnTrue result (self.old ≡ plain_word name.now ∷ self.new) }
+        ensures other { OnFalse result ((self.new ≡ self.old) × IsOther name.now self.old) }
+    {
+        match self.words.split_first() {
+            Some((word, words)) => {
+                if word.is_plain(name) {
+                    self.words = words;
+                    return true;
+                }
+                false
+            }
+            None => false,
+        }
+    }
+
+    /// The word of this name.
+    pub fn fixed(&mut self, name: &[u8]) -> Result<(), NotRead>
+        ensures { ReadsNext (fixed name.now) (λ _. Unit {0}) (λ _. plain_word name.now) result self.old self.new }
+    {
+        if self.next()?.is_plain(name) {
+            Ok(())
+        } else {
+            Err(NotRead::Fault { what: 8 })
+        }
+    }
+
+    /// A value register, as its number.
+    pub fn value(&mut self) -> Result<u32, NotRead>
+        ensures { ReadsNext (register 118) IsNumber (λ n. plain_word (value_register n)) result self.old self.new }
+    {
+        value_in(self.plain(8)?)
+    }
+
+    /// A record register, as its number.
+    pub fn record(&mut self) -> Result<u32, NotRead>
+        ensures { ReadsNext (register 114) IsNumber (λ n. plain_word (record_register n)) result self.old self.new }
+    {
+        record_in(self.plain(8)?)
+    }
+
+    /// A record that is read: a register, a loop's name or a record of the kind.
+    pub fn operand(&mut self) -> Result<Rec, NotRead>
+        ensures { ReadsNext operand IsSpelledRecord (λ from. plain_word (record_word from)) result self.old self.new }
+    {
+        operand_in(self.plain(8)?)
+    }
+
+    /// A number in a range.
+    pub fn number(&mut self, low: u32, high: u32) -> Result<u32, NotRead>
+        ensures { ReadsNext (number low high) (λ n. (low ≤ n) × (n ≤ high)) (λ n. plain_word (decimal n)) result self.old self.new }
+    {
+        number_in(low, high, self.plain(7)?)
+    }
+
+    /// A number with or without a sign.
+    pub fn signed(&mut self) -> Result<i64, NotRead>
+        ensures { ReadsNext signed (FitsSigned w64) (λ z. plain_word (signed_decimal z)) result self.old self.new }
+    {
+        signed_in(self.plain(7)?)
+    }
+
+    /// A literal, as the bytes that it stands for.
+    pub fn literal(&mut self) -> Result<&'a [u8], NotRead>
+        ensures { ReadsNext text (λ _. Unit {0}) (λ bytes. literal_word bytes.now) result self.old self.new }
+    {
+        match self.next()? {
+            LineWord::Literal(bytes) => Ok(bytes.bytes()),
+            LineWord::Plain(_) => Err(NotRead::Fault { what: 8 }),
+        }
+    }
+
+    /// The name of a loop, as its number: fault 11 where it isn't the one that this place wants.
+    pub fn loop_name(&mut self, name: u64) -> Result<u32, NotRead>
+        ensures { ReadsNext (loop name) (λ n. (n ≡ name) × IsLoopName n) (λ n. plain_word (loop_name n)) result self.old self.new }
+    {
+        name_in(name, self.plain(8)?)
+    }
+
+    /// The list of a loop.
+    pub fn list(&mut self) -> Result<LoopList, NotRead>
+        ensures { ReadsNext list (λ _. Unit {0}) (λ items. plain_word (list_word items)) result self.old self.new }
+    {
+        list_in(self.plain(8)?)
+    }
+
+    /// The line's end: fault 5 where a word is left over.
+    pub fn end(&mut self) -> Result<(), NotRead>
+        ensures { ReadsEnd result self.old }
+    {
+        if self.words.is_empty() {
+            Ok(())
+        } else {
+            Err(NotRead::Fault { what: 5 })
+        }
+    }
+}

@@ -1,0 +1,23 @@
+//! Why words aren't read.
+
+ghost use Rattle.std.specs.Prelude.{◌≡◌};
+
+use pact_record::OutOfMemory;
+
+/// Why a line, or a part of one, isn't read.
+#[derive(Clone, Copy, Debug, PartialEq, Eq)]
+pub enum NotRead {
+    /// Its first fault, by its number.
+    Fault { what: u32 },
+    Memory,
+}
+
+impl From<OutOfMemory> for NotRead {
+    ghost use Rattle.text_lines.specs.declared.faults.NotRead.TheVariants.{Memory};
+
+    ghost from_gives = { λ _ e. e ≡ Memory };
+
+    fn from(_: OutOfMemory) -> NotRead {
+        NotRead::Memory
+    }
+}

@@ -1,0 +1,134 @@
+//! Operands, each read from its word.
+
+ghost use Rattle.std.specs.Prelude.{◌≡◌, ◌≤◌, ◌∷◌, FitsSigned, IfSome, None, Some, decimal, false, if◌then◌else◌, true};
+ghost use Rattle.std.specs.Fmt.{signed_decimal};
+ghost use Rattle.tac_syntax.specs.Grammar.{IsLoopName, IsNumber, IsSpelledRecord};
+ghost use Rattle.text_lines.specs.Cursors.{ReadsPlain};
+ghost use Rattle.text_lines.specs.Digits.{is_in_form, is_in_range, is_signed_word, told_unless};
+ghost use Rattle.text_lines.specs.OperandWords.{fixed_record, list_word, loop_name, record_register, record_word, value_register};
+ghost use Rattle.text_lines.specs.Slots.{is_list_word, name_fault, numbered_fault, operand_fault, register_fault};
+ghost use mir.Syntax.{w64};
+
+use crate::digits::{is_in_form, is_in_range};
+use crate::faults::NotRead;
+use crate::line_words::is_word;
+use crate::numbers::{read_number, read_signed};
+use tac_syntax::{LoopList, Rec};
+
+/// A number in a range, if the word is one.
+pub fn number_within(low: u32, high: u32, word: &[u8]) -> Option<u32>
+    ensures some { IfSome result (λ n. (word.now ≡ decimal n) × (low ≤ n) × (n ≤ high)) }
+    ensures fits { IfSome result (λ n. is_in_range low high word.now ≡ true) }
+    ensures none { result ≡ None → is_in_range low high word.now ≡ false }
+{
+    if !is_in_range(u64::from(low), u64::from(high), word) {
+        return None;
+    }
+    read_number(word)
+}
+
+/// A number in a range.
+pub fn number_in(low: u32, high: u32, word: &[u8]) -> Result<u32, NotRead>
+    ensures { ReadsPlain (told_unless (is_in_range low high word.now) 7) (λ n. (low ≤ n) × (n ≤ high)) decimal result word.now }
+{
+    match number_within(low, high, word) {
+        Some(number) => Ok(number),
+        None => Err(NotRead::Fault { what: 7 }),
+    }
+}
+
+/// A number with or without a sign.
+pub fn signed_in(word: &[u8]) -> Result<i64, NotRead>
+    ensures { ReadsPlain (told_unless (is_signed_word word.now) 7) (FitsSigned w64) signed_decimal result word.now }
+{
+    match read_signed(word) {
+        Some(number) => Ok(number),
+        None => Err(NotRead::Fault { what: 7 }),
+    }
+}
+
+// A letter with a number behind it.
+fn numbered(letter: u8, low: u32, high: u32, word: &[u8]) -> Result<u32, NotRead>
+    ensures { ReadsPlain (if is_in_form letter word.now then numbered_fault low high word.now else Some 8)
+        (λ n. (low ≤ n) × (n ≤ high)) (λ n. letter ∷ decimal n) result word.now }
+{
+    if !is_in_form(letter, word) {
+        return Err(NotRead::Fault { what: 8 });
+    }
+    match number_within(low, high, &word[1..]) {
+        Some(number) => Ok(number),
+        None => Err(NotRead::Fault { what: 7 }),
+    }
+}
+
+/// A value register, as its number.
+pub fn value_in(word: &[u8]) -> Result<u32, NotRead>
+    ensures { ReadsPlain (register_fault 118 word.now) IsNumber value_register result word.now }
+{
+    numbered(b'v', 0, 255, word)
+}
+
+/// A record register, as its number.
+pub fn record_in(word: &[u8]) -> Result<u32, NotRead>
+    ensures { ReadsPlain (register_fault 114 word.now) IsNumber record_register result word.now }
+{
+    numbered(b'r', 0, 255, word)
+}
+
+/// The name of a loop, of which only this one may stand here.
+pub fn name_in(name: u64, word: &[u8]) -> Result<u32, NotRead>
+    ensures { ReadsPlain (name_fault name word.now) (λ n. (n ≡ name) × IsLoopName n) loop_name result word.now }
+{
+    let number = numbered(b'x', 1, 64, word)?;
+    if u64::from(number) == name {
+        Ok(number)
+    } else {
+        Err(NotRead::Fault { what: 11 })
+    }
+}
+
+fn fixed_record(word: &[u8]) -> Option<Rec>
+    ensures { result ≡ fixed_record word.now }
+{
+    if is_word(word, b"in") {
+        Some(Rec::Input)
+    } else if is_word(word, b"left") {
+        Some(Rec::Left)
+    } else if is_word(word, b"right") {
+        Some(Rec::Right)
+    } else if is_word(word, b"join") {
+        Some(Rec::Join)
+    } else if is_word(word, b"first") {
+        Some(Rec::First)
+    } else {
+        None
+    }
+}
+
+/// A record that is read: a register, a loop's name or a record of the kind.
+pub fn operand_in(word: &[u8]) -> Result<Rec, NotRead>
+    ensures { ReadsPlain (operand_fault word.now) IsSpelledRecord record_word result word.now }
+{
+    if let Some(from) = fixed_record(word) {
+        return Ok(from);
+    }
+    if is_in_form(b'r', word) {
+        return Ok(Rec::Reg(numbered(b'r', 0, 255, word)?));
+    }
+    Ok(Rec::Loop(numbered(b'x', 1, 64, word)?))
+}
+
+/// The list of a loop.
+pub fn list_in(word: &[u8]) -> Result<LoopList, NotRead>
+    ensures { ReadsPlain (told_unless (is_list_word word.now) 8) (λ _. Unit {0}) list_word result word.now }
+{
+    if is_word(word, b"group") {
+        Ok(LoopList::Group)
+    } else if is_word(word, b"left") {
+        Ok(LoopList::Left)
+    } else if is_word(word, b"right") {
+        Ok(LoopList::Right)
+    } else {
+        Err(NotRead::Fault { what: 8 })
+    }
+}
