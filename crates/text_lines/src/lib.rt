@@ -20,6 +20,6 @@ pub use digits::{is_in_form, is_in_range, is_signed_word};
 pub use faults::NotRead;
 pub use line_words::{LineWord, LineWords, is_word};
 pub use lines::{TextFault, first_line, line_at, trim_line};
-pub use numbers::{read_number, read_number_behind, read_signed};
+pub use numbers::{read_number, read_signed};
 pub use operands::{number_in, number_within, record_in, value_in};
 pub use word_reading::read_words;
