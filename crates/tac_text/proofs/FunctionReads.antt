@@ -109,9 +109,6 @@ pub record HasRead (text : List ℕ) (start : ℕ) (begun : Option OpenData) (at
   pub within : at ≤ length text
   pub few : number ≤ at
 
-pub HasRead-start : (text : List ℕ) (start : ℕ) → start ≤ length text → HasRead text start None start 0
-HasRead-start text start h = record { front = []; lines = refl; run = refl; counted = refl; further = omega arith; within = h; few = omega arith }
-
 -- the lines with one more
 one_more_line : (text : List ℕ) (start at next : ℕ) (front : List (List ℕ)) (line : List ℕ) → lines_of (drop start text) ≡ front ++ lines_of (drop at text) → lines_of (drop at text) ≡ line ∷ lines_of (drop next text)
     → lines_of (drop start text) ≡ (front ++ line ∷ []) ++ lines_of (drop next text)

@@ -156,10 +156,3 @@ TellsFault-header (Err (Fault e)) words read told what h = cc
 TellsFault-header (Err Memory) words read told what h = tt
 
 -- ---- names
-
-short_bytes : (a b : Bool) (n : ℕ) → (a && b && nat_le n 31) ≡ true → n ≤ 31
-short_bytes a b n h = leb-true n 31 (and_parts (a && b) (nat_le n 31) h).1
-
-pub is_name-short : (name : List ℕ) → is_name name ≡ true → length name ≤ 32
-is_name-short [] h = absurd cc
-is_name-short (b ∷ name) h = let l = short_bytes (is_small_letter b) (all_bytes is_name_byte name) (length name) h in omega arith
