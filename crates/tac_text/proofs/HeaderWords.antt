@@ -20,7 +20,7 @@ use Rattle.tac_text.specs.FunctionFaults.{function_name_fault, kind_named, key_s
 use Rattle.tac_text.specs.FunctionLines.{header, header_words, IsHeader}
 use Rattle.tac_text.specs.Spelling.{kind_word, key_words}
 use Rattle.text_lines.specs.Slots.{number, first_fault}
-use Rattle.text_lines.proofs.SlotWords.{taken, none_left, number_word}
+use Rattle.text_lines.proofs.FilledSlots.{filled}
 use Rattle.text_lines.proofs.Faultless.{by_cases, told_unless-none, or_else-none, same_word}
 
 -- ---- a header's words have no fault
@@ -53,11 +53,10 @@ abbrev KeysFor : Kind → List LineWord → Type 0
 KeysFor kind words = (keys : ℕ) × (words ≡ map plain_word (key_words kind keys)) × HasKeys kind keys
 
 some_keys : (words : List LineWord) → first_fault (number 1 key_limit ∷ []) words ≡ None → (keys : ℕ) × (words ≡ plain_word (decimal keys) ∷ []) × ((1 ≤ keys) × (keys ≤ key_limit))
-some_keys words h =
-    let a = taken (number 1 key_limit) [] words h in
-    let keys = number_word 1 key_limit a.first (omega arith) a.fits in
-    let none = none_left a.rest a.left in
-    (keys.n, a.parts ∙ (λ i. keys.spelled i ∷ none i), (keys.above, keys.below))
+some_keys words h = let f = filled (number 1 key_limit ∷ []) words (omega arith, tt) h in (f.0.0, f.1, f.2.0)
+
+none_left : (words : List LineWord) → first_fault [] words ≡ None → words ≡ []
+none_left words h = (filled [] words tt h).1
 
 keys_of_words : (kind : Kind) (words : List LineWord) → first_fault (key_slots kind) words ≡ None → KeysFor kind words
 keys_of_words Map words h = (0, none_left words h, refl)
