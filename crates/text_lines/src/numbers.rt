@@ -1,6 +1,6 @@
 //! Numbers in words.
 
-ghost use Rattle.std.specs.Prelude.{◌≡◌, ◌<◌, ◌^◌, ◌++◌, ℕ, ℤ, List, drop, false, length, decimal, FitsSigned, None, Some};
+ghost use Rattle.std.specs.Prelude.{◌≡◌, ◌<◌, ◌^◌, ℕ, ℤ, false, decimal, FitsSigned, None, Some};
 ghost use Rattle.std.specs.Fmt.{signed_decimal};
 ghost use Rattle.text_lines.specs.Digits.{is_in_range, is_signed_word};
 ghost use mir.Syntax.{w64};
@@ -19,18 +19,6 @@ pub fn read_number(word: &[u8]) -> Option<u32>
         Ok(text) => text.parse::<u32>().ok(),
         Err(_) => None,
     }
-}
-
-/// The number behind the first bytes of a word, so many as `skipped`.
-pub fn read_number_behind(skipped: usize, word: &[u8]) -> Option<u32>
-    ensures number { (front : List ℕ) (n : ℕ) → length front ≡ skipped → n < 2 ^ 32 → word.now ≡ front ++ decimal n
-        → result ≡ Some n }
-    ensures other { is_in_range 0 4294967295 (drop skipped word.now) ≡ false → result ≡ None }
-{
-    if word.len() < skipped {
-        return None;
-    }
-    read_number(&word[skipped..])
 }
 
 /// The number that a word spells in digits, with a minus sign before those of a number below 0.
