@@ -100,8 +100,8 @@ op2_line : (p : LinePlace) (target : List ℕ) (equals : LineWord) (form : List 
     → first_fault (register 118 ∷ register 118 ∷ register 118 ∷ []) (plain_word target ∷ words) ≡ None → AssignmentFor p target equals form words
 op2_line p target equals form words eq is h = elim (named op2_word form OPS2) [
   | inl (op, e) ↦
-    line_of_form p target equals form (op2_word op) words 118 (register 118 ∷ register 118 ∷ []) (tt, (tt, tt))
-    (λ x. simple (apply_two x.0 op x.1.0 x.1.1.0)) (λ x. refl) (λ x _ fit. (fit.0, fit.1.0, fit.1.1.0)) eq e h
+      line_of_form p target equals form (op2_word op) words 118 (register 118 ∷ register 118 ∷ []) (tt, (tt, tt))
+      (λ x. simple (apply_two x.0 op x.1.0 x.1.1.0)) (λ x. refl) (λ x _ fit. (fit.0, fit.1.0, fit.1.1.0)) eq e h
   | inr (a, (b, (c, (d, (e, (f, (g, (i, (j, (k, (l, (m, (n, (o, _)))))))))))))) ↦ let no : is_op2 form ≡ false = rw (a, b, c, d, e, f, g, i, j, k, l, m, n, o) refl in absurd cc
 ]
 
