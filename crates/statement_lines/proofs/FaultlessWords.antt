@@ -13,7 +13,8 @@ use Rattle.text_lines.specs.Digits.{or_else}
 use Rattle.text_lines.proofs.Faultless.{by_cases, or_else-none, same_word, is_plain-same}
 use Rattle.text_lines.proofs.FilledSlots.{AllFit, IsSmall, Values, filled, named, words_with}
 use Rattle.statement_lines.specs.Spelling.{op1_word, op2_word}
-use Rattle.statement_lines.specs.StatementLines.{LinePlace, MayStand, words_of_line}
+use Rattle.statement_lines.specs.StatementLines.{LinePlace, MayStand}
+use Rattle.statement_lines.specs.Spelling.{words_of_line}
 use Rattle.statement_lines.specs.StatementFaults.{is_target, Wanted, wanted_by, form_fault, is_op1, is_op2, target_alone, assignment_fault, block_fault, word_fault, statement_fault}
 use Rattle.statement_lines.specs.declared.operation_words.TheConstants.{OPS1, OPS2}
 

@@ -20,7 +20,7 @@ use Rattle.text_lines.proofs.SlotWords.{bytes_eq-decimal, digit_other}
 use Rattle.statement_lines.proofs.Operations.{each_op1, each_op2}
 use Rattle.statement_lines.specs.declared.operation_words.TheConstants.{OPS1, OPS2}
 use Rattle.statement_lines.specs.Spelling.{op1_word, op2_word}
-use Rattle.statement_lines.specs.StatementLines.{words_of_line}
+use Rattle.statement_lines.specs.Spelling.{words_of_line}
 
 -- the bytes of a word: a literal's are those that it stands for
 abbrev pub word_bytes : LineWord → List ℕ

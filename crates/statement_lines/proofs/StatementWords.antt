@@ -5,12 +5,12 @@ use Rattle.pact_record.specs.declared.operations.Op1.{Op1}
 use Rattle.pact_record.specs.declared.operations.Op2.{Op2}
 use Rattle.tac_syntax.specs.Code.{load_int, load_text, load_null, move_value, get_field, get_key, apply_one, apply_two, new_record, copy_record, set_field, emit_record, Line, simple, test, turns, over, otherwise, close}
 use Rattle.tac_syntax.specs.Limits.{nesting_limit}
-use Rattle.text_lines.specs.CanonicalLines.{word_text}
 use Rattle.tac_syntax.specs.Grammar.{IsNumber, IsLoopName, IsSpelledLine}
 use Rattle.text_lines.specs.declared.line_words.LineWord.{LineWord}
-use Rattle.statement_lines.specs.Spelling.{op1_word, op2_word, line_words}
+use Rattle.statement_lines.specs.Spelling.{op1_word, op2_word}
 use Rattle.text_lines.specs.OperandWords.{value_register, record_register}
-use Rattle.statement_lines.specs.StatementLines.{LinePlace, MayStand, words_of_line}
+use Rattle.statement_lines.specs.StatementLines.{LinePlace, MayStand}
+use Rattle.statement_lines.specs.Spelling.{words_of_line}
 use Rattle.text_lines.specs.LineReading.{TellsFault}
 use Rattle.text_lines.specs.declared.faults.NotRead.{NotRead}
 use Rattle.text_lines.specs.declared.faults.NotRead.TheVariants.{Fault, Memory}
@@ -71,25 +71,6 @@ statement_fault-words_of_line p otherwise h = rw h refl
 statement_fault-words_of_line p close h = refl
 
 -- ---- words are those of one line
-
-pub map-word_text : (l : Line) → map word_text (words_of_line l) ≡ line_words l
-map-word_text (simple (load_int to value)) = refl
-map-word_text (simple (load_text to bytes)) = refl
-map-word_text (simple (load_null to)) = refl
-map-word_text (simple (move_value to from)) = refl
-map-word_text (simple (get_field to from field)) = refl
-map-word_text (simple (get_key to at)) = refl
-map-word_text (simple (apply_one to op a)) = refl
-map-word_text (simple (apply_two to op a b)) = refl
-map-word_text (simple (new_record to)) = refl
-map-word_text (simple (copy_record to from)) = refl
-map-word_text (simple (set_field to field value)) = refl
-map-word_text (simple (emit_record from)) = refl
-map-word_text (test on) = refl
-map-word_text (turns count) = refl
-map-word_text (over name items) = refl
-map-word_text otherwise = refl
-map-word_text close = refl
 
 pub IsSpelledLine-MayStand : (p : LinePlace) (l : Line) → MayStand p l → IsSpelledLine p.lists l
 IsSpelledLine-MayStand p (simple s) h = h

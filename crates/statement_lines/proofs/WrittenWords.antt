@@ -12,7 +12,7 @@ use Rattle.text_lines.specs.declared.line_words.LineWord.TheVariants.{Plain as p
 use Rattle.statement_lines.specs.Spelling.{op1_word, op2_word}
 use Rattle.text_lines.specs.OperandWords.{record_word, list_word}
 use Rattle.statement_lines.proofs.Operations.{each_op1, each_op2}
-use Rattle.statement_lines.specs.StatementLines.{words_of_line}
+use Rattle.statement_lines.specs.Spelling.{words_of_line}
 use Rattle.text_lines.proofs.FineWords.{AreFine, IsFine, fine_decimal, fine_numbered, fine_signed}
 
 number_word : (n : ℕ) → IsNumber n → IsFine (plain_word (decimal n))

@@ -18,7 +18,7 @@ use Rattle.tac_text.specs.FunctionFaults.{function_fault, function_missing}
 use Rattle.tac_text.specs.FunctionLines.{inside, words_of_function_line, FunctionText, EndsWithEnd, FunctionAt, IsFunctionText}
 use Rattle.tac_text.specs.FunctionReading.{told_at, IsFunctionFault, GivesFunction}
 use Rattle.tac_text.specs.FunctionStates.{FunctionState, waiting, reading, whole, MayFollow, after_inside, after, place_at, Leads, state_of, LeadsLine, HasLineCause}
-use Rattle.statement_lines.specs.StatementLines.{words_of_line}
+use Rattle.statement_lines.specs.Spelling.{words_of_line}
 use Rattle.tac_text.proofs.FunctionRuns.{function_sayings, function_faults, Leads-FunctionText, FunctionText-Leads, reads_functions}
 
 -- ---- one line
