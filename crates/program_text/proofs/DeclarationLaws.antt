@@ -1,5 +1,5 @@
 -- Declarations and their words: each declaration that a text can spell has words of its own, and those words are the ones without a fault.
-use Rattle.std.proofs.Common.{◌≡◌, ◌≢◌, ◌≤◌, ◌&&◌, ◌++◌, ℕ, Bool, true, false, if◌then◌else◌, nat_le, List, [], ◌∷◌, map, length, Some, None, Result, Ok, Err, codes, decimal, refl, ap, sym, ◌∙◌, arith}
+use Rattle.std.proofs.Common.{◌≡◌, ◌≢◌, ◌≤◌, ◌&&◌, ℕ, Bool, true, false, if◌then◌else◌, nat_le, List, [], ◌∷◌, map, length, Some, None, Result, Ok, Err, codes, decimal, refl, ap, sym, ◌∙◌, arith}
 use Rattle.std.specs.Prelude.{IfErr, IfOk}
 use Rattle.std.specs.List.{AllByRecursion}
 use Rattle.text_lines.specs.LineReading.{IsFaultOf, TellsFault}
@@ -23,8 +23,7 @@ use Rattle.program_text.proofs.DeclaredWords.{decl_in, numbers_in}
 use Rattle.program_text.specs.DeclarationWords.{column_word, key_pair_words, number_words, words_of_decl}
 use Rattle.program_text.proofs.ListWords.{behind_equals-pair, behind_equals-words, columns_fit, columns_in-words, fields_fit, key_pair_fits, keys_fit, numbers_in-pair, numbers_in-words}
 use Rattle.program_text.proofs.SpelledLines.{decl_of_words}
-use Rattle.text_lines.proofs.FineWords.{AreFine, AreLineWords-fine, IsFine}
-use Rattle.program_text.proofs.WordBytes.{IsFine-text, is_word_text-decimal, is_word_text-file_name, is_word_text-name, word_bytes-decimal}
+use Rattle.text_lines.proofs.FineWords.{AreFine, AreLineWords-fine, IsFine, are_fine-word, fine_decimal, fine_file_name, fine_name, is_fine_word-append}
 
 -- ---- no fault
 
@@ -100,41 +99,41 @@ words_of_decl-unique d e h k same = sym (decl_in-words_of_decl d h) ∙ ap decl_
 -- ---- words that a line can have
 
 name_word : (name : List ℕ) → is_name name ≡ true → IsFine (plain_word name)
-name_word name h = IsFine-text name (is_word_text-name name h)
+name_word name h = fine_name name h
 
 numbers_line : (ns : List ℕ) → AreNumbers ns → AreFine (number_words ns)
 numbers_line [] h = tt
-numbers_line (n ∷ ns) h = (IsFine-text (decimal n) (is_word_text-decimal n (omega (arith, h.0))), numbers_line ns h.1)
+numbers_line (n ∷ ns) h = (fine_decimal n (omega (arith, h.0)), numbers_line ns h.1)
 
 column_line_word : (field : ℕ) (text : Bool) → IsNumber field → IsFine (column_word (record { field = field; text = text }))
-column_line_word field true h = IsFine-text (codes "text:" ++ decimal field) (word_bytes-decimal field (omega (arith, h)))
-column_line_word field false h = IsFine-text (codes "int:" ++ decimal field) (word_bytes-decimal field (omega (arith, h)))
+column_line_word field true h = is_fine_word-append (codes "text:") (decimal field) refl (are_fine-word (decimal field) (fine_decimal field (omega (arith, h))))
+column_line_word field false h = is_fine_word-append (codes "int:") (decimal field) refl (are_fine-word (decimal field) (fine_decimal field (omega (arith, h))))
 
 columns_line : (cs : List Column) → AllByRecursion (λ c. IsNumber c.field) cs → AreFine (map column_word cs)
 columns_line [] h = tt
 columns_line (c ∷ cs) h = (column_line_word c.field c.text h.0, columns_line cs h.1)
 
 pair_line : (left right : List ℕ) → AreNumbers left → AreNumbers right → AreFine (key_pair_words left right)
-pair_line [] right h k = (IsFine-text (codes "=") refl, numbers_line right k)
-pair_line (n ∷ left) right h k = (IsFine-text (decimal n) (is_word_text-decimal n (omega (arith, h.0))), pair_line left right h.1 k)
+pair_line [] right h k = (refl, numbers_line right k)
+pair_line (n ∷ left) right h k = (fine_decimal n (omega (arith, h.0)), pair_line left right h.1 k)
 
 pub AreFine-words_of_decl : (d : Decl) → IsSpelledDecl d → AreFine (words_of_decl d)
 AreFine-words_of_decl (Source name file columns) h =
-    (IsFine-text (codes "source") refl, (name_word name h.0, (IsFine-text file (is_word_text-file_name file h.1), columns_line columns h.2.numbers)))
+    (refl, (name_word name h.0, (fine_file_name file h.1, columns_line columns h.2.numbers)))
 AreFine-words_of_decl (Function number) h = absurd h
 AreFine-words_of_decl (Op name SourceKind function left right left_keys right_keys) h = absurd h.3
 AreFine-words_of_decl (Op name Map function left right left_keys right_keys) h =
-    (IsFine-text (codes "map") refl, (name_word name h.0, (name_word function h.1, (name_word left h.2, tt))))
+    (refl, (name_word name h.0, (name_word function h.1, (name_word left h.2, tt))))
 AreFine-words_of_decl (Op name Reduce function left right left_keys right_keys) h =
-    (IsFine-text (codes "reduce") refl, (name_word name h.0, (name_word function h.1, (name_word left h.2, (IsFine-text (codes "by") refl, numbers_line left_keys h.3.1.numbers)))))
+    (refl, (name_word name h.0, (name_word function h.1, (name_word left h.2, (refl, numbers_line left_keys h.3.1.numbers)))))
 AreFine-words_of_decl (Op name Match function left right left_keys right_keys) h =
-    (IsFine-text (codes "match") refl, (name_word name h.0, (name_word function h.1, (name_word left h.2, (name_word right h.3.0, (IsFine-text (codes "by") refl, pair_line left_keys right_keys h.3.1.numbers h.3.2.numbers))))))
+    (refl, (name_word name h.0, (name_word function h.1, (name_word left h.2, (name_word right h.3.0, (refl, pair_line left_keys right_keys h.3.1.numbers h.3.2.numbers))))))
 AreFine-words_of_decl (Op name Cross function left right left_keys right_keys) h =
-    (IsFine-text (codes "cross") refl, (name_word name h.0, (name_word function h.1, (name_word left h.2, (name_word right h.3.0, tt)))))
+    (refl, (name_word name h.0, (name_word function h.1, (name_word left h.2, (name_word right h.3.0, tt)))))
 AreFine-words_of_decl (Op name CoGroup function left right left_keys right_keys) h =
-    (IsFine-text (codes "cogroup") refl, (name_word name h.0, (name_word function h.1, (name_word left h.2, (name_word right h.3.0, (IsFine-text (codes "by") refl, pair_line left_keys right_keys h.3.1.numbers h.3.2.numbers))))))
+    (refl, (name_word name h.0, (name_word function h.1, (name_word left h.2, (name_word right h.3.0, (refl, pair_line left_keys right_keys h.3.1.numbers h.3.2.numbers))))))
 AreFine-words_of_decl (Sink input fields) h =
-    (IsFine-text (codes "sink") refl, (name_word input h.0, numbers_line fields h.1.numbers))
+    (refl, (name_word input h.0, numbers_line fields h.1.numbers))
 
 pub AreDeclarationWords : (d : Decl) → IsSpelledDecl d → AreLineWords (words_of_decl d)
 AreDeclarationWords d h = AreLineWords-fine (words_of_decl d) (AreFine-words_of_decl d h)

@@ -11,13 +11,12 @@ use Rattle.program_text.proofs.DeclaredWords.{number_in, plain_at}
 use Rattle.program_text.specs.FirstLines.{IsFieldCount, count_fault, count_word_fault, field_count_words, fields_fault, one_fault, version_fault, version_words}
 use Rattle.program_text.proofs.ItemWords.{number_in-decimal}
 use Rattle.text_lines.proofs.Faultless.{by_cases, is_plain-same, or_else-none, told_unless-none}
-use Rattle.text_lines.proofs.FineWords.{AreFine, AreLineWords-fine}
-use Rattle.program_text.proofs.WordBytes.{IsFine-text, is_word_text-decimal}
+use Rattle.text_lines.proofs.FineWords.{AreFine, AreLineWords-fine, fine_decimal}
 
 -- ---- the version
 
 pub AreFine-version_words : AreFine version_words
-AreFine-version_words = (IsFine-text (codes "pact") refl, (IsFine-text (codes "1") refl, tt))
+AreFine-version_words = (refl, (refl, tt))
 
 pub AreVersionWords : AreLineWords version_words
 AreVersionWords = AreLineWords-fine version_words AreFine-version_words
@@ -41,7 +40,7 @@ version_declared (word ∷ words) some h = by_cases (is_plain (codes "pact") wor
 -- ---- the number of fields
 
 pub AreFine-field_count_words : (count : ℕ) → IsFieldCount count → AreFine (field_count_words count)
-AreFine-field_count_words count h = (IsFine-text (codes "fields") refl, (IsFine-text (decimal count) (is_word_text-decimal count (omega (arith, h.1))), tt))
+AreFine-field_count_words count h = (refl, (fine_decimal count (omega (arith, h.1)), tt))
 
 pub AreFieldCountWords : (count : ℕ) → IsFieldCount count → AreLineWords (field_count_words count)
 AreFieldCountWords count h = AreLineWords-fine (field_count_words count) (AreFine-field_count_words count h)

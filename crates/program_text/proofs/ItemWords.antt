@@ -1,5 +1,5 @@
 -- Numbers and columns as words.
-use Rattle.std.proofs.Common.{◌≡◌, ◌++◌, ℕ, Bool, true, false, List, take, drop, None, codes, decimal, take-append-drop, refl, ap, sym, subst, ◌∙◌, arith}
+use Rattle.std.proofs.Common.{◌≡◌, ◌++◌, ℕ, Bool, true, false, List, take, drop, None, codes, decimal, take-append-drop, refl, ap, sym, ◌∙◌, arith}
 use Rattle.std.proofs.lemmas.Fmt.{decimal_is_IsNumeral}
 use Rattle.pact_record.specs.declared.columns.Column.{Column}
 use Rattle.tac_syntax.specs.Grammar.{IsNumber}
@@ -25,16 +25,6 @@ pub record Spells (word : List ℕ) : Type 0 where
 
 pub spells : (word : List ℕ) → is_number word ≡ true → Spells word
 spells word h = let s = number_spelled 0 255 word (omega arith) h in record { number = s.number; fits = s.below; spelled = s.spelled }
-
-IsNumber-by_test : (word : List ℕ) (b : Bool) → is_number word ≡ b → IsNumber (number_in word)
-IsNumber-by_test word true h =
-    let s = spells word h in
-    let e : number_in word ≡ s.number = ap number_in s.spelled ∙ number_in-decimal s.number s.fits in
-    subst IsNumber (sym e) s.fits
-IsNumber-by_test word false h = rw h (omega arith)
-
-pub IsNumber-number_in : (word : List ℕ) → IsNumber (number_in word)
-IsNumber-number_in word = IsNumber-by_test word (is_number word) refl
 
 -- ---- columns
 

@@ -2,7 +2,6 @@ pub mod DeclaredWords
 pub mod ReadLists
 pub mod ItemWords
 pub mod ListWords
-pub mod WordBytes
 pub mod SpelledLines
 pub mod DeclarationLaws
 pub mod FirstLineLaws

@@ -10,7 +10,7 @@ use Rattle.tac_syntax.specs.declared.functions.Kind.{Kind}
 use Rattle.tac_text.specs.FunctionFaults.{header_fault}
 use Rattle.tac_text.specs.FunctionLines.{FunctionLine, header, header_words}
 use Rattle.tac_text.specs.Places.{lists_in, place_of}
-use Rattle.statement_lines.specs.StatementLines.{words_of_line}
+use Rattle.statement_lines.specs.Spelling.{words_of_line}
 use Rattle.statement_lines.proofs.FaultlessWords.{line_of_words}
 use Rattle.tac_text.proofs.HeaderWords.{header_fault-header_words, header_of_words, one_header}
 use Rattle.statement_lines.proofs.StatementWords.{IsSpelledLine-MayStand, statement_fault-words_of_line, words_of_line-some, words_of_one_line}

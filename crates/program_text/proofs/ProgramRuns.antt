@@ -18,7 +18,8 @@ use Rattle.tac_text.specs.Building.{Build, build_start}
 use Rattle.tac_text.specs.FunctionAnswers.{OpenData, begun, function_of, with_build}
 use Rattle.tac_text.specs.FunctionLines.{SpellsFunction, IsHeader, header_words}
 use Rattle.tac_text.specs.Places.{FitsBuild, Front, IsInside, MayInside, built_on, place_of}
-use Rattle.statement_lines.specs.StatementLines.{MayStand, words_of_line}
+use Rattle.statement_lines.specs.StatementLines.{MayStand}
+use Rattle.statement_lines.specs.Spelling.{words_of_line}
 use Rattle.tac_text.proofs.BodySteps.{body_steps, closable, fits_start, front_start, front_step, front_whole}
 use Rattle.text_lines.specs.declared.line_words.LineWord.{LineWord}
 use Rattle.text_lines.specs.Runs.{Steps}

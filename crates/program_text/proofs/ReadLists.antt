@@ -1,46 +1,16 @@
 -- Lists of items as far as their words were read.
-use Rattle.std.proofs.Common.{◌≡◌, ◌≢◌, ◌≤◌, ◌<◌, ◌+◌, ◌-◌, ◌==◌, ◌++◌, ℕ, false, List, [], ◌∷◌, map, length, Option, Some, None, codes, refl, ap, sym, subst, ◌∙◌, arith, append_assoc, append-nil, length-append}
+use Rattle.std.proofs.Common.{◌≡◌, ◌≢◌, ◌≤◌, ◌+◌, ◌-◌, ◌==◌, ◌++◌, ℕ, false, List, [], ◌∷◌, map, length, None, codes, ap, sym, subst, ◌∙◌, arith, append_assoc, length-append}
 use Rattle.std.specs.List.{AllByRecursion}
 use Rattle.std.proofs.lemmas.Bool.Decides.{nat_tests}
 use Rattle.std.proofs.lemmas.List.{map-append}
 use Rattle.tac_syntax.specs.Declarations.{AreNumbers}
 use Rattle.tac_syntax.specs.Functions.{key_limit}
 use Rattle.tac_syntax.specs.Grammar.{IsNumber}
-use Rattle.text_lines.specs.Cursors.{FailsAt, IsOther}
-use Rattle.text_lines.specs.Digits.{or_else}
+use Rattle.text_lines.specs.Cursors.{IsOther}
 use Rattle.text_lines.specs.LineGrammar.{is_plain}
-use Rattle.text_lines.specs.LineReading.{IsFaultOf}
-use Rattle.text_lines.specs.Slots.{number}
-use Rattle.text_lines.specs.declared.faults.NotRead.{NotRead}
-use Rattle.text_lines.specs.declared.faults.NotRead.TheVariants.{Fault, Memory}
 use Rattle.text_lines.specs.declared.line_words.LineWord.{LineWord}
-use Rattle.text_lines.specs.declared.line_words.LineWord.TheVariants.{Plain as plain_word, Literal as literal_word}
-use Rattle.program_text.specs.DeclarationAnswers.{FailsItem}
 use Rattle.program_text.specs.DeclarationFaults.{Item, Number, item_fault, items_fault, key_pair_fault, left_keys_fault, list_fault}
 use Rattle.program_text.specs.DeclarationWords.{number_word, number_words}
-
--- ---- faults
-
-or_fails : (e : NotRead) (a b : Option ℕ) → IsFaultOf e a → IsFaultOf e (or_else a b)
-or_fails (Fault what) a b h = rw h refl
-or_fails Memory a b h = tt
-
-pub fails_number : (e : NotRead) (words : List LineWord) → FailsAt (number 0 255) e words → FailsItem Number e words
-fails_number e [] h = h
-fails_number e (plain_word word ∷ words) h = h
-fails_number e (literal_word bytes ∷ words) h = h
-
-fault_of_number : (e : NotRead) (what : ℕ) → e ≡ Fault what → IsFaultOf e (Some what)
-fault_of_number e what h = rw h refl
-
--- at the first item, and at one behind it
-pub list_fails : (item : Item) (limit : ℕ) (e : NotRead) (words : List LineWord) → FailsItem item e words → IsFaultOf e (list_fault item limit words)
-list_fails item limit e [] h = fault_of_number e 4 h
-list_fails item limit e (word ∷ words) h = or_fails e (item_fault item word) _ h
-
-pub items_fail : (item : Item) (room : ℕ) (e : NotRead) (words : List LineWord) → 0 < length words → FailsItem item e words → IsFaultOf e (items_fault item room words)
-items_fail item room e [] some h = absurd (omega (arith, some))
-items_fail item room e (word ∷ words) some h = or_fails e (item_fault item word) _ h
 
 -- ---- lists up to the line's end
 
@@ -58,16 +28,6 @@ all_and_one Good (y ∷ xs) x h k = (h.0, all_and_one Good xs x h.1 k)
 some_room : (n : ℕ) → 1 ≤ n → (n == 0) ≡ false
 some_room n h = grind (arith, nat_tests)
 
-pub list_begins : {X : Type 0} (item : Item) (spelled : X → LineWord) (Good : X → Type 0) (limit : ℕ) (whole left : List LineWord) (x : X)
-    → 1 ≤ limit → item_fault item (spelled x) ≡ None → Good x → whole ≡ spelled x ∷ left → ListRead item spelled Good limit whole (x ∷ []) left
-list_begins item spelled Good limit whole left x some fits good e = record {
-  parts = e;
-  some = omega arith;
-  few = some;
-  good = (good, tt);
-  fault = ap (list_fault item limit) e ∙ rw (fits, some_room limit some) refl;
-}
-
 pub list_goes_on : {X : Type 0} (item : Item) (spelled : X → LineWord) (Good : X → Type 0) (limit : ℕ) (whole left next : List LineWord) (xs : List X) (x : X)
     → ListRead item spelled Good limit whole xs left → length xs ≢ limit → item_fault item (spelled x) ≡ None → Good x → left ≡ spelled x ∷ next
     → ListRead item spelled Good limit whole (xs ++ x ∷ []) next
@@ -84,17 +44,6 @@ list_goes_on item spelled Good limit whole left next xs x read other fits good e
       fault = read.fault ∙ ap (items_fault item (limit - length xs)) e ∙ rw (fits, some_room (limit - length xs) more) (ap (λ (n : ℕ). items_fault item n next) rest);
     }
 
--- no more items have room
-pub list_full : {X : Type 0} (item : Item) (spelled : X → LineWord) (Good : X → Type 0) (limit : ℕ) (whole left next : List LineWord) (xs : List X) (x : X)
-    → ListRead item spelled Good limit whole xs left → length xs ≡ limit → item_fault item (spelled x) ≡ None → left ≡ spelled x ∷ next → list_fault item limit whole ≡ Some 5
-list_full item spelled Good limit whole left next xs x read full fits e =
-    let none : limit - length xs ≡ 0 = omega (arith, full) in
-    read.fault ∙ ap (items_fault item (limit - length xs)) e ∙ rw (fits, none) refl
-
-pub list_ends : {X : Type 0} (item : Item) (spelled : X → LineWord) (Good : X → Type 0) (limit : ℕ) (whole left : List LineWord) (xs : List X)
-    → ListRead item spelled Good limit whole xs left → left ≡ [] → whole ≡ map spelled xs
-list_ends item spelled Good limit whole left xs read none = read.parts ∙ ap (λ (ws : List LineWord). map spelled xs ++ ws) none ∙ append-nil (map spelled xs)
-
 -- ---- the left keys of two inputs
 
 pub record KeysRead (whole : List LineWord) (keys : List ℕ) (left : List LineWord) : Type 0 where
@@ -103,15 +52,6 @@ pub record KeysRead (whole : List LineWord) (keys : List ℕ) (left : List LineW
   pub few : length keys ≤ key_limit
   pub good : AreNumbers keys
   pub fault : key_pair_fault whole ≡ left_keys_fault (key_limit - length keys) left
-
-pub keys_begin : (whole left : List LineWord) (n : ℕ) → item_fault Number (number_word n) ≡ None → IsNumber n → whole ≡ number_word n ∷ left → KeysRead whole (n ∷ []) left
-keys_begin whole left n fits good e = record {
-  parts = e;
-  some = omega arith;
-  few = omega arith;
-  good = (good, tt);
-  fault = ap key_pair_fault e ∙ rw fits refl;
-}
 
 -- a word that isn't `=`
 other_first : (left next : List LineWord) (word : LineWord) → IsOther (codes "=") left → left ≡ word ∷ next → is_plain (codes "=") word ≡ false
@@ -133,20 +73,3 @@ keys_go_on whole left next keys n read other room fits good e =
       fault = read.fault ∙ ap (left_keys_fault (key_limit - length keys)) e
           ∙ rw (other_first left next (number_word n) other e, fits, some_room (key_limit - length keys) more) (ap (λ (k : ℕ). left_keys_fault k next) rest);
     }
-
-pub keys_full : (whole left next : List LineWord) (keys : List ℕ) (n : ℕ)
-    → KeysRead whole keys left → IsOther (codes "=") left → length keys ≡ key_limit → item_fault Number (number_word n) ≡ None → left ≡ number_word n ∷ next → key_pair_fault whole ≡ Some 8
-keys_full whole left next keys n read other full fits e =
-    let none : key_limit - length keys ≡ 0 = omega (arith, full) in
-    read.fault ∙ ap (left_keys_fault (key_limit - length keys)) e ∙ rw (other_first left next (number_word n) other e, fits, none) refl
-
-left_keys_fail : (room : ℕ) (left : List LineWord) (e : NotRead) → IsOther (codes "=") left → FailsItem Number e left → IsFaultOf e (left_keys_fault room left)
-left_keys_fail room [] e other h = fault_of_number e 4 h
-left_keys_fail room (word ∷ words) e other h = rw other (or_fails e (item_fault Number word) _ h)
-
-pub keys_fail : (whole left : List LineWord) (keys : List ℕ) (e : NotRead) → KeysRead whole keys left → IsOther (codes "=") left → FailsItem Number e left → IsFaultOf e (key_pair_fault whole)
-keys_fail whole left keys e read other h = subst (IsFaultOf e) (sym read.fault) (left_keys_fail (key_limit - length keys) left e other h)
-
-pub first_key_fails : (words : List LineWord) (e : NotRead) → FailsItem Number e words → IsFaultOf e (key_pair_fault words)
-first_key_fails [] e h = fault_of_number e 4 h
-first_key_fails (word ∷ words) e h = or_fails e (item_fault Number word) _ h

@@ -1,18 +1,18 @@
 -- One step of the reader of programs.
-use Rattle.std.proofs.Common.{◌≡◌, inl, inr, ℕ, Bool, true, false, Result, Ok, Err, IfOk, List, [], ◌∷◌, refl, ap, sym, subst, ◌∙◌}
+use Rattle.std.proofs.Common.{◌≡◌, inl, ℕ, Bool, true, false, Result, Ok, Err, IfOk, List, [], refl, ap, sym, subst, ◌∙◌}
 use Rattle.tac_syntax.specs.Drafts.{DraftData}
 use Rattle.tac_syntax.specs.Code.{close}
 use Rattle.tac_text.specs.declared.building.Block.{Block}
 use Rattle.tac_text.specs.FunctionAnswers.{OpenData, TakesWords, function_of}
 use Rattle.text_lines.specs.declared.line_words.LineWord.{LineWord}
-use Rattle.text_lines.specs.LineGrammar.{HasLineFault, IsLine}
+use Rattle.text_lines.specs.LineGrammar.{HasLineFault}
 use Rattle.text_lines.specs.LineReading.{HasCause}
 use Rattle.text_lines.specs.declared.faults.NotRead.{NotRead}
 use Rattle.text_lines.specs.declared.faults.NotRead.TheVariants.{Fault, Memory}
 use Rattle.text_lines.specs.TextLines.{trimmed}
 use Rattle.program_text.specs.declared.program_reading.State.{State}
 use Rattle.program_text.specs.ProgramReading.{IsLineFault, LeadsOn, state_of}
-use Rattle.program_text.specs.ProgramStates.{inside, ProgramState, drafted, open_function, RunsTo, said_inside, with_function}
+use Rattle.program_text.specs.ProgramStates.{inside, ProgramState, drafted, open_function, said_inside, with_function}
 use Rattle.program_text.proofs.ProgramRuns.{inside_stays}
 
 ends_so : (d : DraftData) (o : OpenData) (blocks : List Block) → o.build.blocks ≡ blocks → blocks ≡ [] → said_inside d o close ≡ drafted (with_function d (function_of o))
@@ -35,13 +35,6 @@ pub inner_words : (d : DraftData) (old now : OpenData) (said : List LineWord) (e
 inner_words d old now said ended is taken =
     let own : TakesWords false said old now = subst (λ (b : Bool). TakesWords b said old now) is taken in
     (inside own.0, own.1, own.2.0, ap (open_function d) own.3 ∙ sym (rw (inside_stays own.0 old.build.blocks own.2.1) refl))
-
--- a line, by its words
-pub silent_line : (s t : ProgramState) (line at : List ℕ) (said : List LineWord) → at ≡ trimmed line → IsLine at said → said ≡ [] → s ≡ t → RunsTo s (line ∷ []) t
-silent_line s t line at said e h none same = inl (subst (λ (ws : List LineWord). IsLine (trimmed line) ws) none (subst (λ (x : List ℕ). IsLine x said) e h), same)
-
-pub said_line : (s t : ProgramState) (line at : List ℕ) (said : List LineWord) → at ≡ trimmed line → IsLine at said → LeadsOn s said t → RunsTo s (line ∷ []) t
-said_line s t line at said e h led = inr (led.0, subst (λ (ws : List LineWord). IsLine (trimmed line) ws) led.1 (subst (λ (x : List ℕ). IsLine x said) e h), led.2, sym led.3)
 
 -- ---- faults
 

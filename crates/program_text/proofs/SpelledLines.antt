@@ -1,44 +1,99 @@
 -- Words without a fault are those of a declaration.
-use Rattle.std.proofs.Common.{◌≡◌, ◌≢◌, ◌||◌, ◌++◌, ℕ, true, IsTrue, List, [], ◌∷◌, None, codes, bytes_eq, refl, ap, ◌∙◌}
+use Rattle.std.proofs.Common.{◌≡◌, ◌≢◌, ◌||◌, ℕ, IsTrue, List, [], ◌∷◌, map, None, codes, bytes_eq, refl, ap, sym, ◌∙◌}
+use Rattle.pact_record.specs.declared.columns.Column.{Column}
 use Rattle.tac_syntax.specs.declared.declarations.OpKind.TheVariants.{Map, Reduce, Match, Cross, CoGroup}
 use Rattle.tac_syntax.specs.declared.declarations.Decl.{Decl}
 use Rattle.tac_syntax.specs.declared.declarations.Decl.TheVariants.{Source, Op, Sink}
-use Rattle.tac_syntax.specs.Declarations.{IsKeyList, IsSpelledDecl}
-use Rattle.program_text.specs.DeclarationFaults.{Slot}
-use Rattle.program_text.specs.DeclarationFaults.{Name, FileName, By}
-use Rattle.program_text.specs.DeclarationFaults.{Tail}
-use Rattle.program_text.specs.DeclarationFaults.{Nothing, Columns, Fields, Keys, KeyPair}
-use Rattle.tac_syntax.specs.Names.{is_name}
+use Rattle.tac_syntax.specs.Declarations.{AreColumns, AreSinkFields, IsKeyList, IsSpelledDecl}
+use Rattle.tac_syntax.specs.Names.{is_file_name, is_name}
 use Rattle.text_lines.specs.declared.line_words.LineWord.{LineWord}
 use Rattle.text_lines.specs.declared.line_words.LineWord.TheVariants.{Plain as plain_word, Literal as literal_word}
-use Rattle.program_text.specs.DeclarationFaults.{declaration_fault, fills, slot_fault, slots_then, word_fault}
-use Rattle.program_text.specs.DeclarationWords.{key_pair_words, number_words, plain_words, words_of_decl}
+use Rattle.program_text.specs.DeclarationFaults.{Slot, Name, FileName, By, Tail, Nothing, Columns as ColumnTail, Fields, Keys, KeyPair, declaration_fault, slot_fault, slots_then, tail_fault, word_fault}
+use Rattle.program_text.specs.DeclarationWords.{column_word, key_pair_words, number_words, words_of_decl}
 use Rattle.program_text.proofs.FirstLineLaws.{none_left}
 use Rattle.program_text.proofs.ListWords.{spells_columns, spells_fields, spells_key_pair, spells_keys}
 use Rattle.text_lines.proofs.Faultless.{by_cases, or_else-none, same_word, told_unless-none}
 
--- ---- one word after the other
+-- ---- single words, and what a line ends with
 
-record Taken (slot : Slot) (slots : List Slot) (tail : Tail) (words : List LineWord) : Type 0 where
-  pub word : List ℕ
-  pub rest : List LineWord
-  pub parts : words ≡ plain_word word ∷ rest
-  pub fits : IsTrue (fills slot word)
-  pub left : slots_then slots tail rest ≡ None
+abbrev Value : Slot → Type 0
+Value Name = List ℕ
+Value FileName = List ℕ
+Value By = Unit {0}
 
-taken : (slot : Slot) (slots : List Slot) (tail : Tail) (words : List LineWord) → slots_then (slot ∷ slots) tail words ≡ None → Taken slot slots tail words
-taken slot slots tail [] h = absurd cc
-taken slot slots tail (plain_word word ∷ words) h =
-    let both = or_else-none (slot_fault slot (plain_word word)) (slots_then slots tail words) h in
-    record { word = word; rest = words; parts = refl; fits = told_unless-none _ _ both.0; left = both.1 }
-taken slot slots tail (literal_word bytes ∷ words) h = absurd cc
+abbrev word_of : (slot : Slot) → Value slot → LineWord
+word_of Name name = plain_word name
+word_of FileName name = plain_word name
+word_of By x = plain_word (codes "by")
 
-behind : {words rest more : List LineWord} {word : List ℕ} → words ≡ plain_word word ∷ rest → rest ≡ more → words ≡ plain_word word ∷ more
-behind {word = word} parts next = parts ∙ ap (λ (ws : List LineWord). plain_word word ∷ ws) next
+abbrev Fits : (slot : Slot) → Value slot → Type 0
+Fits Name name = IsTrue (is_name name)
+Fits FileName name = IsTrue (is_file_name name)
+Fits By x = Unit {0}
 
--- the word `by`
-behind_by : {words rest more : List LineWord} {word : List ℕ} → words ≡ plain_word word ∷ rest → bytes_eq word (codes "by") ≡ true → rest ≡ more → words ≡ plain_word (codes "by") ∷ more
-behind_by {word = word} parts by next = let e = same_word word (codes "by") by in parts ∙ (λ i. plain_word (e i) ∷ next i)
+fills : (slot : Slot) (word : LineWord) → slot_fault slot word ≡ None → (x : Value slot) × (word ≡ word_of slot x) × Fits slot x
+fills Name (plain_word w) h = (w, refl, told_unless-none _ _ h)
+fills FileName (plain_word w) h = (w, refl, told_unless-none _ _ h)
+fills By (plain_word w) h = (tt, ap plain_word (same_word w _ (told_unless-none _ _ h)), tt)
+fills slot (literal_word bytes) h = absurd cc
+
+abbrev EndValue : Tail → Type 0
+EndValue Nothing = Unit {0}
+EndValue ColumnTail = List Column
+EndValue Fields = List ℕ
+EndValue Keys = List ℕ
+EndValue KeyPair = List ℕ × List ℕ
+
+abbrev end_words : (tail : Tail) → EndValue tail → List LineWord
+end_words Nothing x = []
+end_words ColumnTail columns = map column_word columns
+end_words Fields fields = number_words fields
+end_words Keys keys = number_words keys
+end_words KeyPair keys = key_pair_words keys.0 keys.1
+
+abbrev EndFits : (tail : Tail) → EndValue tail → Type 0
+EndFits Nothing x = Unit {0}
+EndFits ColumnTail columns = AreColumns columns
+EndFits Fields fields = AreSinkFields fields
+EndFits Keys keys = IsKeyList keys
+EndFits KeyPair keys = IsKeyList keys.0 × IsKeyList keys.1
+
+ends : (tail : Tail) (words : List LineWord) → tail_fault tail words ≡ None → (x : EndValue tail) × (words ≡ end_words tail x) × EndFits tail x
+ends Nothing words h = (tt, none_left words h, tt)
+ends ColumnTail words h = spells_columns words h
+ends Fields words h = spells_fields words h
+ends Keys words h = spells_keys words h
+ends KeyPair words h = let keys = spells_key_pair words h in ((keys.0, keys.1), keys.2, (keys.3, keys.4))
+
+-- ---- the words behind a line's first
+
+abbrev Values : List Slot → Type 0
+Values [] = Unit {0}
+Values (slot ∷ slots) = Value slot × Values slots
+
+abbrev words_with : (slots : List Slot) → Values slots → List LineWord → List LineWord
+words_with [] xs more = more
+words_with (slot ∷ slots) xs more = word_of slot xs.0 ∷ words_with slots xs.1 more
+
+abbrev AllFit : (slots : List Slot) → Values slots → Type 0
+AllFit [] xs = Unit {0}
+AllFit (slot ∷ slots) xs = Fits slot xs.0 × AllFit slots xs.1
+
+record Filled (slots : List Slot) (tail : Tail) (words : List LineWord) : Type 0 where
+  pub values : Values slots
+  pub end_value : EndValue tail
+  pub parts : words ≡ words_with slots values (end_words tail end_value)
+  pub fit : AllFit slots values
+  pub end_fits : EndFits tail end_value
+
+filled : (slots : List Slot) (tail : Tail) (words : List LineWord) → slots_then slots tail words ≡ None → Filled slots tail words
+filled [] tail words h = let e = ends tail words h in record { values = tt; end_value = e.0; parts = e.1; fit = tt; end_fits = e.2 }
+filled (slot ∷ slots) tail [] h = absurd cc
+filled (slot ∷ slots) tail (word ∷ words) h =
+    let both = or_else-none (slot_fault slot word) (slots_then slots tail words) h in
+    let first = fills slot word both.0 in
+    let rest = filled slots tail words both.1 in
+    record { values = (first.0, rest.values); end_value = rest.end_value; parts = λ i. first.1 i ∷ rest.parts i; fit = (first.2, rest.fit); end_fits = rest.end_fits }
 
 -- ---- lines, by their first word
 
@@ -46,113 +101,24 @@ behind_by {word = word} parts by next = let e = same_word word (codes "by") by i
 abbrev pub DeclFor : List LineWord → Type 0
 DeclFor words = (d : Decl) × (words ≡ words_of_decl d) × IsSpelledDecl d
 
-source_line : (word : List ℕ) (words : List LineWord) → word ≡ codes "source" → slots_then (Name ∷ FileName ∷ []) Columns words ≡ None → DeclFor (plain_word word ∷ words)
-source_line word words named h =
-    let a = taken Name (FileName ∷ []) Columns words h in
-    let b = taken FileName [] Columns a.rest a.left in
-    let columns = spells_columns b.rest b.left in
-    let all = behind a.parts (behind b.parts columns.1) in
-    (Source a.word b.word columns.0, (λ i. plain_word (named i) ∷ all i), (a.fits, b.fits, columns.2))
-
--- the three names that each operator's line begins with
-record Front (slots : List Slot) (tail : Tail) (words : List LineWord) : Type 0 where
-  pub name : List ℕ
-  pub function : List ℕ
-  pub left : List ℕ
-  pub rest : List LineWord
-  pub parts : words ≡ plain_words (name ∷ function ∷ left ∷ []) ++ rest
-  pub names : IsTrue (is_name name) × IsTrue (is_name function) × IsTrue (is_name left)
-  pub behind : slots_then slots tail rest ≡ None
-
-front_of : (slots : List Slot) (tail : Tail) (words : List LineWord) → slots_then (Name ∷ Name ∷ Name ∷ slots) tail words ≡ None → Front slots tail words
-front_of slots tail words h =
-    let a = taken Name (Name ∷ Name ∷ slots) tail words h in
-    let b = taken Name (Name ∷ slots) tail a.rest a.left in
-    let c = taken Name slots tail b.rest b.left in
-    record { name = a.word; function = b.word; left = c.word; rest = c.rest; parts = behind a.parts (behind b.parts c.parts); names = (a.fits, b.fits, c.fits); behind = c.left }
-
--- what stands behind these names
-behind_front : {word name function left : List ℕ} (fixed : List ℕ) {words rest : List LineWord} (more : List LineWord) → word ≡ fixed
-    → words ≡ plain_words (name ∷ function ∷ left ∷ []) ++ rest → rest ≡ more → plain_word word ∷ words ≡ plain_words (fixed ∷ name ∷ function ∷ left ∷ []) ++ more
-behind_front {name = name} {function} {left} fixed more named parts next =
-    let all = parts ∙ ap (λ (ws : List LineWord). plain_words (name ∷ function ∷ left ∷ []) ++ ws) next in λ i. plain_word (named i) ∷ all i
-
-map_line : (word : List ℕ) (words : List LineWord) → word ≡ codes "map" → Front [] Nothing words → DeclFor (plain_word word ∷ words)
-map_line word words named f =
-    (Op f.name Map f.function f.left [] [] [], behind_front (codes "map") [] named f.parts (none_left f.rest f.behind), (f.names.0, f.names.1, f.names.2, (refl, refl, refl)))
-
-cross_line : (word : List ℕ) (words : List LineWord) → word ≡ codes "cross" → Front (Name ∷ []) Nothing words → DeclFor (plain_word word ∷ words)
-cross_line word words named f =
-    let right = taken Name [] Nothing f.rest f.behind in
-    let next = behind right.parts (none_left right.rest right.left) in (
-      Op f.name Cross f.function f.left right.word [] [],
-      behind_front (codes "cross") (plain_words (right.word ∷ [])) named f.parts next,
-      (f.names.0, f.names.1, f.names.2, (right.fits, refl, refl)),
-    )
-
-reduce_line : (word : List ℕ) (words : List LineWord) → word ≡ codes "reduce" → Front (By ∷ []) Keys words → DeclFor (plain_word word ∷ words)
-reduce_line word words named f =
-    let by = taken By [] Keys f.rest f.behind in
-    let keys = spells_keys by.rest by.left in
-    let next = behind_by by.parts by.fits keys.1 in (
-      Op f.name Reduce f.function f.left [] keys.0 [],
-      behind_front (codes "reduce") (plain_word (codes "by") ∷ number_words keys.0) named f.parts next,
-      (f.names.0, f.names.1, f.names.2, (refl, keys.2, refl)),
-    )
-
--- the second input and two lists of keys
-record PairOperands (words : List LineWord) : Type 0 where
-  pub right : List ℕ
-  pub left_keys : List ℕ
-  pub right_keys : List ℕ
-  pub parts : words ≡ plain_words (right ∷ codes "by" ∷ []) ++ key_pair_words left_keys right_keys
-  pub fits : IsTrue (is_name right) × IsKeyList left_keys × IsKeyList right_keys
-
-pair_operands : (words : List LineWord) → slots_then (Name ∷ By ∷ []) KeyPair words ≡ None → PairOperands words
-pair_operands words h =
-    let right = taken Name (By ∷ []) KeyPair words h in
-    let by = taken By [] KeyPair right.rest right.left in
-    let keys = spells_key_pair by.rest by.left in
-    record {
-      right = right.word;
-      left_keys = keys.0;
-      right_keys = keys.1;
-      parts = behind right.parts (behind_by by.parts by.fits keys.2);
-      fits = (right.fits, keys.3, keys.4);
-    }
-
-match_line : (word : List ℕ) (words : List LineWord) → word ≡ codes "match" → Front (Name ∷ By ∷ []) KeyPair words → DeclFor (plain_word word ∷ words)
-match_line word words named f =
-    let o = pair_operands f.rest f.behind in (
-      Op f.name Match f.function f.left o.right o.left_keys o.right_keys,
-      behind_front (codes "match") (plain_words (o.right ∷ codes "by" ∷ []) ++ key_pair_words o.left_keys o.right_keys) named f.parts o.parts,
-      (f.names.0, f.names.1, f.names.2, o.fits),
-    )
-
-cogroup_line : (word : List ℕ) (words : List LineWord) → word ≡ codes "cogroup" → Front (Name ∷ By ∷ []) KeyPair words → DeclFor (plain_word word ∷ words)
-cogroup_line word words named f =
-    let o = pair_operands f.rest f.behind in (
-      Op f.name CoGroup f.function f.left o.right o.left_keys o.right_keys,
-      behind_front (codes "cogroup") (plain_words (o.right ∷ codes "by" ∷ []) ++ key_pair_words o.left_keys o.right_keys) named f.parts o.parts,
-      (f.names.0, f.names.1, f.names.2, o.fits),
-    )
-
-sink_line : (word : List ℕ) (words : List LineWord) → word ≡ codes "sink" → slots_then (Name ∷ []) Fields words ≡ None → DeclFor (plain_word word ∷ words)
-sink_line word words named h =
-    let a = taken Name [] Fields words h in
-    let fields = spells_fields a.rest a.left in
-    let all = behind a.parts fields.1 in
-    (Sink a.word fields.0, (λ i. plain_word (named i) ∷ all i), (a.fits, fields.2))
+decl_of_slots : (word name : List ℕ) (words : List LineWord) (slots : List Slot) (tail : Tail) (decl : Values slots → EndValue tail → Decl)
+    → ((xs : Values slots) (x : EndValue tail) → words_of_decl (decl xs x) ≡ plain_word name ∷ words_with slots xs (end_words tail x))
+    → ((xs : Values slots) (x : EndValue tail) → AllFit slots xs → EndFits tail x → IsSpelledDecl (decl xs x))
+    → word ≡ name → slots_then slots tail words ≡ None → DeclFor (plain_word word ∷ words)
+decl_of_slots word name words slots tail decl spelled fits is h =
+    let f = filled slots tail words h in
+    let all : plain_word word ∷ words ≡ plain_word name ∷ words_with slots f.values (end_words tail f.end_value) = let e = f.parts in λ i. plain_word (is i) ∷ e i in
+    (decl f.values f.end_value, all ∙ sym (spelled f.values f.end_value), fits f.values f.end_value f.fit f.end_fits)
 
 word_line : (word : List ℕ) (words : List LineWord) → word_fault word words ≡ None → DeclFor (plain_word word ∷ words)
 word_line word words h =
-    by_cases (bytes_eq word (codes "source")) _ _ (λ e k. source_line word words (same_word word _ e) k) (λ _ h0.
-    by_cases (bytes_eq word (codes "map")) _ _ (λ e k. map_line word words (same_word word _ e) (front_of [] Nothing words k)) (λ _ h1.
-    by_cases (bytes_eq word (codes "reduce")) _ _ (λ e k. reduce_line word words (same_word word _ e) (front_of (By ∷ []) Keys words k)) (λ _ h2.
-    by_cases (bytes_eq word (codes "match")) _ _ (λ e k. match_line word words (same_word word _ e) (front_of (Name ∷ By ∷ []) KeyPair words k)) (λ _ h3.
-    by_cases (bytes_eq word (codes "cross")) _ _ (λ e k. cross_line word words (same_word word _ e) (front_of (Name ∷ []) Nothing words k)) (λ _ h4.
-    by_cases (bytes_eq word (codes "cogroup")) _ _ (λ e k. cogroup_line word words (same_word word _ e) (front_of (Name ∷ By ∷ []) KeyPair words k)) (λ _ h5.
-    by_cases (bytes_eq word (codes "sink")) _ _ (λ e k. sink_line word words (same_word word _ e) k) (λ _ h6.
+    by_cases (bytes_eq word (codes "source")) _ _ (λ is k. decl_of_slots word (codes "source") words (Name ∷ FileName ∷ []) ColumnTail (λ x y. Source x.0 x.1.0 y) (λ x y. refl) (λ x y f e. (f.0, f.1.0, e)) (same_word word _ is) k) (λ _ h0.
+    by_cases (bytes_eq word (codes "map")) _ _ (λ is k. decl_of_slots word (codes "map") words (Name ∷ Name ∷ Name ∷ []) Nothing (λ x y. Op x.0 Map x.1.0 x.1.1.0 [] [] []) (λ x y. refl) (λ x y f e. (f.0, f.1.0, f.1.1.0, (refl, refl, refl))) (same_word word _ is) k) (λ _ h1.
+    by_cases (bytes_eq word (codes "reduce")) _ _ (λ is k. decl_of_slots word (codes "reduce") words (Name ∷ Name ∷ Name ∷ By ∷ []) Keys (λ x y. Op x.0 Reduce x.1.0 x.1.1.0 [] y []) (λ x y. refl) (λ x y f e. (f.0, f.1.0, f.1.1.0, (refl, e, refl))) (same_word word _ is) k) (λ _ h2.
+    by_cases (bytes_eq word (codes "match")) _ _ (λ is k. decl_of_slots word (codes "match") words (Name ∷ Name ∷ Name ∷ Name ∷ By ∷ []) KeyPair (λ x y. Op x.0 Match x.1.0 x.1.1.0 x.1.1.1.0 y.0 y.1) (λ x y. refl) (λ x y f e. (f.0, f.1.0, f.1.1.0, (f.1.1.1.0, e.0, e.1))) (same_word word _ is) k) (λ _ h3.
+    by_cases (bytes_eq word (codes "cross")) _ _ (λ is k. decl_of_slots word (codes "cross") words (Name ∷ Name ∷ Name ∷ Name ∷ []) Nothing (λ x y. Op x.0 Cross x.1.0 x.1.1.0 x.1.1.1.0 [] []) (λ x y. refl) (λ x y f e. (f.0, f.1.0, f.1.1.0, (f.1.1.1.0, refl, refl))) (same_word word _ is) k) (λ _ h4.
+    by_cases (bytes_eq word (codes "cogroup")) _ _ (λ is k. decl_of_slots word (codes "cogroup") words (Name ∷ Name ∷ Name ∷ Name ∷ By ∷ []) KeyPair (λ x y. Op x.0 CoGroup x.1.0 x.1.1.0 x.1.1.1.0 y.0 y.1) (λ x y. refl) (λ x y f e. (f.0, f.1.0, f.1.1.0, (f.1.1.1.0, e.0, e.1))) (same_word word _ is) k) (λ _ h5.
+    by_cases (bytes_eq word (codes "sink")) _ _ (λ is k. decl_of_slots word (codes "sink") words (Name ∷ []) Fields (λ x y. Sink x.0 y) (λ x y. refl) (λ x y f e. (f.0, e)) (same_word word _ is) k) (λ _ h6.
     by_cases (bytes_eq word (codes "else") || bytes_eq word (codes "end")) _ _ (λ _ e. absurd cc) (λ _ e. absurd cc) h6) h5) h4) h3) h2) h1) h0) h
 
 pub decl_of_words : (words : List LineWord) → words ≢ [] → declaration_fault words ≡ None → DeclFor words

@@ -11,7 +11,8 @@ use Rattle.tac_text.specs.declared.building.Block.{Block}
 use Rattle.tac_text.specs.FunctionAnswers.{OpenData, begun, function_of, with_build}
 use Rattle.tac_text.specs.FunctionLines.{header_words, IsHeader}
 use Rattle.tac_text.specs.Places.{place_of, built_on}
-use Rattle.statement_lines.specs.StatementLines.{words_of_line, MayStand}
+use Rattle.statement_lines.specs.StatementLines.{MayStand}
+use Rattle.statement_lines.specs.Spelling.{words_of_line}
 use Rattle.text_lines.specs.Runs.{Runs}
 use Rattle.text_lines.specs.declared.line_words.LineWord.{LineWord}
 use Rattle.program_text.specs.DeclarationWords.{words_of_decl}

@@ -1,3 +1,4 @@
+pub mod Operations
 pub mod LineForms
 pub mod StatementWords
 pub mod FaultlessWords

@@ -4,9 +4,9 @@ use Rattle.std.specs.Fmt.{signed_decimal}
 use Rattle.std.specs.Str.Parse.{AllDigits, digits_value}
 use Rattle.std.proofs.lemmas.Fmt.{decimal_is_IsNumeral}
 use Rattle.pact_record.specs.declared.operations.Op1.{Op1}
-use Rattle.pact_record.specs.declared.operations.Op1.TheVariants.{Not, IsNull, Len}
+use Rattle.pact_record.specs.declared.operations.Op1.TheVariants.{Not}
 use Rattle.pact_record.specs.declared.operations.Op2.{Op2}
-use Rattle.pact_record.specs.declared.operations.Op2.TheVariants.{Add, Sub, Mul, Div, Rem, AddW, Min, Max, Lt, Le, Eq, And, Or, Cat}
+use Rattle.pact_record.specs.declared.operations.Op2.TheVariants.{Add}
 use Rattle.tac_syntax.specs.declared.statements.Rec.{Rec}
 use Rattle.tac_syntax.specs.declared.statements.Rec.TheVariants.{Reg, Loop, Input, Left, Right, Join, First}
 use Rattle.tac_syntax.specs.declared.statements.LoopList.{LoopList}
@@ -17,8 +17,10 @@ use Rattle.text_lines.specs.declared.line_words.LineWord.{LineWord}
 use Rattle.text_lines.specs.declared.line_words.LineWord.TheVariants.{Plain as plain_word, Literal as literal_word}
 use Rattle.text_lines.specs.OperandWords.{fixed_record, list_word, record_word, value_register}
 use Rattle.text_lines.proofs.SlotWords.{bytes_eq-decimal, digit_other}
+use Rattle.statement_lines.proofs.Operations.{each_op1, each_op2}
+use Rattle.statement_lines.specs.declared.operation_words.TheConstants.{OPS1, OPS2}
 use Rattle.statement_lines.specs.Spelling.{op1_word, op2_word}
-use Rattle.statement_lines.specs.StatementLines.{words_of_line}
+use Rattle.statement_lines.specs.Spelling.{words_of_line}
 
 -- the bytes of a word: a literal's are those that it stands for
 abbrev pub word_bytes : LineWord → List ℕ
@@ -53,24 +55,10 @@ record_in word = unwrap_or (fixed_record word) (numbered_record word)
 abbrev list_in : List ℕ → LoopList
 list_in word = if bytes_eq word (codes "left") then LeftGroup else (if bytes_eq word (codes "right") then RightGroup else Group)
 
-abbrev op1_in : List ℕ → Op1
-op1_in word = if bytes_eq word (codes "not") then Not else (if bytes_eq word (codes "isnull") then IsNull else Len)
-
-abbrev op2_in : List ℕ → Op2
-op2_in word =
-    if bytes_eq word (codes "add") then Add
-    else (if bytes_eq word (codes "sub") then Sub
-    else (if bytes_eq word (codes "mul") then Mul
-    else (if bytes_eq word (codes "div") then Div
-    else (if bytes_eq word (codes "rem") then Rem
-    else (if bytes_eq word (codes "addw") then AddW
-    else (if bytes_eq word (codes "min") then Min
-    else (if bytes_eq word (codes "max") then Max
-    else (if bytes_eq word (codes "lt") then Lt
-    else (if bytes_eq word (codes "le") then Le
-    else (if bytes_eq word (codes "eq") then Eq
-    else (if bytes_eq word (codes "and") then And
-    else (if bytes_eq word (codes "or") then Or else Cat))))))))))))
+-- the operation of a word, or the other one
+abbrev op_in : {X : Type 0} → (X → List ℕ) → X → List X → List ℕ → X
+op_in name other [] word = other
+op_in name other (x ∷ xs) word = if bytes_eq word (name x) then x else op_in name other xs word
 
 -- behind a target, `=` and the word that says what is assigned
 abbrev assigned_line : (target form : List ℕ) → List (List ℕ) → Line
@@ -83,8 +71,8 @@ assigned_line target form words =
     else (if bytes_eq form (codes "key") then simple (get_key (register_in target) (number_in (word_in words 0)))
     else (if bytes_eq form (codes "new") then simple (new_record (register_in target))
     else (if bytes_eq form (codes "copy") then simple (copy_record (register_in target) (record_in (word_in words 0)))
-    else (if nat_lt 1 (length words) then simple (apply_two (register_in target) (op2_in form) (register_in (word_in words 0)) (register_in (word_in words 1)))
-    else simple (apply_one (register_in target) (op1_in form) (register_in (word_in words 0)))))))))))
+    else (if nat_lt 1 (length words) then simple (apply_two (register_in target) (op_in op2_word Add OPS2 form) (register_in (word_in words 0)) (register_in (word_in words 1)))
+    else simple (apply_one (register_in target) (op_in op1_word Not OPS1 form) (register_in (word_in words 0)))))))))))
 
 -- behind another first word
 abbrev other_line : List ℕ → List (List ℕ) → Line
@@ -133,26 +121,13 @@ record_in-record_word Right h = refl
 record_in-record_word Join h = refl
 record_in-record_word First h = refl
 
-assigned_line-op1_word : (target : List ℕ) (op : Op1) (a : List ℕ) → assigned_line target (op1_word op) (a ∷ []) ≡ simple (apply_one (register_in target) op (register_in a))
-assigned_line-op1_word target Not a = refl
-assigned_line-op1_word target IsNull a = refl
-assigned_line-op1_word target Len a = refl
+assigned_line-op1_word : (target a : List ℕ) (op : Op1) → assigned_line target (op1_word op) (a ∷ []) ≡ simple (apply_one (register_in target) op (register_in a))
+assigned_line-op1_word target a = each_op1 (λ op. assigned_line target (op1_word op) (a ∷ []) ≡ simple (apply_one (register_in target) op (register_in a))) (refl, (refl, (refl, tt)))
 
-assigned_line-op2_word : (target : List ℕ) (op : Op2) (a b : List ℕ) → assigned_line target (op2_word op) (a ∷ b ∷ []) ≡ simple (apply_two (register_in target) op (register_in a) (register_in b))
-assigned_line-op2_word target Add a b = refl
-assigned_line-op2_word target Sub a b = refl
-assigned_line-op2_word target Mul a b = refl
-assigned_line-op2_word target Div a b = refl
-assigned_line-op2_word target Rem a b = refl
-assigned_line-op2_word target AddW a b = refl
-assigned_line-op2_word target Min a b = refl
-assigned_line-op2_word target Max a b = refl
-assigned_line-op2_word target Lt a b = refl
-assigned_line-op2_word target Le a b = refl
-assigned_line-op2_word target Eq a b = refl
-assigned_line-op2_word target And a b = refl
-assigned_line-op2_word target Or a b = refl
-assigned_line-op2_word target Cat a b = refl
+assigned_line-op2_word : (target a b : List ℕ) (op : Op2) → assigned_line target (op2_word op) (a ∷ b ∷ []) ≡ simple (apply_two (register_in target) op (register_in a) (register_in b))
+assigned_line-op2_word target a b =
+    each_op2 (λ op. assigned_line target (op2_word op) (a ∷ b ∷ []) ≡ simple (apply_two (register_in target) op (register_in a) (register_in b)))
+    (refl, (refl, (refl, (refl, (refl, (refl, (refl, (refl, (refl, (refl, (refl, (refl, (refl, (refl, tt))))))))))))))
 
 -- ---- the line
 
@@ -172,10 +147,10 @@ line_in-line_texts lists (simple (get_field to from field)) h =
 line_in-line_texts lists (simple (get_key to at)) h =
     let x = number_back to h.0 in let y = number_back at h.1 in λ i. simple (get_key (x i) (y i))
 line_in-line_texts lists (simple (apply_one to op a)) h =
-    let x = number_back to h.0 in let z = number_back a h.1 in assigned_line-op1_word (value_register to) op (value_register a) ∙ (λ i. simple (apply_one (x i) op (z i)))
+    let x = number_back to h.0 in let z = number_back a h.1 in assigned_line-op1_word (value_register to) (value_register a) op ∙ (λ i. simple (apply_one (x i) op (z i)))
 line_in-line_texts lists (simple (apply_two to op a b)) h =
     let x = number_back to h.0 in let z = number_back a h.1 in let u = number_back b h.2 in
-    assigned_line-op2_word (value_register to) op (value_register a) (value_register b) ∙ (λ i. simple (apply_two (x i) op (z i) (u i)))
+    assigned_line-op2_word (value_register to) (value_register a) (value_register b) op ∙ (λ i. simple (apply_two (x i) op (z i) (u i)))
 line_in-line_texts lists (simple (new_record to)) h = let x = number_back to h in λ i. simple (new_record (x i))
 line_in-line_texts lists (simple (copy_record to from)) h =
     let x = number_back to h.0 in let y = record_in-record_word from h.1 in λ i. simple (copy_record (x i) (y i))

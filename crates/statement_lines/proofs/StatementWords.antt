@@ -2,17 +2,15 @@
 use Rattle.std.proofs.Common.{◌≡◌, ◌≢◌, ◌+◌, inr, ℕ, true, false, List, [], ◌∷◌, map, Option, Some, None, Result, Ok, Err, codes, bytes_eq, decimal, refl, ap, sym, subst, ◌∙◌, arith}
 use Rattle.std.proofs.lemmas.Bool.{lt-ltb}
 use Rattle.pact_record.specs.declared.operations.Op1.{Op1}
-use Rattle.pact_record.specs.declared.operations.Op1.TheVariants.{Not, IsNull, Len}
 use Rattle.pact_record.specs.declared.operations.Op2.{Op2}
-use Rattle.pact_record.specs.declared.operations.Op2.TheVariants.{Add, Sub, Mul, Div, Rem, AddW, Min, Max, Lt, Le, Eq, And, Or, Cat}
 use Rattle.tac_syntax.specs.Code.{load_int, load_text, load_null, move_value, get_field, get_key, apply_one, apply_two, new_record, copy_record, set_field, emit_record, Line, simple, test, turns, over, otherwise, close}
 use Rattle.tac_syntax.specs.Limits.{nesting_limit}
-use Rattle.text_lines.specs.CanonicalLines.{word_text}
 use Rattle.tac_syntax.specs.Grammar.{IsNumber, IsLoopName, IsSpelledLine}
 use Rattle.text_lines.specs.declared.line_words.LineWord.{LineWord}
-use Rattle.statement_lines.specs.Spelling.{op1_word, op2_word, line_words}
+use Rattle.statement_lines.specs.Spelling.{op1_word, op2_word}
 use Rattle.text_lines.specs.OperandWords.{value_register, record_register}
-use Rattle.statement_lines.specs.StatementLines.{LinePlace, MayStand, words_of_line}
+use Rattle.statement_lines.specs.StatementLines.{LinePlace, MayStand}
+use Rattle.statement_lines.specs.Spelling.{words_of_line}
 use Rattle.text_lines.specs.LineReading.{TellsFault}
 use Rattle.text_lines.specs.declared.faults.NotRead.{NotRead}
 use Rattle.text_lines.specs.declared.faults.NotRead.TheVariants.{Fault, Memory}
@@ -22,6 +20,7 @@ use Rattle.statement_lines.specs.StatementAnswers.{GivesLine, IsLineAt, ReadsLin
 use Rattle.statement_lines.specs.StatementFaults.{is_target, to_value, wanted_by, statement_fault}
 use Rattle.text_lines.specs.Slots.{register, name_fault, register_fault}
 use Rattle.text_lines.proofs.DigitWords.{are_digits-decimal, is_signed_word-signed_decimal}
+use Rattle.statement_lines.proofs.Operations.{each_op1, each_op2}
 use Rattle.statement_lines.proofs.LineForms.{line_in, line_in-line_texts, word_bytes}
 use Rattle.text_lines.proofs.SlotWords.{bytes_eq-decimal}
 use Rattle.text_lines.proofs.SlotWords.{register_fault-letter, number_fits, turns_fit, operand_fault-record_word, is_list_word-list_word, name_fault-loop_name}
@@ -44,25 +43,10 @@ record_target : (n : ℕ) → IsNumber n → register_fault 114 (record_register
 record_target n h = register_fault-letter 114 n refl h
 
 wanted_by-op1_word : (op : Op1) → wanted_by (op1_word op) ≡ to_value (register 118 ∷ [])
-wanted_by-op1_word Not = refl
-wanted_by-op1_word IsNull = refl
-wanted_by-op1_word Len = refl
+wanted_by-op1_word = each_op1 (λ op. wanted_by (op1_word op) ≡ to_value (register 118 ∷ [])) (refl, (refl, (refl, tt)))
 
 wanted_by-op2_word : (op : Op2) → wanted_by (op2_word op) ≡ to_value (register 118 ∷ register 118 ∷ [])
-wanted_by-op2_word Add = refl
-wanted_by-op2_word Sub = refl
-wanted_by-op2_word Mul = refl
-wanted_by-op2_word Div = refl
-wanted_by-op2_word Rem = refl
-wanted_by-op2_word AddW = refl
-wanted_by-op2_word Min = refl
-wanted_by-op2_word Max = refl
-wanted_by-op2_word Lt = refl
-wanted_by-op2_word Le = refl
-wanted_by-op2_word Eq = refl
-wanted_by-op2_word And = refl
-wanted_by-op2_word Or = refl
-wanted_by-op2_word Cat = refl
+wanted_by-op2_word = each_op2 (λ op. wanted_by (op2_word op) ≡ to_value (register 118 ∷ register 118 ∷ [])) (refl, (refl, (refl, (refl, (refl, (refl, (refl, (refl, (refl, (refl, (refl, (refl, (refl, (refl, tt))))))))))))))
 
 each_name : (wanted name : ℕ) → name ≡ wanted → IsLoopName name → name_fault wanted (120 ∷ decimal name) ≡ None
 each_name wanted name e h = subst (λ (k : ℕ). name_fault k (120 ∷ decimal name) ≡ None) e (name_fault-loop_name name h)
@@ -87,25 +71,6 @@ statement_fault-words_of_line p otherwise h = rw h refl
 statement_fault-words_of_line p close h = refl
 
 -- ---- words are those of one line
-
-pub map-word_text : (l : Line) → map word_text (words_of_line l) ≡ line_words l
-map-word_text (simple (load_int to value)) = refl
-map-word_text (simple (load_text to bytes)) = refl
-map-word_text (simple (load_null to)) = refl
-map-word_text (simple (move_value to from)) = refl
-map-word_text (simple (get_field to from field)) = refl
-map-word_text (simple (get_key to at)) = refl
-map-word_text (simple (apply_one to op a)) = refl
-map-word_text (simple (apply_two to op a b)) = refl
-map-word_text (simple (new_record to)) = refl
-map-word_text (simple (copy_record to from)) = refl
-map-word_text (simple (set_field to field value)) = refl
-map-word_text (simple (emit_record from)) = refl
-map-word_text (test on) = refl
-map-word_text (turns count) = refl
-map-word_text (over name items) = refl
-map-word_text otherwise = refl
-map-word_text close = refl
 
 pub IsSpelledLine-MayStand : (p : LinePlace) (l : Line) → MayStand p l → IsSpelledLine p.lists l
 IsSpelledLine-MayStand p (simple s) h = h

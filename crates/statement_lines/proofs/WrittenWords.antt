@@ -1,9 +1,7 @@
 -- The words of statements' lines are words that some line has.
 use Rattle.std.proofs.Common.{ℕ, ◌∷◌, decimal, refl, arith}
 use Rattle.pact_record.specs.declared.operations.Op1.{Op1}
-use Rattle.pact_record.specs.declared.operations.Op1.TheVariants.{Not, IsNull, Len}
 use Rattle.pact_record.specs.declared.operations.Op2.{Op2}
-use Rattle.pact_record.specs.declared.operations.Op2.TheVariants.{Add, Sub, Mul, Div, Rem, AddW, Min, Max, Lt, Le, Eq, And, Or, Cat}
 use Rattle.tac_syntax.specs.declared.statements.Rec.{Rec}
 use Rattle.tac_syntax.specs.declared.statements.Rec.TheVariants.{Reg, Loop, Input, Left, Right, Join, First}
 use Rattle.tac_syntax.specs.declared.statements.LoopList.{LoopList}
@@ -13,7 +11,8 @@ use Rattle.tac_syntax.specs.Grammar.{IsNumber, IsLoopName, IsSpelledRecord, IsSp
 use Rattle.text_lines.specs.declared.line_words.LineWord.TheVariants.{Plain as plain_word}
 use Rattle.statement_lines.specs.Spelling.{op1_word, op2_word}
 use Rattle.text_lines.specs.OperandWords.{record_word, list_word}
-use Rattle.statement_lines.specs.StatementLines.{words_of_line}
+use Rattle.statement_lines.proofs.Operations.{each_op1, each_op2}
+use Rattle.statement_lines.specs.Spelling.{words_of_line}
 use Rattle.text_lines.proofs.FineWords.{AreFine, IsFine, fine_decimal, fine_numbered, fine_signed}
 
 number_word : (n : ℕ) → IsNumber n → IsFine (plain_word (decimal n))
@@ -43,25 +42,10 @@ fine_list LeftGroup = refl
 fine_list RightGroup = refl
 
 fine_op1 : (op : Op1) → IsFine (plain_word (op1_word op))
-fine_op1 Not = refl
-fine_op1 IsNull = refl
-fine_op1 Len = refl
+fine_op1 = each_op1 (λ op. IsFine (plain_word (op1_word op))) (refl, (refl, (refl, tt)))
 
 fine_op2 : (op : Op2) → IsFine (plain_word (op2_word op))
-fine_op2 Add = refl
-fine_op2 Sub = refl
-fine_op2 Mul = refl
-fine_op2 Div = refl
-fine_op2 Rem = refl
-fine_op2 AddW = refl
-fine_op2 Min = refl
-fine_op2 Max = refl
-fine_op2 Lt = refl
-fine_op2 Le = refl
-fine_op2 Eq = refl
-fine_op2 And = refl
-fine_op2 Or = refl
-fine_op2 Cat = refl
+fine_op2 = each_op2 (λ op. IsFine (plain_word (op2_word op))) (refl, (refl, (refl, (refl, (refl, (refl, (refl, (refl, (refl, (refl, (refl, (refl, (refl, (refl, tt))))))))))))))
 
 pub AreFine-words_of_line : (lists : ℕ) (l : Line) → IsSpelledLine lists l → AreFine (words_of_line l)
 AreFine-words_of_line lists (simple (load_int to value)) h = (value_word to h.0, (refl, (refl, (fine_signed value h.1, tt))))

@@ -12,7 +12,8 @@ use Rattle.text_lines.specs.declared.faults.NotRead.TheVariants.{Fault, Memory}
 use Rattle.statement_lines.specs.declared.lines.BodyLine.{BodyLine}
 use Rattle.statement_lines.specs.Said.{said}
 use Rattle.statement_lines.specs.StatementFaults.{wanted_by, form_fault, assignment_fault, statement_fault}
-use Rattle.statement_lines.specs.StatementLines.{LinePlace, MayStand, words_of_simple, words_of_line}
+use Rattle.statement_lines.specs.StatementLines.{LinePlace, MayStand}
+use Rattle.statement_lines.specs.Spelling.{words_of_simple, words_of_line}
 
 -- ---- one line
 

@@ -2,11 +2,11 @@
 
 ghost use Rattle.std.specs.Prelude.{◌≡◌, ◌++◌, ◌∷◌, [], OnOk, IfOk, codes};
 ghost use Rattle.std.specs.Fmt.{decimal};
-ghost use Rattle.tac_syntax.specs.Code.{load_int, load_text, load_null, move_value, get_field, get_key, apply_one, apply_two, new_record, copy_record, set_field, emit_record, test, turns, over};
+ghost use Rattle.tac_syntax.specs.Code.{load_int, load_text, load_null, move_value, get_field, get_key, apply_one, apply_two, new_record, copy_record, set_field, emit_record, simple, test, turns, over};
 ghost use Rattle.tac_syntax.specs.Trees.{first_line};
 ghost use Rattle.text_lines.specs.CanonicalLines.{escaped, literal};
 ghost use Rattle.text_lines.specs.OperandWords.{list_word, record_word};
-ghost use Rattle.statement_lines.specs.Spelling.{line_words, simple_words};
+ghost use Rattle.statement_lines.specs.Spelling.{line_words};
 
 use crate::operation_words::{op1_name, op2_name};
 use crate::words::Words;
@@ -76,7 +76,7 @@ fn add_record(alloc: Global, words: &mut Words, from: Rec) -> Result<(), OutOfMe
 }
 
 fn int_words(alloc: Global, to: u32, value: i64) -> Result<Words, OutOfMemory>
-    ensures { IfOk result (λ words. words ≡ simple_words (load_int to value)) }
+    ensures { IfOk result (λ words. words ≡ line_words (simple (load_int to value))) }
 {
     let mut words = assignment(alloc, b"v", to, b"int")?;
     words.add_signed(alloc, value)?;
@@ -84,7 +84,7 @@ fn int_words(alloc: Global, to: u32, value: i64) -> Result<Words, OutOfMemory>
 }
 
 fn text_words(alloc: Global, to: u32, value: &Text) -> Result<Words, OutOfMemory>
-    ensures { IfOk result (λ words. words ≡ simple_words (load_text to value.now)) }
+    ensures { IfOk result (λ words. words ≡ line_words (simple (load_text to value.now))) }
 {
     let mut words = assignment(alloc, b"v", to, b"text")?;
     words.push(literal_of(alloc, value.bytes())?)?;
@@ -92,13 +92,13 @@ fn text_words(alloc: Global, to: u32, value: &Text) -> Result<Words, OutOfMemory
 }
 
 fn null_words(alloc: Global, to: u32) -> Result<Words, OutOfMemory>
-    ensures { IfOk result (λ words. words ≡ simple_words (load_null to)) }
+    ensures { IfOk result (λ words. words ≡ line_words (simple (load_null to))) }
 {
     assignment(alloc, b"v", to, b"null")
 }
 
 fn mov_words(alloc: Global, to: u32, from: u32) -> Result<Words, OutOfMemory>
-    ensures { IfOk result (λ words. words ≡ simple_words (move_value to from)) }
+    ensures { IfOk result (λ words. words ≡ line_words (simple (move_value to from))) }
 {
     let mut words = assignment(alloc, b"v", to, b"mov")?;
     words.add_number(alloc, b"v", from)?;
@@ -106,7 +106,7 @@ fn mov_words(alloc: Global, to: u32, from: u32) -> Result<Words, OutOfMemory>
 }
 
 fn get_words(alloc: Global, to: u32, from: Rec, field: u32) -> Result<Words, OutOfMemory>
-    ensures { IfOk result (λ words. words ≡ simple_words (get_field to from field)) }
+    ensures { IfOk result (λ words. words ≡ line_words (simple (get_field to from field))) }
 {
     let mut words = assignment(alloc, b"v", to, b"get")?;
     add_record(alloc, &mut words, from)?;
@@ -115,7 +115,7 @@ fn get_words(alloc: Global, to: u32, from: Rec, field: u32) -> Result<Words, Out
 }
 
 fn key_words(alloc: Global, to: u32, at: u32) -> Result<Words, OutOfMemory>
-    ensures { IfOk result (λ words. words ≡ simple_words (get_key to at)) }
+    ensures { IfOk result (λ words. words ≡ line_words (simple (get_key to at))) }
 {
     let mut words = assignment(alloc, b"v", to, b"key")?;
     words.add_number(alloc, b"", at)?;
@@ -123,7 +123,7 @@ fn key_words(alloc: Global, to: u32, at: u32) -> Result<Words, OutOfMemory>
 }
 
 fn one_words(alloc: Global, to: u32, op: Op1, a: u32) -> Result<Words, OutOfMemory>
-    ensures { IfOk result (λ words. words ≡ simple_words (apply_one to op a)) }
+    ensures { IfOk result (λ words. words ≡ line_words (simple (apply_one to op a))) }
 {
     let mut words = assignment(alloc, b"v", to, op1_name(op))?;
     words.add_number(alloc, b"v", a)?;
@@ -131,7 +131,7 @@ fn one_words(alloc: Global, to: u32, op: Op1, a: u32) -> Result<Words, OutOfMemo
 }
 
 fn two_words(alloc: Global, to: u32, op: Op2, a: u32, b: u32) -> Result<Words, OutOfMemory>
-    ensures { IfOk result (λ words. words ≡ simple_words (apply_two to op a b)) }
+    ensures { IfOk result (λ words. words ≡ line_words (simple (apply_two to op a b))) }
 {
     let mut words = assignment(alloc, b"v", to, op2_name(op))?;
     words.add_number(alloc, b"v", a)?;
@@ -140,13 +140,13 @@ fn two_words(alloc: Global, to: u32, op: Op2, a: u32, b: u32) -> Result<Words, O
 }
 
 fn new_words(alloc: Global, to: u32) -> Result<Words, OutOfMemory>
-    ensures { IfOk result (λ words. words ≡ simple_words (new_record to)) }
+    ensures { IfOk result (λ words. words ≡ line_words (simple (new_record to))) }
 {
     assignment(alloc, b"r", to, b"new")
 }
 
 fn copy_words(alloc: Global, to: u32, from: Rec) -> Result<Words, OutOfMemory>
-    ensures { IfOk result (λ words. words ≡ simple_words (copy_record to from)) }
+    ensures { IfOk result (λ words. words ≡ line_words (simple (copy_record to from))) }
 {
     let mut words = assignment(alloc, b"r", to, b"copy")?;
     add_record(alloc, &mut words, from)?;
@@ -154,7 +154,7 @@ fn copy_words(alloc: Global, to: u32, from: Rec) -> Result<Words, OutOfMemory>
 }
 
 fn set_words(alloc: Global, to: u32, field: u32, value: u32) -> Result<Words, OutOfMemory>
-    ensures { IfOk result (λ words. words ≡ simple_words (set_field to field value)) }
+    ensures { IfOk result (λ words. words ≡ line_words (simple (set_field to field value))) }
 {
     let mut words = Words::new(alloc);
     words.add(alloc, b"set")?;
@@ -165,7 +165,7 @@ fn set_words(alloc: Global, to: u32, field: u32, value: u32) -> Result<Words, Ou
 }
 
 fn emit_words(alloc: Global, from: u32) -> Result<Words, OutOfMemory>
-    ensures { IfOk result (λ words. words ≡ simple_words (emit_record from)) }
+    ensures { IfOk result (λ words. words ≡ line_words (simple (emit_record from))) }
 {
     let mut words = Words::new(alloc);
     words.add(alloc, b"emit")?;

@@ -18,7 +18,7 @@ use Rattle.tac_text.specs.FunctionFaults.{function_fault, function_missing}
 use Rattle.tac_text.specs.FunctionLines.{inside, words_of_function_line, FunctionText, EndsWithEnd, FunctionAt, IsFunctionText}
 use Rattle.tac_text.specs.FunctionReading.{told_at, IsFunctionFault, GivesFunction}
 use Rattle.tac_text.specs.FunctionStates.{FunctionState, waiting, reading, whole, MayFollow, after_inside, after, place_at, Leads, state_of, LeadsLine, HasLineCause}
-use Rattle.statement_lines.specs.StatementLines.{words_of_line}
+use Rattle.statement_lines.specs.Spelling.{words_of_line}
 use Rattle.tac_text.proofs.FunctionRuns.{function_sayings, function_faults, Leads-FunctionText, FunctionText-Leads, reads_functions}
 
 -- ---- one line
@@ -108,9 +108,6 @@ pub record HasRead (text : List ℕ) (start : ℕ) (begun : Option OpenData) (at
   pub further : start ≤ at
   pub within : at ≤ length text
   pub few : number ≤ at
-
-pub HasRead-start : (text : List ℕ) (start : ℕ) → start ≤ length text → HasRead text start None start 0
-HasRead-start text start h = record { front = []; lines = refl; run = refl; counted = refl; further = omega arith; within = h; few = omega arith }
 
 -- the lines with one more
 one_more_line : (text : List ℕ) (start at next : ℕ) (front : List (List ℕ)) (line : List ℕ) → lines_of (drop start text) ≡ front ++ lines_of (drop at text) → lines_of (drop at text) ≡ line ∷ lines_of (drop next text)

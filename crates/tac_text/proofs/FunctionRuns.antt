@@ -19,7 +19,8 @@ use Rattle.tac_text.specs.FunctionFaults.{ended_fault, function_fault}
 use Rattle.tac_text.specs.FunctionLines.{FunctionLine, header, inside, header_words, words_of_function_line, IsHeader, IsWritable, FunctionText, IsFunctionText}
 use Rattle.tac_text.specs.FunctionStates.{FunctionState, waiting, reading, whole, MayFollow, after_inside, after, place_at, Leads, LeadsOn}
 use Rattle.tac_text.specs.Places.{lists_in, IsInside, MayInside, built_on, place_of, FitsBuild, Front}
-use Rattle.statement_lines.specs.StatementLines.{MayStand, words_of_line}
+use Rattle.statement_lines.specs.StatementLines.{MayStand}
+use Rattle.statement_lines.specs.Spelling.{words_of_line}
 use Rattle.tac_text.proofs.BodySteps.{body_steps, front_start, fits_start, front_step, front_whole, closable}
 use Rattle.tac_text.proofs.LongerBodies.{build}
 use Rattle.statement_lines.proofs.FaultlessWords.{line_of_words}

@@ -1,13 +1,11 @@
 -- The words of a header, which are those of no other, and words without a fault.
-use Rattle.std.proofs.Common.{◌≡◌, ◌≢◌, ◌≤◌, ◌&&◌, nat_le, ℕ, Bool, true, false, if◌then◌else◌, List, [], ◌∷◌, map, length, Option, Some, None, Result, Ok, Err, codes, bytes_eq, decimal, refl, ap, sym, subst, ◌∙◌, arith}
+use Rattle.std.proofs.Common.{◌≡◌, ◌≢◌, ◌≤◌, ℕ, Bool, true, false, if◌then◌else◌, List, [], ◌∷◌, map, Option, Some, None, Result, Ok, Err, codes, bytes_eq, decimal, refl, ap, sym, subst, ◌∙◌, arith}
 use Rattle.std.specs.Prelude.{IfErr, IfOk}
 use Rattle.std.specs.Str.Parse.{digits_value}
-use Rattle.std.proofs.lemmas.Bool.{and_parts, leb-true}
 use Rattle.std.proofs.lemmas.Fmt.{decimal_is_IsNumeral}
 use Rattle.tac_syntax.specs.declared.functions.Kind.{Kind}
 use Rattle.tac_syntax.specs.declared.functions.Kind.TheVariants.{Map, Match, Cross, Reduce, CoGroup}
 use Rattle.tac_syntax.specs.Functions.{HasKeys, key_limit}
-use Rattle.tac_syntax.specs.Names.{all_bytes, is_small_letter, is_name_byte, is_name}
 use Rattle.text_lines.specs.declared.line_words.LineWord.{LineWord}
 use Rattle.text_lines.specs.declared.line_words.LineWord.TheVariants.{Plain as plain_word, Literal as literal_word}
 use Rattle.text_lines.proofs.DigitWords.{is_in_range-decimal}
@@ -20,7 +18,7 @@ use Rattle.tac_text.specs.FunctionFaults.{function_name_fault, kind_named, key_s
 use Rattle.tac_text.specs.FunctionLines.{header, header_words, IsHeader}
 use Rattle.tac_text.specs.Spelling.{kind_word, key_words}
 use Rattle.text_lines.specs.Slots.{number, first_fault}
-use Rattle.text_lines.proofs.SlotWords.{taken, none_left, number_word}
+use Rattle.text_lines.proofs.FilledSlots.{filled}
 use Rattle.text_lines.proofs.Faultless.{by_cases, told_unless-none, or_else-none, same_word}
 
 -- ---- a header's words have no fault
@@ -53,11 +51,10 @@ abbrev KeysFor : Kind → List LineWord → Type 0
 KeysFor kind words = (keys : ℕ) × (words ≡ map plain_word (key_words kind keys)) × HasKeys kind keys
 
 some_keys : (words : List LineWord) → first_fault (number 1 key_limit ∷ []) words ≡ None → (keys : ℕ) × (words ≡ plain_word (decimal keys) ∷ []) × ((1 ≤ keys) × (keys ≤ key_limit))
-some_keys words h =
-    let a = taken (number 1 key_limit) [] words h in
-    let keys = number_word 1 key_limit a.first (omega arith) a.fits in
-    let none = none_left a.rest a.left in
-    (keys.n, a.parts ∙ (λ i. keys.spelled i ∷ none i), (keys.above, keys.below))
+some_keys words h = let f = filled (number 1 key_limit ∷ []) words (omega arith, tt) h in (f.0.0, f.1, f.2.0)
+
+none_left : (words : List LineWord) → first_fault [] words ≡ None → words ≡ []
+none_left words h = (filled [] words tt h).1
 
 keys_of_words : (kind : Kind) (words : List LineWord) → first_fault (key_slots kind) words ≡ None → KeysFor kind words
 keys_of_words Map words h = (0, none_left words h, refl)
@@ -156,10 +153,3 @@ TellsFault-header (Err (Fault e)) words read told what h = cc
 TellsFault-header (Err Memory) words read told what h = tt
 
 -- ---- names
-
-short_bytes : (a b : Bool) (n : ℕ) → (a && b && nat_le n 31) ≡ true → n ≤ 31
-short_bytes a b n h = leb-true n 31 (and_parts (a && b) (nat_le n 31) h).1
-
-pub is_name-short : (name : List ℕ) → is_name name ≡ true → length name ≤ 32
-is_name-short [] h = absurd cc
-is_name-short (b ∷ name) h = let l = short_bytes (is_small_letter b) (all_bytes is_name_byte name) (length name) h in omega arith

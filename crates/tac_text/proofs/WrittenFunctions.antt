@@ -21,9 +21,9 @@ use Rattle.tac_text.specs.Blocks.{SpellsBody}
 use Rattle.tac_text.specs.FunctionLines.{header_words, FunctionText, EndsWithEnd, FunctionAt}
 use Rattle.tac_text.specs.Spelling.{at_depth, body_text, words_of, header_texts, function_lines, function_spelling}
 use Rattle.statement_lines.specs.Spelling.{line_words}
-use Rattle.statement_lines.specs.StatementLines.{words_of_line}
+use Rattle.statement_lines.specs.Spelling.{words_of_line}
 use Rattle.tac_text.proofs.BodyLines.{AreSpelledLines, AreSpelledLines-lines_of, words_of-append, words_of-body_text}
-use Rattle.statement_lines.proofs.StatementWords.{map-word_text, words_of_line-some}
+use Rattle.statement_lines.proofs.StatementWords.{words_of_line-some}
 use Rattle.text_lines.proofs.FineWords.{AreFine, AreLineWords-fine, has_feed-canonical_line}
 use Rattle.tac_text.proofs.WrittenHeaders.{AreFine-header_words}
 use Rattle.statement_lines.proofs.WrittenWords.{AreFine-words_of_line}
@@ -74,7 +74,7 @@ AreMadeOf-lines (t ∷ texts) [] e h = absurd cc
 AreMadeOf-lines (t ∷ texts) (l ∷ lines) e h =
     let first : t.words ≡ line_words l = cc in
     let rest : words_of texts ≡ map line_words lines = cc in
-    (words_of_line l, map words_of_line lines, refl, words_of_line-some h.0.0 l h.0.1, AreFine-words_of_line h.0.0 l h.0.1, first ∙ sym (map-word_text l), AreMadeOf-lines texts lines rest h.1)
+    (words_of_line l, map words_of_line lines, refl, words_of_line-some h.0.0 l h.0.1, AreFine-words_of_line h.0.0 l h.0.1, first, AreMadeOf-lines texts lines rest h.1)
 
 spells_branch : (on : ℕ) (body other next : Code) → SpellsBody body (lines_of body) → SpellsBody other (lines_of other) → SpellsBody next (lines_of next) → SpellsBody (branch on body other next) (lines_of (branch on body other next))
 spells_branch on body stop next p q r = (lines_of body, [], lines_of next, p, refl, r, inr (refl, refl))

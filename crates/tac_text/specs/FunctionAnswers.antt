@@ -11,7 +11,7 @@ use Rattle.tac_text.specs.Building.{Build, build_start}
 use Rattle.text_lines.specs.declared.faults.NotRead.{NotRead}
 use Rattle.text_lines.specs.declared.faults.NotRead.TheVariants.{Fault, Memory}
 use Rattle.tac_text.specs.Places.{MayInside, built_on}
-use Rattle.statement_lines.specs.StatementLines.{words_of_line}
+use Rattle.statement_lines.specs.Spelling.{words_of_line}
 
 -- ---- a function as far as it was read
 

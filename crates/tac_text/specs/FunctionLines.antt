@@ -11,7 +11,7 @@ use Rattle.text_lines.specs.declared.line_words.LineWord.TheVariants.{Plain as p
 use Rattle.text_lines.specs.TextLines.{HasWords, Say, lines_of}
 use Rattle.tac_text.specs.Blocks.{SpellsBody}
 use Rattle.tac_text.specs.Spelling.{header_texts}
-use Rattle.statement_lines.specs.StatementLines.{words_of_line}
+use Rattle.statement_lines.specs.Spelling.{words_of_line}
 
 -- ---- lines
 

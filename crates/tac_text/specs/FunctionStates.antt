@@ -13,7 +13,8 @@ use Rattle.tac_text.specs.FunctionAnswers.{OpenData, begun, function_of, with_bu
 use Rattle.tac_text.specs.FunctionFaults.{FunctionPlace, header_due, inside_body, function_ended, function_fault}
 use Rattle.tac_text.specs.FunctionLines.{FunctionLine, header, inside, words_of_function_line, IsHeader}
 use Rattle.tac_text.specs.Places.{built_on, place_of}
-use Rattle.statement_lines.specs.StatementLines.{MayStand, words_of_line}
+use Rattle.statement_lines.specs.StatementLines.{MayStand}
+use Rattle.statement_lines.specs.Spelling.{words_of_line}
 
 -- before the header, behind some lines of the function, and behind its `end`
 pub data FunctionState : Type 0 where

@@ -3,25 +3,14 @@
 ghost use Rattle.std.specs.Prelude.{◌≡◌, ◌++◌, ℕ, IfOk, List, length};
 ghost use Rattle.tac_syntax.specs.Functions.{IsSpelledFunction};
 ghost use Rattle.tac_text.specs.FunctionLines.{FunctionAt};
-ghost use Rattle.tac_text.specs.Spelling.{function_spelling, header_texts, kind_word};
+ghost use Rattle.tac_text.specs.Spelling.{function_spelling, header_texts};
 
+use crate::kind_words::kind_name;
 use crate::writing::write_lines;
 use pact_record::{Bytes, OutOfMemory};
 use statement_lines::{Words, put_line, put_word};
 use std::alloc::Global;
 use tac_syntax::{Function, Kind};
-
-fn kind_name(kind: Kind) -> &'static [u8]
-    ensures { result.now ≡ kind_word kind }
-{
-    match kind {
-        Kind::Map => b"map",
-        Kind::Match => b"match",
-        Kind::Cross => b"cross",
-        Kind::Reduce => b"reduce",
-        Kind::CoGroup => b"cogroup",
-    }
-}
 
 fn header_words(alloc: Global, function: &Function) -> Result<Words, OutOfMemory>
     ensures { IfOk result (λ words. words ≡ header_texts function.now.name function.now.kind function.now.keys) }

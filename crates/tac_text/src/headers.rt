@@ -1,9 +1,10 @@
 //! The first line of a function: `function`, its name, its kind and for some kinds its number of keys.
 
 ghost use Rattle.std.specs.Prelude.{◌≡◌, ◌<◌, length};
-ghost use Rattle.tac_text.specs.FunctionFaults.{is_part_or_end, kind_named, kind_of_word};
+ghost use Rattle.tac_text.specs.FunctionFaults.{is_part_or_end, kind_of_word};
 ghost use Rattle.tac_text.specs.HeaderReading.{ReadsFirst, ReadsHeader, ReadsKeys, ReadsKind, ReadsName};
 
+use crate::kind_words::kind_named;
 use tac_syntax::{Kind, is_name};
 use text_lines::{Cursor, LineWord, NotRead, is_word};
 
@@ -27,24 +28,6 @@ fn read_name<'a>(words: &mut Cursor<'a>) -> Result<&'a [u8], NotRead>
             }
         }
         LineWord::Literal(_) => Err(NotRead::Fault { what: 6 }),
-    }
-}
-
-fn kind_named(word: &[u8]) -> Option<Kind>
-    ensures { result ≡ kind_named word.now }
-{
-    if is_word(word, b"map") {
-        Some(Kind::Map)
-    } else if is_word(word, b"match") {
-        Some(Kind::Match)
-    } else if is_word(word, b"cross") {
-        Some(Kind::Cross)
-    } else if is_word(word, b"reduce") {
-        Some(Kind::Reduce)
-    } else if is_word(word, b"cogroup") {
-        Some(Kind::CoGroup)
-    } else {
-        None
     }
 }
 

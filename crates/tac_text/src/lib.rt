@@ -11,6 +11,7 @@ pub mod building;
 mod function_reading;
 mod function_writing;
 mod headers;
+mod kind_words;
 pub mod open_functions;
 mod writing;
 

@@ -2,7 +2,7 @@
 use Rattle.std.proofs.Common.{◌≡◌, ◌≤◌, ◌<◌, ◌^◌, ◌==◌, ◌&&◌, ◌||◌, ℕ, zero, suc, ℤ, pos, negsuc, Bool, true, false, not, nat_le, nat_lt, List, [], ◌∷◌, length, get_or, IsUtf8, FitsSigned, decimal, refl, sym, arith, w64}
 use Rattle.std.specs.Fmt.{signed_decimal}
 use Rattle.std.specs.List.{list_any}
-use Rattle.std.specs.Str.Parse.{AllDigits, digits_value}
+use Rattle.std.specs.Str.Parse.{digits_value}
 use Rattle.std.proofs.lemmas.Bool.{and_from, and_parts, le-leb, lt-ltb, leb-true, not-true, or_left}
 use Rattle.std.proofs.lemmas.Bool.Decides.{nat_tests}
 use Rattle.std.proofs.lemmas.Fmt.{IsAscii-from_digits, decimal-digits_value, decimal_is_IsNumeral, first_decimal, length-decimal-le}
@@ -47,9 +47,6 @@ some_digit ds h = let l = leb-true 1 (length ds) (and_parts (not (list_any (λ b
 
 pub IsUtf8-are_digits : (ds : List ℕ) → are_digits ds ≡ true → IsUtf8 ds
 IsUtf8-are_digits ds h = IsUtf8-from_ascii ds (IsAscii-from_digits ds (own_digits.to ds (no_other ds h)))
-
-pub AllDigits-are_digits : (ds : List ℕ) → are_digits ds ≡ true → AllDigits 10 ds
-AllDigits-are_digits ds h = own_digits.to ds (no_other ds h)
 
 pub minus_no_digit : (b : ℕ) (bytes : List ℕ) → are_digits (b ∷ bytes) ≡ true → (b == 45) ≡ false
 minus_no_digit b bytes h = let low = digit_low b _ (no_other (b ∷ bytes) h) in grind (arith, nat_tests)

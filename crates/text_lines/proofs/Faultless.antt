@@ -23,10 +23,6 @@ pub is_plain-same : (name : List ℕ) (word : LineWord) → is_plain name word �
 is_plain-same name (plain_word w) h = ap plain_word (same_word w name h)
 is_plain-same name (literal_word w) h = absurd cc
 
--- of words that there are
-pub some_words : {A : Type 0} (words : List A) → 0 < length words → words ≢ []
-some_words words some e = let none = ap length e in absurd (omega (arith, some, none))
-
 pub some_length : {A : Type 0} (words : List A) → words ≢ [] → 0 < length words
 some_length [] some = absurd (some refl)
 some_length (word ∷ words) some = omega arith

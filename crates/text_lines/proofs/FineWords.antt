@@ -1,12 +1,13 @@
 -- Words of letters, digits and signs, and literals: some line has them, and no line feed stands in them.
-use Rattle.std.proofs.Common.{◌≡◌, ◌<◌, ◌^◌, ◌==◌, ◌&&◌, ◌||◌, ◌+◌, ◌*◌, ◌%◌, inl, inr, ℕ, suc, ℤ, pos, negsuc, Bool, true, false, nat_lt, nat_le, List, [], ◌∷◌, ◌++◌, map, flat_map, replicate, zero, length, IsUtf8, FitsSigned, w64, decimal, refl, arith}
+use Rattle.std.proofs.Common.{◌≡◌, ◌<◌, ◌^◌, ◌==◌, ◌&&◌, ◌+◌, ◌*◌, ◌%◌, ℕ, suc, ℤ, pos, negsuc, Bool, true, false, nat_lt, nat_le, List, [], ◌∷◌, ◌++◌, map, flat_map, replicate, zero, length, IsUtf8, FitsSigned, w64, decimal, refl, arith}
 use Rattle.std.specs.Fmt.{signed_decimal}
 use Rattle.std.specs.List.{AllByRecursion}
-use Rattle.std.proofs.lemmas.Bool.{and_from, and_parts, eqb-true, leb-true, lt-ltb, ltb-true, ne_eqb, or_cases}
+use Rattle.std.proofs.lemmas.Bool.{and_from, and_parts, lt-ltb, ltb-true, ne_eqb}
 use Rattle.std.proofs.lemmas.Fmt.{decimal_by_steps}
 use Rattle.std.proofs.lemmas.Str.{IsUtf8-nil}
 use Rattle.tac_syntax.specs.Grammar.{IsLiteral}
-use Rattle.tac_syntax.specs.Names.{all_bytes, is_small_letter, is_digit, is_name_byte, is_name}
+use Rattle.std.proofs.lemmas.Bool.Decides.{nat_tests}
+use Rattle.tac_syntax.specs.Names.{is_file_byte, is_file_name, all_bytes, is_small_letter, is_name_byte, is_name}
 use Rattle.text_lines.specs.CanonicalLines.{IsLineWord, AreLineWords, canonical_line, escaped, spaced, word_text}
 use Rattle.text_lines.specs.LineGrammar.{ends_word, has_return}
 use Rattle.text_lines.specs.declared.line_words.LineWord.{LineWord}
@@ -84,11 +85,11 @@ all_bytes-append : (passes : ℕ → Bool) (x y : List ℕ) → all_bytes passes
 all_bytes-append passes [] y h k = k
 all_bytes-append passes (b ∷ x) y h k = let p = and_parts (passes b) (all_bytes passes x) h in and_from (passes b) _ p.0 (all_bytes-append passes x y p.1 k)
 
-is_fine_word-append : (x y : List ℕ) → is_fine_word x ≡ true → are_fine y ≡ true → is_fine_word (x ++ y) ≡ true
+pub is_fine_word-append : (x y : List ℕ) → is_fine_word x ≡ true → are_fine y ≡ true → is_fine_word (x ++ y) ≡ true
 is_fine_word-append [] y h k = absurd cc
 is_fine_word-append (b ∷ x) y h k = all_bytes-append is_fine (b ∷ x) y h k
 
-are_fine-word : (bytes : List ℕ) → is_fine_word bytes ≡ true → are_fine bytes ≡ true
+pub are_fine-word : (bytes : List ℕ) → is_fine_word bytes ≡ true → are_fine bytes ≡ true
 are_fine-word [] h = absurd cc
 are_fine-word (b ∷ bytes) h = h
 
@@ -110,38 +111,31 @@ pub fine_signed : (z : ℤ) → FitsSigned w64 z → is_fine_word (signed_decima
 fine_signed (pos n) h = fine_decimal n (omega (arith, h))
 fine_signed (negsuc n) h = fine_numbered 45 (suc n) refl (omega (arith, h))
 
+pub all_more : (test more : ℕ → Bool) → ((b : ℕ) → test b ≡ true → more b ≡ true) → (bytes : List ℕ) → all_bytes test bytes ≡ true → all_bytes more bytes ≡ true
+all_more test more f [] h = refl
+all_more test more f (b ∷ bytes) h =
+    let parts = and_parts (test b) _ h in and_from (more b) _ (f b parts.0) (all_more test more f bytes parts.1)
+
 fine_name_byte : (b : ℕ) → is_name_byte b ≡ true → is_fine b ≡ true
-fine_name_byte b h = elim (or_cases (is_small_letter b || is_digit b) (b == 95) h) [
-  | inl others ↦ elim (or_cases (is_small_letter b) (is_digit b) others) [
-    | inl letter ↦
-        let p = and_parts (nat_le 97 b) (nat_le b 122) letter in
-        let low = leb-true 97 b p.0 in
-        let high = leb-true b 122 p.1 in
-        fine_between b (omega arith) (omega arith)
-    | inr digit ↦
-        let p = and_parts (nat_le 48 b) (nat_le b 57) digit in
-        let low = leb-true 48 b p.0 in
-        let high = leb-true b 57 p.1 in
-        fine_between b (omega arith) (omega arith)
-  ]
-  | inr underscore ↦ let e = eqb-true b 95 underscore in fine_between b (omega arith) (omega arith)
-]
+fine_name_byte b h = grind (arith, nat_tests)
 
-fine_name_bytes : (bytes : List ℕ) → all_bytes is_name_byte bytes ≡ true → are_fine bytes ≡ true
-fine_name_bytes [] h = refl
-fine_name_bytes (b ∷ bytes) h =
-    let p = and_parts (is_name_byte b) (all_bytes is_name_byte bytes) h in
-    and_from (is_fine b) (are_fine bytes) (fine_name_byte b p.0) (fine_name_bytes bytes p.1)
+fine_file_byte : (b : ℕ) → is_file_byte b ≡ true → is_fine b ≡ true
+fine_file_byte b h = grind (arith, nat_tests)
 
-small_letter-name_byte : (b : ℕ) → is_small_letter b ≡ true → is_name_byte b ≡ true
-small_letter-name_byte b h = rw h refl
+fine_letter : (b : ℕ) → is_small_letter b ≡ true → is_fine b ≡ true
+fine_letter b h = grind (arith, nat_tests)
 
 pub fine_name : (name : List ℕ) → is_name name ≡ true → is_fine_word name ≡ true
 fine_name [] h = absurd cc
 fine_name (b ∷ name) h =
     let p = and_parts (is_small_letter b && all_bytes is_name_byte name) (nat_le (length name) 31) h in
     let q = and_parts (is_small_letter b) (all_bytes is_name_byte name) p.0 in
-    and_from (is_fine b) (are_fine name) (fine_name_byte b (small_letter-name_byte b q.0)) (fine_name_bytes name q.1)
+    and_from (is_fine b) (are_fine name) (fine_letter b q.0) (all_more is_name_byte is_fine fine_name_byte name q.1)
+
+pub fine_file_name : (name : List ℕ) → is_file_name name ≡ true → is_fine_word name ≡ true
+fine_file_name [] h = absurd cc
+fine_file_name (b ∷ bytes) h =
+    let p = and_parts (nat_le 1 (length (b ∷ bytes)) && nat_le (length (b ∷ bytes)) 200) _ h in all_more is_file_byte is_fine fine_file_byte (b ∷ bytes) p.1
 
 -- ---- no line feeds
 

@@ -1,10 +1,9 @@
 -- The first line of a text, and the end of a line.
 use Rattle.std.proofs.Common.{◌≡◌, ◌<◌, ◌+◌, ◌==◌, ℕ, suc, Bool, false, List, [], ◌∷◌, ◌++◌, length, take, drop, get_or, refl, ap, sym, subst, ◌∙◌, arith}
 use Rattle.std.specs.List.{list_any}
-use Rattle.std.proofs.lemmas.Bool.{ne_eqb, or_parts}
+use Rattle.std.proofs.lemmas.Bool.{or_parts}
 use Rattle.std.proofs.lemmas.List.{take-append-drop}
-use Rattle.std.proofs.lemmas.List.Folds.{list_any-append}
-use Rattle.std.proofs.Math.Seq.{take-suc, drop-cons}
+use Rattle.std.proofs.Math.Seq.{drop-cons}
 use Rattle.text_lines.specs.TextLines.{with_front, lines_of, trimmed}
 
 -- ---- lines of bytes
@@ -33,12 +32,6 @@ at_byte text i h =
 pub first_at_feed : (text : List ℕ) (i : ℕ) → i < length text → get_or text i 0 ≡ 10 → has_feed (take i text) ≡ false → lines_of text ≡ take i text ∷ lines_of (drop (i + 1) text)
 first_at_feed text i h e none =
     ap lines_of (at_byte text i h ∙ ap (λ (b : ℕ). take i text ++ b ∷ drop (i + 1) text) e) ∙ lines_of-feed (take i text) (drop (i + 1) text) none
-
-pub no_feed_more : (text : List ℕ) (i : ℕ) → i < length text → ¬ (get_or text i 0 ≡ 10) → has_feed (take i text) ≡ false → has_feed (take (i + 1) text) ≡ false
-no_feed_more text i h other none =
-    let one : suc i ≡ i + 1 = omega arith in
-    subst (λ (j : ℕ). has_feed (take j text) ≡ false) one (
-    ap has_feed (take-suc text i 0 h) ∙ list_any-append (λ (b : ℕ). b == 10) (take i text) (get_or text i 0 ∷ []) ∙ rw (none, ne_eqb (get_or text i 0) 10 other) refl)
 
 -- ---- the end of a line
 

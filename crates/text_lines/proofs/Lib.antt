@@ -13,3 +13,4 @@ pub mod LinePlaces
 pub mod ReadOperands
 pub mod SlotWords
 pub mod FineWords
+pub mod FilledSlots

@@ -1,5 +1,5 @@
 -- The words that fill slots.
-use Rattle.std.proofs.Common.{◌≡◌, ◌≤◌, ◌<◌, ◌^◌, ◌==◌, ◌&&◌, ◌⊎◌, ◌++◌, inl, inr, false, ℕ, zero, suc, nat_le, nat_lt, ◌-◌, ℤ, pos, negsuc, true, List, [], ◌∷◌, None, FitsSigned, w64, codes, bytes_eq, decimal, refl, ap, sym, ◌∙◌, arith}
+use Rattle.std.proofs.Common.{◌≡◌, ◌≤◌, ◌<◌, ◌^◌, ◌==◌, ◌&&◌, ◌⊎◌, inl, inr, false, ℕ, zero, suc, nat_le, nat_lt, ◌-◌, ℤ, pos, negsuc, true, List, [], ◌∷◌, None, FitsSigned, w64, codes, bytes_eq, decimal, refl, ap, sym, ◌∙◌, arith}
 use Rattle.std.specs.Fmt.{signed_decimal}
 use Rattle.std.specs.Str.Parse.{AllDigits, digits_value}
 use Rattle.std.proofs.lemmas.Bool.{and_from, and_parts, eq-eqb, eqb-true, le-leb, ltb-true, or_cases}
@@ -12,10 +12,9 @@ use Rattle.tac_syntax.specs.declared.statements.LoopList.{LoopList}
 use Rattle.tac_syntax.specs.declared.statements.LoopList.TheVariants.{Group, Left as LeftGroup, Right as RightGroup}
 use Rattle.tac_syntax.specs.Grammar.{IsNumber, IsLoopName, IsTurnCount, IsSpelledRecord}
 use Rattle.text_lines.specs.OperandWords.{record_word, list_word}
-use Rattle.text_lines.specs.Slots.{Slot, fixed, register, operand, number, signed, text, loop, list, slot_fault, first_fault, numbered_fault, register_fault, is_fixed_record, operand_fault, name_fault, is_list_word}
+use Rattle.text_lines.specs.Slots.{numbered_fault, register_fault, is_fixed_record, operand_fault, name_fault, is_list_word}
 use Rattle.text_lines.specs.Digits.{is_in_form, is_in_range, is_number_word, is_signed_word}
-use Rattle.text_lines.specs.LineGrammar.{LineWord, plain_word, literal_word}
-use Rattle.text_lines.proofs.Faultless.{by_cases, same_word, told_unless-none, or_else-none}
+use Rattle.text_lines.proofs.Faultless.{by_cases, same_word, told_unless-none}
 use Rattle.text_lines.proofs.DigitWords.{are_digits-decimal, is_in_range-decimal, number_spelled}
 
 -- ---- words that are no numbers
@@ -168,66 +167,3 @@ name_spelled name (b ∷ bytes) h = by_cases (is_in_form 120 (b ∷ bytes)) _ _
     ((omega (arith, n.above, same), omega (arith, n.below, same)), λ i. letter i ∷ (n.spelled ∙ ap decimal same) i))
     (λ _ e. absurd cc) rest)
     (λ _ e. absurd cc) h
-
--- ---- one word after the other
-
-pub record Taken (slot : Slot) (slots : List Slot) (words : List LineWord) : Type 0 where
-  pub first : LineWord
-  pub rest : List LineWord
-  pub parts : words ≡ first ∷ rest
-  pub fits : slot_fault slot first ≡ None
-  pub left : first_fault slots rest ≡ None
-
-pub taken : (slot : Slot) (slots : List Slot) (words : List LineWord) → first_fault (slot ∷ slots) words ≡ None → Taken slot slots words
-taken slot slots [] h = absurd cc
-taken slot slots (word ∷ words) h =
-    let parts = or_else-none (slot_fault slot word) (first_fault slots words) h in
-    record { first = word; rest = words; parts = refl; fits = parts.0; left = parts.1 }
-
-pub none_left : (words : List LineWord) → first_fault [] words ≡ None → words ≡ []
-none_left [] h = refl
-none_left (word ∷ words) h = absurd cc
-
-pub behind : {words rest more : List LineWord} {first word : LineWord} → words ≡ first ∷ rest → first ≡ word → rest ≡ more → words ≡ word ∷ more
-behind parts spelled next = parts ∙ (λ i. spelled i ∷ next i)
-
--- ---- the word of a slot that has no fault
-
-pub record PlainNumber (letters : List ℕ) (low high : ℕ) (word : LineWord) : Type 0 where
-  pub n : ℕ
-  pub above : low ≤ n
-  pub below : n ≤ high
-  pub spelled : word ≡ plain_word (letters ++ decimal n)
-
-pub register_word : (letter : ℕ) (word : LineWord) → slot_fault (register letter) word ≡ None → PlainNumber (letter ∷ []) 0 255 word
-register_word letter (plain_word w) h = let s = register_spelled letter w h in record { n = s.number; above = s.above; below = s.below; spelled = ap plain_word s.spelled }
-register_word letter (literal_word w) h = absurd cc
-
-pub number_word : (low high : ℕ) (word : LineWord) → high < 2 ^ 64 → slot_fault (number low high) word ≡ None → PlainNumber [] low high word
-number_word low high (plain_word w) small h =
-    let s = number_spelled low high w small (told_unless-none _ _ h) in record { n = s.number; above = s.above; below = s.below; spelled = ap plain_word s.spelled }
-number_word low high (literal_word w) small h = absurd cc
-
-pub operand_word : (word : LineWord) → slot_fault operand word ≡ None → (from : Rec) × IsSpelledRecord from × (word ≡ plain_word (record_word from))
-operand_word (plain_word w) h = let s = operand_spelled w h in (s.from, s.fits, ap plain_word s.spelled)
-operand_word (literal_word w) h = absurd cc
-
-pub signed_word : (word : LineWord) → slot_fault signed word ≡ None → (z : ℤ) × FitsSigned w64 z × (word ≡ plain_word (signed_decimal z))
-signed_word (plain_word w) h = let s = signed_spelled w (told_unless-none _ _ h) in (s.value, s.fits, ap plain_word s.spelled)
-signed_word (literal_word w) h = absurd cc
-
-pub text_word : (word : LineWord) → slot_fault text word ≡ None → (bytes : List ℕ) × (word ≡ literal_word bytes)
-text_word (plain_word w) h = absurd cc
-text_word (literal_word w) h = (w, refl)
-
-pub name_word : (name : ℕ) (word : LineWord) → slot_fault (loop name) word ≡ None → IsLoopName name × (word ≡ plain_word (120 ∷ decimal name))
-name_word name (plain_word w) h = let s = name_spelled name w h in (s.0, ap plain_word s.1)
-name_word name (literal_word w) h = absurd cc
-
-pub fixed_word : (v : List ℕ) (word : LineWord) → slot_fault (fixed v) word ≡ None → word ≡ plain_word v
-fixed_word v (plain_word w) h = ap plain_word (same_word w v (told_unless-none _ _ h))
-fixed_word v (literal_word w) h = absurd cc
-
-pub group_word : (word : LineWord) → slot_fault list word ≡ None → (items : LoopList) × (word ≡ plain_word (list_word items))
-group_word (plain_word w) h = let s = list_spelled w (told_unless-none _ _ h) in (s.list, ap plain_word s.spelled)
-group_word (literal_word w) h = absurd cc

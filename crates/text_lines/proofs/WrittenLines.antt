@@ -1,11 +1,11 @@
 -- A canonical line is read as the words that it was made of.
-use Rattle.std.proofs.Common.{◌≡◌, ◌==◌, ◌*◌, inl, inr, ℕ, zero, suc, Bool, true, false, List, [], ◌∷◌, ◌++◌, map, flat_map, replicate, IsUtf8, refl, ap, sym, subst, ◌∙◌, append_assoc, arith}
+use Rattle.std.proofs.Common.{◌≡◌, ◌==◌, ◌*◌, inl, inr, ℕ, zero, suc, Bool, true, false, List, [], ◌∷◌, ◌++◌, map, flat_map, replicate, IsUtf8, refl, ap, sym, subst, ◌∙◌, arith}
 use Rattle.std.proofs.lemmas.Bool.{eqb-true, or_parts}
 use Rattle.std.proofs.lemmas.List.Folds.{list_any-append}
 use Rattle.std.proofs.lemmas.Str.{IsUtf8-nil, IsUtf8-append}
 use Rattle.text_lines.specs.CanonicalLines.{word_text, canonical_line, IsLineWord, AreLineWords}
 use Rattle.text_lines.specs.LineGrammar.{LineWord, plain_word, literal_word, needs_escape, SpellsByte, SpellsBytes, SpellsWord, SpellsWords, IsGap, IsWordEnd, IsLine, has_return}
-use Rattle.text_lines.specs.CanonicalLines.{escaped, literal, line_text, spaced}
+use Rattle.text_lines.specs.CanonicalLines.{escaped, literal, spaced}
 use Rattle.text_lines.specs.TextLines.{HasWords, trimmed}
 use Rattle.text_lines.proofs.FirstLines.{has_feed}
 use Rattle.text_lines.proofs.LiteralTexts.{IsUtf8-spelling}
@@ -136,10 +136,6 @@ IsLine-canonical_line depth words h =
 
 pub IsLine-written : (line : List ℕ) (depth : ℕ) (words : List LineWord) → AreLineWords words → line ≡ canonical_line depth words → IsLine line words
 IsLine-written line depth words h e = subst (λ (x : List ℕ). IsLine x words) (sym e) (IsLine-canonical_line depth words h)
-
--- what is written is that line and a line feed
-pub line_text-canonical_line : (depth : ℕ) (words : List LineWord) → line_text (record { depth = depth; words = map word_text words }) ≡ canonical_line depth words ++ 10 ∷ []
-line_text-canonical_line depth words = sym (append_assoc (replicate (2 * depth) 32) (spaced (map word_text words)) (10 ∷ []))
 
 -- ---- lines of a text
 

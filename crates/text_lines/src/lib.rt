@@ -1,8 +1,9 @@
 //! Lines of a text, and the words of a line.
 //!
-//! `read_words` reads one line as its words exactly, where literals stand for their bytes; `is_word`, and the
-//! tests and readers of numbers, tell what a word is. `specs/LineGrammar.antt` says which bytes spell which words,
-//! and which faults a line can have before its words are looked at.
+//! `read_words` reads one line as its words exactly, where literals stand for their bytes, and a `Cursor` reads
+//! these words from the left, each for what is wanted at its place. `specs/LineGrammar.antt` says which bytes spell
+//! which words, and which faults a line can have before its words are looked at; `specs/Slots.antt` says what can be
+//! wanted of a word, and what is wrong with one that stands there.
 #![tactic(auto)]
 
 mod cursors;
@@ -16,10 +17,9 @@ mod scanning;
 pub mod word_reading;
 
 pub use cursors::Cursor;
-pub use digits::{is_in_form, is_in_range, is_signed_word};
+pub use digits::{is_in_form, is_in_range};
 pub use faults::NotRead;
 pub use line_words::{LineWord, LineWords, is_word};
 pub use lines::{TextFault, first_line, line_at, trim_line};
-pub use numbers::{read_number, read_signed};
 pub use operands::{number_in, number_within, record_in, value_in};
 pub use word_reading::read_words;
