@@ -1,5 +1,6 @@
 -- What a run on one thread leaves.
 use Rattle.std.proofs.Common.{◌≡◌, ◌≤◌, ◌+◌, ℕ, true, List, length, refl, subst, sym, ◌∙◌, arith}
+use Rattle.std.proofs.Math.Nat.{add-zero}
 use Rattle.pact_operators.specs.Allowed.{Bag, Counted}
 use Rattle.pact_operators.specs.Inputs.{AreInputsOf}
 use Rattle.pact_operators.specs.PlanOps.{plan_ops}
@@ -41,11 +42,8 @@ reached_numbers w v n counts r e p plan = e ∙ length-stations v p r.stands.sta
 
 -- ---- the events so far
 
-plus_none : (n : ℕ) → n ≡ n + 0
-plus_none n = omega arith
-
 pub none_reached : (w : WorldData) → StandsForSome w → IsReached w 0 w
-none_reached w s = record { each = λ g h st. (h, st, plus_none (events g (seen w) h)); physical = refl; stands = s }
+none_reached w s = record { each = λ g h st. (h, st, sym (add-zero (events g (seen w) h))); physical = refl; stands = s }
 
 pub reached-next : (w u v : WorldData) (n : ℕ) (e : Event) → IsReached w n u → enabled u.physical u.depth (seen u) e ≡ true
     → ((g : Setting) (h : History) → IsStanding g u h → Steps g (seen u) e (seen v)) → ((g : Setting) (h : History) → IsStanding g u h → IsStanding g v (noted (seen u) e h))

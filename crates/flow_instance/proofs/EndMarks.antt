@@ -28,7 +28,7 @@ use Rattle.flow_instance.specs.declared.parts.Part.{Part}
 use Rattle.flow_instance.specs.declared.states.State.{State}
 use Rattle.flow_instance.proofs.Giving.{batches_in-queue, marks_in-queue, orderly_marked}
 use Rattle.flow_instance.proofs.Kept.{wide_permuted}
-use Rattle.flow_instance.proofs.TakenNotes.{each_wide, its_fields, no_marks, nothing_sent, plus_none, stays, took_of}
+use Rattle.flow_instance.proofs.TakenNotes.{each_wide, its_fields, no_marks, nothing_sent, stays, took_of}
 
 -- ---- a side that is sealed
 
@@ -196,7 +196,7 @@ took_more rows keys is_sealed s t port from ready h not_yet = λ ops a.
     (each_wide s.part.fields (seen rows new) (wide_permuted s.part.fields (rows s.left) (rows t.left) h.kept sound.left_wide) sound.right_wide)
     (subst (Carry spot s.part.worker []) (sym (ap batches_in ready.none)) (nothing_sent spot s.part.worker))
     (no_marks spot s.part.worker (all_ended (seen rows new)) (marks_in s.queue.items) all (ap marks_in ready.none))
-    (stays s.part.out s.placed sound.placed_at_root) sound.placed_wide (sound.counted ∙ ap count_of (plus_none s.given)))
+    (stays s.part.out s.placed sound.placed_at_root) sound.placed_wide (sound.counted ∙ ap count_of (sym (add-zero s.given))))
 
 -- ---- the last one
 

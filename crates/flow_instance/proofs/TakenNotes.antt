@@ -3,6 +3,7 @@ use Rattle.std.proofs.Common.{◌≡◌, ◌+◌, ◌&&◌, ◌||◌, ◌==◌, 
 use Rattle.std.specs.Prelude.{flat_map}
 use Rattle.std.specs.List.{AllByRecursion}
 use Rattle.std.specs.List.Sorted.{IsPermutation}
+use Rattle.std.proofs.Math.Nat.{add-zero}
 use Rattle.std.proofs.lemmas.Bool.{and_left, and_right}
 use Rattle.std.proofs.lemmas.List.Sorted.{IsPermutation-refl, length_permutation}
 use Rattle.flow_model.proofs.Bags.{beside, is_same, joined}
@@ -79,9 +80,6 @@ each_wide fields i left right (suc (suc p)) = tt
 pub stays : (o : Option Ship) (placed : Bag) → PlacesAtRoot o placed → Placed o (placed ++ []) placed
 stays None placed h = is_same (append-nil placed)
 stays (Some ship) placed h = h
-
-pub plus_none : (n : ℕ) → n ≡ n + 0
-plus_none n = omega arith
 
 -- ---- what a part says
 
@@ -165,7 +163,7 @@ module _ {L : Type 0} (rows : L → Bag) (keys : L → List ℕ) (is_sealed : L 
       (no_marks spot s.part.worker (all_ended (seen rows t)) (marks_in t.queue.items) all (ap marks_in queue))
       (subst (λ (u : State L). Placed s.part.out (s.placed ++ []) u.placed) (sym frame) (stays s.part.out s.placed sound.placed_at_root))
       (subst (λ (u : State L). AreWide s.part.fields u.placed) (sym frame) sound.placed_wide)
-      (ap (λ (u : State L). u.given) frame ∙ sound.counted ∙ ap count_of (plus_none s.given))
+      (ap (λ (u : State L). u.given) frame ∙ sound.counted ∙ ap count_of (sym (add-zero s.given)))
 
 -- ---- a Map
 

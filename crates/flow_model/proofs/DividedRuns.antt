@@ -29,14 +29,13 @@ use Rattle.flow_model.proofs.Trees.{AllBelow, HasEdge, Inside, at_each, at_top, 
 
 -- ---- counts that stand still
 
-sum_from : (a : ℕ) (xs : List ℕ) → fold (λ s x. s + x) a xs ≡ a + fold (λ s x. s + x) 0 xs
-sum_from a [] = omega arith
-sum_from a (x ∷ xs) = omega (arith, sum_from (a + x) xs, sum_from (0 + x) xs)
+-- a sum of counts counts as the sum of what is counted, over what was summed before
+counted_from : (a n : ℕ) (f h : ℕ → ℕ) → ((k : ℕ) → k < n → f k ≡ count_of (h k)) → count_of (a + sum_below n f) ≡ count_of (fold (λ s x. s + x) a (map h (workers_below n)))
+counted_from a zero f h e = ap count_of (omega arith)
+counted_from a (suc n) f h e = omega (arith, e n (omega arith), counted_from (a + h n) n f h (λ k less. e k (omega arith)))
 
--- a sum of counts counts as the sum of what is counted
 same_counts : (n : ℕ) (f h : ℕ → ℕ) → ((k : ℕ) → k < n → f k ≡ count_of (h k)) → count_of (sum_below n f) ≡ count_of (sum (map h (workers_below n)))
-same_counts zero f h e = refl
-same_counts (suc n) f h e = omega (arith, sum_from (0 + h n) (map h (workers_below n)), e n (omega arith), same_counts n f h (λ k less. e k (omega arith)))
+same_counts n f h e = omega (arith, counted_from 0 n f h e)
 
 -- ---- the bags of all workers
 

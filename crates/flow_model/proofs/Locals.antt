@@ -1,6 +1,7 @@
 -- An instance stays `IsLocal` when it takes a note.
 use Rattle.std.proofs.Common.{◌≡◌, ◌≢◌, ◌<◌, ◌⊎◌, inl, inr, ◌&&◌, ◌||◌, cond, ◌+◌, ◌==◌, ℕ, zero, suc, Bool, true, false, Option, Some, None, List, [], ◌∷◌, ◌++◌, length, slice_get, refl, ap, sym, ◌∙◌, subst, arith, append-nil, length-append}
 use Rattle.std.specs.List.Sorted.{IsPermutation}
+use Rattle.std.proofs.Math.Nat.{zero-add}
 use Rattle.std.proofs.lemmas.Bool.{cases_eq, eq-eqb, ne_eqb, and_left, and_right, or_right}
 use Rattle.std.proofs.lemmas.List.Elements.{filter-append}
 use Rattle.std.proofs.lemmas.List.Sorted.{IsPermutation-refl}
@@ -115,9 +116,6 @@ no_rows : (n : ℕ) (notes : ℕ → List Note) → ((k : ℕ) → notes k ≡ [
 no_rows zero notes h = refl
 no_rows (suc n) notes h = λ i. rows_of (h n i) ++ no_rows n notes h i
 
-zero_left : (n : ℕ) → 0 + n ≡ n
-zero_left n = omega arith
-
 here_end : (b : Bool) (p k : ℕ) → (b && ((p == p) && (k == k))) ≡ b
 here_end true p k = rw (eq-eqb p p refl, eq-eqb k k refl) refl
 here_end false p k = refl
@@ -162,7 +160,7 @@ took_local s worker i j taken new put port from note l wanted below edge unended
       placed = placed_next s.out l.given t.out i.placed j.placed l.placed t.placed;
       placed_wide = t.placed_wide;
       marks_wait = t.marks.receivers;
-      marked = λ to less. ap (λ (b : Bool). one_if b + marks_for to j.marks) (unput to less) ∙ zero_left _ ∙ t.marks.each to less;
+      marked = λ to less. ap (λ (b : Bool). one_if b + marks_for to j.marks) (unput to less) ∙ zero-add _ ∙ t.marks.each to less;
       marked_last = λ to less bad. absurd (let clash : true ≡ false = sym bad ∙ unput to less in cc);
       in_order = λ h k. elim taking.which as (λ _. new 1 k ≡ []) [
         | inl x ↦ a.elsewhere 1 k (inl (λ e. omega (arith, e, x.0))) ∙ l.in_order x.1 k

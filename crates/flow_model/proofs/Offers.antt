@@ -2,6 +2,7 @@
 use Rattle.std.proofs.Common.{◌≡◌, ◌≢◌, ◌<◌, ◌≤◌, inl, inr, ◌&&◌, ◌||◌, cond, ◌+◌, ℕ, zero, suc, Bool, true, false, List, [], ◌∷◌, ◌++◌, refl, ap, sym, ◌∙◌, subst, arith, append_assoc}
 use Rattle.std.specs.List.{AllByRecursion}
 use Rattle.std.specs.List.Sorted.{IsPermutation}
+use Rattle.std.proofs.Math.Nat.{zero-add}
 use Rattle.std.proofs.lemmas.Bool.{cases_eq, eq-eqb, ne_eqb}
 use Rattle.pact_operators.specs.Allowed.{Bag}
 use Rattle.flow_model.specs.declared.notes.Note.{Note}
@@ -13,13 +14,7 @@ use Rattle.flow_model.specs.Notes.{AreNotes, IsNote, has_end, rows_of}
 use Rattle.flow_model.specs.Spots.{Spot, has_out, sent}
 use Rattle.flow_model.specs.Steps.{AddedTo, Started, finish, is_end, later, later_marks, next_note, next_receiver, note_rows, offered, returned}
 use Rattle.flow_model.proofs.Bags.{are_notes-last, has_end-last, is_same, joined, rows_of-last}
-
-zero_left : (n : ℕ) → 0 + n ≡ n
-zero_left n = omega arith
-
-at_most_one : (b : Bool) → one_if b ≤ 1
-at_most_one true = omega arith
-at_most_one false = omega arith
+use Rattle.flow_model.proofs.Sums.{at_most}
 
 -- an instance that wants to put
 pub data IsPutting : List (ℕ × Bag) → List ℕ → ℕ → Type 0 where
@@ -50,21 +45,21 @@ rows_kept [] (m ∷ ms) a c mark other = refl
 rows_kept [] [] a c p other = elim p [ ]
 
 marks_left : (ws : List (ℕ × Bag)) (ms : List ℕ) (a : ℕ) → IsPutting ws ms a → one_if (is_end (next_note ws)) + marks_for a (later_marks ws ms) ≡ marks_for a ms
-marks_left (w ∷ ws) ms a batch = zero_left (marks_for w.0 ms)
+marks_left (w ∷ ws) ms a batch = zero-add (marks_for w.0 ms)
 marks_left [] [] a p = elim p [ ]
 marks_left [] (m ∷ ms) a mark = ap (λ (b : Bool). one_if b + marks_for m ms) (sym (eq-eqb m m refl))
 
 marks_kept : (ws : List (ℕ × Bag)) (ms : List ℕ) (a c : ℕ) → IsPutting ws ms a → c ≢ a → marks_for c (later_marks ws ms) ≡ marks_for c ms
 marks_kept (w ∷ ws) ms a c batch other = refl
 marks_kept [] [] a c p other = elim p [ ]
-marks_kept [] (m ∷ ms) a c mark other = sym (zero_left (marks_for c ms)) ∙ ap (λ (b : Bool). one_if b + marks_for c ms) (sym (ne_eqb m c (λ e. other (sym e))))
+marks_kept [] (m ∷ ms) a c mark other = sym (zero-add (marks_for c ms)) ∙ ap (λ (b : Bool). one_if b + marks_for c ms) (sym (ne_eqb m c (λ e. other (sym e))))
 
 -- nothing was ended where a note is put
 not_before : (b owed : Bool) (ws : List (ℕ × Bag)) (ms : List ℕ) (a : ℕ) → IsPutting ws ms a → one_if b + marks_for a ms ≡ one_if owed → (b ≡ true → ws ≡ []) → b ≡ false
 not_before false owed ws ms a p e last = refl
 not_before true owed (w ∷ ws) ms a batch e last = let none = last refl in absurd (cc)
 not_before true owed [] [] a p e last = elim p [ ]
-not_before true owed [] (m ∷ ms) a mark e last = absurd (omega (arith, e, ap (λ (b : Bool). one_if b + marks_for m ms) (eq-eqb m m refl), at_most_one owed))
+not_before true owed [] (m ∷ ms) a mark e last = absurd (omega (arith, e, ap (λ (b : Bool). one_if b + marks_for m ms) (eq-eqb m m refl), at_most owed))
 
 next_is_note : (s : Spot) (worker : ℕ) (ws : List (ℕ × Bag)) → AllByRecursion (IsWaiting s worker) ws → IsNote s.fields (next_note ws)
 next_is_note s worker [] h = tt
@@ -117,7 +112,7 @@ offered_local s worker i taken put new a l wanted below more =
       placed_wide = l.placed_wide;
       marks_wait = all_later_marks (IsReceiver s worker) i.waiting i.marks l.marks_wait;
       marked = each_one (λ c. c < s.workers → one_if (has_end (new c)) + marks_for c (later_marks i.waiting i.marks) ≡ one_if (has_out s.out worker c && all_ended i)) a
-          (λ lt. ap (λ (b : Bool). one_if b + marks_for a (later_marks i.waiting i.marks)) ended_here ∙ marks_left i.waiting i.marks a p ∙ sym (zero_left (marks_for a i.marks))
+          (λ lt. ap (λ (b : Bool). one_if b + marks_for a (later_marks i.waiting i.marks)) ended_here ∙ marks_left i.waiting i.marks a p ∙ sym (zero-add (marks_for a i.marks))
           ∙ ap (λ (b : Bool). one_if b + marks_for a i.marks) (sym unended) ∙ l.marked a lt)
           (λ c other lt. (λ x. one_if (has_end (more.elsewhere c other x)) + marks_kept i.waiting i.marks a c p other x) ∙ l.marked c lt);
       marked_last = each_one (λ c. c < s.workers → has_end (new c) ≡ true → later i.waiting ≡ []) a
@@ -227,7 +222,7 @@ started_local s worker i t =
       placed = t.placed;
       placed_wide = t.placed_wide;
       marks_wait = t.marks.receivers;
-      marked = λ to less. zero_left (marks_for to i.marks) ∙ t.marks.each to less;
+      marked = λ to less. zero-add (marks_for to i.marks) ∙ t.marks.each to less;
       marked_last = λ to less e. absurd (cc);
       in_order = λ e from. refl;
       finished = λ e. absurd (let clash : true ≡ false = sym e ∙ t.finished in cc);

@@ -1,6 +1,7 @@
 -- Lists of events, and an event that is enabled.
 use Rattle.std.proofs.Common.{◌≡◌, ◌≢◌, ◌<◌, ◌≤◌, ◌⊎◌, inl, inr, ◌+◌, ℕ, zero, suc, true, List, [], ◌∷◌, ◌++◌, length, refl, ap, sym, ◌∙◌, subst, arith}
 use Rattle.std.specs.Prelude.{nat_lt}
+use Rattle.std.proofs.Math.Nat.{add-zero}
 use Rattle.std.proofs.lemmas.Bool.{cases_Bool, cases_lt, eq-eqb, lt-ltb, ltb-false}
 use Rattle.plan_trees.specs.Distinct.{AreDifferent}
 use Rattle.plan_trees.specs.Plans.{PlanTree, leaf, over, both, has, nodes, root_of, subtree_of}
@@ -28,12 +29,9 @@ pub runs_stand : (g : Setting) (depth : ℕ) (es : List Event) (w v : World) (h 
 runs_stand g depth [] w v h more d st r = subst (λ (x : World). Stands g x more) (sym r.0) (subst (Stands g w) (sym r.1) st)
 runs_stand g depth (e ∷ es) w v h more d st r = runs_stand g depth es r.0 v (noted w e h) more d (step_stands g depth w r.0 h e d st r.1 r.2) r.3
 
-plus_none : (n : ℕ) → n ≡ n + 0
-plus_none n = omega arith
-
 pub runs_counted : (g : Setting) (depth : ℕ) (es : List Event) (w v : World) (h more : History) → AreDifferent (nodes g.physical.tree) → Stands g w h → Runs g depth w h es v more
     → mosts.events g v more ≡ mosts.events g w h + length es
-runs_counted g depth [] w v h more d st r = (λ i. mosts.events g (r.0 i) (r.1 i)) ∙ plus_none (mosts.events g w h)
+runs_counted g depth [] w v h more d st r = (λ i. mosts.events g (r.0 i) (r.1 i)) ∙ sym (add-zero (mosts.events g w h))
 runs_counted g depth (e ∷ es) w v h more d st r =
     let rest = runs_counted g depth es r.0 v (noted w e h) more d (step_stands g depth w r.0 h e d st r.1 r.2) r.3 in
     omega (arith, rest, step_counted g depth w r.0 h e d st r.1 r.2)

@@ -1,4 +1,4 @@
-//! Tests of user functions and texts that no program shows, over what the libraries make public.
+//! Tests of user functions and their text that no program shows, over what the libraries make public.
 //!
 //! A crate with tests is proved twice, with them and without, so the tests stand apart.
 #![tactic(auto)]
@@ -7,7 +7,5 @@
 mod call_tests;
 #[cfg(test)]
 mod function_text_tests;
-#[cfg(test)]
-mod program_text_tests;
 #[cfg(test)]
 mod syntax_tests;

@@ -2,7 +2,7 @@
 use Rattle.std.proofs.Common.{◌≡◌, ◌==◌, ◌&&◌, inl, inr, ℕ, Bool, true, false, List, [], ◌∷◌, Option, Some, None, IfSome, length, take, refl, sym, subst, ◌∙◌}
 use Rattle.std.specs.Cmp.Lexicographic.{pointwise}
 use Rattle.std.specs.Map.{lookup}
-use Rattle.std.proofs.lemmas.Bool.{cases_Bool}
+use Rattle.std.proofs.lemmas.Bool.{and_parts, cases_Bool, eqb-true}
 use Rattle.std.proofs.lemmas.Bool.Decides.{Decides-eqb}
 use Rattle.std.proofs.lemmas.List.{take_at}
 use Rattle.std.proofs.lemmas.Option.{same_Some}
@@ -25,36 +25,29 @@ same_placed = (placed_eq.eq-value).it
 abbrev same_keys : List ℕ → List ℕ → Bool
 same_keys xs ys = pointwise ◌==◌ (padded xs) (padded ys) && (length xs == length ys)
 
-both : (a b : Bool) → (a && b) ≡ true → (a ≡ true) × (b ≡ true)
-both true b h = (refl, h)
-both false b h = absurd (cc)
-
-one_number : (n m : ℕ) → (n == m) ≡ true → n ≡ m
-one_number n m h = (Decides-eqb n m).0 h
-
 one_list : (xs ys : List ℕ) → same_keys xs ys ≡ true → xs ≡ ys
 one_list xs ys h =
     let front : (zs : List ℕ) → take (length zs) (padded zs) ≡ zs = λ zs. take_at zs _ (length zs) (λ _. length zs) in
-    let tests = both (pointwise ◌==◌ (padded xs) (padded ys)) (length xs == length ys) h in
+    let tests = and_parts (pointwise ◌==◌ (padded xs) (padded ys)) (length xs == length ys) h in
     let held : padded xs ≡ padded ys = (slice_eq-Decides Decides-eqb (padded xs) (padded ys) _ (λ _. pointwise ◌==◌ (padded xs) (padded ys))).0 tests.0 in
-    let count : length xs ≡ length ys = one_number (length xs) (length ys) tests.1 in
+    let count : length xs ≡ length ys = eqb-true (length xs) (length ys) tests.1 in
     sym (front xs) ∙ (λ i. take (count i) (held i)) ∙ front ys
 
 one_context : (c d : Context) → ((c.left == d.left) && ((c.right == d.right) && (same_keys c.left_keys d.left_keys && same_keys c.right_keys d.right_keys))) ≡ true → c ≡ d
 one_context c d h =
-    let l = both (c.left == d.left) _ h in
-    let r = both (c.right == d.right) _ l.1 in
-    let ks = both (same_keys c.left_keys d.left_keys) _ r.1 in
-    let left = one_number c.left d.left l.0 in
-    let right = one_number c.right d.right r.0 in
+    let l = and_parts (c.left == d.left) _ h in
+    let r = and_parts (c.right == d.right) _ l.1 in
+    let ks = and_parts (same_keys c.left_keys d.left_keys) _ r.1 in
+    let left = eqb-true c.left d.left l.0 in
+    let right = eqb-true c.right d.right r.0 in
     let left_keys = one_list c.left_keys d.left_keys ks.0 in
     let right_keys = one_list c.right_keys d.right_keys ks.1 in
     λ i. record { left = left i; right = right i; left_keys = left_keys i; right_keys = right_keys i }
 
 one_placed : (x y : OperatorIn) → same_placed x y ≡ true → x ≡ y
 one_placed x y h =
-    let tests = both (x.at == y.at) _ h in
-    let at = one_number x.at y.at tests.0 in
+    let tests = and_parts (x.at == y.at) _ h in
+    let at = eqb-true x.at y.at tests.0 in
     let context = one_context x.context y.context tests.1 in
     λ i. record { at = at i; context = context i }
 

@@ -13,7 +13,7 @@ use swap_certificate::{
 };
 
 // A Match, a Map and a Reduce by two keys.
-const SHOP: &str = "pact 1
+pub const SHOP: &str = "pact 1
 fields 7
 source c customers.csv int:0 text:1 text:2
 source o orders.csv int:3 int:4 int:5

@@ -1,4 +1,4 @@
-//! Tests of programs and their plans, over what the libraries make public: what a program has, what its plans put out, which operators may change
+//! Tests of programs and their plans, over what the libraries make public: what a program has, how it is written, what its plans put out, which operators may change
 //! places, which plans are listed, what they cost, how they run in parts, and their certificates.
 //!
 //! A crate with tests is proved twice, with them and without, so the tests stand apart.
@@ -16,6 +16,8 @@ mod exchange_tests;
 mod listing_tests;
 #[cfg(test)]
 mod program_tests;
+#[cfg(test)]
+mod program_text_tests;
 #[cfg(test)]
 mod programs;
 #[cfg(test)]

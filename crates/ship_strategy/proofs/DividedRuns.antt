@@ -25,14 +25,13 @@ use Rattle.ship_strategy.proofs.ProgramLayouts.{layout_legal, layout_tree}
 
 -- ---- sums
 
-fold_from : (a : ℕ) (xs : List ℕ) → fold (λ s x. s + x) a xs ≡ a + fold (λ s x. s + x) 0 xs
-fold_from a [] = omega arith
-fold_from a (x ∷ xs) = omega (arith, fold_from (a + x) xs, fold_from (0 + x) xs)
+-- over what was summed before
+summed_from : (a W : ℕ) (gave : Shares) (at : ℕ) → fold (λ s x. s + x) a (map (λ w. length (gave at w)) (workers_below W)) ≡ a + length (all_of W (gave at))
+summed_from a zero gave at = omega arith
+summed_from a (suc n) gave at = omega (arith, summed_from (a + length (gave at n)) n gave at, length-append (gave at n) (all_of n (gave at)))
 
 count_given-all : (W : ℕ) (gave : Shares) (at : ℕ) → count_given W gave at ≡ length (all_of W (gave at))
-count_given-all zero gave at = refl
-count_given-all (suc n) gave at =
-    omega (arith, fold_from (0 + length (gave at n)) (map (λ w. length (gave at w)) (workers_below n)), count_given-all n gave at, length-append (gave at n) (all_of n (gave at)))
+count_given-all W gave at = omega (arith, summed_from 0 W gave at)
 
 module _ (p : ProgramData) (program : IsProgram p) (inputs : List Bag) (of_inputs : AreInputsOf p inputs) (q : PhysicalData) (some : 1 ≤ q.workers) (plan : IsPlanOf p.functions p.ops q.tree)
     (legal : LegalShip (facts_of p q.tree) q) (gave : Shares) (shares : AllGaveShares (plan_ops p inputs) q gave) where

@@ -1,8 +1,9 @@
 -- Words of rules, names and lines of plans are short texts.
 use Rattle.std.proofs.Common.{◌≡◌, ◌≤◌, ◌<◌, ◌*◌, ◌&&◌, ℕ, zero, suc, Bool, true, false, nat_le, List, [], ◌∷◌, ◌++◌, length, Option, Some, None, slice_get, codes, IsUtf8, refl, arith, length-append}
+use Rattle.std.proofs.lemmas.Bool.{and_parts}
 use Rattle.std.proofs.lemmas.Bool.Decides.{nat_tests}
 use Rattle.std.proofs.lemmas.Str.{IsUtf8-append, IsUtf8-from_ascii, IsUtf8-nil}
-use Rattle.std.proofs.lemmas.Str.Ascii.{IsAscii-nil}
+use Rattle.std.proofs.lemmas.Str.Ascii.{IsAscii-cons, IsAscii-nil}
 use Rattle.std.specs.Char.{is_ascii}
 use Rattle.std.specs.Str.{IsAscii}
 use Rattle.pact_record.specs.Limits.{word_limit}
@@ -20,23 +21,14 @@ use Rattle.swap_certificate.specs.Shape.{IsShortText, line_limit}
 
 -- ---- ASCII
 
-ascii_cons : (b : ℕ) (bytes : List ℕ) → b < 128 → IsAscii bytes → IsAscii (b ∷ bytes)
-ascii_cons b bytes h g zero = h
-ascii_cons b bytes h g (suc i) = g i
-
 ascii-below : (b : ℕ) → is_ascii b ≡ true → b < 128
 ascii-below b h = grind (arith, nat_tests)
-
-both_true : (a b : Bool) → (a && b) ≡ true → (a ≡ true) × (b ≡ true)
-both_true true true e = (refl, refl)
-both_true true false e = absurd cc
-both_true false b e = absurd cc
 
 all_ascii-IsAscii : (bytes : List ℕ) → all_bytes is_ascii bytes ≡ true → IsAscii bytes
 all_ascii-IsAscii [] h = IsAscii-nil
 all_ascii-IsAscii (b ∷ bytes) h =
-    let parts = both_true (is_ascii b) (all_bytes is_ascii bytes) h in
-    ascii_cons b bytes (ascii-below b parts.0) (all_ascii-IsAscii bytes parts.1)
+    let parts = and_parts (is_ascii b) (all_bytes is_ascii bytes) h in
+    IsAscii-cons b bytes (ascii-below b parts.0) (all_ascii-IsAscii bytes parts.1)
 
 pub text-IsUtf8 : (bytes : List ℕ) → all_bytes is_ascii bytes ≡ true → IsUtf8 bytes
 text-IsUtf8 bytes h = IsUtf8-from_ascii bytes (all_ascii-IsAscii bytes h)
@@ -94,16 +86,16 @@ few_bytes n h = grind (arith, nat_tests)
 name_bytes-IsAscii : (bytes : List ℕ) → all_bytes is_name_byte bytes ≡ true → IsAscii bytes
 name_bytes-IsAscii [] h = IsAscii-nil
 name_bytes-IsAscii (b ∷ bytes) h =
-    let parts = both_true (is_name_byte b) (all_bytes is_name_byte bytes) h in
-    ascii_cons b bytes (name_byte-below b parts.0) (name_bytes-IsAscii bytes parts.1)
+    let parts = and_parts (is_name_byte b) (all_bytes is_name_byte bytes) h in
+    IsAscii-cons b bytes (name_byte-below b parts.0) (name_bytes-IsAscii bytes parts.1)
 
 name-IsShortText : (name : List ℕ) → is_name name ≡ true → IsShortText name_limit name
 name-IsShortText [] h = absurd cc
 name-IsShortText (b ∷ bytes) h =
-    let bounded = both_true (is_small_letter b && all_bytes is_name_byte bytes) (nat_le (length bytes) 31) h in
-    let parts = both_true (is_small_letter b) (all_bytes is_name_byte bytes) bounded.0 in
+    let bounded = and_parts (is_small_letter b && all_bytes is_name_byte bytes) (nat_le (length bytes) 31) h in
+    let parts = and_parts (is_small_letter b) (all_bytes is_name_byte bytes) bounded.0 in
     let few = few_bytes (length bytes) bounded.1 in
-    (IsUtf8-from_ascii (b ∷ bytes) (ascii_cons b bytes (small_letter-below b parts.0) (name_bytes-IsAscii bytes parts.1)), omega (arith, few))
+    (IsUtf8-from_ascii (b ∷ bytes) (IsAscii-cons b bytes (small_letter-below b parts.0) (name_bytes-IsAscii bytes parts.1)), omega (arith, few))
 
 -- ---- lines
 

@@ -1,28 +1,11 @@
 //! Programs, read and written.
 
+use crate::certificate_tests::SHOP;
+use crate::listing_tests::FIVE;
 use program_text::{read_program, write_program};
 use std::alloc::Global;
 use std::test::Fail;
 use text_lines::TextFault;
-
-const FIVE: &str = "pact 1
-fields 6
-source s s.csv int:0 int:1
-source t t.csv int:2 int:3
-function lft match
-  r0 = copy left
-  emit r0
-end
-function five map
-  r0 = copy in
-  v0 = int 7
-  set r0 5 v0
-  emit r0
-end
-match g lft s t by 0 = 2
-map m five g
-sink m 0 1 5
-";
 
 const COGROUP: &str = "pact 1
 fields 6
@@ -47,43 +30,6 @@ function both cogroup 1
 end
 cogroup g both s t by 0 = 2
 sink g 0 4 5
-";
-
-const SHOP: &str = "pact 1
-fields 7
-source c customers.csv int:0 text:1 text:2
-source o orders.csv int:3 int:4 int:5
-function jn match
-  r0 = copy join
-  emit r0
-end
-function de map
-  v0 = get in 2
-  v1 = text \"DE\"
-  v2 = eq v0 v1
-  if v2
-    r0 = copy in
-    emit r0
-  end
-end
-function tot reduce 2
-  v0 = int 0
-  each x1 of group
-    v1 = get x1 5
-    v0 = addw v0 v1
-  end
-  r0 = new
-  v2 = key 0
-  set r0 0 v2
-  v2 = key 1
-  set r0 1 v2
-  set r0 6 v0
-  emit r0
-end
-match j jn c o by 0 = 4
-map d de j
-reduce r tot d by 0 1
-sink r 1 6
 ";
 
 // Line ends of both kinds, tabs, comments, empty lines, an empty body behind `else`, a literal with a tab and a number
