@@ -13,7 +13,7 @@ for program in faulty wrong_key no_sink bad_row missing; do
 done
 # The certificate of a choice is accepted, for every program and several numbers of workers.
 certified() {
-    ../pact cert "$@" >"$scratch/chosen.json" 2>"$scratch/err" && ! [ -s "$scratch/err" ] &&
+    "$pact" cert "$@" >"$scratch/chosen.json" 2>"$scratch/err" && ! [ -s "$scratch/err" ] &&
         writes 0 "$scratch/accepted" /dev/null check "$1" "$scratch/chosen.json"
 }
 for told in expected/*.plan; do
@@ -59,10 +59,10 @@ shop.pact --plans 1|c out 2\no out 4\nj in 2 4 out 4\nd in 4 out 3\nr in 3 out 1
 cogroup.pact|s out 3\nt out 3\ng in 3 3 out 3\n
 END
 # The counts come behind the rows, and where they can't be told the rows stand.
-../pact run push.pact --counts >"$scratch/out" 2>/dev/full
+"$pact" run push.pact --counts >"$scratch/out" 2>/dev/full
 count test $? = 4
 count cmp "$scratch/out" expected/push.stdout
-../pact run push.pact --counts >/dev/full 2>"$scratch/err"
+"$pact" run push.pact --counts >/dev/full 2>"$scratch/err"
 count test $? = 4
 echo 'cannot write' >"$scratch/unwritten"
 count cmp "$scratch/err" "$scratch/unwritten"

@@ -2,13 +2,13 @@
 
 # Whether a program of that name in the scratch folder is refused as too long, with this line.
 is_too_long() {
-    (cd "$scratch" && "$launcher" run "$1" >out 2>err)
+    (cd "$scratch" && "$pact" run "$1" >out 2>err)
     [ $? = 8 ] && [ ! -s "$scratch/out" ] && [ "$(cat "$scratch/err")" = "$2" ]
 }
 
 # Whether a command over a program in the scratch folder has this status, and writes these files' bytes on its streams.
 comes_to() {
-    (cd "$scratch" && "$launcher" "$1" "$2" >out 2>err)
+    (cd "$scratch" && "$pact" "$1" "$2" >out 2>err)
     [ $? = "$3" ] && cmp -s "$scratch/out" "$scratch/$4" && cmp -s "$scratch/err" "$scratch/$5"
 }
 
@@ -90,7 +90,7 @@ cp push.pact "$scratch/push.pact"
 head -c 1048577 /dev/zero | tr '\0' ' ' >"$scratch/long.json"
 echo 'long.json is longer than 1048576 bytes' >"$scratch/long.err"
 comes_to_check() {
-    (cd "$scratch" && "$launcher" check push.pact long.json >out 2>err)
+    (cd "$scratch" && "$pact" check push.pact long.json >out 2>err)
     [ $? = 8 ] && [ ! -s "$scratch/out" ] && cmp -s "$scratch/err" "$scratch/long.err"
 }
 count comes_to_check

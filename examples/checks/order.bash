@@ -17,7 +17,7 @@ order_program() {
 # Whether a function of this kind with these statements passes, or doesn't: yes or no, the kind, and the statements.
 passes_order() {
     order_program "$2" "$3" >"$scratch/order.pact"
-    (cd "$scratch" && "$launcher" sets order.pact >out 2>err) &&
+    (cd "$scratch" && "$pact" sets order.pact >out 2>err) &&
         [ ! -s "$scratch/err" ] && [ "$(wc -l <"$scratch/out")" = 1 ] && [[ $(<"$scratch/out") = "m $2 "*" order $1" ]]
 }
 
