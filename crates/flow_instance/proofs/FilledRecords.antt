@@ -6,14 +6,10 @@ use Rattle.pact_record.specs.Hash as hash
 use Rattle.pact_record.specs.declared.values.Value.{Value}
 use Rattle.pact_record.specs.declared.values.Value.TheVariants.{Null}
 use Rattle.pact_record.specs.Record.{at_field, key_of}
-
-at_field-none : (m k : ℕ) → at_field (replicate m Null) k ≡ Null
-at_field-none zero k = refl
-at_field-none (suc m) zero = refl
-at_field-none (suc m) (suc k) = at_field-none m k
+use Rattle.pact_record.proofs.JoinedRecords.{at_field-nulls}
 
 at_field-filled : (row : List Value) (m k : ℕ) → at_field (row ++ replicate m Null) k ≡ at_field row k
-at_field-filled [] m k = at_field-none m k
+at_field-filled [] m k = at_field-nulls m k
 at_field-filled (v ∷ row) m zero = refl
 at_field-filled (v ∷ row) m (suc k) = at_field-filled row m k
 

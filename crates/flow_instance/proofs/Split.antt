@@ -1,5 +1,5 @@
 -- Rows that are split among workers.
-use Rattle.std.proofs.Common.{◌≡◌, ◌≢◌, ◌<◌, ◌==◌, inl, inr, ℕ, zero, suc, Bool, cond, List, [], ◌∷◌, ◌++◌, Some, length, get_or, slice_get, slice_set, refl, ap, sym, ◌∙◌, subst, arith, append-nil}
+use Rattle.std.proofs.Common.{◌≡◌, ◌<◌, ◌==◌, inl, inr, ℕ, zero, suc, Bool, cond, List, [], ◌∷◌, ◌++◌, Some, length, get_or, slice_get, slice_set, ap, sym, ◌∙◌, subst, arith, append-nil}
 use Rattle.std.specs.List.{AllByRecursion}
 use Rattle.std.proofs.lemmas.Bool.{cases_eq, eq-eqb, ne_eqb}
 use Rattle.std.proofs.lemmas.List.{length-set}
@@ -7,7 +7,7 @@ use Rattle.std.proofs.lemmas.List.Elements.{filter-append, recursion_from_All}
 use Rattle.std.proofs.lemmas.Option.{same_Some}
 use Rattle.pact_bag.specs.Rows.{HaveOneWidth}
 use Rattle.pact_operators.specs.Allowed.{Bag}
-use Rattle.pact_record.proofs.Lists.{AllByRecursion-filter, AllByRecursion-last}
+use Rattle.pact_record.proofs.Lists.{AllByRecursion-filter, AllByRecursion-last, slice_get-set_other, slice_get-set_same}
 use Rattle.pact_record.specs.Hash.{target}
 use Rattle.pact_record.specs.Record.{key_of}
 use Rattle.pact_record.specs.Widths.{AreWide}
@@ -16,18 +16,6 @@ use Rattle.plan_trees.specs.Sending.{goes, sent}
 use Rattle.plan_trees.specs.declared.physicals.Ship.TheVariants.{Partition}
 use Rattle.flow_instance.proofs.Carried.{IsNext, next_width}
 use Rattle.flow_instance.specs.Sending.{IsSplit}
-
-set_here : {X : Type 0} (xs : List X) (n : ℕ) (x : X) → n < length xs → slice_get (slice_set xs n x) n ≡ Some x
-set_here [] n x h = absurd (omega (arith, h))
-set_here (y ∷ xs) zero x h = refl
-set_here (y ∷ xs) (suc n) x h = set_here xs n x (omega (arith, h))
-
-set_there : {X : Type 0} (xs : List X) (n m : ℕ) (x : X) → m ≢ n → slice_get (slice_set xs n x) m ≡ slice_get xs m
-set_there [] n m x h = refl
-set_there (y ∷ xs) zero zero x h = absurd (h refl)
-set_there (y ∷ xs) zero (suc m) x h = refl
-set_there (y ∷ xs) (suc n) zero x h = refl
-set_there (y ∷ xs) (suc n) (suc m) x h = set_there xs n m x (λ e. h (ap suc e))
 
 pub read : {X : Type 0} (xs : List X) (n : ℕ) (x y : X) → slice_get xs n ≡ Some x → y ≡ get_or xs n y → y ≡ x
 read [] n x y e f = absurd (cc)
@@ -55,9 +43,9 @@ parts-more keys workers to done part more row parts less is here m split = (
   length-set parts to more ∙ split.0,
   λ from t below. elim (cases_eq t to) as (λ _. slice_get (slice_set parts to more) t ≡ Some (sent (Partition keys) workers from t (done ++ row ∷ []))) [
     | inl e ↦ subst (λ (u : ℕ). slice_get (slice_set parts to more) u ≡ Some (sent (Partition keys) workers from u (done ++ row ∷ []))) (sym e)
-        (set_here parts to more (omega (arith, less, split.0)) ∙ ap Some (m ∙ ap (λ (l : Bag). l ++ row ∷ []) (read parts to (sent (Partition keys) workers from to done) part (split.1 from to less) is)
+        (slice_get-set_same parts to more (omega (arith, less, split.0)) ∙ ap Some (m ∙ ap (λ (l : Bag). l ++ row ∷ []) (read parts to (sent (Partition keys) workers from to done) part (split.1 from to less) is)
         ∙ sym (sent-last keys workers from to done row ∙ ap (λ (b : Bool). sent (Partition keys) workers from to done ++ cond b (row ∷ []) []) (eq-eqb (target workers (key_of keys row)) to (sym here)))))
-    | inr other ↦ set_there parts to t more other ∙ split.1 from t below
+    | inr other ↦ slice_get-set_other parts to t more other ∙ split.1 from t below
         ∙ ap Some (sym (sent-last keys workers from t done row ∙ ap (λ (b : Bool). sent (Partition keys) workers from t done ++ cond b (row ∷ []) []) (ne_eqb (target workers (key_of keys row)) t (λ e. other (sym (here ∙ e))))
         ∙ append-nil (sent (Partition keys) workers from t done)))
   ],

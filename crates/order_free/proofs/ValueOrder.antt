@@ -1,21 +1,16 @@
 -- The smaller and the greater of two values: the order in which values are compared is free.
-use Rattle.std.proofs.Common.{◌≡◌, inl, inr, Bool, true, false, if◌then◌else◌, List, [], ◌∷◌, get_or, refl, sym, ap, ◌∙◌}
+use Rattle.std.proofs.Common.{◌≡◌, inl, inr, Bool, true, false, if◌then◌else◌, refl, sym, ap, ◌∙◌}
 use Rattle.std.proofs.lemmas.Bool.{cases_Bool}
 use Rattle.std.proofs.lemmas.Cmp.{back_total, upto}
 use Rattle.std.specs.Cmp.{IsTotalOrder}
-use Rattle.std.specs.Ordering.{flip_args, is_eq, is_gt, is_lt, ordering_reverse, ordering_then}
+use Rattle.std.specs.Ordering.{flip_args, is_gt, is_lt, ordering_reverse}
 use Rattle.std.specs.declared.cmp.Ordering.{Ordering}
 use Rattle.std.specs.declared.cmp.Ordering.TheVariants.{Less, Equal, Greater}
-use Rattle.pact_bag.proofs.KeyGroups.{same_keys}
 use Rattle.pact_record.specs.declared.values.Value.{Value}
-use Rattle.pact_record.specs.declared.values.Value.TheVariants.{Null}
 use Rattle.pact_record.specs.Operations.{smaller_of, greater_of}
 use Rattle.pact_record.specs.Order.{values_total}
 use Rattle.pact_record.specs.Value.{value_cmp}
-
--- values that compare as equal are keys of one value that do
-equal_values : (a b : Value) → value_cmp a b ≡ Equal → a ≡ b
-equal_values a b h = ap (λ (k : List Value). get_or k 0 Null) (same_keys (a ∷ []) (b ∷ []) (ap (λ (o : Ordering). is_eq (ordering_then o Equal)) h))
+use Rattle.pact_record.proofs.EqualValues.{equal_values}
 
 is_gt-reverse : (o : Ordering) → is_gt (ordering_reverse o) ≡ is_lt o
 is_gt-reverse Less = refl

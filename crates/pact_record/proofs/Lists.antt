@@ -1,5 +1,5 @@
 -- Facts of each item of a list.
-use Rattle.std.proofs.Common.{◌≡◌, ◌<◌, ℕ, zero, suc, Bool, true, false, cond, List, [], ◌∷◌, ◌++◌, Some, get_or, length, slice_get, filter, flat_map, subst, arith}
+use Rattle.std.proofs.Common.{◌≡◌, ◌≢◌, ◌<◌, ℕ, zero, suc, Bool, true, false, cond, List, [], ◌∷◌, ◌++◌, Some, get_or, length, slice_get, slice_set, filter, flat_map, refl, ap, subst, arith}
 use Rattle.std.specs.List.{AllByRecursion}
 use Rattle.std.proofs.lemmas.Option.{none-some, same_Some}
 
@@ -58,3 +58,17 @@ AllByRecursion-filter P test (x ∷ xs) h =
 pub AllByRecursion-flat_map : {X Y : Type 0} (P : X → Type 0) (Q : Y → Type 0) (f : X → List Y) (xs : List X) → AllByRecursion P xs → ((x : X) → P x → AllByRecursion Q (f x)) → AllByRecursion Q (flat_map f xs)
 AllByRecursion-flat_map P Q f [] h k = tt
 AllByRecursion-flat_map P Q f (x ∷ xs) h k = AllByRecursion-append Q (f x) (flat_map f xs) (k x h.0) (AllByRecursion-flat_map P Q f xs h.1 k)
+
+-- ---- a list with one item set
+
+pub slice_get-set_same : {X : Type 0} (xs : List X) (n : ℕ) (x : X) → n < length xs → slice_get (slice_set xs n x) n ≡ Some x
+slice_get-set_same [] n x h = absurd (omega (arith, h))
+slice_get-set_same (y ∷ xs) zero x h = refl
+slice_get-set_same (y ∷ xs) (suc n) x h = slice_get-set_same xs n x (omega (arith, h))
+
+pub slice_get-set_other : {X : Type 0} (xs : List X) (n m : ℕ) (x : X) → m ≢ n → slice_get (slice_set xs n x) m ≡ slice_get xs m
+slice_get-set_other [] n m x h = refl
+slice_get-set_other (y ∷ xs) zero zero x h = absurd (h refl)
+slice_get-set_other (y ∷ xs) zero (suc m) x h = refl
+slice_get-set_other (y ∷ xs) (suc n) zero x h = refl
+slice_get-set_other (y ∷ xs) (suc n) (suc m) x h = slice_get-set_other xs n m x (λ e. h (ap suc e))

@@ -91,7 +91,7 @@ pub same_fields : (a b : ℕ) → ((k : ℕ) → has_field a k ≡ has_field b k
 unfolding has_field
 same_fields a b h = same_from_bits a b (λ k. same-tests (bit_at a k) (bit_at b k) (bit_at-lt a k) (bit_at-lt b k) (h k))
 
-same_tests : (x y : Bool) → (x ≡ true → y ≡ true) → (y ≡ true → x ≡ true) → x ≡ y
+pub same_tests : (x y : Bool) → (x ≡ true → y ≡ true) → (y ≡ true → x ≡ true) → x ≡ y
 same_tests x y h k = grind arith
 
 -- a set whose common fields with another are all of its own is a subset of it

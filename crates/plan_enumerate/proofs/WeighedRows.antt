@@ -1,9 +1,9 @@
 -- The weights of a plan's rows are those of its trees.
-use Rattle.std.proofs.Common.{◌≡◌, ◌≢◌, ◌≤◌, ◌<◌, ◌+◌, ◌⊎◌, inl, inr, ℕ, List, Some, length, set, slice_get, refl, ap, sym, subst, ◌∙◌, arith}
+use Rattle.std.proofs.Common.{◌≡◌, ◌≤◌, ◌<◌, ◌+◌, ◌⊎◌, inl, inr, ℕ, List, Some, length, set, slice_get, refl, ap, sym, subst, ◌∙◌, arith}
 use Rattle.std.proofs.lemmas.Bool.{cases_lt}
-use Rattle.std.proofs.lemmas.List.{get_or-set_other, get_or-set_same, length-set}
-use Rattle.std.proofs.lemmas.Option.{same_Some, slice_get-get_or}
+use Rattle.std.proofs.lemmas.Option.{same_Some}
 use Rattle.cost_model.specs.Estimates.{estimate}
+use Rattle.pact_record.proofs.Lists.{slice_get-set_other, slice_get-set_same}
 use Rattle.plan_trees.specs.Plans.{PlanTree, leaf, over, both}
 use Rattle.pact_operators.specs.Programs.{ProgramData}
 use Rattle.ship_strategy.specs.Facts.{Facts}
@@ -13,18 +13,6 @@ use Rattle.plan_enumerate.specs.declared.plan_rows.Row.{Row}
 use Rattle.plan_enumerate.specs.declared.weights.Weight.{Weight}
 use Rattle.plan_enumerate.specs.RowsOfPlans.{AreWeighed, Holds, row_weight, weight_in, weight_of_reads}
 use Rattle.plan_enumerate.specs.Weights.{weight_both, weight_over, weighed}
-
--- ---- lists with one item set
-
-set_there : {A : Type 0} (xs : List A) (i : ℕ) (x : A) → i < length xs → slice_get (set xs i x) i ≡ Some x
-set_there xs i x less =
-    let long = length-set xs i x in
-    slice_get-get_or (set xs i x) i x (omega (arith, less, long)) ∙ ap Some (get_or-set_same xs i x x less)
-
-set_elsewhere : {A : Type 0} (xs : List A) (i j : ℕ) (x : A) → j < length xs → j ≢ i → slice_get (set xs i x) j ≡ slice_get xs j
-set_elsewhere xs i j x less other =
-    let long = length-set xs i x in
-    slice_get-get_or (set xs i x) j x (omega (arith, less, long)) ∙ ap Some (get_or-set_other xs i j x x other) ∙ sym (slice_get-get_or xs j x less)
 
 -- the numbers below one more are those below it, and it
 below_more : (j i : ℕ) → j < i + 1 → (j < i) ⊎ (j ≡ i)
@@ -92,8 +80,8 @@ module _ (p : ProgramData) (counts : List ℕ) (f : Facts) where
     pub set_weighed : (w : ℕ → Way) (rows : List Row) (weights : List Weight) (i : ℕ) (x : Row) (weight : Weight) → i < length weights → slice_get rows i ≡ Some x
         → AreWeighed p counts workers f w rows weights i → weight ≡ row_weight w workers (λ j. weight_in (slice_get weights j)) x → AreWeighed p counts workers f w rows (set weights i weight) (i + 1)
     set_weighed w rows weights i x weight fits e are same j less t h = elim (below_more j i less) as (λ _. weight_in (slice_get (set weights i weight) j) ≡ weighed p counts workers f w t) [
-      | inl below ↦ ap weight_in (set_elsewhere weights i j weight (omega (arith, below, fits)) (λ d. let k = d in omega (arith, below, k))) ∙ are j below t h
+      | inl below ↦ ap weight_in (slice_get-set_other weights i j weight (λ d. let k = d in omega (arith, below, k))) ∙ are j below t h
       | inr here ↦
           subst (λ (k : ℕ). weight_in (slice_get (set weights i weight) k) ≡ weighed p counts workers f w t) (sym here)
-          (ap weight_in (set_there weights i weight fits) ∙ same ∙ row_weighed w rows weights i x e are t (subst (λ (k : ℕ). Holds p counts f rows k t) here h))
+          (ap weight_in (slice_get-set_same weights i weight fits) ∙ same ∙ row_weighed w rows weights i x e are t (subst (λ (k : ℕ). Holds p counts f rows k t) here h))
     ]

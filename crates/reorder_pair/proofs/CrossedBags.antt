@@ -1,10 +1,10 @@
 -- Two functions of pairs whose sets are apart give the same bag for three bags in either order, and so does a function of one record.
-use Rattle.std.proofs.Common.{◌≡◌, ℕ, zero, suc, [], ◌∷◌, ◌++◌, replicate, refl, sym, ap, append-nil}
+use Rattle.std.proofs.Common.{◌≡◌, ℕ, [], ◌∷◌, ◌++◌, replicate, refl, sym, ap, append-nil}
 use Rattle.std.proofs.lemmas.List.{length-replicate}
 use Rattle.std.specs.Prelude.{flat_map}
 use Rattle.std.specs.List.{AllByRecursion}
 use Rattle.pact_record.specs.declared.values.Value.TheVariants.{Null}
-use Rattle.pact_record.specs.Record.{at_field}
+use Rattle.pact_record.proofs.JoinedRecords.{at_field-nulls}
 use Rattle.pact_record.proofs.Lists.{AllByRecursion-any}
 use Rattle.pact_record.proofs.Permutations.{Perm, chains, each_moved, flat_map_flat_map, flat_map_perm, is_same, turn}
 use Rattle.tac_syntax.specs.Forms.{IsWithin}
@@ -49,14 +49,9 @@ module _ (fields : ℕ) (a b c gl gr hl hr : ℕ → Type 0) (lower upper : Used
 empty : ℕ → Row
 empty fields = replicate fields Null
 
-empty_null : (fields i : ℕ) → at_field (replicate fields Null) i ≡ Null
-empty_null zero i = refl
-empty_null (suc fields) zero = refl
-empty_null (suc fields) (suc i) = empty_null fields i
-
 empty_fits : (fields : ℕ) → IsWithin fields none (empty fields)
 unfolding empty
-empty_fits fields = record { width = length-replicate fields Null; null = λ i out. empty_null fields i }
+empty_fits fields = record { width = length-replicate fields Null; null = λ i out. at_field-nulls fields i }
 
 one_right : (f : Row → Bag) (e : Row) (xs : Bag) → crossed (on_left_alone f) xs (e ∷ []) ≡ flat_map f xs
 one_right f e [] = refl

@@ -1,9 +1,8 @@
 -- What is found of an operator is one thing, also as the code keeps it, and a condition that fails excludes that all hold.
-use Rattle.std.proofs.Common.{◌≡◌, ◌<◌, ◌==◌, ◌↔◌, inl, inr, ℕ, Bool, true, false, List, [], ◌∷◌, Some, refl, sym, ap, subst, ◌∙◌, arith}
-use Rattle.std.proofs.lemmas.Bool.Decides.{nat_tests}
-use Rattle.std.proofs.lemmas.Nat.Bits.{bit_at-lt, same_from_bits}
-use Rattle.std.specs.Int.{bit_at}
+use Rattle.std.proofs.Common.{◌≡◌, ◌↔◌, inl, inr, ℕ, true, false, List, [], ◌∷◌, sym, ap, subst, ◌∙◌}
+use Rattle.std.proofs.lemmas.Option.{same_Some}
 use Rattle.pact_record.specs.FieldSets.{has_field}
+use Rattle.pact_record.proofs.Members.{same_fields, same_tests}
 use Rattle.tac_syntax.specs.Contexts.{FieldSet, Has}
 use Rattle.tac_syntax.specs.declared.contexts.Context.{Context}
 use Rattle.tac_syntax.specs.EmitBounds.{least_emits, most_emits}
@@ -24,20 +23,11 @@ use Rattle.reorder_pair.specs.Rules.{exchanged_by}
 
 -- ---- sets of the same fields
 
-same_bool : (a b : Bool) → (a ≡ true ↔ b ≡ true) → a ≡ b
-same_bool true true h = refl
-same_bool false false h = refl
-same_bool true false h = sym (h.0 refl)
-same_bool false true h = h.1 refl
-
 same_set : (s t : FieldSet) → ((k : ℕ) → Has s k ↔ Has t k) → s ≡ t
-same_set s t h = λ i k. same_bool (s k) (t k) (h k) i
+same_set s t h = λ i k. same_tests (s k) (t k) (h k).0 (h k).1 i
 
 both_by : {A B C : Type 0} → A ↔ C → B ↔ C → A ↔ B
 both_by h g = ((λ a. g.1 (h.0 a)), (λ b. h.1 (g.0 b)))
-
-same_some : {A : Type 0} (a b : A) → Some a ≡ Some b → a ≡ b
-same_some a b e = cc
 
 -- ---- what is found
 
@@ -55,7 +45,7 @@ module _ (p : ProgramData) (n : ℕ) (before after : PlanTree) where
 
   pub uses_one : (s r : Found) → IsFound p n before after s → IsFound p n before after r → uses_of s ≡ uses_of r
   uses_one s r h g =
-      let f = same_some h.found.called g.found.called (sym h.found.function ∙ g.found.function) in
+      let f = same_Some h.found.called g.found.called (sym h.found.function ∙ g.found.function) in
       let sets : found_of s.sets ≡ found_of r.sets =
       h.found.sets ∙ sets_one h.found.called h.context g.context h.union g.union ∙ ap (λ (w : WithFields). sets_in w g.context) f ∙ sym g.found.sets in
       let touches = λ (k : ℕ). subst (λ (x : FoundSets). Has (has_field s.sets.touched) k ↔ IsTouched x g.found.called.function.body k) sets
@@ -67,20 +57,15 @@ module _ (p : ProgramData) (n : ℕ) (before after : PlanTree) where
 
 -- ---- as the code keeps it
 
-same_test : (a b : ℕ) → a < 2 → b < 2 → (a == 1) ≡ (b == 1) → a ≡ b
-same_test a b h k e = grind (arith, nat_tests)
-
--- a set is the number of its bits
-same_bits : (a b : ℕ) → has_field a ≡ has_field b → a ≡ b
-unfolding has_field
-same_bits a b e = same_from_bits a b (λ i. same_test (bit_at a i) (bit_at b i) (bit_at-lt a i) (bit_at-lt b i) (ap (λ (s : FieldSet). s i) e))
+same_number : (a b : ℕ) → has_field a ≡ has_field b → a ≡ b
+same_number a b e = same_fields a b (λ k i. e i k)
 
 same_found : (s r : Found) → uses_of s ≡ uses_of r → s ≡ r
 same_found s r e =
-    let reads = same_bits s.sets.reads r.sets.reads (ap (λ (u : Uses). u.sets.reads) e) in
-    let writes = same_bits s.sets.writes r.sets.writes (ap (λ (u : Uses). u.sets.writes) e) in
-    let control = same_bits s.sets.control r.sets.control (ap (λ (u : Uses). u.sets.control) e) in
-    let touched = same_bits s.sets.touched r.sets.touched (ap (λ (u : Uses). u.touched) e) in
+    let reads = same_number s.sets.reads r.sets.reads (ap (λ (u : Uses). u.sets.reads) e) in
+    let writes = same_number s.sets.writes r.sets.writes (ap (λ (u : Uses). u.sets.writes) e) in
+    let control = same_number s.sets.control r.sets.control (ap (λ (u : Uses). u.sets.control) e) in
+    let touched = same_number s.sets.touched r.sets.touched (ap (λ (u : Uses). u.touched) e) in
     let anchor_left : s.sets.anchor_left ≡ r.sets.anchor_left = ap (λ (u : Uses). u.sets.anchor_left) e in
     let anchor_right : s.sets.anchor_right ≡ r.sets.anchor_right = ap (λ (u : Uses). u.sets.anchor_right) e in
     let low : s.lo ≡ r.lo = ap (λ (u : Uses). u.low) e in

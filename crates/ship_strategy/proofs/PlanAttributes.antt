@@ -1,9 +1,10 @@
 -- Attributes as sets are those of the program.
-use Rattle.std.proofs.Common.{◌≡◌, ◌==◌, ◌||◌, ◌↔◌, ◌⊎◌, inl, inr, ℕ, zero, suc, Bool, true, false, IsTrue, List, [], ◌∷◌, refl, sym}
+use Rattle.std.proofs.Common.{◌≡◌, ◌==◌, ◌||◌, ◌↔◌, ◌⊎◌, inl, inr, ℕ, zero, suc, Bool, true, false, IsTrue, List, [], ◌∷◌, sym}
 use Rattle.std.proofs.lemmas.Bool.{eq-eqb, eqb-true, or_cases, or_left, or_right, true≢false}
 use Rattle.pact_bag.specs.SourceRows.{IsColumnField}
 use Rattle.pact_record.specs.declared.columns.Column.{Column}
 use Rattle.pact_record.specs.FieldSets.{has_field}
+use Rattle.pact_record.proofs.Members.{same_tests}
 use Rattle.tac_syntax.specs.Bounded.{Names, NamesField}
 use Rattle.tac_syntax.specs.Code.{Simple, load_int, load_text, load_null, move_value, get_field, get_key, apply_one, apply_two, new_record, copy_record, set_field, emit_record, Code, stop, plain, branch, again, each}
 use Rattle.tac_syntax.specs.Contexts.{Has, IsBelow}
@@ -97,14 +98,9 @@ facts_right p t n k there = rw there (right_true p (subtree_of n t) k)
 
 -- ---- the fields that a source or an operator owns
 
-same_bits : (a b : Bool) → (a ≡ true → b ≡ true) → (b ≡ true → a ≡ true) → a ≡ b
-same_bits true b f g = sym (f refl)
-same_bits false true f g = absurd (true≢false (sym (g refl)))
-same_bits false false f g = refl
-
 pub own_set : (p : ProgramData) (n s : ℕ) → ((k : ℕ) → IsTrue (has_field s k) ↔ HasAttribute p.functions p.ops (leaf n) k) → has_field s ≡ owned p.functions p.ops n
 own_set p n s h =
-    λ i k. same_bits (has_field s k) (owned p.functions p.ops n k)
+    λ i k. same_tests (has_field s k) (owned p.functions p.ops n k)
     (λ e. (owned_true p.functions p.ops n k).1 ((h k).0 e)) (λ e. (h k).1 ((owned_true p.functions p.ops n k).0 e)) i
 
 pub own_below : (p : ProgramData) (n s : ℕ) → IsProgram p → ((k : ℕ) → IsTrue (has_field s k) ↔ HasAttribute p.functions p.ops (leaf n) k) → IsBelow p.fields (has_field s)

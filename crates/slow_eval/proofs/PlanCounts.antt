@@ -1,5 +1,5 @@
 -- Counts of one evaluation, made node by node.
-use Rattle.std.proofs.Common.{◌≡◌, ◌≢◌, ◌<◌, ◌-◌, ◌^◌, ℕ, zero, suc, List, [], ◌∷◌, Some, length, min, slice_get, slice_set, refl, ap, sym, ◌∙◌, subst, arith}
+use Rattle.std.proofs.Common.{◌≡◌, ◌<◌, ◌-◌, ◌^◌, ℕ, List, [], ◌∷◌, Some, length, min, slice_get, slice_set, ap, sym, ◌∙◌, subst, arith}
 use Rattle.std.specs.List.{AllByRecursion}
 use Rattle.std.specs.List.Sorted.{IsPermutation}
 use Rattle.std.proofs.lemmas.List.Sorted.{IsPermutation-refl}
@@ -9,21 +9,9 @@ use Rattle.pact_operators.specs.PlanOps.{PlanOps}
 use Rattle.plan_trees.specs.Plans.{PlanTree, leaf, over, both, nodes}
 use Rattle.tac_syntax.specs.declared.declarations.OpKind.TheVariants.{Source}
 use Rattle.plan_trees.proofs.DifferentNumbers.{AreDifferent-absent, IsAbsent-left, IsAbsent-right}
-use Rattle.pact_record.proofs.Lists.{AllByRecursion-left, AllByRecursion-right}
+use Rattle.pact_record.proofs.Lists.{AllByRecursion-left, AllByRecursion-right, slice_get-set_other, slice_get-set_same}
 
 -- ---- counts that are set
-
-set_same : {X : Type 0} (xs : List X) (n : ℕ) (x : X) → n < length xs → slice_get (slice_set xs n x) n ≡ Some x
-set_same [] n x h = absurd (omega arith)
-set_same (y ∷ xs) zero x h = refl
-set_same (y ∷ xs) (suc n) x h = set_same xs n x (omega arith)
-
-pub set_other : {X : Type 0} (xs : List X) (n m : ℕ) (x : X) → m ≢ n → slice_get (slice_set xs n x) m ≡ slice_get xs m
-set_other [] n m x h = refl
-set_other (y ∷ xs) zero zero x h = absurd (h refl)
-set_other (y ∷ xs) zero (suc m) x h = refl
-set_other (y ∷ xs) (suc n) zero x h = refl
-set_other (y ∷ xs) (suc n) (suc m) x h = set_other xs n m x (λ e. h (ap suc e))
 
 abbrev SameAt : List ℕ → List ℕ → List ℕ → Type 0
 SameAt ns cs ds = AllByRecursion (λ n. slice_get cs n ≡ slice_get ds n) ns
@@ -34,7 +22,7 @@ same_apart (n ∷ ns) ms cs ds a h = (sym (h n a.0), same_apart ns ms cs ds a.1 
 
 same_set : (ns : List ℕ) (n v : ℕ) (cs : List ℕ) → IsAbsent n ns → SameAt ns cs (slice_set cs n v)
 same_set [] n v cs h = tt
-same_set (m ∷ ns) n v cs h = (sym (set_other cs n m v (λ e. h.0 (sym e))), same_set ns n v cs h.1)
+same_set (m ∷ ns) n v cs h = (sym (slice_get-set_other cs n m v (λ e. h.0 (sym e))), same_set ns n v cs h.1)
 
 -- the same evaluation, with counts that are the same at its nodes
 recounted : (o : PlanOps) (t : PlanTree) (bag : Bag) (cs ds : List ℕ) → SameAt (nodes t) cs ds → Counted o t bag cs → Counted o t bag ds
@@ -57,7 +45,7 @@ recounted o (both n t u) bag cs ds e h =
     )
 
 told : (cs : List ℕ) (n len : ℕ) (bag : Bag) → n < length cs → len ≡ length bag → len < 2 ^ 64 → slice_get (slice_set cs n len) n ≡ Some (count_of (length bag))
-told cs n len bag h e b = set_same cs n len h ∙ ap Some ((let f : len ≡ min len (2 ^ 64 - 1) = omega arith in f) ∙ ap count_of e)
+told cs n len bag h e b = slice_get-set_same cs n len h ∙ ap Some ((let f : len ≡ min len (2 ^ 64 - 1) = omega arith in f) ∙ ap count_of e)
 
 pub counted-leaf : (o : PlanOps) (n len : ℕ) (bag : Bag) (cs : List ℕ) → o.kind n ≡ Source → bag ≡ o.rows n → n < length cs → len ≡ length bag → len < 2 ^ 64 → Counted o (leaf n) bag (slice_set cs n len)
 counted-leaf o n len bag cs k e h l b = (record { source = k; permuted = subst (IsPermutation (o.rows n)) (sym e) (IsPermutation-refl (o.rows n)) }, told cs n len bag h l b)
@@ -84,15 +72,15 @@ counted-both o n len t u ls rs out cs ds h j d frame below g l b =
     )
 
 pub others-leaf : (n m len : ℕ) (cs : List ℕ) → IsAbsent m (nodes (leaf n)) → slice_get (slice_set cs n len) m ≡ slice_get cs m
-others-leaf n m len cs a = set_other cs n m len a.0
+others-leaf n m len cs a = slice_get-set_other cs n m len a.0
 
 pub others-over : (n m len : ℕ) (t : PlanTree) (es cs : List ℕ) → ((k : ℕ) → IsAbsent k (nodes t) → slice_get cs k ≡ slice_get es k) → IsAbsent m (nodes (over n t)) → slice_get (slice_set cs n len) m ≡ slice_get es m
-others-over n m len t es cs f a = set_other cs n m len a.0 ∙ f m a.1
+others-over n m len t es cs f a = slice_get-set_other cs n m len a.0 ∙ f m a.1
 
 pub others-both : (n m len : ℕ) (t u : PlanTree) (es cs ds : List ℕ) → ((k : ℕ) → IsAbsent k (nodes t) → slice_get cs k ≡ slice_get es k) → ((k : ℕ) → IsAbsent k (nodes u) → slice_get ds k ≡ slice_get cs k)
     → IsAbsent m (nodes (both n t u)) → slice_get (slice_set ds n len) m ≡ slice_get es m
 others-both n m len t u es cs ds f g a =
-    set_other ds n m len a.0 ∙ g m (IsAbsent-right m (nodes t) (nodes u) a.1) ∙ f m (IsAbsent-left m (nodes t) (nodes u) a.1)
+    slice_get-set_other ds n m len a.0 ∙ g m (IsAbsent-right m (nodes t) (nodes u) a.1) ∙ f m (IsAbsent-left m (nodes t) (nodes u) a.1)
 
 -- counts are of an evaluation
 pub Allows-counted : (o : PlanOps) (t : PlanTree) (bag : Bag) (counts : List ℕ) → Counted o t bag counts → Allows o t bag

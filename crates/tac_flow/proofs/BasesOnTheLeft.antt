@@ -17,7 +17,8 @@ use Rattle.tac_flow.specs.Known.{Side, left, Base, first, bound, some, nowhere, 
 use Rattle.tac_flow.specs.Steps.{Scope, fresh, fresh_by, record_at, value_at, held_of, is_copy, written, learns, start_state}
 use Rattle.tac_flow.specs.Walks.{Note, decides, emits, noted, side_of_list, settled, walk, notes}
 use Rattle.tac_syntax.specs.WellFormed.{HasList, CanRead, IsWellFormedSimple, IsWellFormed}
-use Rattle.tac_flow.proofs.EachItem.{AllByRecursion-set, AllByRecursion-get_or, AllByRecursion-at_any, AllByRecursion-replicate, AllByRecursion-map, AllByRecursion-zipped, length-zipped}
+use Rattle.pact_record.proofs.Lists.{AllByRecursion-get_or}
+use Rattle.tac_flow.proofs.EachItem.{AllByRecursion-set, AllByRecursion-at_any, AllByRecursion-replicate, AllByRecursion-map, AllByRecursion-zipped, length-zipped}
 use Rattle.tac_flow.proofs.LoopsSettle.{reached}
 
 abbrev pub OnLeft : Held → Type 0
@@ -74,7 +75,7 @@ module _ (c : Scope) (single : is_cogroup c.kind ≡ false) where
   list_left RightGroup h = absurd (both_ways (is_cogroup c.kind) single h)
 
   record_at-left : (k : State) (n : ℕ) → n < record_registers → AllLeft k → OnLeft (record_at c.fields k n)
-  record_at-left k n lt h = AllByRecursion-get_or OnLeft k.records n _ h.all (omega (arith, lt, h.count))
+  record_at-left k n lt h = AllByRecursion-get_or OnLeft k.records n _ (omega (arith, lt, h.count)) h.all
 
   held_of-left : (sides : List Side) (k : State) (from : Rec) → AllByRecursion (λ s. s ≡ left) sides → CanRead c.kind (length sides) from → AllLeft k → OnLeft (held_of c sides k from)
   held_of-left sides k (Reg n) s f h = record_at-left k n f h

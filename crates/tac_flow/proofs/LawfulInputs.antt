@@ -5,9 +5,10 @@ use Rattle.std.proofs.lemmas.Bool.{or_left, or_right, or_parts, eqb-true, eq-eqb
 use Rattle.std.proofs.lemmas.List.{length-replicate}
 use Rattle.std.proofs.lemmas.List.Elements.{AllZip-get_or, length_all_zip}
 use Rattle.pact_record.specs.declared.values.Value.{Value}
-use Rattle.pact_record.specs.declared.values.Value.TheVariants.{Null, Int, Text}
+use Rattle.pact_record.specs.declared.values.Value.TheVariants.{Null}
 use Rattle.pact_record.specs.Record.{Agree, at_field, key_of, joined_value, joined_record}
-use Rattle.pact_record.proofs.JoinedRecords.{length-joined_record}
+use Rattle.pact_record.proofs.Lists.{AllByRecursion-get_or}
+use Rattle.pact_record.proofs.JoinedRecords.{at_field-joined_record, at_field-nulls, joined_value-null, length-joined_record}
 use Rattle.tac_syntax.specs.declared.functions.Kind.{Kind}
 use Rattle.tac_syntax.specs.declared.functions.Kind.TheVariants.{Map, Match, Cross, Reduce, CoGroup}
 use Rattle.tac_syntax.specs.declared.statements.Rec.{Rec}
@@ -24,8 +25,6 @@ use Rattle.tac_syntax.specs.CallInputs.{IsOfPair}
 use Rattle.tac_syntax.specs.Contexts.{Has}
 use Rattle.tac_flow.specs.Views.{ports_in}
 use Rattle.tac_syntax.specs.WellFormed.{IsGiven}
-use Rattle.tac_syntax.proofs.Bounds.{at_field-empty_record}
-use Rattle.tac_flow.proofs.EachItem.{AllByRecursion-get_or}
 use Rattle.tac_flow.proofs.TwoCalls.{anchor_at, Sub, HaveBase, SameRecord, IsCall, AreCalls, given_record}
 use Rattle.tac_syntax.specs.WellFormed.{HasList}
 use Rattle.tac_flow.proofs.SamePaths.{HaveLists}
@@ -43,18 +42,6 @@ key_same (j ∷ ks) r q zero h = h j (eq-eqb j j refl)
 key_same (j ∷ ks) r q (suc at) h = key_same ks r q at h
 
 -- ---- records
-
-joined_field : (l r : List Value) (k : ℕ) → length l ≡ length r → at_field (joined_record l r) k ≡ joined_value (at_field l k) (at_field r k)
-joined_field [] [] k e = refl
-joined_field [] (b ∷ r) k e = absurd (omega (arith, e))
-joined_field (a ∷ l) [] k e = absurd (omega (arith, e))
-joined_field (a ∷ l) (b ∷ r) zero e = refl
-joined_field (a ∷ l) (b ∷ r) (suc k) e = joined_field l r k (omega (arith, e))
-
-joined_Null : (v : Value) → joined_value v Null ≡ v
-joined_Null Null = refl
-joined_Null (Int n) = refl
-joined_Null (Text t) = refl
 
 null_outside : {fields : ℕ} {s : FieldSet} {row : List Value} → IsWithin fields (Has s) row → (k : ℕ) → s k ≡ false → at_field row k ≡ Null
 null_outside {s = s} h k out = h.null k (λ e. both_ways (s k) out e)
@@ -113,8 +100,8 @@ module _ (fields : ℕ) (a b : FieldSet) (ks js : List ℕ) (disjoint : (k : ℕ
       place = 0;
       there = omega arith;
       in_scope = tt;
-      own = record { at = refl; own = λ k e. at_field-empty_record fields k ∙ sym (null_outside h k e); long = length-replicate fields Null ∙ sym h.width };
-      other = record { at = refl; own = λ k e. at_field-empty_record fields k ∙ sym (null_outside g k e); long = length-replicate fields Null ∙ sym g.width };
+      own = record { at = refl; own = λ k e. at_field-nulls fields k ∙ sym (null_outside h k e); long = length-replicate fields Null ∙ sym h.width };
+      other = record { at = refl; own = λ k e. at_field-nulls fields k ∙ sym (null_outside g k e); long = length-replicate fields Null ∙ sym g.width };
     });
     given = given;
   } where
@@ -165,10 +152,10 @@ module _ (fields : ℕ) (a b : FieldSet) (ks js : List ℕ) (disjoint : (k : ℕ
     given = given;
   } where
     own_field : (k : ℕ) → at_field (joined_record l r) k ≡ joined_value (at_field l k) (at_field r k)
-    own_field k = joined_field l r k (hl.width ∙ sym hr.width)
+    own_field k = at_field-joined_record l r k (hl.width ∙ sym hr.width)
 
     other_field : (k : ℕ) → at_field (joined_record m n) k ≡ joined_value (at_field m k) (at_field n k)
-    other_field k = joined_field m n k (hm.width ∙ sym hn.width)
+    other_field k = at_field-joined_record m n k (hm.width ∙ sym hn.width)
 
     at : (side : Side) (p : ℕ) → p < 1 → (k : ℕ) → R k ≡ true → at_field (anchor_at side (of_pair l r) p) k ≡ at_field (anchor_at side (of_pair m n) p) k
     at side zero lt k i = own_field k ∙ (λ j. joined_value (al k i j) (ar k i j)) ∙ sym (other_field k)
@@ -182,12 +169,12 @@ module _ (fields : ℕ) (a b : FieldSet) (ks js : List ℕ) (disjoint : (k : ℕ
       own = record {
         at = refl;
         long = length-replicate fields Null ∙ sym (record_pair l r hl hr);
-        own = λ k e. let p = or_parts (a k) (b k) e in at_field-empty_record fields k ∙ sym (own_field k ∙ (λ j. joined_value (null_outside hl k p.0 j) (null_outside hr k p.1 j)));
+        own = λ k e. let p = or_parts (a k) (b k) e in at_field-nulls fields k ∙ sym (own_field k ∙ (λ j. joined_value (null_outside hl k p.0 j) (null_outside hr k p.1 j)));
       };
       other = record {
         at = refl;
         long = length-replicate fields Null ∙ sym (record_pair m n hm hn);
-        own = λ k e. let p = or_parts (a k) (b k) e in at_field-empty_record fields k ∙ sym (other_field k ∙ (λ j. joined_value (null_outside hm k p.0 j) (null_outside hn k p.1 j)));
+        own = λ k e. let p = or_parts (a k) (b k) e in at_field-nulls fields k ∙ sym (other_field k ∙ (λ j. joined_value (null_outside hm k p.0 j) (null_outside hn k p.1 j)));
       };
     })
 
@@ -205,8 +192,8 @@ module _ (fields : ℕ) (a b : FieldSet) (ks js : List ℕ) (disjoint : (k : ℕ
         place = 0;
         there = omega arith;
         in_scope = tt;
-        own = record { at = refl; own = λ k e. sym (own_field k ∙ ap (joined_value (at_field l k)) (null_outside hr k e) ∙ joined_Null (at_field l k)); long = hl.width ∙ sym (record_pair l r hl hr) };
-        other = record { at = refl; own = λ k e. sym (other_field k ∙ ap (joined_value (at_field m k)) (null_outside hn k e) ∙ joined_Null (at_field m k)); long = hm.width ∙ sym (record_pair m n hm hn) };
+        own = record { at = refl; own = λ k e. sym (own_field k ∙ ap (joined_value (at_field l k)) (null_outside hr k e) ∙ joined_value-null (at_field l k)); long = hl.width ∙ sym (record_pair l r hl hr) };
+        other = record { at = refl; own = λ k e. sym (other_field k ∙ ap (joined_value (at_field m k)) (null_outside hn k e) ∙ joined_value-null (at_field m k)); long = hm.width ∙ sym (record_pair m n hm hn) };
       };
       inside = λ sub k i. null_outside hl k (apart a b k disjoint i) ∙ sym (null_outside hm k (apart a b k disjoint i));
       long = hl.width ∙ sym hm.width;
@@ -253,10 +240,10 @@ module _ (fields : ℕ) (a b : FieldSet) (ks js : List ℕ) (disjoint : (k : ℕ
   -- a group
 
   group_call : (key : List Value) (g : List (List Value)) → AllByRecursion (IsWithin fields (Has a)) g → HaveKey ks key g → IsCall (scope Reduce fields a b ks js) (of_group key g)
-  group_call key g h e = record { wide = λ side p lt. (AllByRecursion-get_or (IsWithin fields (Has a)) g p [] h lt).width; keys = keys } where
+  group_call key g h e = record { wide = λ side p lt. (AllByRecursion-get_or (IsWithin fields (Has a)) g p [] lt h).width; keys = keys } where
     keys : (side : Side) (p : ℕ) → p < length g → (at k : ℕ) → is_key_at (keys_by Reduce ks js side) at k ≡ true
         → at_field (anchor_at side (of_group key g) p) k ≡ get_or key at Null
-    keys left p lt at k m = key_is ks (get_or g p []) at k m ∙ ap (λ (l : List Value). get_or l at Null) (AllByRecursion-get_or (λ row. key_of ks row ≡ key) g p [] e lt)
+    keys left p lt at k m = key_is ks (get_or g p []) at k m ∙ ap (λ (l : List Value). get_or l at Null) (AllByRecursion-get_or (λ row. key_of ks row ≡ key) g p [] lt e)
     keys right p lt at k m = cc
 
   -- equal key values, by the records of a list that has some
@@ -264,9 +251,9 @@ module _ (fields : ℕ) (a b : FieldSet) (ks js : List ℕ) (disjoint : (k : ℕ
       → Sub (is_key_at fs at) R → get_or key at Null ≡ get_or other at Null
   key_by R key other fs g h at some_row kg kh agree sub =
       let long = length_all_zip (Agree R) g h agree in
-      ap (λ (l : List Value). get_or l at Null) (sym (AllByRecursion-get_or (λ row. key_of fs row ≡ key) g 0 [] kg some_row))
+      ap (λ (l : List Value). get_or l at Null) (sym (AllByRecursion-get_or (λ row. key_of fs row ≡ key) g 0 [] some_row kg))
       ∙ key_same fs (get_or g 0 []) (get_or h 0 []) at (λ k m. AllZip-get_or (Agree R) g h 0 [] [] agree some_row k (sub k m))
-      ∙ ap (λ (l : List Value). get_or l at Null) (AllByRecursion-get_or (λ row. key_of fs row ≡ other) h 0 [] kh (omega (arith, long, some_row)))
+      ∙ ap (λ (l : List Value). get_or l at Null) (AllByRecursion-get_or (λ row. key_of fs row ≡ other) h 0 [] (omega (arith, long, some_row)) kh)
 
   group_calls : (R : FieldSet) (key other : List Value) (g h : List (List Value)) → 0 < length g → AllByRecursion (IsWithin fields (Has a)) g → HaveKey ks key g → AllByRecursion (IsWithin fields (Has a)) h → HaveKey ks other h
       → AllZip (Agree R) g h → AreCalls R (scope Reduce fields a b ks js) (of_group key g) (of_group other h)
@@ -280,8 +267,8 @@ module _ (fields : ℕ) (a b : FieldSet) (ks js : List ℕ) (disjoint : (k : ℕ
       place = 0;
       there = some_row;
       in_scope = tt;
-      own = record { at = tt; own = λ k e. at_field-empty_record fields k ∙ sym (null_outside row k e); long = length-replicate fields Null ∙ sym row.width };
-      other = record { at = tt; own = λ k e. at_field-empty_record fields k ∙ sym (null_outside col k e); long = length-replicate fields Null ∙ sym col.width };
+      own = record { at = tt; own = λ k e. at_field-nulls fields k ∙ sym (null_outside row k e); long = length-replicate fields Null ∙ sym row.width };
+      other = record { at = tt; own = λ k e. at_field-nulls fields k ∙ sym (null_outside col k e); long = length-replicate fields Null ∙ sym col.width };
     });
     given = given;
   } where
@@ -289,10 +276,10 @@ module _ (fields : ℕ) (a b : FieldSet) (ks js : List ℕ) (disjoint : (k : ℕ
     long = length_all_zip (Agree R) g h agree
 
     row : IsWithin fields (Has a) (get_or g 0 [])
-    row = AllByRecursion-get_or (IsWithin fields (Has a)) g 0 [] fg some_row
+    row = AllByRecursion-get_or (IsWithin fields (Has a)) g 0 [] some_row fg
 
     col : IsWithin fields (Has a) (get_or h 0 [])
-    col = AllByRecursion-get_or (IsWithin fields (Has a)) h 0 [] fh (omega (arith, long, some_row))
+    col = AllByRecursion-get_or (IsWithin fields (Has a)) h 0 [] (omega (arith, long, some_row)) fh
 
     given : (depth : ℕ) (rows others : List (List Value)) (sides : List Side) (k : State) (from : Rec) → IsGiven Reduce from
         → SameRecord R fields (of_group key g) (of_group other h) depth rows others (held_of (scope Reduce fields a b ks js) sides k from) (given_record (of_group key g) from) (given_record (of_group other h) from)
@@ -311,13 +298,13 @@ module _ (fields : ℕ) (a b : FieldSet) (ks js : List ℕ) (disjoint : (k : ℕ
       → IsCall (scope CoGroup fields a b ks js) (of_groups key l r)
   groups_call key l r hl hr kl kr = record { wide = wide; keys = keys } where
     wide : (side : Side) (p : ℕ) → p < length (anchors side (of_groups key l r)) → length (anchor_at side (of_groups key l r) p) ≡ fields
-    wide left p lt = (AllByRecursion-get_or (IsWithin fields (Has a)) l p [] hl lt).width
-    wide right p lt = (AllByRecursion-get_or (IsWithin fields (Has b)) r p [] hr lt).width
+    wide left p lt = (AllByRecursion-get_or (IsWithin fields (Has a)) l p [] lt hl).width
+    wide right p lt = (AllByRecursion-get_or (IsWithin fields (Has b)) r p [] lt hr).width
 
     keys : (side : Side) (p : ℕ) → p < length (anchors side (of_groups key l r)) → (at k : ℕ) → is_key_at (keys_by CoGroup ks js side) at k ≡ true
         → at_field (anchor_at side (of_groups key l r) p) k ≡ get_or key at Null
-    keys left p lt at k m = key_is ks (get_or l p []) at k m ∙ ap (λ (v : List Value). get_or v at Null) (AllByRecursion-get_or (λ row. key_of ks row ≡ key) l p [] kl lt)
-    keys right p lt at k m = key_is js (get_or r p []) at k m ∙ ap (λ (v : List Value). get_or v at Null) (AllByRecursion-get_or (λ row. key_of js row ≡ key) r p [] kr lt)
+    keys left p lt at k m = key_is ks (get_or l p []) at k m ∙ ap (λ (v : List Value). get_or v at Null) (AllByRecursion-get_or (λ row. key_of ks row ≡ key) l p [] lt kl)
+    keys right p lt at k m = key_is js (get_or r p []) at k m ∙ ap (λ (v : List Value). get_or v at Null) (AllByRecursion-get_or (λ row. key_of js row ≡ key) r p [] lt kr)
 
   groups_calls : (R : FieldSet) (key other : List Value) (l r m n : List (List Value)) → 0 < length l + length r
       → AllByRecursion (IsWithin fields (Has a)) l → AllByRecursion (IsWithin fields (Has b)) r → HaveKey ks key l → HaveKey js key r

@@ -85,11 +85,6 @@ AllByRecursion-filled P zero blank xs b h = h
 AllByRecursion-filled P (suc n) blank [] b h = (b, AllByRecursion-filled P n blank [] b tt)
 AllByRecursion-filled P (suc n) blank (x ∷ xs) b h = (h.0, AllByRecursion-filled P n blank xs b h.1)
 
-pub AllByRecursion-set : {A : Type 0} (P : A → Type 0) (xs : List A) (n : ℕ) (x : A) → P x → AllByRecursion P xs → AllByRecursion P (slice_set xs n x)
-AllByRecursion-set P [] n x k h = tt
-AllByRecursion-set P (y ∷ xs) zero x k h = (k, h.1)
-AllByRecursion-set P (y ∷ xs) (suc n) x k h = (h.0, AllByRecursion-set P xs n x k h.1)
-
 pub FillsTo-all : {A : Type 0} (P : A → Type 0) (blank : A) (before now : List A) (counter end : ℕ) → P blank → FillsTo blank before now counter end → AllByRecursion P before → AllByRecursion P now
 FillsTo-all P blank before now counter end b h all = subst (AllByRecursion P) (sym h.filled_so_far) (AllByRecursion-filled P counter blank before b all)
 

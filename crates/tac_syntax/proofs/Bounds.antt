@@ -6,7 +6,7 @@ use Rattle.std.specs.List.{All, AllByRecursion}
 use Rattle.pact_record.specs.declared.values.Value.{Value}
 use Rattle.pact_record.specs.declared.values.Value.TheVariants.{Null, Int, Text}
 use Rattle.pact_record.specs.Record.{at_field, joined_value, joined_record}
-use Rattle.pact_record.proofs.JoinedRecords.{length-joined_record}
+use Rattle.pact_record.proofs.JoinedRecords.{at_field-nulls, length-joined_record}
 use Rattle.pact_record.proofs.Lists.{AllByRecursion-append}
 use Rattle.tac_syntax.specs.declared.functions.Function.{Function}
 use Rattle.tac_syntax.specs.declared.statements.Rec.{Rec}
@@ -138,13 +138,8 @@ good_placed : (body : Code) (xs : List Placed) → AllByRecursion IsInRange xs �
 good_placed body [] h k = tt
 good_placed body (x ∷ xs) h k = ((h.0, k.0), good_placed body xs h.1 k.1)
 
-pub at_field-empty_record : (fields k : ℕ) → at_field (empty_record fields) k ≡ Null
-at_field-empty_record zero k = refl
-at_field-empty_record (suc n) zero = refl
-at_field-empty_record (suc n) (suc k) = at_field-empty_record n k
-
 empty_record-bounded : (fields : ℕ) (body : Code) (input : CallInput) → IsBounded fields body input (empty_record fields)
-empty_record-bounded fields body input = record { width = length-replicate fields Null; null = λ field none unset. at_field-empty_record fields field }
+empty_record-bounded fields body input = record { width = length-replicate fields Null; null = λ field none unset. at_field-nulls fields field }
 
 module _ (fields : ℕ) (body : Code) (input : CallInput) (w : HasWidth fields input) where
   abbrev Bounded : List Value → Type 0
