@@ -1,7 +1,7 @@
 -- What an instance of a plan has given and owes at its start.
 use Rattle.std.proofs.Common.{◌≡◌, ◌<◌, ◌≤◌, ◌+◌, ◌&&◌, ◌||◌, not, ℕ, zero, suc, Bool, true, false, Option, Some, None, List, [], ◌∷◌, length, map, slice_get, refl, ap, sym, ◌∙◌, subst, arith}
 use Rattle.std.proofs.Math.Path.{transport}
-use Rattle.std.proofs.lemmas.Bool.{and_left, and_right, eq-eqb}
+use Rattle.std.proofs.lemmas.Bool.{and_left, and_parts, and_right, eq-eqb}
 use Rattle.std.proofs.lemmas.List.{length-map}
 use Rattle.std.proofs.lemmas.List.Sorted.{IsPermutation-refl}
 use Rattle.flow_model.proofs.Bags.{is_same}
@@ -190,25 +190,13 @@ module _ {L : Type 0} (rows : L → Bag) (keys : L → List ℕ) (is_sealed : L 
       let none : length (map port_of part.ports.items) ≡ 0 = sym ports_fit ∙ source_takes part.kind e in
       let n = s.part.workers in
       let within : (from : ℕ) → from < n → from < part.workers = λ from lt. subst (λ (q : Part). from < q.workers) f.part lt in
-      let first = all_below_from n (ended_at (seen rows s) 0) (λ from lt. f.left_ended from (within from lt) ∙ and_first (not (is_edge (slice_get (map port_of part.ports.items) 0) from part.worker)) _ (without_ports (map port_of part.ports.items) none from)) in
-      let second = all_below_from n (ended_at (seen rows s) 1) (λ from lt. f.right_ended from (within from lt) ∙ and_second (not (is_edge (slice_get (map port_of part.ports.items) 0) from part.worker)) _ (without_ports (map port_of part.ports.items) none from)) in
+      let first = all_below_from n (ended_at (seen rows s) 0) (λ from lt. f.left_ended from (within from lt) ∙ (and_parts (not (is_edge (slice_get (map port_of part.ports.items) 0) from part.worker)) _ (without_ports (map port_of part.ports.items) none from)).0) in
+      let second = all_below_from n (ended_at (seen rows s) 1) (λ from lt. f.right_ended from (within from lt) ∙ (and_parts (not (is_edge (slice_get (map port_of part.ports.items) 0) from part.worker)) _ (without_ports (map port_of part.ports.items) none from)).1) in
       absurd (let clash : true ≡ false = sym ((λ i. first i && second i)) ∙ (ap (λ (u : State L). all_ended (seen rows u)) (sym b.same) ∙ not_yet) in cc)
     where
       source_takes : (kind : OpKind) → is_source_kind kind ≡ true → takes kind ≡ 0
       source_takes Source k = refl
-      source_takes Map k = absurd (cc)
-      source_takes Reduce k = absurd (cc)
-      source_takes Match k = absurd (cc)
-      source_takes Cross k = absurd (cc)
-      source_takes CoGroup k = absurd (cc)
-
-      and_first : (x y : Bool) → x && y ≡ true → x ≡ true
-      and_first true y e = refl
-      and_first false y e = e
-
-      and_second : (x y : Bool) → x && y ≡ true → y ≡ true
-      and_second true y e = e
-      and_second false y e = absurd (cc)
+      source_takes kind k = absurd (cc)
 
   sound : 1 ≤ batch → is_source_kind part.kind ≡ false → IsSound rows keys is_sealed t
   sound some operator =

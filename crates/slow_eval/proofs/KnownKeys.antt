@@ -1,5 +1,5 @@
 -- Keys that are among others, and a key more behind others.
-use Rattle.std.proofs.Common.{◌≡◌, ◌<◌, ◌+◌, ℕ, Bool, true, false, ◌||◌, List, [], ◌∷◌, ◌++◌, length, map, take, drop, get_or, refl, ap, sym, ◌∙◌, subst}
+use Rattle.std.proofs.Common.{◌≡◌, ◌<◌, ◌+◌, ℕ, Bool, true, false, ◌||◌, List, [], ◌∷◌, ◌++◌, length, map, take, drop, get_or, refl, ap, sym, ◌∙◌, subst, append_assoc}
 use Rattle.std.proofs.lemmas.List.{drop_more, take_more, map-append}
 use Rattle.std.specs.List.{list_any}
 use Rattle.pact_bag.specs.Groups.{is_same_key}
@@ -30,14 +30,10 @@ pub known-later : (k : List Value) (found : List (List Value)) (n : ℕ) (key : 
 known-later k found n key b lt e s t h =
     h ∙ step k found n key lt e ∙ ap (λ (c : Bool). c || knows k (drop (n + 1) found)) (is_same_key-flipped key k ∙ sym s ∙ t)
 
-append-last : (before xs : List (List Value)) (k : List Value) → before ++ (xs ++ k ∷ []) ≡ (before ++ xs) ++ k ∷ []
-append-last [] xs k = refl
-append-last (y ∷ before) xs k = ap (λ (l : List (List Value)). y ∷ l) (append-last before xs k)
-
 -- the keys of one record more
 pub keys-more : (before : List (List Value)) (keys : List ℕ) (rows : List (List Value)) (n : ℕ) (row : List Value) → n < length rows → row ≡ get_or rows n row
     → before ++ map (key_of keys) (take (n + 1) rows) ≡ (before ++ map (key_of keys) (take n rows)) ++ key_of keys row ∷ []
 keys-more before keys rows n row lt e =
     ap (λ (l : List (List Value)). before ++ map (key_of keys) l) (take_more rows n row lt ∙ ap (λ (r : List Value). take n rows ++ r ∷ []) (sym e))
     ∙ ap (λ (l : List (List Value)). before ++ l) (map-append (key_of keys) (take n rows) (row ∷ []))
-    ∙ append-last before (map (key_of keys) (take n rows)) (key_of keys row)
+    ∙ sym (append_assoc before (map (key_of keys) (take n rows)) (key_of keys row ∷ []))
