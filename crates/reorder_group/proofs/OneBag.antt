@@ -1,12 +1,10 @@
 -- A plan allows one bag where its grouping operators give the same outputs, up to order, for groups in any order.
-use Rattle.std.proofs.Common.{◌≡◌, inl, inr, ℕ, true, List, [], ◌∷◌, ◌++◌, refl, sym, ap, subst, ◌∙◌, arith, append-nil}
+use Rattle.std.proofs.Common.{◌≡◌, inl, inr, ℕ, List, [], ◌∷◌, refl, sym, subst, ◌∙◌, arith}
 use Rattle.std.specs.List.Sorted.{IsPermutation}
-use Rattle.std.proofs.lemmas.Bool.{both_ways}
 use Rattle.pact_record.specs.Record.{key_of}
 use Rattle.pact_record.proofs.Permutations.{Perm, both_parts, chains, filter_perm, flat_map_perm, from_permutation, is_same, length-perm, nothing, to_permutation, turned}
 use Rattle.pact_bag.specs.Groups.{group_of_key, is_same_key}
-use Rattle.pact_bag.proofs.KeyGroups.{occurs}
-use Rattle.pact_bag.proofs.KeyLists.{AreOnce, HasAll, Key, beyond}
+use Rattle.pact_bag.proofs.KeyLists.{Key, same_members}
 use Rattle.pact_bag.proofs.KeysOfBags.{AreKeysOf, keys_alone, keys_of_either}
 use Rattle.tac_syntax.specs.declared.declarations.OpKind.{OpKind}
 use Rattle.tac_syntax.specs.declared.declarations.OpKind.TheVariants.{Map, Reduce, Match, Cross, CoGroup}
@@ -18,7 +16,7 @@ use Rattle.reorder_pair.proofs.FunctionForms.{Row}
 use Rattle.reorder_pair.proofs.Maps.{map_bag}
 use Rattle.reorder_pair.proofs.Pairs.{pair_bag, pair_of}
 use Rattle.reorder_pair.proofs.PermittedExchanges.{IsPair}
-use Rattle.pact_operators.proofs.ChosenForKeys.{AreChosen, AreChosen-permuted, IsGivenFor, first_occurs, of_one_side}
+use Rattle.pact_operators.proofs.ChosenForKeys.{AreChosen, AreChosen-permuted, IsGivenFor, of_one_side}
 use Rattle.reorder_group.proofs.GroupBags.{cogroup_bag, reduce_bag}
 
 -- for groups in another order an operator that groups gives permuted outputs
@@ -33,18 +31,6 @@ abbrev pub AllPermute : PlanOps → PlanTree → Type 0
 AllPermute o (leaf n) = Unit {0}
 AllPermute o (over n t) = PermutesAt o (o.kind n) n × AllPermute o t
 AllPermute o (both n t u) = PermutesAt o (o.kind n) n × AllPermute o t × AllPermute o u
-
--- ---- lists of keys with the same members
-
-none_occur : (ks : List Key) → ((k : Key) → occurs k ks ≡ true → ⊥) → ks ≡ []
-none_occur [] h = refl
-none_occur (k ∷ ks) h = absurd (h k (first_occurs k ks))
-
-same_members : (ks js : List Key) → AreOnce ks → AreOnce js → HasAll ks js → HasAll js ks → Perm ks js
-same_members ks js o p h g =
-    let b = beyond ks js o p h in
-    let none = none_occur b.0 (λ k is. let more = b.1.more k is in both_ways (occurs k js) more.1 (g k more.0)) in
-    chains b.1.parts (is_same (ap (λ (l : List Key). js ++ l) none ∙ append-nil js))
 
 -- ---- what is chosen for the keys of permuted bags
 

@@ -1,5 +1,5 @@
 -- The groups of keys over all workers, where the records of a key lie at one: what is given for each worker's keys is given for all.
-use Rattle.std.proofs.Common.{◌≡◌, ◌<◌, ◌+◌, ◌||◌, inl, inr, ℕ, zero, suc, Bool, true, false, cond, List, [], ◌∷◌, ◌++◌, length, refl, sym, ap, subst, ◌∙◌, append_assoc, append-nil, arith}
+use Rattle.std.proofs.Common.{◌≡◌, ◌<◌, ◌+◌, ◌||◌, inl, inr, ℕ, zero, suc, Bool, true, false, cond, List, [], ◌∷◌, ◌++◌, length, refl, sym, ap, subst, ◌∙◌, append_assoc, arith}
 use Rattle.std.specs.List.{AllByRecursion}
 use Rattle.std.proofs.lemmas.Bool.{both_ways, false_from_ne_true, or_cases, or_left, or_right}
 use Rattle.std.proofs.lemmas.Bool.Decides.{eqb_tells}
@@ -7,7 +7,7 @@ use Rattle.std.proofs.lemmas.List.Elements.{filter-append}
 use Rattle.std.proofs.lemmas.List.Folds.{list_any-append}
 use Rattle.pact_bag.specs.Groups.{group_of_key, is_same_key}
 use Rattle.pact_bag.proofs.KeyGroups.{occurs, same_keys}
-use Rattle.pact_bag.proofs.KeyLists.{AreOnce, HasAll, Key, beyond}
+use Rattle.pact_bag.proofs.KeyLists.{AreOnce, Key, same_members}
 use Rattle.pact_bag.proofs.KeysOfBags.{AreKeysOf}
 use Rattle.pact_record.specs.declared.values.Value.{Value}
 use Rattle.pact_record.specs.Record.{key_of}
@@ -31,19 +31,6 @@ AreOnce-append (k ∷ ks) js o p apart = (
   ]),
   AreOnce-append ks js o.1 p (λ j l r. apart j (later_occurs k j ks l) r),
 )
-
--- lists with the same keys, each once
-same_key_lists : (ks js : List Key) → AreOnce ks → AreOnce js → HasAll ks js → HasAll js ks → Perm ks js
-same_key_lists ks js o p h g =
-    let b = beyond ks js o p h in
-    subst (λ (l : List Key). Perm ks l) (onto b.0 (nothing_more b.0 (λ k q. let m = b.1.more k q in both_ways (occurs k js) m.1 (g k m.0)))) b.1.parts
-  where
-    nothing_more : (es : List Key) → ((k : Key) → occurs k es ≡ true → ⊥) → es ≡ []
-    nothing_more [] n = refl
-    nothing_more (e ∷ es) n = absurd (n e (first_occurs e es))
-
-    onto : (es : List Key) → es ≡ [] → js ++ es ≡ js
-    onto es e = ap (λ (l : List Key). js ++ l) e ∙ append-nil js
 
 -- ---- what is chosen for the keys of each worker
 
@@ -169,5 +156,5 @@ module _ (place : Key → ℕ) (keys others : List ℕ) (W : ℕ) (ls rs : ℕ �
     gathered js of_js out h =
         let All = IsGivenFor f keys others (all_of W ls) (all_of W rs) in
         let each = AreChosen-all All ks out W (λ w b. AreChosen-occurring (IsGivenFor f keys others (ls w) (rs w)) All (ks w) (given_here w b) (out w) (h w b)) in
-        let perm = same_key_lists (all_of W ks) js all_keys.once of_js.once (λ k o. (all_keys.occur k).1 ((of_js.occur k).0 o)) (λ k o. (of_js.occur k).1 ((all_keys.occur k).0 o)) in
+        let perm = same_members (all_of W ks) js all_keys.once of_js.once (λ k o. (all_keys.occur k).1 ((of_js.occur k).0 o)) (λ k o. (of_js.occur k).1 ((all_keys.occur k).0 o)) in
         AreChosen-permuted All perm (all_of W out) each

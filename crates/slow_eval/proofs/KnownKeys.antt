@@ -1,9 +1,8 @@
 -- Keys that are among others, and a key more behind others.
 use Rattle.std.proofs.Common.{◌≡◌, ◌<◌, ◌+◌, ℕ, Bool, true, false, ◌||◌, List, [], ◌∷◌, ◌++◌, length, map, take, drop, get_or, refl, ap, sym, ◌∙◌, subst, append_assoc}
 use Rattle.std.proofs.lemmas.List.{drop_more, take_more, map-append}
-use Rattle.std.specs.List.{list_any}
 use Rattle.pact_bag.specs.Groups.{is_same_key}
-use Rattle.pact_bag.proofs.KeyGroups.{key_itself, same_keys}
+use Rattle.pact_bag.proofs.KeyGroups.{key_itself, occurs, same_keys}
 use Rattle.pact_record.specs.declared.values.Value.{Value}
 use Rattle.pact_record.specs.Record.{key_of}
 
@@ -14,21 +13,18 @@ is_same_key-flipped a b = go (is_same_key a b) (is_same_key b a) refl refl where
   go false true e f = subst (λ (c : List Value). is_same_key a c ≡ is_same_key c a) (sym (same_keys b a f)) refl
   go false false e f = e ∙ sym f
 
-abbrev knows : List Value → List (List Value) → Bool
-knows k found = list_any (λ key. is_same_key key k) found
-
-step : (k : List Value) (found : List (List Value)) (n : ℕ) (key : List Value) → n < length found → key ≡ get_or found n key → knows k (drop n found) ≡ (is_same_key key k || knows k (drop (n + 1) found))
-step k found n key lt e = ap (knows k) (drop_more found n key lt ∙ ap (λ (x : List Value). x ∷ drop (n + 1) found) (sym e))
+step : (k : List Value) (found : List (List Value)) (n : ℕ) (key : List Value) → n < length found → key ≡ get_or found n key → occurs k (drop n found) ≡ (is_same_key key k || occurs k (drop (n + 1) found))
+step k found n key lt e = ap (occurs k) (drop_more found n key lt ∙ ap (λ (x : List Value). x ∷ drop (n + 1) found) (sym e))
 
 pub known-here : (k : List Value) (found : List (List Value)) (n : ℕ) (key : List Value) (b : Bool) → n < length found → key ≡ get_or found n key → b ≡ is_same_key k key → b ≡ true
-    → knows k found ≡ knows k (drop n found) → true ≡ knows k found
+    → occurs k found ≡ occurs k (drop n found) → true ≡ occurs k found
 known-here k found n key b lt e s t h =
-    sym (h ∙ step k found n key lt e ∙ ap (λ (c : Bool). c || knows k (drop (n + 1) found)) (is_same_key-flipped key k ∙ sym s ∙ t))
+    sym (h ∙ step k found n key lt e ∙ ap (λ (c : Bool). c || occurs k (drop (n + 1) found)) (is_same_key-flipped key k ∙ sym s ∙ t))
 
 pub known-later : (k : List Value) (found : List (List Value)) (n : ℕ) (key : List Value) (b : Bool) → n < length found → key ≡ get_or found n key → b ≡ is_same_key k key → b ≡ false
-    → knows k found ≡ knows k (drop n found) → knows k found ≡ knows k (drop (n + 1) found)
+    → occurs k found ≡ occurs k (drop n found) → occurs k found ≡ occurs k (drop (n + 1) found)
 known-later k found n key b lt e s t h =
-    h ∙ step k found n key lt e ∙ ap (λ (c : Bool). c || knows k (drop (n + 1) found)) (is_same_key-flipped key k ∙ sym s ∙ t)
+    h ∙ step k found n key lt e ∙ ap (λ (c : Bool). c || occurs k (drop (n + 1) found)) (is_same_key-flipped key k ∙ sym s ∙ t)
 
 -- the keys of one record more
 pub keys-more : (before : List (List Value)) (keys : List ℕ) (rows : List (List Value)) (n : ℕ) (row : List Value) → n < length rows → row ≡ get_or rows n row
