@@ -2,37 +2,20 @@
 use Rattle.std.proofs.Common.{◌≡◌, ◌≤◌, ◌<◌, ◌+◌, ◌*◌, ◌==◌, ℕ, zero, suc, min, max, Bool, true, false, if◌then◌else◌, List, [], ◌∷◌, inl, inr, length, refl, sym, ap, subst, ◌∙◌, arith}
 use Rattle.std.proofs.Math.Nat.{suc-mul}
 use Rattle.std.proofs.lemmas.Bool.{cases_Bool, eqb-true}
-use Rattle.std.proofs.lemmas.List.{length-append}
 use Rattle.pact_record.specs.declared.values.Value.{Value}
 use Rattle.pact_record.specs.Value.{is_true}
 use Rattle.tac_syntax.specs.declared.functions.Kind.{Kind}
 use Rattle.tac_syntax.specs.declared.functions.Kind.TheVariants.{Map, Match, Cross, Reduce, CoGroup}
 use Rattle.tac_syntax.specs.declared.statements.LoopList.{LoopList}
 use Rattle.tac_syntax.specs.declared.statements.LoopList.TheVariants.{Group, Left as LeftGroup, Right as RightGroup}
-use Rattle.tac_syntax.specs.Code.{Simple, load_int, load_text, load_null, move_value, get_field, get_key, apply_one, apply_two, new_record, copy_record, set_field, emit_record, Code, stop, plain, branch, again, each}
-use Rattle.tac_syntax.specs.Call.{CallInput, of_record, of_pair, of_group, of_groups, Store, value_in, record_in, rows_of, after, bind, start_store}
+use Rattle.tac_syntax.specs.Code.{Code, stop, plain, branch, again, each}
+use Rattle.tac_syntax.specs.Call.{CallInput, of_record, of_pair, of_group, of_groups, Store, value_in, rows_of, after, bind, start_store}
 use Rattle.tac_syntax.specs.Exec.{times, for_each, exec}
+use Rattle.tac_syntax.proofs.EmitsOfSteps.{count, count_after}
 use Rattle.tac_syntax.proofs.Leads.{Out-exec, input-after, input-exec}
 use Rattle.tac_syntax.specs.CallInputs.{IsInputOf, HasSome}
-use Rattle.tac_syntax.specs.EmitBounds.{many, emits_one, at_least_one, least_emits, most_emits, AreBounds}
+use Rattle.tac_syntax.specs.EmitBounds.{many, at_least_one, least_emits, most_emits, AreBounds}
 use Rattle.tac_syntax.specs.WellFormed.{HasList, IsWellFormed}
-
-abbrev count : Store → ℕ
-count s = length s.emitted
-
-count_after : (a : Simple) (s : Store) → count (after a s) ≡ count s + emits_one a
-count_after (load_int to n) s = omega arith
-count_after (load_text to bytes) s = omega arith
-count_after (load_null to) s = omega arith
-count_after (move_value to from) s = omega arith
-count_after (get_field to from field) s = omega arith
-count_after (get_key to at) s = omega arith
-count_after (apply_one to op a) s = omega arith
-count_after (apply_two to op a b) s = omega arith
-count_after (new_record to) s = omega arith
-count_after (copy_record to from) s = omega arith
-count_after (set_field to field value) s = omega arith
-count_after (emit_record from) s = length-append s.emitted (record_in s from ∷ [])
 
 -- ---- turns
 

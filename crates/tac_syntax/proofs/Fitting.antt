@@ -11,7 +11,7 @@ use Rattle.tac_syntax.specs.declared.statements.Rec.TheVariants.{Reg, Loop, Inpu
 use Rattle.tac_syntax.specs.declared.statements.LoopList.{LoopList}
 use Rattle.tac_syntax.specs.Limits.{value_registers, record_registers}
 use Rattle.tac_syntax.specs.Code.{Simple, load_int, load_text, load_null, move_value, get_field, get_key, apply_one, apply_two, new_record, copy_record, set_field, emit_record, Code, simple, over}
-use Rattle.tac_syntax.specs.Call.{CallInput, of_record, of_pair, of_group, of_groups, Store, key_values, rows_of, after, bind}
+use Rattle.tac_syntax.specs.Call.{CallInput, of_group, of_groups, Store, key_values, rows_of, after, bind}
 use Rattle.tac_syntax.specs.Exec.{exec}
 use Rattle.tac_syntax.specs.Places.{Place, at_place, in_each}
 use Rattle.tac_syntax.specs.Rules.{is_map, is_pairing, is_reduce, is_cogroup, has_record, has_list, no_register_read, no_value_register}
@@ -24,43 +24,29 @@ use Rattle.tac_syntax.proofs.Kept.{IsKept, exec-kept}
 
 IsOfRecord-map : (kind : Kind) (input : CallInput) → is_map kind ≡ true → IsInputOf kind input → IsOfRecord input
 IsOfRecord-map Map input t h = h
-IsOfRecord-map Match input t h = cc
-IsOfRecord-map Cross input t h = cc
-IsOfRecord-map Reduce input t h = cc
-IsOfRecord-map CoGroup input t h = cc
+IsOfRecord-map kind input t h = cc
 
 IsOfPair-pairing : (kind : Kind) (input : CallInput) → is_pairing kind ≡ true → IsInputOf kind input → IsOfPair input
-IsOfPair-pairing Map input t h = cc
 IsOfPair-pairing Match input t h = h
 IsOfPair-pairing Cross input t h = h
-IsOfPair-pairing Reduce input t h = cc
-IsOfPair-pairing CoGroup input t h = cc
+IsOfPair-pairing kind input t h = cc
 
 IsOfGroup-reduce : (kind : Kind) (input : CallInput) → is_reduce kind ≡ true → IsInputOf kind input → IsOfGroup input
-IsOfGroup-reduce Map input t h = cc
-IsOfGroup-reduce Match input t h = cc
-IsOfGroup-reduce Cross input t h = cc
 IsOfGroup-reduce Reduce input t h = h
-IsOfGroup-reduce CoGroup input t h = cc
+IsOfGroup-reduce kind input t h = cc
 
 of_group-key : (keys at : ℕ) (input : CallInput) → at < keys → IsOfGroup input → HasKeys keys input → at < length (key_values input)
-of_group-key keys at (of_record row) lt h k = absurd h
-of_group-key keys at (of_pair left right) lt h k = absurd h
 of_group-key keys at (of_group key group) lt h k = omega arith
-of_group-key keys at (of_groups key left right) lt h k = absurd h
+of_group-key keys at input lt h k = absurd h
 
 of_groups-key : (keys at : ℕ) (input : CallInput) → at < keys → IsOfGroups input → HasKeys keys input → at < length (key_values input)
-of_groups-key keys at (of_record row) lt h k = absurd h
-of_groups-key keys at (of_pair left right) lt h k = absurd h
-of_groups-key keys at (of_group key group) lt h k = absurd h
 of_groups-key keys at (of_groups key left right) lt h k = omega arith
+of_groups-key keys at input lt h k = absurd h
 
 at_key : (kind : Kind) (keys at : ℕ) (input : CallInput) → (is_reduce kind || is_cogroup kind) ≡ true → at < keys → IsInputOf kind input → HasKeys keys input → at < length (key_values input)
-at_key Map keys at input t lt h k = cc
-at_key Match keys at input t lt h k = cc
-at_key Cross keys at input t lt h k = cc
 at_key Reduce keys at input t lt h k = of_group-key keys at input lt h k
 at_key CoGroup keys at input t lt h k = of_groups-key keys at input lt h k
+at_key kind keys at input t lt h k = cc
 
 -- ---- what a statement of one line names
 

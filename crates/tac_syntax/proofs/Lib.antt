@@ -6,6 +6,7 @@ pub mod Kept
 pub mod Fitting
 pub mod Bounds
 pub mod WellFormed
+pub mod EmitsOfSteps
 pub mod EmitCounts
 pub mod LawfulExamples
 pub mod Declared

@@ -1,5 +1,5 @@
 -- Which fields the statements of a body set, one after the other; those of a valid function are below its number of fields.
-use Rattle.std.proofs.Common.{◌≡◌, ◌<◌, ◌+◌, ◌⊎◌, ◌↔◌, ◌||◌, ℕ, Bool, true, false, if◌then◌else◌, IsTrue, Option, Some, None, List, [], ◌∷◌, ◌++◌, inl, inr, refl, sym, ◌∙◌, rules, arith}
+use Rattle.std.proofs.Common.{◌≡◌, ◌<◌, ◌+◌, ◌⊎◌, ◌↔◌, ◌||◌, ℕ, false, IsTrue, None, List, [], ◌∷◌, ◌++◌, inl, inr, sym, ◌∙◌, rules, arith}
 use Rattle.std.proofs.lemmas.Bool.{leb-false, or_cases, or_left, or_right}
 use Rattle.std.proofs.lemmas.List.Elements.{All-nil, All-cons, All-head, All-tail, All-contains, All-contains_itself, All-weaker, Contains-append_left, Contains-append_right}
 use Rattle.std.specs.List.{All, Contains}
@@ -12,6 +12,7 @@ use Rattle.tac_syntax.specs.Places.{Place, Placed, placed, at_place, top_place, 
 use Rattle.tac_syntax.specs.Rules.{no_field, breaks_fields}
 use Rattle.tac_syntax.specs.Trees.{Statement, one_line, choice, turning, going_through, onto}
 use Rattle.tac_syntax.specs.Valid.{IsValid, first_break_from}
+use Rattle.tac_syntax.proofs.Ranges.{none_of}
 
 -- ---- a statement and what follows it
 
@@ -50,14 +51,10 @@ found_more found more all k s next whole before here both =
 abbrev KeepsFields : Placed → Type 0
 KeepsFields x = breaks_fields x.place x.line ≡ false
 
-unless_broken : (broken : Bool) (n : ℕ) (rest : Option ℕ) → (if broken then Some n else rest) ≡ None → (broken ≡ false) × (rest ≡ None)
-unless_broken true n rest h = cc
-unless_broken false n rest h = (refl, h)
-
 All-unbroken : (n : ℕ) (xs : List Placed) → first_break_from Fields n xs ≡ None → All KeepsFields xs
 All-unbroken n [] h = All-nil KeepsFields
 All-unbroken n (x ∷ xs) h =
-    let kept = unless_broken (breaks_fields x.place x.line) n (first_break_from Fields (n + 1) xs) h in
+    let kept = none_of (breaks_fields x.place x.line) n (first_break_from Fields (n + 1) xs) h in
     All-cons KeepsFields x xs kept.0 (All-unbroken (n + 1) xs kept.1)
 
 All-left : (xs ys : List Placed) → All KeepsFields (xs ++ ys) → All KeepsFields xs

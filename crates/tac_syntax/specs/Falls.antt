@@ -5,7 +5,7 @@ use Rattle.tac_syntax.specs.Code.{Code, stop, plain, branch, again, each}
 use Rattle.tac_syntax.specs.Coding.{tall}
 use Rattle.tac_syntax.specs.Trees.{Statement, one_line, choice, turning, going_through, onto, statement_of, code_of}
 use Rattle.tac_syntax.specs.declared.statements.Stmt.{Stmt}
-use Rattle.tac_syntax.specs.declared.statements.Stmt.TheVariants.{Int, Text, Null, Mov, Get, Key, One, Two, New, Copy, Set, Emit, If, Repeat, Each}
+use Rattle.tac_syntax.specs.declared.statements.Stmt.TheVariants.{If, Repeat, Each}
 use Rattle.tac_syntax.specs.declared.statements.Body.TheDeep.{deep-Stmt}
 use denote.Param.Weighed.{most, w_this}
 
@@ -24,21 +24,10 @@ next_less (turning count body) next = omega arith
 next_less (going_through name list body) next = omega arith
 
 weight_less : (stmt : Stmt) (next : Code) → (w_this).weight Stmt deep-Stmt stmt < tall (onto (statement_of stmt) next)
-weight_less (Int to value) next = omega arith
-weight_less (Text to value) next = omega arith
-weight_less (Null to) next = omega arith
-weight_less (Mov to from) next = omega arith
-weight_less (Get to from field) next = omega arith
-weight_less (Key to at) next = omega arith
-weight_less (One to op a) next = omega arith
-weight_less (Two to op a b) next = omega arith
-weight_less (New to) next = omega arith
-weight_less (Copy to from) next = omega arith
-weight_less (Set to field value) next = omega arith
-weight_less (Emit from) next = omega arith
 weight_less (If on body other) next = omega (arith, tall_positive next)
 weight_less (Repeat count body) next = omega (arith, tall_positive next)
 weight_less (Each name list body) next = omega (arith, tall_positive next)
+weight_less stmt next = omega arith
 
 pub most_le-tall : (items : List Stmt) → most (λ x. (w_this).weight Stmt deep-Stmt x) items ≤ tall (code_of items)
 most_le-tall [] = omega arith
