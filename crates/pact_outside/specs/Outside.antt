@@ -13,9 +13,8 @@ pub record HasCause {T E : Type 0} (before now : ℕ) (result : Result T E) : Ty
 
 abbrev pub same_bytes : List ℕ → List ℕ → Bool
 same_bytes [] [] = true
-same_bytes [] (b ∷ bs) = false
-same_bytes (a ∷ as1) [] = false
 same_bytes (a ∷ as1) (b ∷ bs) = eqb a b && same_bytes as1 bs
+same_bytes one other = false
 
 -- the bytes of the first file of that name
 abbrev pub file_named : List NamedFile → List ℕ → Option (List ℕ)

@@ -179,10 +179,7 @@ coded_line = code_by Cell (coded× coded_ℕ (coded× (coded_list coded_ℕ) cod
 
 abbrev pub is_stop : Code → Bool
 is_stop stop = true
-is_stop (plain s next) = false
-is_stop (branch on body other next) = false
-is_stop (again count body next) = false
-is_stop (each name list body next) = false
+is_stop body = false
 
 -- an empty second body of an `if` has no line, nor has the one that parts it from the first
 abbrev pub other_lines : Bool → List Line → List Line → List Line
@@ -198,21 +195,13 @@ lines_of (each name list body next) = over name list ∷ (lines_of body ++ (clos
 -- what is left begins with no statement
 abbrev Ends : List Line → Type 0
 Ends [] = Unit {0}
-Ends (simple s ∷ l) = ⊥
-Ends (test on ∷ l) = ⊥
-Ends (turns count ∷ l) = ⊥
-Ends (over name list ∷ l) = ⊥
 Ends (otherwise ∷ l) = Unit {0}
 Ends (close ∷ l) = Unit {0}
+Ends lines = ⊥
 
 abbrev begins_other : List Line → Bool
-begins_other [] = false
-begins_other (simple s ∷ l) = false
-begins_other (test on ∷ l) = false
-begins_other (turns count ∷ l) = false
-begins_other (over name list ∷ l) = false
 begins_other (otherwise ∷ l) = true
-begins_other (close ∷ l) = false
+begins_other lines = false
 
 -- the body that lines begin with, and the lines that follow it
 abbrev parse : ℕ → List Line → Code × List Line
