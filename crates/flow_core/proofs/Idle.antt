@@ -17,7 +17,8 @@ use Rattle.flow_model.specs.Spots.{Port, Setting, ports_of}
 use Rattle.flow_model.specs.Worlds.{IsStuck, World, can_take, does_want, enabled, reader_of}
 use Rattle.flow_model.proofs.Events.{wants_end, wants_put, wants_take}
 use Rattle.flow_model.proofs.Readers.{IsFound, found}
-use Rattle.flow_model.proofs.Trees.{Reads, at_each, read}
+use Rattle.plan_trees.proofs.EverySubtree.{all_below-at}
+use Rattle.flow_model.proofs.Trees.{Reads, read}
 use Rattle.flow_core.specs.Idle.{IsIdle, IsOf}
 use Rattle.flow_core.specs.Wired.{input_in}
 use Rattle.flow_core.proofs.Tables.{has_below}
@@ -44,7 +45,7 @@ input_read f (both n t u) port e r i = elim (cases_Bool (port == 0)) as (λ _. f
 -- an operator reads what its port says
 pub input_is_read : (tree : PlanTree) (at port e : ℕ) → AreDifferent (nodes tree) → has at tree ≡ true → input_of at port tree ≡ Some e → reader_of e tree ≡ Some (at, port)
 input_is_read tree at port e d there i =
-    input_read (λ x. reader_of x tree) (subtree_of at tree) port e (at_each (Reads (λ x. reader_of x tree)) tree (read tree d) at there) i ∙ ap (λ (n : ℕ). Some (n, port)) (root_of-subtree at tree there)
+    input_read (λ x. reader_of x tree) (subtree_of at tree) port e (all_below-at (Reads (λ x. reader_of x tree)) at tree (read tree d) there) i ∙ ap (λ (n : ℕ). Some (n, port)) (root_of-subtree at tree there)
 
 -- and its port says what it reads
 abbrev edge_in : Option Port → Option ℕ

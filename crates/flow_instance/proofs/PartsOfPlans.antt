@@ -7,6 +7,7 @@ use Rattle.pact_operators.specs.Programs.{HasArity, HasKeyLists, IsKindFor, IsPr
 use Rattle.pact_operators.proofs.CalledFunctions.{is_called}
 use Rattle.pact_record.specs.Widths.{AreBelow}
 use Rattle.plan_trees.proofs.InPlace.{GoesDown, down}
+use Rattle.plan_trees.proofs.RootParts.{is_both, is_leaf, is_over}
 use Rattle.plan_trees.proofs.SubtreesOfPlans.{has-root, root_of-subtree}
 use Rattle.plan_trees.specs.PlanParts.{parts_of}
 use Rattle.plan_trees.specs.Plans.{PlanTree, leaf, over, both, has, root_of, subtree_of}
@@ -29,28 +30,6 @@ inside t = record {
 
 pub has-below : (at m : ℕ) (t : PlanTree) → has m (subtree_of at t) ≡ true → has m t ≡ true
 has-below at m t h = down (λ u. (k : ℕ) → has k u ≡ true → has k t ≡ true) (inside t) at t (λ k e. e) m h
-
-pub is_leaf : (t : PlanTree) (n : ℕ) → Alone n ≡ parts_of t → t ≡ leaf n
-is_leaf (leaf m) n e = let same : n ≡ m = cc in ap leaf (sym same)
-is_leaf (over m t) n e = absurd (cc)
-is_leaf (both m t u) n e = absurd (cc)
-
-pub is_over : (t u : PlanTree) (n : ℕ) → OverOne n u ≡ parts_of t → t ≡ over n u
-is_over (leaf m) u n e = absurd (cc)
-is_over (over m t) u n e =
-    let same : n ≡ m = cc in
-    let input : u ≡ t = cc in
-    λ i. over (sym same i) (sym input i)
-is_over (both m t v) u n e = absurd (cc)
-
-pub is_both : (t u v : PlanTree) (n : ℕ) → OverTwo n u v ≡ parts_of t → t ≡ both n u v
-is_both (leaf m) u v n e = absurd (cc)
-is_both (over m t) u v n e = absurd (cc)
-is_both (both m t w) u v n e =
-    let same : n ≡ m = cc in
-    let left : u ≡ t = cc in
-    let right : v ≡ w = cc in
-    λ i. both (sym same i) (sym left i) (sym right i)
 
 pub has_input : (at n : ℕ) (t s u : PlanTree) → s ≡ subtree_of at t → OverOne n u ≡ parts_of s → has (root_of u) t ≡ true
 has_input at n t s u e o =

@@ -9,11 +9,11 @@ use Rattle.flow_model.specs.Worlds.{History, LocalAt, Stands, World}
 use Rattle.flow_model.proofs.Ended.{no_edge}
 use Rattle.flow_model.proofs.Most.{all_few}
 use Rattle.flow_model.proofs.Stuck.{StandsAt}
-use Rattle.flow_model.proofs.Trees.{all_subtrees}
+use Rattle.plan_trees.proofs.EverySubtree.{all_below}
 use Rattle.plan_trees.proofs.SubtreesOfPlans.{root_of-subtree}
 
 pub bound : (g : Setting) (turns : ℕ → ℕ → ℕ) (w : World) (h : History) → AreDifferent (nodes g.physical.tree) → IsBounded g.ops turns → Stands g w h → events g w h ≤ most g turns
 bound g turns w h d bounded st =
     let tree = g.physical.tree in
-    let at = all_subtrees (StandsAt g w h) tree d (λ m there k below. subst (λ (n : ℕ). LocalAt g w h (subtree_of m tree) n k) (sym (root_of-subtree m tree there)) (st.instances m k there below)) in
+    let at = all_below (StandsAt g w h) tree d (λ m there k below. subst (λ (n : ℕ). LocalAt g w h (subtree_of m tree) n k) (sym (root_of-subtree m tree there)) (st.instances m k there below)) in
     all_few g turns w h bounded st.pipe tree at (λ k to. no_edge g (root_of tree) k to (eq-eqb (root_of tree) (root_of tree) refl))

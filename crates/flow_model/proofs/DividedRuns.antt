@@ -25,7 +25,8 @@ use Rattle.flow_model.specs.Spread.{Spread, given_in, sum_below}
 use Rattle.flow_model.specs.Worlds.{lists_at}
 use Rattle.flow_model.proofs.Bags.{beside, is_same, joined, turned}
 use Rattle.flow_model.proofs.Marks.{finished_by}
-use Rattle.flow_model.proofs.Trees.{AllBelow, HasEdge, Inside, at_each, at_top, edges, inside_of}
+use Rattle.plan_trees.proofs.EverySubtree.{AllBelow, all_below-at, all_below-root}
+use Rattle.flow_model.proofs.Trees.{HasEdge, Inside, edges, inside_of}
 
 -- ---- counts that stand still
 
@@ -53,8 +54,8 @@ Inputs P (both n t u) = P t × P u
 
 inputs_below : (P : PlanTree → Type 0) (t : PlanTree) → Inside P t → AllBelow (Inputs P) t
 inputs_below P (leaf n) h = tt
-inputs_below P (over n t) h = (at_top P t h, inputs_below P t (inside_of P t h))
-inputs_below P (both n t u) h = ((at_top P t h.0, at_top P u h.1), inputs_below P t (inside_of P t h.0), inputs_below P u (inside_of P u h.1))
+inputs_below P (over n t) h = (all_below-root P t h, inputs_below P t (inside_of P t h))
+inputs_below P (both n t u) h = ((all_below-root P t h.0, all_below-root P u h.1), inputs_below P t (inside_of P t h.0), inputs_below P u (inside_of P u h.1))
 
 -- ---- an instance that is done
 
@@ -168,7 +169,7 @@ module _ (g : Setting) (rows : Bag) (counts : List ℕ) (run : Spread g rows cou
       record {
         gave = gave;
         shares = λ at there worker below.
-            share (subtree_of at tree) worker (gave at worker) below (at_each (Inputs (HasEdge tree)) tree inputs at there) (at_each (LeafIsSource g.ops) tree sources at there)
+            share (subtree_of at tree) worker (gave at worker) below (all_below-at (Inputs (HasEdge tree)) at tree inputs there) (all_below-at (LeafIsSource g.ops) at tree sources there)
             (told_at at worker there below).gave (ap (λ (n : ℕ). gave n worker) (sym (root_of-subtree at tree there)));
         placed = joined (moved_each (gave (root_of tree)) (λ worker. (run.world.instance (root_of tree) worker).placed) g.physical.workers placed_at_root) (turned run.rows_are);
         counted = λ at there. run.counts_are at there ∙ ap Some (same_given at there);

@@ -21,7 +21,7 @@ use Rattle.flow_model.proofs.Bags.{rows_of-append}
 use Rattle.flow_model.proofs.Preserved.{nothing_put}
 use Rattle.flow_model.proofs.Stuck.{StandsAt}
 use Rattle.flow_model.proofs.Sums.{at_most, cogroup_length, crossed_length, distributes, few_notes, flat_length, kept-le, length-all_of, matched_length, reduce_length, same_le, shares, sum-const, sum-le, sum-plus, sum-times, times_zero}
-use Rattle.flow_model.proofs.Trees.{AllBelow, at_top}
+use Rattle.plan_trees.proofs.EverySubtree.{AllBelow, all_below-root}
 
 -- ---- what one instance gives
 
@@ -180,7 +180,7 @@ module _ (g : Setting) (turns : ℕ → ℕ → ℕ) (w : World) (h : History) (
       omega (arith, length-all_of g.physical.workers (λ from. rows_of (h.taken (root_of t) from k)), each)
 
   -- the instances of an operator give no more than `most_given`
-  sound : (t : PlanTree) (at : AllBelow (StandsAt g w h) t) → sum_below g.physical.workers (given t (at_top (StandsAt g w h) t at)) ≤ most_given g turns t
+  sound : (t : PlanTree) (at : AllBelow (StandsAt g w h) t) → sum_below g.physical.workers (given t (all_below-root (StandsAt g w h) t at)) ≤ most_given g turns t
   unfolding given
   sound (leaf n) at =
       let each : sum_below g.physical.workers (given (leaf n) at) ≤ sum_below g.physical.workers (λ k. length (share_from 0 g.physical.workers k (g.ops.rows n))) =
@@ -191,7 +191,7 @@ module _ (g : Setting) (turns : ℕ → ℕ → ℕ) (w : World) (h : History) (
       all
   sound (over n t) at =
       let below = sound t at.1 in
-      let at_t = at_top (StandsAt g w h) t at.1 in
+      let at_t = all_below-root (StandsAt g w h) t at.1 in
       let x = most_given g turns t in
       let each : sum_below g.physical.workers (given (over n t) at.0) ≤ g.physical.workers * one_bound (g.ops.kind n) x (turns n) =
       sum-const g.physical.workers (one_bound (g.ops.kind n) x (turns n)) (given (over n t) at.0) (λ k less.
@@ -202,8 +202,8 @@ module _ (g : Setting) (turns : ℕ → ℕ → ℕ) (w : World) (h : History) (
   sound (both n t u) at =
       let below_t = sound t at.1 in
       let below_u = sound u at.2 in
-      let at_t = at_top (StandsAt g w h) t at.1 in
-      let at_u = at_top (StandsAt g w h) u at.2 in
+      let at_t = all_below-root (StandsAt g w h) t at.1 in
+      let at_u = all_below-root (StandsAt g w h) u at.2 in
       let x = most_given g turns t in
       let y = most_given g turns u in
       let each : sum_below g.physical.workers (given (both n t u) at.0) ≤ g.physical.workers * two_bound (g.ops.kind n) x y (turns n) =
@@ -222,7 +222,7 @@ module _ (g : Setting) (turns : ℕ → ℕ → ℕ) (w : World) (h : History) (
   few_put : (t : PlanTree) (at : AllBelow (StandsAt g w h) t) → notes_on g h.put (root_of t) ≤ g.physical.workers * most_given g turns t + g.physical.workers * g.physical.workers
   unfolding given
   few_put t at =
-      let top = at_top (StandsAt g w h) t at in
+      let top = all_below-root (StandsAt g w h) t at in
       let n = g.physical.workers in
       let each : notes_on g h.put (root_of t) ≤ sum_below n (λ f. n * (given t top f + 1)) =
       sum-le n (λ f. sum_below n (λ to. length (h.put (root_of t) f to))) (λ f. n * (given t top f + 1)) (λ f less.

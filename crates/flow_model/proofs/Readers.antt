@@ -9,7 +9,8 @@ use Rattle.plan_trees.proofs.NodesOfTrees.{nodes-has}
 use Rattle.plan_trees.proofs.SubtreesOfPlans.{has-root, root_of-subtree}
 use Rattle.flow_model.specs.Spots.{Port, Setting, port_from, ports_of}
 use Rattle.flow_model.specs.Worlds.{reader_of, first_of}
-use Rattle.flow_model.proofs.Trees.{Reads, at_each, other_than, read}
+use Rattle.plan_trees.proofs.EverySubtree.{all_below-at, other_than}
+use Rattle.flow_model.proofs.Trees.{Reads, read}
 
 abbrev pub port_for : Setting → ℕ → Port
 port_for g e = record { edge = e; ship = get_or g.physical.ships e Forward }
@@ -27,7 +28,7 @@ port_read g f (both n t u) (suc (suc port)) q r e = absurd (let none : None ≡ 
 pub reader_at : (g : Setting) (tree : PlanTree) (at port : ℕ) (q : Port) → AreDifferent (nodes tree) → has at tree ≡ true → slice_get (ports_of g.physical (subtree_of at tree)) port ≡ Some q
     → reader_of q.edge tree ≡ Some (at, port)
 reader_at g tree at port q d there e =
-    port_read g (λ x. reader_of x tree) (subtree_of at tree) port q (at_each (Reads (λ x. reader_of x tree)) tree (read tree d) at there) e
+    port_read g (λ x. reader_of x tree) (subtree_of at tree) port q (all_below-at (Reads (λ x. reader_of x tree)) at tree (read tree d) there) e
     ∙ ap (λ (n : ℕ). Some (n, port)) (root_of-subtree at tree there)
 
 pub some_first : (a b i j : ℕ) → ◌≡◌ {A = Option (ℕ × ℕ)} (Some (a, i)) (Some (b, j)) → a ≡ b

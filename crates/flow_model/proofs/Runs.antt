@@ -20,7 +20,8 @@ use Rattle.flow_model.proofs.Counting.{step_counted}
 use Rattle.flow_model.proofs.Events.{step_stands}
 use Rattle.flow_model.proofs.Marks.{eq_or}
 use Rattle.flow_model.proofs.Stuck.{AreIdle, IsIdle, IsReader, StandsAt, drained, edge_at, fed_whole, is_reader, nothing_there, root_putless}
-use Rattle.flow_model.proofs.Trees.{AllBelow, Reads, all_subtrees, at_top, each_below, edges, read, within}
+use Rattle.plan_trees.proofs.EverySubtree.{AllBelow, all_below, all_below-root}
+use Rattle.flow_model.proofs.Trees.{Reads, each_below, edges, read, within}
 use Rattle.plan_trees.proofs.SubtreesOfPlans.{root_of-subtree}
 
 -- ---- lists of events
@@ -141,10 +142,10 @@ pub some_event : (g : Setting) (depth : ℕ) (w : World) (h : History) → AreDi
     → (e : Event) × (enabled g.physical depth w e ≡ true)
 some_event g depth w h d some st at k there below undone =
     let tree = g.physical.tree in
-    let all = all_subtrees (StandsAt g w h) tree d (λ m in_tree j lt. subst (λ (n : ℕ). LocalAt g w h (subtree_of m tree) n j) (sym (root_of-subtree m tree in_tree)) (st.instances m j in_tree lt)) in
+    let all = all_below (StandsAt g w h) tree d (λ m in_tree j lt. subst (λ (n : ℕ). LocalAt g w h (subtree_of m tree) n j) (sym (root_of-subtree m tree in_tree)) (st.instances m j in_tree lt)) in
     elim (everywhere g depth w h some st.pipe tree (within (λ m. has m tree ≡ true) tree (λ m t. t)) (read tree d)) as (λ _. (e : Event) × (enabled g.physical depth w e ≡ true)) [
       | inl f ↦ f
       | inr idle ↦
-          let done = drained g depth w h some st.pipe tree all idle (fed_whole g depth w h some st.pipe tree (edges tree d)) (root_putless g depth w h some st.pipe tree refl (at_top (StandsAt g w h) tree all)) in
+          let done = drained g depth w h some st.pipe tree all idle (fed_whole g depth w h some st.pipe tree (edges tree d)) (root_putless g depth w h some st.pipe tree refl (all_below-root (StandsAt g w h) tree all)) in
           absurd (undone (each_below (λ n. (j : ℕ) → j < g.physical.workers → want (w.instance n j) ≡ Done) tree done at there k below))
     ]

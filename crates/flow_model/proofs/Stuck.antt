@@ -18,7 +18,8 @@ use Rattle.flow_model.specs.Spots.{Port, Setting, Spot, has_out, port_from, port
 use Rattle.flow_model.specs.declared.notes.Event.TheVariants as events
 use Rattle.flow_model.specs.Worlds.{World, History, LocalAt, IsStuck, AreDone, does_want, reader_of, lists_at}
 use Rattle.flow_model.proofs.Marks.{nothing_behind, all_below_none, all_below_from, takes_first, takes_second, ends, finished_by, put_to}
-use Rattle.flow_model.proofs.Trees.{AllBelow, Inside, HasEdge, Reads, all_subtrees, at_top, each_below, edges, inside_of, read, within}
+use Rattle.plan_trees.proofs.EverySubtree.{AllBelow, all_below, all_below-root}
+use Rattle.flow_model.proofs.Trees.{Inside, HasEdge, Reads, each_below, edges, inside_of, read, within}
 use Rattle.plan_trees.proofs.SubtreesOfPlans.{has-root}
 
 -- the edge that comes in at a port
@@ -171,26 +172,26 @@ module _ (g : Setting) (depth : ℕ) (w : World) (h : History) (some : 1 ≤ dep
   drained (leaf n) at idle fed putless =
       at_last (leaf n) idle putless (no_port (leaf n) 0 at refl) (no_port (leaf n) 1 at refl)
   drained (over n t) at idle fed putless =
-      let at_t = at_top (StandsAt g w h) t at.1 in
-      let idle_t = at_top AreIdle t idle.1 in
+      let at_t = all_below-root (StandsAt g w h) t at.1 in
+      let idle_t = all_below-root AreIdle t idle.1 in
       let waits = waits_first (over n t) putless in
       let quiet : ArePutless t = no_puts (over n t) 0 t fed.0 at.0 at_t idle.0 idle_t waits in
       let rest = drained t at.1 idle.1 fed.1 quiet in
-      let first = all_taken (over n t) 0 t fed.0 at.0 at_t idle.0 (at_top DoneAt t rest) waits in
+      let first = all_taken (over n t) 0 t fed.0 at.0 at_t idle.0 (all_below-root DoneAt t rest) waits in
       (at_last (over n t) idle.0 putless first (no_port (over n t) 1 at.0 refl), rest)
   drained (both n t u) at idle fed putless =
-      let at_t = at_top (StandsAt g w h) t at.1 in
-      let idle_t = at_top AreIdle t idle.1 in
+      let at_t = all_below-root (StandsAt g w h) t at.1 in
+      let idle_t = all_below-root AreIdle t idle.1 in
       let waits = waits_first (both n t u) putless in
       let quiet : ArePutless t = no_puts (both n t u) 0 t fed.0.0 at.0 at_t idle.0 idle_t waits in
       let left = drained t at.1 idle.1 fed.1 quiet in
-      let first = all_taken (both n t u) 0 t fed.0.0 at.0 at_t idle.0 (at_top DoneAt t left) waits in
-      let at_u = at_top (StandsAt g w h) u at.2 in
-      let idle_u = at_top AreIdle u idle.2 in
+      let first = all_taken (both n t u) 0 t fed.0.0 at.0 at_t idle.0 (all_below-root DoneAt t left) waits in
+      let at_u = all_below-root (StandsAt g w h) u at.2 in
+      let idle_u = all_below-root AreIdle u idle.2 in
       let waits_u = waits_second (both n t u) putless first in
       let quiet_u : ArePutless u = no_puts (both n t u) 1 u fed.0.1 at.0 at_u idle.0 idle_u waits_u in
       let right = drained u at.2 idle.2 fed.2 quiet_u in
-      let second = all_taken (both n t u) 1 u fed.0.1 at.0 at_u idle.0 (at_top DoneAt u right) waits_u in
+      let second = all_taken (both n t u) 1 u fed.0.1 at.0 at_u idle.0 (all_below-root DoneAt u right) waits_u in
       (at_last (both n t u) idle.0 putless first second, left, right)
 
   -- ---- what is stuck is idle
@@ -198,13 +199,13 @@ module _ (g : Setting) (depth : ℕ) (w : World) (h : History) (some : 1 ≤ dep
   pub fed_whole : (t : PlanTree) → Inside (HasEdge g.physical.tree) t → AllBelow IsFedWhole t
   fed_whole (leaf n) e = tt
   fed_whole (over n t) e = (
-    record { port = refl; edge = refl; below = omega arith; is_edge = at_top (HasEdge g.physical.tree) t e },
+    record { port = refl; edge = refl; below = omega arith; is_edge = all_below-root (HasEdge g.physical.tree) t e },
     fed_whole t (inside_of (HasEdge g.physical.tree) t e),
   )
   fed_whole (both n t u) e = (
     (
-      record { port = refl; edge = refl; below = omega arith; is_edge = at_top (HasEdge g.physical.tree) t e.0 },
-      record { port = refl; edge = refl; below = omega arith; is_edge = at_top (HasEdge g.physical.tree) u e.1 },
+      record { port = refl; edge = refl; below = omega arith; is_edge = all_below-root (HasEdge g.physical.tree) t e.0 },
+      record { port = refl; edge = refl; below = omega arith; is_edge = all_below-root (HasEdge g.physical.tree) u e.1 },
     ),
     fed_whole t (inside_of (HasEdge g.physical.tree) t e.0),
     fed_whole u (inside_of (HasEdge g.physical.tree) u e.1),
@@ -257,8 +258,8 @@ module _ (g : Setting) (depth : ℕ) (w : World) (h : History) (some : 1 ≤ dep
   pub stuck_is_done : AreDifferent (nodes g.physical.tree) → ((at : ℕ) → has at g.physical.tree ≡ true → StandsAt g w h (subtree_of at g.physical.tree)) → IsStuck g.physical depth w → AreDone g.physical w
   stuck_is_done different instances stuck =
       let tree = g.physical.tree in
-      let at = all_subtrees (StandsAt g w h) tree different instances in
+      let at = all_below (StandsAt g w h) tree different instances in
       let there = within (λ m. has m tree ≡ true) tree (λ m t. t) in
       let idles = idle_all tree stuck there (read tree different) in
-      let done = drained tree at idles (fed_whole tree (edges tree different)) (root_putless tree refl (at_top (StandsAt g w h) tree at)) in
+      let done = drained tree at idles (fed_whole tree (edges tree different)) (root_putless tree refl (all_below-root (StandsAt g w h) tree at)) in
       λ m k has_m below. each_below (λ n. (j : ℕ) → j < g.physical.workers → want (w.instance n j) ≡ Done) tree done m has_m k below

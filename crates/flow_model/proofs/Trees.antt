@@ -1,57 +1,16 @@
 -- What holds of each subtree.
-use Rattle.std.proofs.Common.{◌≡◌, ◌++◌, ◌||◌, ◌==◌, inl, inr, ℕ, true, false, Some, None, Option, List, refl, subst, sym}
-use Rattle.std.proofs.lemmas.Bool.{cases_Bool, eq-eqb, eqb-true, false_from_ne_true, ne_eqb, or_cases, or_left, or_right, or_parts}
-use Rattle.plan_trees.specs.Distinct.{AreDifferent, IsAbsent}
-use Rattle.plan_trees.specs.Plans.{PlanTree, leaf, over, both, has, nodes, root_of, subtree_of}
+use Rattle.std.proofs.Common.{◌≡◌, ◌++◌, ◌||◌, ◌==◌, inl, inr, ℕ, true, false, Some, None, Option, refl, subst, sym}
+use Rattle.std.proofs.lemmas.Bool.{eq-eqb, eqb-true, false_from_ne_true, or_cases, or_left, or_right, or_parts}
+use Rattle.plan_trees.specs.Distinct.{AreDifferent}
+use Rattle.plan_trees.specs.Plans.{PlanTree, leaf, over, both, has, nodes, root_of}
 use Rattle.plan_trees.specs.Physicals.{has_edge}
-use Rattle.plan_trees.proofs.DifferentNumbers.{AreDifferent-parts, IsAbsent-not, IsIn, IsIn-left, IsIn-right}
+use Rattle.plan_trees.proofs.DifferentNumbers.{AreDifferent-parts, IsIn-left, IsIn-right}
+use Rattle.plan_trees.proofs.EverySubtree.{AllBelow, other_than}
 use Rattle.plan_trees.proofs.NodesOfTrees.{nodes-has}
 use Rattle.plan_trees.proofs.SubtreesOfPlans.{has-root}
 use Rattle.flow_model.specs.Worlds.{reader_of}
 
--- a fact of a tree and of all trees below it
-abbrev pub AllBelow : (PlanTree → Type 0) → PlanTree → Type 0
-AllBelow P (leaf n) = P (leaf n)
-AllBelow P (over n t) = P (over n t) × AllBelow P t
-AllBelow P (both n t u) = P (both n t u) × AllBelow P t × AllBelow P u
-
-abbrev pub at_top : (P : PlanTree → Type 0) (t : PlanTree) → AllBelow P t → P t
-at_top P (leaf n) h = h
-at_top P (over n t) h = h.0
-at_top P (both n t u) h = h.0
-
-pub other_than : (n m : ℕ) (ms : List ℕ) → IsAbsent n ms → IsIn m ms → (m == n) ≡ false
-other_than n m ms a i = ne_eqb m n (λ e. IsAbsent-not n ms a (subst (λ (k : ℕ). IsIn k ms) e i))
-
--- what holds of each subtree that a number of the tree names
-pub all_subtrees : (P : PlanTree → Type 0) (t : PlanTree) → AreDifferent (nodes t) → ((m : ℕ) → has m t ≡ true → P (subtree_of m t)) → AllBelow P t
-all_subtrees P (leaf n) d h = h n (eq-eqb n n refl)
-all_subtrees P (over n t) d h =
-    let self = eq-eqb n n refl in
-    let here : subtree_of n (over n t) ≡ over n t = rw self refl in (
-      subst P here (h n (or_left (n == n) (has n t) self)),
-      all_subtrees P t d.1 (λ m there.
-          let other = other_than n m (nodes t) d.0 (nodes-has m t there) in
-          let below : subtree_of m (over n t) ≡ subtree_of m t = rw other refl in
-          subst P below (h m (or_right (m == n) (has m t) there))),
-    )
-all_subtrees P (both n t u) d h =
-    let self = eq-eqb n n refl in
-    let here : subtree_of n (both n t u) ≡ both n t u = rw self refl in
-    let parts = AreDifferent-parts (nodes t) (nodes u) d.1 in (
-      subst P here (h n (or_left (n == n) (has n t || has n u) self)),
-      all_subtrees P t parts.0 (λ m there.
-          let other = other_than n m (nodes t ++ nodes u) d.0 (IsIn-left m (nodes t) (nodes u) (nodes-has m t there)) in
-          let below : subtree_of m (both n t u) ≡ subtree_of m t = rw (other, there) refl in
-          subst P below (h m (or_right (m == n) (has m t || has m u) (or_left (has m t) (has m u) there)))),
-      all_subtrees P u parts.1 (λ m there.
-          let other = other_than n m (nodes t ++ nodes u) d.0 (IsIn-right m (nodes t) (nodes u) (nodes-has m u there)) in
-          let elsewhere = false_from_ne_true (has m t) (λ (left : has m t ≡ true). parts.2 m (nodes-has m t left) (nodes-has m u there)) in
-          let below : subtree_of m (both n t u) ≡ subtree_of m u = rw (other, elsewhere) refl in
-          subst P below (h m (or_right (m == n) (has m t || has m u) (or_right (has m t) (has m u) there)))),
-    )
-
--- and the other way
+-- what holds of each root holds of each number
 pub each_below : (P : ℕ → Type 0) (t : PlanTree) → AllBelow (λ s. P (root_of s)) t → (m : ℕ) → has m t ≡ true → P m
 each_below P (leaf n) h m there = subst P (sym (eqb-true m n there)) h
 each_below P (over n t) h m there = elim (or_cases (m == n) (has m t) there) as (λ _. P m) [
@@ -63,21 +22,6 @@ each_below P (both n t u) h m there = elim (or_cases (m == n) (has m t || has m 
   | inr below ↦ elim (or_cases (has m t) (has m u) below) as (λ _. P m) [
     | inl left ↦ each_below P t h.1 m left
     | inr right ↦ each_below P u h.2 m right
-  ]
-]
-
--- what holds of all trees below holds of each that a number names
-pub at_each : (P : PlanTree → Type 0) (t : PlanTree) → AllBelow P t → (m : ℕ) → has m t ≡ true → P (subtree_of m t)
-at_each P (leaf n) h m there = h
-at_each P (over n t) h m there = elim (cases_Bool (m == n)) as (λ _. P (subtree_of m (over n t))) [
-  | inl e ↦ rw e h.0
-  | inr e ↦ rw e (at_each P t h.1 m (simp e at there))
-]
-at_each P (both n t u) h m there = elim (cases_Bool (m == n)) as (λ _. P (subtree_of m (both n t u))) [
-  | inl e ↦ rw e h.0
-  | inr e ↦ elim (cases_Bool (has m t)) as (λ _. P (subtree_of m (both n t u))) [
-    | inl l ↦ rw (e, l) (at_each P t h.1 m l)
-    | inr l ↦ rw (e, l) (at_each P u h.2 m (simp (e, l) at there))
   ]
 ]
 

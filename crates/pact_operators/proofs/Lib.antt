@@ -32,7 +32,6 @@ pub mod SmallerContexts
 pub mod CalledFunctions
 pub mod EachOfGroups
 pub mod LawfulBags
-pub mod EverySubtree
 pub mod ChosenForKeys
 pub mod PermutedEvaluations
 pub mod DifferentNames

@@ -15,7 +15,7 @@ use Rattle.pact_operators.specs.Programs.{AreSidesApart, Follows, HasArity, IsPl
 use Rattle.pact_operators.specs.Resolved.{Inputs, no_input, one_input, two_inputs, function_names, inputs_of, inputs_read, node_names, ops_of, place_among, times_among}
 use Rattle.pact_operators.proofs.FewDeclarations.{length-ops_of}
 use Rattle.pact_operators.proofs.EachDecl.{none-at}
-use Rattle.pact_operators.proofs.EverySubtree.{AllBelow, all_below}
+use Rattle.plan_trees.proofs.EverySubtree.{AllBelow, all_below}
 use Rattle.pact_operators.proofs.OnePlan.{root_within}
 use Rattle.pact_operators.proofs.NamedInputs.{length-inputs_of, only_place}
 

@@ -1,5 +1,6 @@
 pub mod DifferentNumbers
 pub mod NodesOfTrees
+pub mod EverySubtree
 pub mod RootParts
 pub mod BelowRoot
 pub mod FewNodes

@@ -13,7 +13,7 @@ use Rattle.pact_operators.specs.Inputs.{AreInputsOf}
 use Rattle.pact_operators.specs.PlanOps.{PlanOps, plan_ops}
 use Rattle.pact_operators.specs.Programs.{AreSidesApart, HasAttribute, IsProgram, ProgramData}
 use Rattle.pact_operators.specs.SoundOps.{AreOpsOf}
-use Rattle.pact_operators.proofs.EverySubtree.{AllBelow, all_below-root}
+use Rattle.plan_trees.proofs.EverySubtree.{AllBelow, all_below-root}
 use Rattle.pact_operators.proofs.LawfulBags.{lawful_bags}
 use Rattle.pact_operators.proofs.PermutedEvaluations.{evaluates_allowed, evaluates_permuted}
 use Rattle.pact_operators.proofs.SoundPrograms.{are_ops}

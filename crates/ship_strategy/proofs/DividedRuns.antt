@@ -1,5 +1,5 @@
 -- A physical plan of a program with legal ships, of which every instance gave its share: its records meet, and it is one evaluation of the plan, counted.
-use Rattle.std.proofs.Common.{◌≡◌, ◌≤◌, ◌+◌, ◌∙◌, ℕ, zero, suc, true, Some, List, [], ◌∷◌, fold, length, map, slice_get, refl, sym, ap, subst, arith, length-append}
+use Rattle.std.proofs.Common.{◌≡◌, ◌≤◌, ◌+◌, ◌∙◌, ℕ, zero, suc, true, Some, List, fold, length, map, slice_get, sym, ap, subst, arith, length-append}
 use Rattle.pact_record.proofs.Permutations.{from_permutation}
 use Rattle.plan_trees.specs.Physicals.{IsPhysical, PhysicalData, forwarded, ship_of}
 use Rattle.plan_trees.specs.Plans.{PlanTree, IsPlan, leaf, over, both, has, root_of}
@@ -10,7 +10,7 @@ use Rattle.pact_operators.specs.Divided.{IsDivided, Shares, count_given}
 use Rattle.pact_operators.specs.Inputs.{AreInputsOf}
 use Rattle.pact_operators.specs.PlanOps.{kind_at, left_keys_in, plan_ops, right_keys_in}
 use Rattle.pact_operators.specs.Programs.{IsPlanOf, IsProgram, ProgramData}
-use Rattle.pact_operators.proofs.EverySubtree.{AllBelow, all_below, all_below-at, all_below-root}
+use Rattle.plan_trees.proofs.EverySubtree.{AllBelow, all_below, all_below-at, all_below-root}
 use Rattle.pact_operators.proofs.PermutedEvaluations.{evaluates_permuted}
 use Rattle.ship_strategy.specs.Facts.{NodeFacts}
 use Rattle.ship_strategy.specs.Layouts.{layout_of, ways_of}

@@ -15,7 +15,7 @@ use Rattle.pact_operators.specs.Allowed.{Bag, CoGrouped, Gives, GivesBoth, Group
 use Rattle.pact_operators.specs.Divided.{GaveShare, IsDivided, IsReceived, Shares, count_given}
 use Rattle.pact_operators.specs.PlanOps.{PlanOps, kind_in, plan_ops}
 use Rattle.pact_operators.specs.Programs.{HasArity, IsPlanOf, ProgramData, Takes, takes}
-use Rattle.pact_operators.proofs.EverySubtree.{AllBelow, all_below, all_below-at, all_below-root}
+use Rattle.plan_trees.proofs.EverySubtree.{AllBelow, all_below, all_below-at, all_below-root}
 
 -- ---- something that an operator may give
 

@@ -4,7 +4,7 @@ use Rattle.plan_trees.specs.Distinct.{AreDifferent}
 use Rattle.plan_trees.specs.Plans.{PlanTree, has, nodes, root_of, subtree_of}
 use Rattle.plan_trees.proofs.SubtreesOfPlans.{root_of-subtree}
 use Rattle.pact_operators.specs.Programs.{ProgramData}
-use Rattle.pact_operators.proofs.EverySubtree.{AllBelow, all_below}
+use Rattle.plan_trees.proofs.EverySubtree.{AllBelow, all_below}
 use Rattle.ship_strategy.specs.PlanFacts.{facts_at, facts_of}
 
 pub facts_below : (p : ProgramData) (t : PlanTree) → AreDifferent (nodes t) → AllBelow (λ s. facts_of p t (root_of s) ≡ facts_at p s) t

@@ -12,7 +12,7 @@ AllBelow P (leaf n) = P (leaf n)
 AllBelow P (over n t) = P (over n t) × AllBelow P t
 AllBelow P (both n t u) = P (both n t u) × AllBelow P t × AllBelow P u
 
-other_than : (n m : ℕ) (ms : List ℕ) → IsAbsent n ms → IsIn m ms → (m == n) ≡ false
+pub other_than : (n m : ℕ) (ms : List ℕ) → IsAbsent n ms → IsIn m ms → (m == n) ≡ false
 other_than n m ms a i = ne_eqb m n (λ e. IsAbsent-not n ms a (subst (λ (k : ℕ). IsIn k ms) e i))
 
 -- what holds of each subtree that a number of the tree names
@@ -44,7 +44,7 @@ all_below P (both n t u) d h =
     )
 
 -- of the tree itself
-pub all_below-root : (P : PlanTree → Type 0) (t : PlanTree) → AllBelow P t → P t
+abbrev pub all_below-root : (P : PlanTree → Type 0) (t : PlanTree) → AllBelow P t → P t
 all_below-root P (leaf n) h = h
 all_below-root P (over n t) h = h.0
 all_below-root P (both n t u) h = h.0
