@@ -7,11 +7,11 @@ use Rattle.pact_operators.specs.Programs.{HasArity, HasKeyLists, IsKindFor, IsPr
 use Rattle.pact_operators.proofs.CalledFunctions.{is_called}
 use Rattle.pact_record.specs.Widths.{AreBelow}
 use Rattle.plan_trees.proofs.InPlace.{GoesDown, down}
-use Rattle.plan_trees.proofs.RootParts.{is_both, is_leaf, is_over}
+use Rattle.plan_trees.proofs.RootParts.{is_both, is_over}
 use Rattle.plan_trees.proofs.SubtreesOfPlans.{has-root, root_of-subtree}
 use Rattle.plan_trees.specs.PlanParts.{parts_of}
 use Rattle.plan_trees.specs.Plans.{PlanTree, leaf, over, both, has, root_of, subtree_of}
-use Rattle.plan_trees.specs.declared.plans.Parts.TheVariants.{Alone, OverOne, OverTwo}
+use Rattle.plan_trees.specs.declared.plans.Parts.TheVariants.{OverOne, OverTwo}
 use Rattle.tac_syntax.specs.Valid.{WithFields}
 use Rattle.tac_syntax.specs.declared.declarations.OpKind.{OpKind}
 use Rattle.tac_syntax.specs.declared.declarations.OpKind.TheVariants.{Source}

@@ -14,6 +14,7 @@ use Rattle.pact_operators.specs.Allowed.{Bag, count_of}
 use Rattle.pact_operators.specs.PlanOps.{PlanOps, body_at, is_source_kind, kind_at, kind_in, left_keys_in, plan_ops, right_keys_in}
 use Rattle.pact_operators.specs.Programs.{HasArity, HasKeyLists, IsKindFor, ProgramData, takes}
 use Rattle.pact_operators.specs.declared.operators.Op.{Op}
+use Rattle.pact_operators.proofs.SourceRows.{takes_none}
 use Rattle.pact_record.specs.Widths.{AreBelow, AreWide}
 use Rattle.plan_trees.proofs.SubtreesOfPlans.{root_of-subtree}
 use Rattle.plan_trees.specs.Physicals.{PhysicalData, ship_at}
@@ -93,14 +94,6 @@ no_third : (physical : PhysicalData) (u : PlanTree) (port : ℕ) → slice_get (
 no_third physical (leaf n) port = refl
 no_third physical (over n t) port = refl
 no_third physical (both n t u) port = refl
-
-pub takes_none : (kind : OpKind) → takes kind ≡ 0 → kind ≡ Source
-takes_none Source h = refl
-takes_none Map h = absurd (omega (arith, h))
-takes_none Reduce h = absurd (omega (arith, h))
-takes_none Match h = absurd (omega (arith, h))
-takes_none Cross h = absurd (omega (arith, h))
-takes_none CoGroup h = absurd (omega (arith, h))
 
 own_pipe : (ship : Ship) (worker : ℕ) → has_pipe ship worker worker ≡ true
 own_pipe Forward worker = eq-eqb worker worker refl

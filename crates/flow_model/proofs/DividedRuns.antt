@@ -1,10 +1,9 @@
 -- What a finished run gives is divided among its instances.
-use Rattle.std.proofs.Common.{◌≡◌, ◌<◌, ◌+◌, ◌||◌, inl, inr, ℕ, zero, suc, Bool, true, false, Option, Some, None, List, [], ◌∷◌, ◌++◌, fold, length, map, slice_get, sum, refl, ap, sym, ◌∙◌, subst, append-nil, arith}
+use Rattle.std.proofs.Common.{◌≡◌, ◌<◌, ◌+◌, ◌||◌, inl, inr, ℕ, zero, suc, Bool, true, false, Option, Some, None, List, [], ◌++◌, fold, length, map, slice_get, sum, refl, ap, sym, ◌∙◌, subst, append-nil, arith}
 use Rattle.std.proofs.lemmas.Bool.{and_from, and_parts, and_right, cases_Bool, cases_lt, or_right}
 use Rattle.std.proofs.lemmas.List.Sorted.{IsPermutation-refl}
 use Rattle.std.specs.List.Sorted.{IsPermutation}
-use Rattle.tac_syntax.specs.declared.declarations.OpKind.{OpKind}
-use Rattle.tac_syntax.specs.declared.declarations.OpKind.TheVariants.{Source, Map, Reduce, Match, Cross, CoGroup}
+use Rattle.tac_syntax.specs.declared.declarations.OpKind.TheVariants.{Source}
 use Rattle.plan_trees.specs.declared.physicals.Ship.{Ship}
 use Rattle.plan_trees.specs.Distinct.{AreDifferent}
 use Rattle.plan_trees.specs.Physicals.{IsPhysical, PhysicalData, has_edge, ship_at, ship_of}
@@ -14,7 +13,8 @@ use Rattle.plan_trees.proofs.SubtreesOfPlans.{has-root, root_of-subtree, same_nu
 use Rattle.pact_operators.specs.Allowed.{Bag, count_of}
 use Rattle.pact_operators.specs.Divided.{GaveShare, IsDivided, IsReceived, Shares, count_given}
 use Rattle.pact_operators.specs.PlanOps.{PlanOps, kind_in, plan_ops}
-use Rattle.pact_operators.specs.Programs.{HasArity, IsPlanOf, ProgramData, takes}
+use Rattle.pact_operators.specs.Programs.{HasArity, IsPlanOf, ProgramData}
+use Rattle.pact_operators.proofs.SourceRows.{takes_none}
 use Rattle.flow_model.specs.declared.notes.Note.{Note}
 use Rattle.flow_model.specs.declared.notes.Want.TheVariants.{Done}
 use Rattle.flow_model.specs.Instances.{Instance, all_ended, port_ended, want}
@@ -176,14 +176,6 @@ module _ (g : Setting) (rows : Bag) (counts : List ℕ) (run : Spread g rows cou
       }
 
 -- ---- of a program
-
-takes_none : (kind : OpKind) → takes kind ≡ 0 → kind ≡ Source
-takes_none Source e = refl
-takes_none Map e = absurd (omega (arith, e))
-takes_none Reduce e = absurd (omega (arith, e))
-takes_none Match e = absurd (omega (arith, e))
-takes_none Cross e = absurd (omega (arith, e))
-takes_none CoGroup e = absurd (omega (arith, e))
 
 source_leaves : (p : ProgramData) (inputs : List Bag) (t : PlanTree) → HasArity p.ops t → AllBelow (LeafIsSource (plan_ops p inputs)) t
 source_leaves p inputs (leaf n) h = ap kind_in h.1 ∙ takes_none h.0.kind h.2

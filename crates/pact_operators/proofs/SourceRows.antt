@@ -4,7 +4,7 @@ use Rattle.std.specs.List.{AllByRecursion}
 use Rattle.pact_bag.specs.SourceRows.{AreSourceRows, IsSourceRow}
 use Rattle.pact_record.specs.declared.columns.Column.{Column}
 use Rattle.tac_syntax.specs.declared.declarations.OpKind.{OpKind}
-use Rattle.tac_syntax.specs.declared.declarations.OpKind.TheVariants.{Source, Map, Reduce, Match, Cross, CoGroup}
+use Rattle.tac_syntax.specs.declared.declarations.OpKind.TheVariants.{Source}
 use Rattle.pact_operators.specs.declared.operators.Op.{Op}
 use Rattle.pact_operators.specs.Inputs.{HaveRows}
 use Rattle.pact_operators.specs.PlanOps.{is_source_kind, kind_at, kind_in, source_place, sources_of}
@@ -13,13 +13,9 @@ use Rattle.pact_record.specs.declared.values.Value.{Value}
 use Rattle.pact_record.specs.Widths.{AreWide}
 use Rattle.pact_record.proofs.Lists.{AllByRecursion-weaker}
 
-takes_none : (kind : OpKind) → takes kind ≡ 0 → kind ≡ Source
+pub takes_none : (kind : OpKind) → takes kind ≡ 0 → kind ≡ Source
 takes_none Source h = refl
-takes_none Map h = absurd (omega (arith, h))
-takes_none Reduce h = absurd (omega (arith, h))
-takes_none Match h = absurd (omega (arith, h))
-takes_none Cross h = absurd (omega (arith, h))
-takes_none CoGroup h = absurd (omega (arith, h))
+takes_none kind h = absurd (omega (arith, h))
 
 pub is_source : (ops : List Op) (n : ℕ) → Takes ops n 0 → kind_at ops n ≡ Source
 is_source ops n t = ap kind_in t.1 ∙ takes_none t.0.kind t.2

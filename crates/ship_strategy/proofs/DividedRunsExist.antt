@@ -15,6 +15,7 @@ use Rattle.pact_operators.specs.Allowed.{Bag, CoGrouped, Gives, GivesBoth, Group
 use Rattle.pact_operators.specs.Divided.{GaveShare, IsDivided, IsReceived, Shares, count_given}
 use Rattle.pact_operators.specs.PlanOps.{PlanOps, kind_in, plan_ops}
 use Rattle.pact_operators.specs.Programs.{HasArity, IsPlanOf, ProgramData, Takes, takes}
+use Rattle.pact_operators.proofs.SourceRows.{takes_none}
 use Rattle.plan_trees.proofs.EverySubtree.{AllBelow, all_below, all_below-at, all_below-root}
 
 -- ---- something that an operator may give
@@ -66,14 +67,6 @@ given_both-GivesBoth o n Match e ls rs = refl
 given_both-GivesBoth o n Cross e ls rs = refl
 given_both-GivesBoth o n CoGroup e ls rs = cogrouped-CoGrouped (o.of_groups n) (o.left_keys n) (o.right_keys n) ls rs (keys_in_either (o.left_keys n) (o.right_keys n) ls rs)
 
-takes_nothing : (kind : OpKind) → takes kind ≡ 0 → kind ≡ Source
-takes_nothing Source e = refl
-takes_nothing Map e = absurd (omega (arith, e))
-takes_nothing Reduce e = absurd (omega (arith, e))
-takes_nothing Match e = absurd (omega (arith, e))
-takes_nothing Cross e = absurd (omega (arith, e))
-takes_nothing CoGroup e = absurd (omega (arith, e))
-
 -- ---- a list of counts
 
 counts_from : ℕ → ℕ → (ℕ → ℕ) → List ℕ
@@ -112,7 +105,7 @@ module _ (p : ProgramData) (inputs : List Bag) (q : PhysicalData) (gave : Shares
 
   all_shares : (t : PlanTree) → HasArity p.ops t → AllBelow IsGiven t → AllBelow (λ s. (w : ℕ) → w < q.workers → GaveShare O q gave s w) t
   unfolding gives
-  all_shares (leaf n) a h = λ w b. (takes_nothing (O.kind n) (kind_takes n 0 a), same_out n w (gives O q (leaf n)) h)
+  all_shares (leaf n) a h = λ w b. (takes_none (O.kind n) (kind_takes n 0 a), same_out n w (gives O q (leaf n)) h)
   all_shares (over n t) a h = (
     λ w b. record {
       rows = arriving (ship_of q t) q.workers (gives O q t) w;
