@@ -1,6 +1,5 @@
 mod Tables
 mod Places
-mod Oks
 mod EnabledEvents
 mod Stepping
 mod Dealing
