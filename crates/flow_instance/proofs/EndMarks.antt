@@ -1,15 +1,16 @@
 -- End marks that an instance takes.
-use Rattle.std.proofs.Common.{◌≡◌, ◌≤◌, ◌+◌, ◌&&◌, ◌==◌, ℕ, zero, suc, Bool, true, false, cond, Some, List, [], ◌∷◌, ◌++◌, length, map, refl, ap, sym, ◌∙◌, subst, arith, append-nil}
+use Rattle.std.proofs.Common.{◌≡◌, ◌≤◌, ◌+◌, ◌&&◌, ◌==◌, ℕ, Bool, true, false, cond, Some, List, [], ◌∷◌, ◌++◌, length, map, refl, ap, sym, ◌∙◌, subst, arith, append-nil}
 use Rattle.std.specs.List.Sorted.{IsPermutation}
 use Rattle.std.proofs.Math.Nat.{add-zero}
 use Rattle.std.proofs.lemmas.List.{length-map}
 use Rattle.std.proofs.lemmas.List.Sorted.{IsPermutation-refl}
 use Rattle.flow_model.proofs.Bags.{is_same, joined}
+use Rattle.flow_model.proofs.Given.{none_at_end}
 use Rattle.flow_model.specs.Instances.{Instance, Part as PartData, all_ended, ended_at, kept_at}
 use Rattle.flow_model.specs.Local.{Calls, Gave, IsGiven, KeepsRows, MayGive, works_at_once}
 use Rattle.flow_model.specs.Notes.{all_below}
 use Rattle.flow_model.specs.Spots.{Port as PortData, Spot}
-use Rattle.flow_model.specs.Steps.{Carry, GivesAtOnce, GivesNow, Mark, Took, kept_with}
+use Rattle.flow_model.specs.Steps.{Carry, GivesNow, Mark, Took, kept_with}
 use Rattle.flow_model.specs.declared.notes.Note.TheVariants.{End}
 use Rattle.pact_operators.specs.Allowed.{Bag, CoGrouped, Grouped, count_of, keys_in, keys_in_either}
 use Rattle.pact_operators.specs.PlanOps.{PlanOps}
@@ -159,19 +160,9 @@ none_if false = refl
 no_more : (kept : ℕ → Bag) (port : ℕ) → kept ≡ kept_with kept port End
 no_more kept port = λ i p. sym (ap (λ (l : Bag). kept p ++ l) (none_if (p == port)) ∙ append-nil (kept p)) i
 
-gives_end : (s : Spot) (kind : OpKind) (port : ℕ) (kept out : Bag) → out ≡ [] → GivesAtOnce s kind port kept End out
-gives_end s Source port kept out e = e
-gives_end s Map port kept out e = e
-gives_end s Reduce port kept out e = e
-gives_end s Match zero kept out e = e
-gives_end s Match (suc port) kept out e = e
-gives_end s Cross zero kept out e = e
-gives_end s Cross (suc port) kept out e = e
-gives_end s CoGroup port kept out e = e
-
 -- not the last one
 gives_nothing : (b : Bool) (s : Spot) (worker : ℕ) (i j : Instance) (port : ℕ) → all_ended j ≡ false → GivesNow b s worker i j port End []
-gives_nothing true s worker i j port e = gives_end s s.kind port (kept_at i 0) [] refl
+gives_nothing true s worker i j port e = (none_at_end s s.kind port (kept_at i 0) []).1 refl
 gives_nothing false s worker i j port e = subst (λ (b : Bool). Gave b (IsGiven s s.kind s.ports worker (kept_with (kept_at i) port End)) []) (sym e) refl
 
 end_keeps : (kind : OpKind) (i j : Instance) (port : ℕ) → IsPermutation i.left_kept j.left_kept → j.right_kept ≡ i.right_kept → KeepsRows kind (kept_with (kept_at i) port End) (kept_at j)
@@ -203,7 +194,7 @@ took_more rows keys is_sealed s t port from ready h not_yet = λ ops a.
 
 gives_last : (s : Spot) (worker : ℕ) (i j : Instance) (port : ℕ) (kept : ℕ → Bag) (out : Bag) (b : Bool) → all_ended j ≡ true → IsPermutation (kept_at i 0) (kept 0) → IsPermutation (kept_at i 1) (kept 1) → GivesLast b (IsGiven s s.kind s.ports worker kept) out
     → GivesNow b s worker i j port End out
-gives_last s worker i j port kept out true all p q g = gives_end s s.kind port (kept_at i 0) out g
+gives_last s worker i j port kept out true all p q g = (none_at_end s s.kind port (kept_at i 0) out).1 g
 gives_last s worker i j port kept out false all p q g =
     subst (λ (b : Bool). Gave b (IsGiven s s.kind s.ports worker (kept_with (kept_at i) port End)) out) (sym all)
     (subst (λ (taken : ℕ → Bag). IsGiven s s.kind s.ports worker taken out) (no_more (kept_at i) port)

@@ -1,5 +1,5 @@
 -- What an operator gives for one note more.
-use Rattle.std.proofs.Common.{◌≡◌, ◌==◌, ℕ, zero, suc, Bool, true, false, cond, List, [], ◌∷◌, ◌++◌, length, slice_get, refl, ap, sym, ◌∙◌, subst, append-nil, arith}
+use Rattle.std.proofs.Common.{◌≡◌, ◌↔◌, ◌==◌, ℕ, zero, suc, Bool, true, false, cond, List, [], ◌∷◌, ◌++◌, length, slice_get, refl, ap, sym, ◌∙◌, subst, append-nil, arith}
 use Rattle.std.specs.Prelude.{flat_map}
 use Rattle.std.specs.List.Sorted.{IsPermutation}
 use Rattle.std.proofs.lemmas.List.Concat.{flat_map-append}
@@ -86,20 +86,17 @@ right_next s kind f p q worker rows new kept batch given out into from grown kee
 }
 
 -- for an end mark nothing is given at once
-none_at_end : (s : Spot) (kind : OpKind) (port : ℕ) (kept out : Bag) → GivesAtOnce s kind port kept End out → out ≡ []
-none_at_end s Source port kept out e = e
-none_at_end s Map port kept out e = e
-none_at_end s Reduce port kept out e = e
-none_at_end s Match zero kept out e = e
-none_at_end s Match (suc port) kept out e = e
-none_at_end s Cross zero kept out e = e
-none_at_end s Cross (suc port) kept out e = e
-none_at_end s CoGroup port kept out e = e
+pub none_at_end : (s : Spot) (kind : OpKind) (port : ℕ) (kept out : Bag) → GivesAtOnce s kind port kept End out ↔ (out ≡ [])
+none_at_end s Match zero kept out = ((λ e. e), (λ e. e))
+none_at_end s Match (suc port) kept out = ((λ e. e), (λ e. e))
+none_at_end s Cross zero kept out = ((λ e. e), (λ e. e))
+none_at_end s Cross (suc port) kept out = ((λ e. e), (λ e. e))
+none_at_end s kind port kept out = ((λ e. e), (λ e. e))
 
 pub given_more : (s : Spot) (kind : OpKind) (ports : List Port) (worker port from : ℕ) (note : Note) (rows new kept : ℕ → Bag) (given out : Bag)
     → works_at_once kind ≡ true → is_edge (slice_get ports port) from worker ≡ true → Grown rows port note new → KeepsRows kind rows kept → (port ≡ 0 → rows 1 ≡ [])
     → IsGiven s kind ports worker rows given → GivesAtOnce s kind port (kept 0) note out → IsGiven s kind ports worker new (given ++ out)
-given_more s kind ports worker port from End rows new kept given out w e grown keeps order g o = ended s kind ports worker port rows new given out grown g (none_at_end s kind port (kept 0) out o)
+given_more s kind ports worker port from End rows new kept given out w e grown keeps order g o = ended s kind ports worker port rows new given out grown g ((none_at_end s kind port (kept 0) out).0 o)
 given_more s kind [] worker port from (Batch batch) rows new kept given out w e grown keeps order g o = absurd (cc)
 given_more s kind (p ∷ q ∷ r ∷ ports) worker port from (Batch batch) rows new kept given out w e grown keeps order g o = absurd g.may
 given_more s Source (p ∷ []) worker port from (Batch batch) rows new kept given out w e grown keeps order g o = absurd g.may
