@@ -31,8 +31,8 @@ over_lies whole t n h lies k e =
     let s = above_one n t h in
     lies k (s.whole k e) (λ d. s.root (subst (λ (x : ℕ). has x t ≡ true) d e))
 
-pub inner_one : (whole s t : PlanTree) (n : ℕ) (p : Parts) → p ≡ parts_of s → p ≡ OverOne n t → IsPlan s → EdgesLieIn s whole → IsInner whole s t
-inner_one whole s t n p e f h lies =
+pub inner_one : (whole : PlanTree) {s t : PlanTree} {n : ℕ} {p : Parts} → p ≡ parts_of s → p ≡ OverOne n t → IsPlan s → EdgesLieIn s whole → IsInner whole s t
+inner_one whole {s = s} {t = t} {n = n} e f h lies =
     let same : s ≡ over n t = is_over s t n (sym f ∙ e) in
     let less : count_of t < count_of s = omega (arith, ap count_of same) in
     inner whole s t less (over_lies whole t n (subst IsPlan same h) (subst (λ (x : PlanTree). EdgesLieIn x whole) same lies))
@@ -47,14 +47,14 @@ right_lies whole t u n h lies k e =
     let s = above_two n t u h in
     lies k (s.right_whole k e) (λ d. s.right_root (subst (λ (x : ℕ). has x u ≡ true) d e))
 
-pub inner_left : (whole s t u : PlanTree) (n : ℕ) (p : Parts) → p ≡ parts_of s → p ≡ OverTwo n t u → IsPlan s → EdgesLieIn s whole → IsInner whole s t
-inner_left whole s t u n p e f h lies =
+pub inner_left : (whole : PlanTree) {s t u : PlanTree} {n : ℕ} {p : Parts} → p ≡ parts_of s → p ≡ OverTwo n t u → IsPlan s → EdgesLieIn s whole → IsInner whole s t
+inner_left whole {s = s} {t = t} {u = u} {n = n} e f h lies =
     let same : s ≡ both n t u = is_both s t u n (sym f ∙ e) in
     let less : count_of t < count_of s = omega (arith, ap count_of same) in
     inner whole s t less (left_lies whole t u n (subst IsPlan same h) (subst (λ (x : PlanTree). EdgesLieIn x whole) same lies))
 
-pub inner_right : (whole s t u : PlanTree) (n : ℕ) (p : Parts) → p ≡ parts_of s → p ≡ OverTwo n t u → IsPlan s → EdgesLieIn s whole → IsInner whole s u
-inner_right whole s t u n p e f h lies =
+pub inner_right : (whole : PlanTree) {s t u : PlanTree} {n : ℕ} {p : Parts} → p ≡ parts_of s → p ≡ OverTwo n t u → IsPlan s → EdgesLieIn s whole → IsInner whole s u
+inner_right whole {s = s} {t = t} {u = u} {n = n} e f h lies =
     let same : s ≡ both n t u = is_both s t u n (sym f ∙ e) in
     let less : count_of u < count_of s = omega (arith, ap count_of same) in
     inner whole s u less (right_lies whole t u n (subst IsPlan same h) (subst (λ (x : PlanTree). EdgesLieIn x whole) same lies))

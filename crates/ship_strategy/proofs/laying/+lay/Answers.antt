@@ -9,53 +9,48 @@ use Rattle.ship_strategy.proofs.laying.+lay.Goals as goal
 
 pub lay-below-requires : goal.lay-below-requires
 lay-below-requires t c =
-    let s = inner_one c.args.physical.now.tree c.args.tree.now c.in-OverOne.input c.in-OverOne.at c.parts.result c.parts.ensures.parts c.in-OverOne.is c.parts.ensures.plan c.requires in
-    let less = s.less in
-    let lies = s.lies in
-    search (rules, less, lies)
+    let s = inner_one c.args.physical.now.tree c.parts.ensures.parts c.in-OverOne.is c.parts.ensures.plan c.requires in
+    search (rules, s.less, s.lies)
 
 pub put-requires-clause-has : goal.put-requires-clause-has
 put-requires-clause-has t c =
-    let s = inner_one c.args.physical.now.tree c.args.tree.now c.in-OverOne.input c.in-OverOne.at c.parts.result c.parts.ensures.parts c.in-OverOne.is c.parts.ensures.plan c.requires in
+    let s = inner_one c.args.physical.now.tree c.parts.ensures.parts c.in-OverOne.is c.parts.ensures.plan c.requires in
     has_moved (root_of c.in-OverOne.input) c.args.physical.now.tree c.lay-below.new.physical.tree c.lay-below.ensures.tree s.there
 
 pub put-requires-clause-edge : goal.put-requires-clause-edge
 put-requires-clause-edge t c =
-    let s = inner_one c.args.physical.now.tree c.args.tree.now c.in-OverOne.input c.in-OverOne.at c.parts.result c.parts.ensures.parts c.in-OverOne.is c.parts.ensures.plan c.requires in
+    let s = inner_one c.args.physical.now.tree c.parts.ensures.parts c.in-OverOne.is c.parts.ensures.plan c.requires in
     edge_moved (root_of c.in-OverOne.input) c.args.physical.now.tree c.lay-below.new.physical.tree c.lay-below.ensures.tree s.edge
 
 pub lay-left_below-requires : goal.lay-left_below-requires
 lay-left_below-requires t c =
-    let s = inner_left c.args.physical.now.tree c.args.tree.now c.in-OverTwo.left c.in-OverTwo.right c.in-OverTwo.at c.parts.result c.parts.ensures.parts c.in-OverTwo.is c.parts.ensures.plan c.requires in
-    let less = s.less in
-    let lies = s.lies in
-    search (rules, less, lies)
+    let s = inner_left c.args.physical.now.tree c.parts.ensures.parts c.in-OverTwo.is c.parts.ensures.plan c.requires in
+    search (rules, s.less, s.lies)
 
 pub lay-right_below-requires : goal.lay-right_below-requires
 lay-right_below-requires t c =
-    let s = inner_right c.args.physical.now.tree c.args.tree.now c.in-OverTwo.left c.in-OverTwo.right c.in-OverTwo.at c.parts.result c.parts.ensures.parts c.in-OverTwo.is c.parts.ensures.plan c.requires in
-    let less = s.less in
+    let s = inner_right c.args.physical.now.tree c.parts.ensures.parts c.in-OverTwo.is c.parts.ensures.plan c.requires in
     let lies = subst (EdgesLieIn c.in-OverTwo.right) (sym c.lay-left_below.ensures.tree) s.lies in
-    search (rules, less, lies)
+    search (rules, s.less, lies)
 
 pub put-requires-in-OverTwo-clause-has : goal.put-requires-in-OverTwo-clause-has
 put-requires-in-OverTwo-clause-has t c =
-    let s = inner_left c.args.physical.now.tree c.args.tree.now c.in-OverTwo.left c.in-OverTwo.right c.in-OverTwo.at c.parts.result c.parts.ensures.parts c.in-OverTwo.is c.parts.ensures.plan c.requires in
+    let s = inner_left c.args.physical.now.tree c.parts.ensures.parts c.in-OverTwo.is c.parts.ensures.plan c.requires in
     has_moved (root_of c.in-OverTwo.left) c.args.physical.now.tree c.lay-right_below.new.physical.tree (c.lay-right_below.ensures.tree ∙ c.lay-left_below.ensures.tree) s.there
 
 pub put-requires-in-OverTwo-clause-edge : goal.put-requires-in-OverTwo-clause-edge
 put-requires-in-OverTwo-clause-edge t c =
-    let s = inner_left c.args.physical.now.tree c.args.tree.now c.in-OverTwo.left c.in-OverTwo.right c.in-OverTwo.at c.parts.result c.parts.ensures.parts c.in-OverTwo.is c.parts.ensures.plan c.requires in
+    let s = inner_left c.args.physical.now.tree c.parts.ensures.parts c.in-OverTwo.is c.parts.ensures.plan c.requires in
     edge_moved (root_of c.in-OverTwo.left) c.args.physical.now.tree c.lay-right_below.new.physical.tree (c.lay-right_below.ensures.tree ∙ c.lay-left_below.ensures.tree) s.edge
 
 pub put-requires-in-OverTwo-2-clause-has : goal.put-requires-in-OverTwo-2-clause-has
 put-requires-in-OverTwo-2-clause-has t c =
-    let s = inner_right c.args.physical.now.tree c.args.tree.now c.in-OverTwo.left c.in-OverTwo.right c.in-OverTwo.at c.parts.result c.parts.ensures.parts c.in-OverTwo.is c.parts.ensures.plan c.requires in
+    let s = inner_right c.args.physical.now.tree c.parts.ensures.parts c.in-OverTwo.is c.parts.ensures.plan c.requires in
     has_moved (root_of c.in-OverTwo.right) c.args.physical.now.tree c.put-in-OverTwo.new.physical.tree (c.put-in-OverTwo.ensures.tree ∙ c.lay-right_below.ensures.tree ∙ c.lay-left_below.ensures.tree) s.there
 
 pub put-requires-in-OverTwo-2-clause-edge : goal.put-requires-in-OverTwo-2-clause-edge
 put-requires-in-OverTwo-2-clause-edge t c =
-    let s = inner_right c.args.physical.now.tree c.args.tree.now c.in-OverTwo.left c.in-OverTwo.right c.in-OverTwo.at c.parts.result c.parts.ensures.parts c.in-OverTwo.is c.parts.ensures.plan c.requires in
+    let s = inner_right c.args.physical.now.tree c.parts.ensures.parts c.in-OverTwo.is c.parts.ensures.plan c.requires in
     edge_moved (root_of c.in-OverTwo.right) c.args.physical.now.tree c.put-in-OverTwo.new.physical.tree (c.put-in-OverTwo.ensures.tree ∙ c.lay-right_below.ensures.tree ∙ c.lay-left_below.ensures.tree) s.edge
 
 pub returns-in-OverTwo-clause-laid : goal.returns-in-OverTwo-clause-laid
