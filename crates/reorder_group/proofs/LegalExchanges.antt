@@ -1,18 +1,15 @@
 -- A legal exchange keeps the answers of a plan, whatever its rule.
-use Rattle.std.proofs.Common.{◌≡◌, inr, ℕ, true, List, slice_get, sym, subst}
+use Rattle.std.proofs.Common.{◌≡◌, inr, ℕ, true, List, slice_get}
 use Rattle.pact_record.specs.FieldSets.{has_field}
 use Rattle.tac_syntax.specs.declared.contexts.Side.TheVariants.{Left as on_left, Right as on_right}
 use Rattle.tac_syntax.specs.Contexts.{Has}
 use Rattle.tac_syntax.specs.Valid.{WithFields}
-use Rattle.tac_flow.specs.Results.{IsAnchoredOn}
-use Rattle.tac_flow.specs.Views.{found_of}
-use Rattle.tac_syntax.specs.declared.declarations.OpKind.{OpKind}
 use Rattle.tac_syntax.specs.declared.declarations.OpKind.TheVariants.{Map, Reduce, CoGroup}
 use Rattle.plan_trees.specs.Plans.{PlanTree, over, both}
 use Rattle.pact_operators.specs.Allowed.{AllowSame, Bag}
 use Rattle.pact_operators.specs.PlanOps.{PlanOps, kind_at, left_keys_in, plan_ops, right_keys_in}
 use Rattle.pact_operators.specs.Programs.{AreSidesApart, HasAttribute, IsPlanOf, IsProgram, ProgramData}
-use Rattle.pact_operators.specs.SoundOps.{AreOpsOf, function_kind}
+use Rattle.pact_operators.specs.SoundOps.{AreOpsOf}
 use Rattle.reorder_pair.specs.declared.finding.Found.{Found}
 use Rattle.reorder_pair.specs.declared.rules.Role.TheVariants.{CoGrouping, Grouping, Mapping}
 use Rattle.reorder_pair.specs.declared.rules.Rule.{Rule}
@@ -20,27 +17,13 @@ use Rattle.reorder_pair.specs.declared.rules.Rule.TheVariants.{MapMap, MapLeft, 
 use Rattle.reorder_pair.specs.Conditions.{IsBoundTo, uses_of}
 use Rattle.reorder_pair.specs.Legal.{IsLegal, KeepAnswers}
 use Rattle.reorder_pair.specs.Rules.{exchanged_by, swapped}
-use Rattle.reorder_pair.proofs.FoundOperators.{IsFoundIn, found_turned, sets_found, used_in}
-use Rattle.reorder_pair.proofs.LegalExchanges.{map_anchored, no_conflict, no_conflict_up, pair_at_root, turned_same}
+use Rattle.reorder_pair.proofs.FoundOperators.{IsFoundIn, found_turned, used_in}
+use Rattle.reorder_pair.proofs.LegalExchanges.{both_found, no_conflict, no_conflict_up, pair_at_root, turned_same}
 use Rattle.reorder_pair.proofs.PermittedExchanges.{NoConflict}
 use Rattle.reorder_pair.proofs.PlacedExchanges.{IsLegalRoot, placed-KeepAnswers}
-use Rattle.reorder_pair.proofs.PlacesOfRules.{plays-operator}
 use Rattle.reorder_group.proofs.FoundGroups.{groups_found}
 use Rattle.reorder_group.proofs.GroupLaws.{cogroup_left_same, cogroup_right_same, reduce_same}
 use Rattle.reorder_group.proofs.PermittedGroups.{PermitsCoGroupLeft, PermitsCoGroupRight, PermitsReduce}
-
--- a Map and a Reduce are anchored on either side, and a CoGroup where that is found
-map_anchored_right : (q : OpKind) (s : Found) → q ≡ Map → IsAnchoredOn (function_kind q) on_right (found_of s.sets)
-map_anchored_right q s e = subst (λ (k : OpKind). IsAnchoredOn (function_kind k) on_right (found_of s.sets)) (sym e) tt
-
-reduce_anchored : (q : OpKind) (s : Found) → q ≡ Reduce → IsAnchoredOn (function_kind q) on_left (found_of s.sets)
-reduce_anchored q s e = subst (λ (k : OpKind). IsAnchoredOn (function_kind k) on_left (found_of s.sets)) (sym e) tt
-
-cogroup_anchored_left : (q : OpKind) (s : Found) → q ≡ CoGroup → s.sets.anchor_left ≡ true → IsAnchoredOn (function_kind q) on_left (found_of s.sets)
-cogroup_anchored_left q s e on = subst (λ (k : OpKind). IsAnchoredOn (function_kind k) on_left (found_of s.sets)) (sym e) on
-
-cogroup_anchored_right : (q : OpKind) (s : Found) → q ≡ CoGroup → s.sets.anchor_right ≡ true → IsAnchoredOn (function_kind q) on_right (found_of s.sets)
-cogroup_anchored_right q s e on = subst (λ (k : OpKind). IsAnchoredOn (function_kind k) on_right (found_of s.sets)) (sym e) on
 
 module _ (p : ProgramData) (program : IsProgram p) (inputs : List Bag) (good : AreOpsOf p.fields p.functions p.ops (plan_ops p inputs)) where
   abbrev F : ℕ
@@ -62,11 +45,7 @@ module _ (p : ProgramData) (program : IsProgram p) (inputs : List Bag) (good : A
     lower_kind = kg;
     upper = used_in one;
     lower = used_in two;
-    found = record {
-      upper_sets = sets_found p program f (over f (over g t)) (over f t) one hf inputs on_left (plays-operator Mapping (kind_at p.ops f) kf) (map_anchored (kind_at p.ops f) one kf);
-      lower_sets = sets_found p program g (over g t) (over g (over f t)) two hg inputs on_left (plays-operator Grouping (kind_at p.ops g) kg) (reduce_anchored (kind_at p.ops g) two kg);
-      no_conflict = c;
-    };
+    found = both_found p program inputs good Mapping Grouping on_left kf kg tt tt hf hg c;
     keeps = groups_found p program f (over f (over g t)) (over f t) one hf inputs (left_keys_in (slice_get p.ops g)) kf bound;
   }
 
@@ -79,11 +58,7 @@ module _ (p : ProgramData) (program : IsProgram p) (inputs : List Bag) (good : A
     lower_kind = kg;
     upper = used_in one;
     lower = used_in two;
-    found = record {
-      upper_sets = sets_found p program f (over f (both g t u)) (over f t) one hf inputs on_left (plays-operator Mapping (kind_at p.ops f) kf) (map_anchored (kind_at p.ops f) one kf);
-      lower_sets = sets_found p program g (both g t u) (both g (over f t) u) two hg inputs on_left (plays-operator CoGrouping (kind_at p.ops g) kg) (cogroup_anchored_left (kind_at p.ops g) two kg on);
-      no_conflict = c;
-    };
+    found = both_found p program inputs good Mapping CoGrouping on_left kf kg tt on hf hg c;
     side = side;
     keeps = groups_found p program f (over f (both g t u)) (over f t) one hf inputs (left_keys_in (slice_get p.ops g)) kf bound;
   }
@@ -97,11 +72,7 @@ module _ (p : ProgramData) (program : IsProgram p) (inputs : List Bag) (good : A
     lower_kind = kg;
     upper = used_in one;
     lower = used_in two;
-    found = record {
-      upper_sets = sets_found p program f (over f (both g t u)) (over f u) one hf inputs on_right (plays-operator Mapping (kind_at p.ops f) kf) (map_anchored_right (kind_at p.ops f) one kf);
-      lower_sets = sets_found p program g (both g t u) (both g t (over f u)) two hg inputs on_right (plays-operator CoGrouping (kind_at p.ops g) kg) (cogroup_anchored_right (kind_at p.ops g) two kg on);
-      no_conflict = c;
-    };
+    found = both_found p program inputs good Mapping CoGrouping on_right kf kg tt on hf hg c;
     side = side;
     keeps = groups_found p program f (over f (both g t u)) (over f u) one hf inputs (right_keys_in (slice_get p.ops g)) kf bound;
   }

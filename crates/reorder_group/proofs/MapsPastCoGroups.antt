@@ -21,6 +21,7 @@ use Rattle.pact_operators.proofs.LawfulBags.{IsCallOf-groups, all_wide, call_fit
 use Rattle.pact_operators.proofs.WithinFields.{agree_self, all_within_larger, within_larger}
 use Rattle.reorder_pair.proofs.Maps.{bag_of_map, map_bag, map_form}
 use Rattle.reorder_pair.proofs.PermittedExchanges.{joint}
+use Rattle.reorder_pair.proofs.SidesApart.{apart_turned, apart_with}
 use Rattle.reorder_group.proofs.GroupBags.{AreChosen-turned, AreChosen-turned_back, bag_of_cogroup, cogroup_bag, turned_groups}
 use Rattle.reorder_group.proofs.KeptGroups.{records_kept}
 use Rattle.reorder_group.proofs.PermittedGroups.{PermitsCoGroupLeft, PermitsCoGroupRight}
@@ -57,12 +58,7 @@ module _ (fields : ℕ) (v : List WithFields) (ops : List Op) (o : PlanOps) (goo
     }
 
     left_sides : AreApart cg.left cg.right
-    left_sides k l r = elim r as (λ _. ⊥) [ inl b ↦ one b | inr b ↦ one b ] where
-      one : HasAttribute v ops u k → ⊥
-      one b = elim l as (λ _. ⊥) [
-        | inl p ↦ apart k p b
-        | inr q ↦ elim q as (λ _. ⊥) [ inl own ↦ x.side k (x.found.upper_sets.owned k own) b | inr p ↦ apart k p b ]
-      ]
+    left_sides = apart_with (Owns v ops f) (HasAttribute v ops t) (HasAttribute v ops u) apart (λ k own b. x.side k (x.found.upper_sets.owned k own) b)
 
     left_called : (set : ℕ → Type 0) (k : Key) (xs zs : Bag) → IsCall fields left_move set k xs zs → IsCallOf (o.kind g) (o.left_keys g) (o.right_keys g) (of_groups k xs zs)
     left_called set k xs zs c = IsCallOf-groups (o.kind g) (o.left_keys g) (o.right_keys g) k xs zs x.lower_kind c.some c.keyed c.keyed_others
@@ -145,12 +141,10 @@ module _ (fields : ℕ) (v : List WithFields) (ops : List Op) (o : PlanOps) (goo
     }
 
     right_sides : AreApart dg.left dg.right
-    right_sides k l r = elim l as (λ _. ⊥) [ inl a ↦ one a | inr a ↦ one a ] where
-      one : HasAttribute v ops t k → ⊥
-      one a = elim r as (λ _. ⊥) [
-        | inl p ↦ apart k a p
-        | inr q ↦ elim q as (λ _. ⊥) [ inl own ↦ x.side k (x.found.upper_sets.owned k own) a | inr p ↦ apart k a p ]
-      ]
+    right_sides =
+        let A = HasAttribute v ops t in
+        let B = HasAttribute v ops u in
+        apart_turned dg.right dg.left (apart_with (Owns v ops f) B A (apart_turned A B apart) (λ k own a. x.side k (x.found.upper_sets.owned k own) a))
 
     right_called : (set : ℕ → Type 0) (k : Key) (xs zs : Bag) → IsCall fields right_move set k xs zs → IsCallOf (o.kind g) (o.left_keys g) (o.right_keys g) (of_groups k zs xs)
     right_called set k xs zs c = IsCallOf-groups (o.kind g) (o.left_keys g) (o.right_keys g) k zs xs x.lower_kind (omega (arith, c.some)) c.keyed_others c.keyed

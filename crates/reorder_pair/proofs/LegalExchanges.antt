@@ -1,13 +1,14 @@
 -- A legal exchange in which no group is made keeps the answers of a plan.
-use Rattle.std.proofs.Common.{◌≡◌, ◌⊎◌, inl, inr, ℕ, List, sym, subst}
+use Rattle.std.proofs.Common.{◌≡◌, inl, inr, ℕ, true, List, sym, subst}
 use Rattle.std.proofs.lemmas.Bool.{false_from_ne_true}
 use Rattle.pact_record.specs.FieldSets.{has_field}
-use Rattle.tac_syntax.specs.declared.contexts.Side.TheVariants.{Left as on_left}
+use Rattle.tac_syntax.specs.declared.contexts.Side.{Side}
+use Rattle.tac_syntax.specs.declared.contexts.Side.TheVariants.{Left as on_left, Right as on_right}
 use Rattle.tac_syntax.specs.Contexts.{FieldSet, Has}
 use Rattle.tac_flow.specs.Results.{IsAnchoredOn}
 use Rattle.tac_flow.specs.Views.{found_of}
 use Rattle.tac_syntax.specs.declared.declarations.OpKind.{OpKind}
-use Rattle.tac_syntax.specs.declared.declarations.OpKind.TheVariants.{Map, Match, Cross}
+use Rattle.tac_syntax.specs.declared.declarations.OpKind.TheVariants.{Map, Reduce, Match, Cross, CoGroup}
 use Rattle.plan_trees.specs.Plans.{PlanTree, over, both}
 use Rattle.pact_operators.specs.Allowed.{AllowSame, Bag}
 use Rattle.pact_operators.specs.PlanOps.{PlanOps, kind_at, plan_ops}
@@ -15,12 +16,13 @@ use Rattle.pact_operators.specs.Programs.{AreSidesApart, HasAttribute, IsPlanOf,
 use Rattle.pact_operators.specs.SoundOps.{AreOpsOf, function_kind}
 use Rattle.reorder_pair.specs.declared.finding.Found.{Found}
 use Rattle.tac_syntax.specs.Valid.{WithFields}
-use Rattle.reorder_pair.specs.declared.rules.Role.TheVariants.{Mapping, Pairing}
+use Rattle.reorder_pair.specs.declared.rules.Role.{Role}
+use Rattle.reorder_pair.specs.declared.rules.Role.TheVariants.{Mapping, Pairing, Grouping, CoGrouping}
 use Rattle.reorder_pair.specs.declared.rules.Rule.{Rule}
 use Rattle.reorder_pair.specs.declared.rules.Rule.TheVariants.{MapMap, MapLeft, MapLeftUp, MapRight, MapRightUp, Rotate, RotateUp}
 use Rattle.reorder_pair.specs.Legal.{IsLegal, KeepAnswers}
 use Rattle.reorder_pair.specs.Rules.{IsPairRule, Plays, exchanged_by, swapped}
-use Rattle.reorder_pair.proofs.PermittedExchanges.{NoConflict, PermitsLeft, PermitsMaps, PermitsRight, PermitsRotate}
+use Rattle.reorder_pair.proofs.PermittedExchanges.{AreFound, NoConflict, PermitsLeft, PermitsMaps, PermitsRight, PermitsRotate}
 use Rattle.reorder_pair.proofs.FoundOperators.{IsFoundIn, found_turned, sets_found, used_in}
 use Rattle.reorder_pair.proofs.PlacedExchanges.{IsLegalRoot, placed-KeepAnswers}
 use Rattle.reorder_pair.proofs.PairLaws.{left_same, maps_same, right_same, rotate_same}
@@ -32,13 +34,22 @@ turned_same o t u e bag = ((e bag).1, (e bag).0)
 pub same_through : (o : PlanOps) (s t u : PlanTree) → AllowSame o s t → AllowSame o t u → AllowSame o s u
 same_through o s t u h k bag = ((λ a. (k bag).0 ((h bag).0 a)), (λ a. (h bag).1 ((k bag).1 a)))
 
--- all but a CoGroup are anchored
-pub map_anchored : (q : OpKind) (s : Found) → q ≡ Map → IsAnchoredOn (function_kind q) on_left (found_of s.sets)
-map_anchored q s e = subst (λ (k : OpKind). IsAnchoredOn (function_kind k) on_left (found_of s.sets)) (sym e) tt
+-- that an operator of a role has an anchor on a side: all but a CoGroup have
+abbrev pub HasAnchor : Role → Side → Found → Type 0
+HasAnchor CoGrouping on_left s = s.sets.anchor_left ≡ true
+HasAnchor CoGrouping on_right s = s.sets.anchor_right ≡ true
+HasAnchor role side s = Unit {0}
 
-pair_anchored : (q : OpKind) (s : Found) → (q ≡ Match) ⊎ (q ≡ Cross) → IsAnchoredOn (function_kind q) on_left (found_of s.sets)
-pair_anchored q s (inl e) = subst (λ (k : OpKind). IsAnchoredOn (function_kind k) on_left (found_of s.sets)) (sym e) tt
-pair_anchored q s (inr e) = subst (λ (k : OpKind). IsAnchoredOn (function_kind k) on_left (found_of s.sets)) (sym e) tt
+same_anchor : (q r : OpKind) (side : Side) (s : Found) → q ≡ r → IsAnchoredOn (function_kind r) side (found_of s.sets) → IsAnchoredOn (function_kind q) side (found_of s.sets)
+same_anchor q r side s e = subst (λ (k : OpKind). IsAnchoredOn (function_kind k) side (found_of s.sets)) (sym e)
+
+anchored : (role : Role) (side : Side) (q : OpKind) (s : Found) → Plays role q → HasAnchor role side s → IsAnchoredOn (function_kind q) side (found_of s.sets)
+anchored Mapping side q s e on = same_anchor q Map side s e tt
+anchored Pairing side q s (inl e) on = same_anchor q Match side s e tt
+anchored Pairing side q s (inr e) on = same_anchor q Cross side s e tt
+anchored Grouping side q s e on = same_anchor q Reduce side s e tt
+anchored CoGrouping on_left q s e on = same_anchor q CoGroup on_left s e on
+anchored CoGrouping on_right q s e on = same_anchor q CoGroup on_right s e on
 
 -- ---- conflicts
 
@@ -73,6 +84,16 @@ module _ (p : ProgramData) (program : IsProgram p) (inputs : List Bag) (good : A
   abbrev O : PlanOps
   O = plan_ops p inputs
 
+  -- what is found of both operators, by their roles
+  pub both_found : (above below : Role) (side : Side) {f g : ℕ} {f_before f_now g_before g_now : PlanTree} {one two : Found} → Plays above (kind_at p.ops f) → Plays below (kind_at p.ops g)
+      → HasAnchor above side one → HasAnchor below side two → IsFoundIn p f f_before f_now one → IsFoundIn p g g_before g_now two → NoConflict (used_in one) (used_in two)
+      → AreFound F v p.ops O f f_before f_now g g_before g_now side (used_in one) (used_in two)
+  both_found above below side {f = f} {g = g} {f_before = f_before} {f_now = f_now} {g_before = g_before} {g_now = g_now} {one = one} {two = two} kf kg af ag hf hg c = record {
+    upper_sets = sets_found p program f f_before f_now one hf inputs side (plays-operator above (kind_at p.ops f) kf) (anchored above side (kind_at p.ops f) one kf af);
+    lower_sets = sets_found p program g g_before g_now two hg inputs side (plays-operator below (kind_at p.ops g) kg) (anchored below side (kind_at p.ops g) two kg ag);
+    no_conflict = c;
+  }
+
   -- ---- what is found permits the exchange, by the shape; `one` is of the operator that is above in the exchange down
 
   maps_permitted : (f g : ℕ) (t : PlanTree) (one two : Found) → kind_at p.ops f ≡ Map → kind_at p.ops g ≡ Map
@@ -82,11 +103,7 @@ module _ (p : ProgramData) (program : IsProgram p) (inputs : List Bag) (good : A
     lower_kind = kg;
     upper = used_in one;
     lower = used_in two;
-    found = record {
-      upper_sets = sets_found p program f (over f (over g t)) (over f t) one hf inputs on_left (plays-operator Mapping (kind_at p.ops f) kf) (map_anchored (kind_at p.ops f) one kf);
-      lower_sets = sets_found p program g (over g t) (over g (over f t)) two hg inputs on_left (plays-operator Mapping (kind_at p.ops g) kg) (map_anchored (kind_at p.ops g) two kg);
-      no_conflict = c;
-    };
+    found = both_found Mapping Mapping on_left kf kg tt tt hf hg c;
   }
 
   left_permitted : (f g : ℕ) (t u : PlanTree) (one two : Found) → kind_at p.ops f ≡ Map → Plays Pairing (kind_at p.ops g)
@@ -97,11 +114,7 @@ module _ (p : ProgramData) (program : IsProgram p) (inputs : List Bag) (good : A
     lower_kind = kg;
     upper = used_in one;
     lower = used_in two;
-    found = record {
-      upper_sets = sets_found p program f (over f (both g t u)) (over f t) one hf inputs on_left (plays-operator Mapping (kind_at p.ops f) kf) (map_anchored (kind_at p.ops f) one kf);
-      lower_sets = sets_found p program g (both g t u) (both g (over f t) u) two hg inputs on_left (plays-operator Pairing (kind_at p.ops g) kg) (pair_anchored (kind_at p.ops g) two kg);
-      no_conflict = c;
-    };
+    found = both_found Mapping Pairing on_left kf kg tt tt hf hg c;
     side = side;
   }
 
@@ -113,11 +126,7 @@ module _ (p : ProgramData) (program : IsProgram p) (inputs : List Bag) (good : A
     lower_kind = kg;
     upper = used_in one;
     lower = used_in two;
-    found = record {
-      upper_sets = sets_found p program f (over f (both g t u)) (over f u) one hf inputs on_left (plays-operator Mapping (kind_at p.ops f) kf) (map_anchored (kind_at p.ops f) one kf);
-      lower_sets = sets_found p program g (both g t u) (both g t (over f u)) two hg inputs on_left (plays-operator Pairing (kind_at p.ops g) kg) (pair_anchored (kind_at p.ops g) two kg);
-      no_conflict = c;
-    };
+    found = both_found Mapping Pairing on_left kf kg tt tt hf hg c;
     side = side;
   }
 
@@ -130,11 +139,7 @@ module _ (p : ProgramData) (program : IsProgram p) (inputs : List Bag) (good : A
     lower_kind = kg;
     upper = used_in one;
     lower = used_in two;
-    found = record {
-      upper_sets = sets_found p program h (both h (both g t u) w) (both h u w) one fh inputs on_left (plays-operator Pairing (kind_at p.ops h) kh) (pair_anchored (kind_at p.ops h) one kh);
-      lower_sets = sets_found p program g (both g t u) (both g t (both h u w)) two fg inputs on_left (plays-operator Pairing (kind_at p.ops g) kg) (pair_anchored (kind_at p.ops g) two kg);
-      no_conflict = c;
-    };
+    found = both_found Pairing Pairing on_left kh kg tt tt fh fg c;
     side = side;
     other_side = other_side;
   }

@@ -6,6 +6,7 @@ pub mod CrossedBags
 pub mod Maps
 pub mod Pairs
 pub mod MapsPastMaps
+pub mod SidesApart
 pub mod MapsPastSides
 pub mod Rotations
 pub mod PairLaws

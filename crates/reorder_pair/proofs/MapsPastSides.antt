@@ -19,6 +19,7 @@ use Rattle.reorder_pair.proofs.FunctionForms.{Row, flip_form, left_form, none, o
 use Rattle.reorder_pair.proofs.Maps.{bag_of_map, map_bag, map_form_in}
 use Rattle.reorder_pair.proofs.Pairs.{bag_of_pair, pair_bag, pair_fits, pair_form, pair_of}
 use Rattle.reorder_pair.proofs.PermittedExchanges.{PermitsLeft, PermitsRight, joint, used_touched}
+use Rattle.reorder_pair.proofs.SidesApart.{apart_turned, apart_with}
 
 module _ (fields : ℕ) (v : List WithFields) (ops : List Op) (o : PlanOps) (good : AreOpsOf fields v ops o) where
   -- ---- the left side
@@ -36,12 +37,7 @@ module _ (fields : ℕ) (v : List WithFields) (ops : List Op) (o : PlanOps) (goo
     gs = pair_of o (o.kind g) g
 
     left_sides : AreApart cg.left cg.right
-    left_sides k l r = elim r as (λ _. ⊥) [ inl b ↦ one b | inr b ↦ one b ] where
-      one : HasAttribute v ops u k → ⊥
-      one b = elim l as (λ _. ⊥) [
-        | inl p ↦ apart k p b
-        | inr q ↦ elim q as (λ _. ⊥) [ inl own ↦ x.side k (x.found.upper_sets.owned k own) b | inr p ↦ apart k p b ]
-      ]
+    left_sides = apart_with (Owns v ops f) (HasAttribute v ops t) (HasAttribute v ops u) apart (λ k own b. x.side k (x.found.upper_sets.owned k own) b)
 
     left_exchangeable : AreExchangeable fields (HasAttribute v ops u) (HasAttribute v ops t) none cg.right cg.left cf.left none x.lower x.upper (turned_pair gs) (on_left_alone (o.of_record f))
     left_exchangeable =
@@ -97,12 +93,10 @@ module _ (fields : ℕ) (v : List WithFields) (ops : List Op) (o : PlanOps) (goo
     hs = pair_of o (o.kind g) g
 
     right_sides : AreApart dg.left dg.right
-    right_sides k l r = elim l as (λ _. ⊥) [ inl a ↦ one a | inr a ↦ one a ] where
-      one : HasAttribute v ops t k → ⊥
-      one a = elim r as (λ _. ⊥) [
-        | inl p ↦ apart k a p
-        | inr q ↦ elim q as (λ _. ⊥) [ inl own ↦ x.side k (x.found.upper_sets.owned k own) a | inr p ↦ apart k a p ]
-      ]
+    right_sides =
+        let A = HasAttribute v ops t in
+        let B = HasAttribute v ops u in
+        apart_turned dg.right dg.left (apart_with (Owns v ops f) B A (apart_turned A B apart) (λ k own a. x.side k (x.found.upper_sets.owned k own) a))
 
     right_exchangeable : AreExchangeable fields (HasAttribute v ops t) (HasAttribute v ops u) none dg.left dg.right df.left none x.lower x.upper hs (on_left_alone (o.of_record f))
     right_exchangeable =

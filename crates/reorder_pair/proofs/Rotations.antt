@@ -17,6 +17,7 @@ use Rattle.reorder_pair.proofs.CrossedBags.{crossed_left, crossed_right, rotated
 use Rattle.reorder_pair.proofs.FunctionForms.{Row}
 use Rattle.reorder_pair.proofs.Pairs.{bag_of_pair, pair_bag, pair_fits, pair_form, pair_of}
 use Rattle.reorder_pair.proofs.PermittedExchanges.{PermitsRotate, joint, used_touched}
+use Rattle.reorder_pair.proofs.SidesApart.{apart_before_after, apart_either, apart_turned}
 
 module _ (fields : ℕ) (v : List WithFields) (ops : List Op) (o : PlanOps) (good : AreOpsOf fields v ops o) where
   module _ (h g : ℕ) (t u w : PlanTree) (x : PermitsRotate fields v ops o h g t u w) (apart : AreApart (HasAttribute v ops t) (HasAttribute v ops u))
@@ -36,26 +37,24 @@ module _ (fields : ℕ) (v : List WithFields) (ops : List Op) (o : PlanOps) (goo
     gs = pair_of o (o.kind g) g
 
     g_sides : AreApart cg.left cg.right
-    g_sides k l r = elim l as (λ _. ⊥) [ inl a ↦ one a | inr a ↦ one a ] where
-      one : HasAttribute v ops t k → ⊥
-      one a = elim r as (λ _. ⊥) [
-        | inl b ↦ apart k a b
-        | inr q ↦ elim q as (λ _. ⊥) [
-          | inl own ↦ x.side k (x.found.upper_sets.owned k own) a
-          | inr s ↦ elim s as (λ _. ⊥) [ inl b ↦ apart k a b | inr c ↦ outer_apart k a c ]
-        ]
-      ]
+    g_sides =
+        let A = HasAttribute v ops t in
+        let B = HasAttribute v ops u in
+        let C = HasAttribute v ops w in
+        let own = Owns v ops h in
+        let first = apart_turned A B apart in
+        let owned = λ (k : ℕ) (o : own k) (a : A k). x.side k (x.found.upper_sets.owned k o) a in
+        apart_turned cg.right cg.left
+        (apart_before_after B (λ k. own k ⊎ B k ⊎ C k) A first (apart_either own (λ k. B k ⊎ C k) A owned (apart_either B C A first (apart_turned A C outer_apart))))
 
     h_sides : AreApart ch.left ch.right
-    h_sides k l r = elim r as (λ _. ⊥) [ inl c ↦ one c | inr c ↦ one c ] where
-      one : HasAttribute v ops w k → ⊥
-      one c = elim l as (λ _. ⊥) [
-        | inl q ↦ elim q as (λ _. ⊥) [
-          | inl own ↦ x.other_side k (x.found.lower_sets.owned k own) c
-          | inr s ↦ elim s as (λ _. ⊥) [ inl a ↦ outer_apart k a c | inr b ↦ inner_apart k b c ]
-        ]
-        | inr b ↦ inner_apart k b c
-      ]
+    h_sides =
+        let A = HasAttribute v ops t in
+        let B = HasAttribute v ops u in
+        let C = HasAttribute v ops w in
+        let own = Owns v ops g in
+        let owned = λ (k : ℕ) (o : own k) (c : C k). x.other_side k (x.found.lower_sets.owned k o) c in
+        apart_before_after (λ k. own k ⊎ A k ⊎ B k) B C (apart_either own (λ k. A k ⊎ B k) C owned (apart_either A B C outer_apart inner_apart)) inner_apart
 
     rotate_exchangeable : AreExchangeable fields (HasAttribute v ops t) (HasAttribute v ops u) (HasAttribute v ops w) cg.left cg.right ch.left ch.right x.lower x.upper gs hs
     rotate_exchangeable =
