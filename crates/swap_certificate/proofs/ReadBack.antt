@@ -54,6 +54,11 @@ object-members d ms ns h e = let same = sym (is_object d ms h) ∙ e in cc
 pub next_rest : (ms ns rest : Members) (key : List ℕ) (d e : Data) → ms ≡ member key d ns → ms ≡ member key e rest → ns ≡ rest
 next_rest ms ns rest key d e h k = cc
 
+-- and so is what stands behind four members
+pub fourth_rest : {ms one two three four rest : Members} {i j k l : List ℕ} {a b c d e f g h : Data} → ms ≡ member i a one → one ≡ member j b two → two ≡ member k c three → three ≡ member l d four
+    → ms ≡ member i e (member j f (member k g (member l h rest))) → four ≡ rest
+fourth_rest o p q r all = next_rest _ _ _ _ _ _ r (next_rest _ _ _ _ _ _ q (next_rest _ _ _ _ _ _ p (next_rest _ _ _ _ _ _ o all)))
+
 -- ---- arrays
 
 items_one : (ds es : List Data) → items_of ds ≡ items_of es → ds ≡ es
