@@ -13,7 +13,7 @@ use Rattle.pact_record.specs.Widths.{AreWide}
 use Rattle.pact_record.specs.declared.values.Value.{Value}
 use Rattle.plan_trees.specs.declared.physicals.Ship.{Ship}
 use Rattle.tac_syntax.specs.declared.declarations.OpKind.TheVariants.{Source}
-use Rattle.flow_instance.specs.Sending.{AreMarked, AreSent, IsInOrder, IsReached, IsSent, batch_parcel, batches_in, mark_parcel, marks_in}
+use Rattle.flow_instance.specs.Sending.{AreMarked, AreSent, IsInOrder, HasPipe, IsSent, batch_parcel, batches_in, mark_parcel, marks_in}
 use Rattle.flow_instance.specs.States.{AreOrderly, PlacesAtRoot, spot_of}
 use Rattle.flow_instance.specs.Steps.{HasGiven, HasMarked}
 use Rattle.flow_instance.specs.declared.parcels.Parcel.{Parcel}
@@ -62,7 +62,7 @@ marked_all p ship old new o a = record {
   list = a.list;
   behind = a.behind;
   marks = λ ops. record {
-    receivers = AllByRecursion-weaker (IsReached p.workers ship p.worker) (IsReceiver (spot_of p ops) p.worker) a.list (λ to h. (h.0, ap (λ (x : Option Ship). has_out x p.worker to) o ∙ h.1)) a.receivers;
+    receivers = AllByRecursion-weaker (HasPipe p.workers ship p.worker) (IsReceiver (spot_of p ops) p.worker) a.list (λ to h. (h.0, ap (λ (x : Option Ship). has_out x p.worker to) o ∙ h.1)) a.receivers;
     each = λ to less. a.each to less ∙ ap one_if (sym (with_true (has_out p.out p.worker to) ∙ ap (λ (x : Option Ship). has_out x p.worker to) o));
   };
 }

@@ -11,7 +11,7 @@ use Rattle.pact_record.specs.declared.values.Value.{Value}
 use Rattle.plan_trees.specs.Sending.{goes, has_pipe, sent}
 use Rattle.plan_trees.specs.declared.physicals.Ship.{Ship}
 use Rattle.plan_trees.specs.declared.physicals.Ship.TheVariants.{Forward, Partition, Broadcast}
-use Rattle.flow_instance.specs.Sending.{AreCarried, AreFew, AreMarked, AreSent, IsBatchFor, IsReached, IsSent, IsSplit, batch_parcel, mark_parcel}
+use Rattle.flow_instance.specs.Sending.{AreCarried, AreFew, AreMarked, AreSent, IsBatchFor, HasPipe, IsSent, IsSplit, batch_parcel, mark_parcel}
 use Rattle.flow_instance.specs.declared.parcels.Parcel.{Parcel}
 use Rattle.flow_instance.proofs.Carried.{rows_for-append}
 use Rattle.flow_instance.proofs.Split.{read}
@@ -96,7 +96,7 @@ marked_one workers from to ship first old new e below pipe h =
     record {
       list = all;
       behind = e ∙ ap (λ (l : List Parcel). l ++ mark_parcel to ∷ []) h.behind ∙ append_assoc first (map mark_parcel h.list) (mark_parcel to ∷ []) ∙ ap (λ (l : List Parcel). first ++ l) (sym (map-append mark_parcel h.list (to ∷ [])));
-      receivers = AllByRecursion-append (IsReached workers ship from) h.list (to ∷ []) h.receivers ((below, pipe), tt);
+      receivers = AllByRecursion-append (HasPipe workers ship from) h.list (to ∷ []) h.receivers ((below, pipe), tt);
       each = λ t less. elim (cases_eq t to) as (λ _. marks_for t all ≡ one_if (has_pipe ship from t)) [
         | inl same ↦ omega (arith, told t, h.later t (omega (arith, same)), ap one_if (eq-eqb to t (sym same)), ap one_if (ap (has_pipe ship from) same ∙ pipe))
         | inr other ↦ omega (arith, told t, h.each t (omega (arith, less)), ap one_if (ne_eqb to t (λ s. other (sym s))))

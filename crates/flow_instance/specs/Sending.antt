@@ -78,11 +78,11 @@ abbrev pub IsSplit : List ℕ → (workers : ℕ) → Bag → List Bag → Type 
 IsSplit keys workers rows parts = (length parts ≡ workers) × ((from to : ℕ) → to < workers → slice_get parts to ≡ Some (sent (Partition keys) workers from to rows))
 
 -- a worker to which the edge leads
-abbrev pub IsReached : (workers : ℕ) → Ship → (from to : ℕ) → Type 0
-IsReached workers ship from to = (to < workers) × (has_pipe ship from to ≡ true)
+abbrev pub HasPipe : (workers : ℕ) → Ship → (from to : ℕ) → Type 0
+HasPipe workers ship from to = (to < workers) × (has_pipe ship from to ≡ true)
 
 abbrev pub IsSent : (fields workers : ℕ) → Ship → (from : ℕ) → ℕ × Bag → Type 0
-IsSent fields workers ship from w = IsReached workers ship from w.0 × (0 < length w.1) × AreWide fields w.1
+IsSent fields workers ship from w = HasPipe workers ship from w.0 × (0 < length w.1) × AreWide fields w.1
 
 -- a queue of batches that carry the records to those of the first n workers to which they go
 pub record AreSent (fields workers : ℕ) (ship : Ship) (from n : ℕ) (rows : Bag) (queue : List Parcel) : Type 0 where
@@ -96,6 +96,6 @@ pub record AreSent (fields workers : ℕ) (ship : Ship) (from n : ℕ) (rows : B
 pub record AreMarked (workers : ℕ) (ship : Ship) (from n : ℕ) (old new : List Parcel) : Type 0 where
   pub list : List ℕ
   pub behind : new ≡ old ++ map mark_parcel list
-  pub receivers : AllByRecursion (IsReached workers ship from) list
+  pub receivers : AllByRecursion (HasPipe workers ship from) list
   pub each : (to : ℕ) → to < n → marks_for to list ≡ one_if (has_pipe ship from to)
   pub later : (to : ℕ) → n ≤ to → marks_for to list ≡ 0

@@ -1,13 +1,13 @@
 -- A call of a program's function gives no more records than it takes steps.
-use Rattle.std.proofs.Common.{ℕ, List, arith}
+use Rattle.std.proofs.Common.{List, arith}
 use Rattle.pact_operators.specs.Allowed.{Bag}
 use Rattle.pact_operators.specs.PlanOps.{body_at, plan_ops}
 use Rattle.pact_operators.specs.Programs.{ProgramData}
 use Rattle.tac_syntax.specs.Call.{of_group, of_groups, of_pair, of_record}
 use Rattle.tac_syntax.proofs.EmitsOfSteps.{few_for, out_few}
-use Rattle.flow_model.specs.Most.{IsBounded, program_turns}
+use Rattle.flow_model.specs.Most.{AreCallsBounded, program_turns}
 
-pub bounded_program : (p : ProgramData) (inputs : List Bag) → IsBounded (plan_ops p inputs) (program_turns p)
+pub bounded_program : (p : ProgramData) (inputs : List Bag) → AreCallsBounded (plan_ops p inputs) (program_turns p)
 bounded_program p inputs = record {
   of_record = λ n row. out_few p.fields (body_at p n) (of_record row);
   of_pair = λ n left right. out_few p.fields (body_at p n) (of_pair left right);

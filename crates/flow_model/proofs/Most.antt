@@ -10,7 +10,7 @@ use Rattle.plan_trees.specs.Plans.{PlanTree, leaf, over, both, root_of}
 use Rattle.flow_model.specs.declared.notes.Want.TheVariants.{Done}
 use Rattle.flow_model.specs.Instances.{all_ended, want}
 use Rattle.flow_model.specs.Local.{Gave, IsGiven, one_if, rows_for, taken_rows, works_at_once}
-use Rattle.flow_model.specs.Most.{IsBounded, done_at, events_at, most_below, most_given, most_of, most_of_one, most_of_two, notes_on, own_most, tree_sum}
+use Rattle.flow_model.specs.Most.{AreCallsBounded, done_at, events_at, most_below, most_given, most_of, most_of_one, most_of_two, notes_on, own_most, tree_sum}
 use Rattle.plan_trees.specs.declared.physicals.Ship.{Ship}
 use Rattle.flow_model.specs.Notes.{rows_of}
 use Rattle.plan_trees.specs.Sending.{all_of, goes, share_from}
@@ -69,7 +69,7 @@ sent-le None workers from to rows = omega arith
 sent-le (Some ship) workers from to rows = kept-le (goes ship workers from to) rows
 
 -- of an operator of one input with at most x records
-one_gives : (turns : ℕ → ℕ → ℕ) (s : Spot) (kind : OpKind) (p : Port) (worker : ℕ) (rows : ℕ → Bag) (b : Bool) (given : Bag) (x : ℕ) → IsBounded s.ops turns → length (rows 0) ≤ x
+one_gives : (turns : ℕ → ℕ → ℕ) (s : Spot) (kind : OpKind) (p : Port) (worker : ℕ) (rows : ℕ → Bag) (b : Bool) (given : Bag) (x : ℕ) → AreCallsBounded s.ops turns → length (rows 0) ≤ x
     → Gave b (IsGiven s kind (p ∷ []) worker rows) given → length given ≤ one_bound kind x (turns s.at)
 one_gives turns s kind p worker rows false given x bounded small e = omega (arith, ap length e)
 one_gives turns s Map p worker rows true given x bounded small e =
@@ -88,7 +88,7 @@ one_gives turns s Match p worker rows true given x bounded small e = absurd e.ma
 one_gives turns s Cross p worker rows true given x bounded small e = absurd e.may
 one_gives turns s CoGroup p worker rows true given x bounded small e = absurd e.may
 
-two_give : (turns : ℕ → ℕ → ℕ) (s : Spot) (kind : OpKind) (p q : Port) (worker : ℕ) (rows : ℕ → Bag) (b : Bool) (given : Bag) (x y : ℕ) → IsBounded s.ops turns → length (rows 0) ≤ x → length (rows 1) ≤ y
+two_give : (turns : ℕ → ℕ → ℕ) (s : Spot) (kind : OpKind) (p q : Port) (worker : ℕ) (rows : ℕ → Bag) (b : Bool) (given : Bag) (x y : ℕ) → AreCallsBounded s.ops turns → length (rows 0) ≤ x → length (rows 1) ≤ y
     → Gave b (IsGiven s kind (p ∷ q ∷ []) worker rows) given → length given ≤ two_bound kind x y (turns s.at)
 two_give turns s kind p q worker rows false given x y bounded small few e = omega (arith, ap length e)
 two_give turns s Match p q worker rows true given x y bounded small few e =
@@ -130,7 +130,7 @@ source_gives : (s : Spot) (kind : OpKind) (worker : ℕ) (rows : ℕ → Bag) (b
 source_gives s kind worker rows false given e = omega (arith, ap length e)
 source_gives s kind worker rows true given e = omega (arith, length_permutation e.out given e.permuted, ap length e.may)
 
-module _ (g : Setting) (turns : ℕ → ℕ → ℕ) (w : World) (h : History) (bounded : IsBounded g.ops turns) (pipes : (edge from to : ℕ) → h.put edge from to ≡ h.taken edge from to ++ w.queue edge from to) where
+module _ (g : Setting) (turns : ℕ → ℕ → ℕ) (w : World) (h : History) (bounded : AreCallsBounded g.ops turns) (pipes : (edge from to : ℕ) → h.put edge from to ≡ h.taken edge from to ++ w.queue edge from to) where
   -- what is told of an instance's records
   pub record Told (t : PlanTree) (k : ℕ) (given : Bag) : Type 0 where
     pub gave : Gave (works_at_once (spot g t).kind || all_ended (w.instance (root_of t) k))

@@ -11,7 +11,7 @@ use Rattle.flow_model.specs.declared.notes.Want.{Want}
 use Rattle.flow_model.specs.declared.notes.Want.TheVariants.{Take, Put, End, Done}
 use Rattle.flow_model.specs.Instances.{want}
 use Rattle.flow_model.specs.Most as mosts
-use Rattle.flow_model.specs.Most.{IsBounded, most}
+use Rattle.flow_model.specs.Most.{AreCallsBounded, most}
 use Rattle.flow_model.specs.Spots.{Setting, ports_of, spot}
 use Rattle.flow_model.specs.Events.{Runs, noted}
 use Rattle.flow_model.specs.Worlds.{History, LocalAt, Stands, World, does_want, enabled, reader_of}
@@ -38,7 +38,7 @@ runs_counted g depth (e ∷ es) w v h more d st r =
     omega (arith, rest, step_counted g depth w r.0 h e d st r.1 r.2)
 
 -- no list of events is longer
-pub runs_short : (g : Setting) (turns : ℕ → ℕ → ℕ) (depth : ℕ) (es : List Event) (w v : World) (h more : History) → AreDifferent (nodes g.physical.tree) → IsBounded g.ops turns → Stands g w h → Runs g depth w h es v more
+pub runs_short : (g : Setting) (turns : ℕ → ℕ → ℕ) (depth : ℕ) (es : List Event) (w v : World) (h more : History) → AreDifferent (nodes g.physical.tree) → AreCallsBounded g.ops turns → Stands g w h → Runs g depth w h es v more
     → length es ≤ most g turns
 runs_short g turns depth es w v h more d bounded st r = omega (arith, runs_counted g depth es w v h more d st r, bound g turns v more d bounded (runs_stand g depth es w v h more d st r))
 

@@ -43,15 +43,15 @@ pub record Puts (w : World) (p : PipeId) (v : World) : Type 0 where
   pub queue : ListChanged w.queue p (w.queue p.edge p.from p.to ++ next_note (w.instance p.edge p.from).waiting ∷ []) v.queue
 
 -- the first note of a pipe was taken by the operator that reads it, at its port
-pub record Takes (g : Setting) (w : World) (p : PipeId) (at port : ℕ) (v : World) : Type 0 where
-  pub instance : Took (spot g (subtree_of at g.physical.tree)) p.to (w.instance at p.to) port p.from (first_note (w.queue p.edge p.from p.to)) (v.instance at p.to)
+pub record Takes (setting : Setting) (w : World) (p : PipeId) (at port : ℕ) (v : World) : Type 0 where
+  pub instance : Took (spot setting (subtree_of at setting.physical.tree)) p.to (w.instance at p.to) port p.from (first_note (w.queue p.edge p.from p.to)) (v.instance at p.to)
   pub others : OthersSame w at p.to v
   pub queue : ListChanged w.queue p (later (w.queue p.edge p.from p.to)) v.queue
 
 -- by the reader of the edge, where there is one
 abbrev pub TakesBy : Setting → World → PipeId → Option (ℕ × ℕ) → World → Type 0
-TakesBy g w p None v = ⊥
-TakesBy g w p (Some reader) v = Takes g w p reader.0 reader.1 v
+TakesBy setting w p None v = ⊥
+TakesBy setting w p (Some reader) v = Takes setting w p reader.0 reader.1 v
 
 -- an instance has ended, and every pipe has the same notes
 pub record Ends (w : World) (at worker : ℕ) (v : World) : Type 0 where
@@ -61,9 +61,9 @@ pub record Ends (w : World) (at worker : ℕ) (v : World) : Type 0 where
 
 -- the world after an event
 abbrev pub Steps : Setting → World → Event → World → Type 0
-Steps g w (Put p) v = Puts w p v
-Steps g w (Take p) v = TakesBy g w p (reader_of p.edge g.physical.tree) v
-Steps g w (End at worker) v = Ends w at worker v
+Steps setting w (Put p) v = Puts w p v
+Steps setting w (Take p) v = TakesBy setting w p (reader_of p.edge setting.physical.tree) v
+Steps setting w (End at worker) v = Ends w at worker v
 
 -- ---- histories
 
@@ -78,9 +78,9 @@ abbrev pub no_history : History
 no_history = record { put = λ edge from to. []; taken = λ edge from to. [] }
 
 -- a world at its start
-pub record IsStart (g : Setting) (w : World) : Type 0 where
+pub record IsStart (setting : Setting) (w : World) : Type 0 where
   pub queue : (edge from to : ℕ) → w.queue edge from to ≡ []
-  pub instances : (at worker : ℕ) → has at g.physical.tree ≡ true → worker < g.physical.workers → Started (spot g (subtree_of at g.physical.tree)) worker (w.instance at worker)
+  pub instances : (at worker : ℕ) → has at setting.physical.tree ≡ true → worker < setting.physical.workers → Started (spot setting (subtree_of at setting.physical.tree)) worker (w.instance at worker)
 
 -- the notes on the pipe of a put stay within the depth
 abbrev pub KeepsDepth : (depth : ℕ) → World → Event → World → Type 0
@@ -91,5 +91,5 @@ KeepsDepth depth w e v = Unit {0}
 
 -- each event is enabled in the world before it
 abbrev pub Runs : Setting → (depth : ℕ) → World → History → List Event → World → History → Type 0
-Runs g depth w h [] v more = (v ≡ w) × (more ≡ h)
-Runs g depth w h (e ∷ es) v more = (next : World) × (enabled g.physical depth w e ≡ true) × Steps g w e next × Runs g depth next (noted w e h) es v more
+Runs setting depth w h [] v more = (v ≡ w) × (more ≡ h)
+Runs setting depth w h (e ∷ es) v more = (next : World) × (enabled setting.physical depth w e ≡ true) × Steps setting w e next × Runs setting depth next (noted w e h) es v more

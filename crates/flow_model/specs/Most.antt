@@ -17,7 +17,7 @@ use Rattle.flow_model.specs.Spread.{sum_below}
 use Rattle.flow_model.specs.Worlds.{World, History, does_want}
 
 -- A call of an operator's function gives no more records than `most` tells, by the operator and the length of the longest list.
-pub record IsBounded (o : PlanOps) (most : ℕ → ℕ → ℕ) : Type 0 where
+pub record AreCallsBounded (o : PlanOps) (most : ℕ → ℕ → ℕ) : Type 0 where
   pub of_record : (n : ℕ) (row : List Value) → length (o.of_record n row) ≤ most n 0
   pub of_pair : (n : ℕ) (left right : List Value) → length (o.of_pair n left right) ≤ most n 0
   pub of_group : (n m : ℕ) (key : List Value) (group : Bag) → length group ≤ m → length (o.of_group n key group) ≤ most n m
@@ -44,45 +44,45 @@ most_of_two kind workers x y turns = 0
 
 -- what the instances at the root of a tree give at most together
 abbrev pub most_given : Setting → (turns : ℕ → ℕ → ℕ) → PlanTree → ℕ
-most_given g turns (leaf n) = length (g.ops.rows n)
-most_given g turns (over n t) = most_of_one (g.ops.kind n) g.physical.workers (most_given g turns t) (turns n)
-most_given g turns (both n t u) = most_of_two (g.ops.kind n) g.physical.workers (most_given g turns t) (most_given g turns u) (turns n)
+most_given setting turns (leaf n) = length (setting.ops.rows n)
+most_given setting turns (over n t) = most_of_one (setting.ops.kind n) setting.physical.workers (most_given setting turns t) (turns n)
+most_given setting turns (both n t u) = most_of_two (setting.ops.kind n) setting.physical.workers (most_given setting turns t) (most_given setting turns u) (turns n)
 
 -- ---- events
 
 -- of a source or operator other than the root: the ends of its instances, and each note put and taken
 abbrev pub own_most : Setting → (turns : ℕ → ℕ → ℕ) → PlanTree → ℕ
-own_most g turns t = g.physical.workers + 2 * (g.physical.workers * most_given g turns t + g.physical.workers * g.physical.workers)
+own_most setting turns t = setting.physical.workers + 2 * (setting.physical.workers * most_given setting turns t + setting.physical.workers * setting.physical.workers)
 
 -- of all sources and operators of a tree whose root has an edge
 abbrev pub most_below : Setting → (turns : ℕ → ℕ → ℕ) → PlanTree → ℕ
-most_below g turns (leaf n) = own_most g turns (leaf n)
-most_below g turns (over n t) = own_most g turns (over n t) + most_below g turns t
-most_below g turns (both n t u) = own_most g turns (both n t u) + (most_below g turns t + most_below g turns u)
+most_below setting turns (leaf n) = own_most setting turns (leaf n)
+most_below setting turns (over n t) = own_most setting turns (over n t) + most_below setting turns t
+most_below setting turns (both n t u) = own_most setting turns (both n t u) + (most_below setting turns t + most_below setting turns u)
 
 -- the root has ends alone
 abbrev pub most_of : Setting → (turns : ℕ → ℕ → ℕ) → PlanTree → ℕ
-most_of g turns (leaf n) = g.physical.workers
-most_of g turns (over n t) = g.physical.workers + most_below g turns t
-most_of g turns (both n t u) = g.physical.workers + (most_below g turns t + most_below g turns u)
+most_of setting turns (leaf n) = setting.physical.workers
+most_of setting turns (over n t) = setting.physical.workers + most_below setting turns t
+most_of setting turns (both n t u) = setting.physical.workers + (most_below setting turns t + most_below setting turns u)
 
 -- at most so many events
 abbrev pub most : Setting → (turns : ℕ → ℕ → ℕ) → ℕ
-most g turns = most_of g turns g.physical.tree
+most setting turns = most_of setting turns setting.physical.tree
 
 -- ---- the events so far
 
 -- how many notes stand on the lists of an edge
 abbrev pub notes_on : Setting → (ℕ → ℕ → ℕ → List Note) → (edge : ℕ) → ℕ
-notes_on g lists edge = sum_below g.physical.workers (λ from. sum_below g.physical.workers (λ to. length (lists edge from to)))
+notes_on setting lists edge = sum_below setting.physical.workers (λ from. sum_below setting.physical.workers (λ to. length (lists edge from to)))
 
 -- how many instances of an operator are done
 abbrev pub done_at : Setting → World → ℕ → ℕ
-done_at g w at = sum_below g.physical.workers (λ worker. one_if (does_want (want (w.instance at worker)) Done))
+done_at setting w at = sum_below setting.physical.workers (λ worker. one_if (does_want (want (w.instance at worker)) Done))
 
 -- the ends of an operator, and the notes that its instances put and that were taken of them
 abbrev pub events_at : Setting → World → History → ℕ → ℕ
-events_at g w h at = done_at g w at + (notes_on g h.put at + notes_on g h.taken at)
+events_at setting w h at = done_at setting w at + (notes_on setting h.put at + notes_on setting h.taken at)
 
 -- the sum over the numbers of a tree
 abbrev pub tree_sum : (ℕ → ℕ) → PlanTree → ℕ
@@ -92,4 +92,4 @@ tree_sum f (both n t u) = f n + (tree_sum f t + tree_sum f u)
 
 -- the notes put, the notes taken and the instances that are done
 abbrev pub events : Setting → World → History → ℕ
-events g w h = tree_sum (events_at g w h) g.physical.tree
+events setting w h = tree_sum (events_at setting w h) setting.physical.tree

@@ -47,14 +47,14 @@ ports_of p (both n t u) = port_from p t ∷ port_from p u ∷ []
 
 -- the one at the root of a tree
 abbrev pub spot : Setting → PlanTree → Spot
-spot g t = record {
+spot setting t = record {
   at = root_of t;
-  kind = g.ops.kind (root_of t);
-  workers = g.physical.workers;
-  fields = g.fields;
-  ports = ports_of g.physical t;
-  out = ship_at g.physical (root_of t);
-  ops = g.ops;
+  kind = setting.ops.kind (root_of t);
+  workers = setting.physical.workers;
+  fields = setting.fields;
+  ports = ports_of setting.physical t;
+  out = ship_at setting.physical (root_of t);
+  ops = setting.ops;
 }
 
 -- ---- its pipes

@@ -15,11 +15,11 @@ sum_below (suc n) f = sum_below n f + f n
 
 -- the records that the root's instances placed
 abbrev pub placed_in : Setting → World → Bag
-placed_in g w = all_of g.physical.workers (λ worker. (w.instance (root_of g.physical.tree) worker).placed)
+placed_in setting w = all_of setting.physical.workers (λ worker. (w.instance (root_of setting.physical.tree) worker).placed)
 
 -- how many records the instances of a number gave
 abbrev pub given_in : Setting → World → ℕ → ℕ
-given_in g w at = count_of (sum_below g.physical.workers (λ worker. (w.instance at worker).given))
+given_in setting w at = count_of (sum_below setting.physical.workers (λ worker. (w.instance at worker).given))
 
 -- the same notes as put and as taken
 abbrev pub through : (ℕ → ℕ → ℕ → List Note) → History
@@ -27,10 +27,10 @@ through notes = record { put = notes; taken = notes }
 
 -- There is one list of notes for each pipe such that every instance is done and follows from these lists, both as what it took and as what it put.
 -- The rows are those that the root's instances placed, in some order, and the counts are what the instances gave.
-pub record Spread (g : Setting) (rows : Bag) (counts : List ℕ) : Type 0 where
+pub record Spread (setting : Setting) (rows : Bag) (counts : List ℕ) : Type 0 where
   pub notes : ℕ → ℕ → ℕ → List Note
   pub world : World
-  pub done : AreDone g.physical world
-  pub each : (at worker : ℕ) → has at g.physical.tree ≡ true → worker < g.physical.workers → LocalAt g world (through notes) (subtree_of at g.physical.tree) at worker
-  pub rows_are : IsPermutation rows (placed_in g world)
-  pub counts_are : (at : ℕ) → has at g.physical.tree ≡ true → slice_get counts at ≡ Some (given_in g world at)
+  pub done : AreDone setting.physical world
+  pub each : (at worker : ℕ) → has at setting.physical.tree ≡ true → worker < setting.physical.workers → LocalAt setting world (through notes) (subtree_of at setting.physical.tree) at worker
+  pub rows_are : IsPermutation rows (placed_in setting world)
+  pub counts_are : (at : ℕ) → has at setting.physical.tree ≡ true → slice_get counts at ≡ Some (given_in setting world at)

@@ -29,18 +29,18 @@ lists_at lists (Some port) from worker = lists port.edge from worker
 
 -- the instance of a tree's root, which has this number, follows from the lists of its pipes
 abbrev pub LocalAt : Setting → World → History → PlanTree → (at worker : ℕ) → Type 0
-LocalAt g w h t at worker =
-    IsLocal (spot g t) worker (w.instance at worker) (λ port from. lists_at h.taken (slice_get (ports_of g.physical t) port) from worker) (λ to. h.put at worker to)
+LocalAt setting w h t at worker =
+    IsLocal (spot setting t) worker (w.instance at worker) (λ port from. lists_at h.taken (slice_get (ports_of setting.physical t) port) from worker) (λ to. h.put at worker to)
 
 -- whether one of these is no worker
 abbrev pub IsOutside : (workers from to : ℕ) → Type 0
 IsOutside workers from to = (workers ≤ from) ⊎ (workers ≤ to)
 
 -- A world stands for a history: one condition for each pipe, and one for each instance.
-pub record Stands (g : Setting) (w : World) (h : History) : Type 0 where
+pub record Stands (setting : Setting) (w : World) (h : History) : Type 0 where
   pub pipe : (edge from to : ℕ) → h.put edge from to ≡ h.taken edge from to ++ w.queue edge from to
-  pub outside : (edge from to : ℕ) → IsOutside g.physical.workers from to → h.put edge from to ≡ []
-  pub instances : (at worker : ℕ) → has at g.physical.tree ≡ true → worker < g.physical.workers → LocalAt g w h (subtree_of at g.physical.tree) at worker
+  pub outside : (edge from to : ℕ) → IsOutside setting.physical.workers from to → h.put edge from to ≡ []
+  pub instances : (at worker : ℕ) → has at setting.physical.tree ≡ true → worker < setting.physical.workers → LocalAt setting w h (subtree_of at setting.physical.tree) at worker
 
 -- ---- what can happen
 
