@@ -1,6 +1,6 @@
 -- What the calls of one function have in common. An input is lawful in a context; two lawful inputs may agree on what is read; and their
 -- outputs then begin as records at the same places, and differ from these only where something is written.
-use Rattle.std.specs.Prelude.{◌≡◌, ◌<◌, ◌≤◌, ◌⊎◌, ℕ, true, false, List, [], ◌∷◌, length, get_or}
+use Rattle.std.specs.Prelude.{◌≡◌, ◌<◌, ◌≤◌, ◌⊎◌, ℕ, false, List, [], ◌∷◌, length, get_or}
 use Rattle.std.specs.List.{AllByRecursion, AllZip}
 use Rattle.pact_record.specs.declared.values.Value.{Value}
 use Rattle.pact_record.specs.declared.values.Value.TheVariants.{Null}

@@ -1,4 +1,4 @@
-use Rattle.std.proofs.Common.{◌≡◌, ◌∙◌, sym, rules}
+use Rattle.std.proofs.Common.{◌∙◌, sym, rules}
 use Rattle.pact_record.specs.Record.{at_field}
 use Rattle.pact_record.specs.Value.{value_cmp}
 use Rattle.pact_record.proofs.EqualValues.{same_value, value_itself}
