@@ -21,7 +21,7 @@ use Rattle.flow_model.proofs.Ended.{spread}
 use Rattle.flow_model.proofs.Stuck.{stuck_is_done}
 use Rattle.flow_core.specs.Stations.{given_by, placed_by, total_given}
 use Rattle.flow_core.specs.Worlds.{IsStanding, IsWhole, StandsForSome, StationData, WorldData, seen}
-use Rattle.flow_core.proofs.StartStands.{numbers_below}
+use Rattle.flow_instance.proofs.PartsOfPlans.{number_below}
 
 -- the stations of the root
 abbrev pub root_row : WorldData → List StationData
@@ -86,4 +86,4 @@ same_length (suc m) (suc n) h k = omega (arith, h m (omega arith), k n (omega ar
 
 pub length-stations : (w : WorldData) (p : ProgramData) → IsWhole w.physical w.stations → IsPlanOf p.functions p.ops w.physical.tree → length w.stations ≡ length p.ops
 length-stations w p whole plan = same_length (length w.stations) (length p.ops)
-    (λ k less. numbers_below p.ops w.physical.tree k plan.arity (whole.only k less)) (λ k less. whole.each k (plan.all k less))
+    (λ k less. number_below p.ops k w.physical.tree (whole.only k less) plan.arity) (λ k less. whole.each k (plan.all k less))

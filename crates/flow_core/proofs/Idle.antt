@@ -21,7 +21,7 @@ use Rattle.plan_trees.proofs.EverySubtree.{all_below-at}
 use Rattle.flow_model.proofs.Trees.{Reads, read}
 use Rattle.flow_core.specs.Idle.{IsIdle, IsOf}
 use Rattle.flow_core.specs.Wired.{input_in}
-use Rattle.flow_core.proofs.Tables.{has_below}
+use Rattle.plan_trees.proofs.Ships.{below_limit}
 
 -- ---- readers and what they read
 
@@ -213,19 +213,19 @@ module _ (p : PhysicalData) (depth : ℕ) (w : World) where
   stuck_take k h q (Some x) r on =
       let t = told_take q x.0 x.1 r on in
       let f = is_found p q.edge x.0 x.1 k r in
-      let off = h x.0 q.to (has_below p.tree x.0 k.plan f.has_reader) t.to (events.Take q) ((x.1, r), refl) in
+      let off = h x.0 q.to (below_limit x.0 p.tree k.plan f.has_reader) t.to (events.Take q) ((x.1, r), refl) in
       let clash : true ≡ false = sym on ∙ off in
       cc
 
   stuck_at : IsPhysical p → ((at worker : ℕ) → at < node_limit → worker < p.workers → IsIdle p depth w at worker) → (e : Event) → enabled p depth w e ≡ true → ⊥
   stuck_at k h (events.Put q) on =
       let place = and_parts (has q.edge p.tree) (nat_lt q.from p.workers) (and_parts (has q.edge p.tree && nat_lt q.from p.workers) _ on).0 in
-      let off = h q.edge q.from (has_below p.tree q.edge k.plan place.0) (ltb-true q.from p.workers place.1) (events.Put q) (refl, refl) in
+      let off = h q.edge q.from (below_limit q.edge p.tree k.plan place.0) (ltb-true q.from p.workers place.1) (events.Put q) (refl, refl) in
       let clash : true ≡ false = sym on ∙ off in
       cc
   stuck_at k h (events.End at worker) on =
       let place = and_parts (has at p.tree) (nat_lt worker p.workers) (and_parts (has at p.tree && nat_lt worker p.workers) _ on).0 in
-      let off = h at worker (has_below p.tree at k.plan place.0) (ltb-true worker p.workers place.1) (events.End at worker) (refl, refl) in
+      let off = h at worker (below_limit at p.tree k.plan place.0) (ltb-true worker p.workers place.1) (events.End at worker) (refl, refl) in
       let clash : true ≡ false = sym on ∙ off in
       cc
   stuck_at k h (events.Take q) on = stuck_take k h q (reader_of q.edge p.tree) refl on

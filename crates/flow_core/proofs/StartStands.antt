@@ -1,15 +1,13 @@
 -- A world at its start.
-use Rattle.std.proofs.Common.{◌≡◌, ◌<◌, ◌≤◌, ◌||◌, ◌==◌, inl, inr, ℕ, zero, suc, true, List, [], ◌∷◌, get_or, length, ap, subst, sym, ◌∙◌, arith}
+use Rattle.std.proofs.Common.{◌≡◌, ◌<◌, ◌≤◌, inl, inr, ℕ, zero, suc, true, List, [], ◌∷◌, get_or, ap, subst, sym, ◌∙◌, arith}
 use Rattle.std.specs.List.{AllByRecursion}
-use Rattle.std.proofs.lemmas.Bool.{cases_lt, eqb-true, or_cases}
-use Rattle.std.proofs.lemmas.Option.{slice_get_within}
+use Rattle.std.proofs.lemmas.Bool.{cases_lt}
 use Rattle.std.proofs.lemmas.List.{get_or_past}
 use Rattle.pact_operators.specs.Allowed.{Bag}
 use Rattle.pact_operators.specs.Inputs.{AreInputsOf}
-use Rattle.pact_operators.specs.Programs.{HasArity, IsPlanOf, IsProgram, ProgramData, Takes}
-use Rattle.pact_operators.specs.declared.operators.Op.{Op}
+use Rattle.pact_operators.specs.Programs.{IsPlanOf, IsProgram, ProgramData}
 use Rattle.plan_trees.specs.Physicals.{IsPhysical, PhysicalData}
-use Rattle.plan_trees.specs.Plans.{PlanTree, leaf, over, both, has}
+use Rattle.plan_trees.specs.Plans.{has}
 use Rattle.flow_model.specs.declared.notes.Note.{Note}
 use Rattle.flow_model.specs.Events.{no_history}
 use Rattle.flow_model.specs.Spots.{Setting, setting}
@@ -58,26 +56,6 @@ module _ (g : Setting) (count : ℕ) (stations : List (List StationData)) (s : A
           instances = λ at worker there below. ((s.each at (each at there)).each worker below).started;
         });
       })
-
--- ---- the numbers of a plan of a program
-
-takes_below : (ops : List Op) (n count : ℕ) → Takes ops n count → n < length ops
-takes_below ops n count t = slice_get_within ops n t.0 t.1
-
--- each number of the plan is one of the program's
-pub numbers_below : (ops : List Op) (t : PlanTree) (at : ℕ) → HasArity ops t → has at t ≡ true → at < length ops
-numbers_below ops (leaf n) at h there = subst (λ (m : ℕ). m < length ops) (sym (eqb-true at n there)) (takes_below ops n 0 h)
-numbers_below ops (over n t) at h there = elim (or_cases (at == n) (has at t) there) as (λ _. at < length ops) [
-  | inl e ↦ subst (λ (m : ℕ). m < length ops) (sym (eqb-true at n e)) (takes_below ops n 1 h.0)
-  | inr below ↦ numbers_below ops t at h.1 below
-]
-numbers_below ops (both n t u) at h there = elim (or_cases (at == n) (has at t || has at u) there) as (λ _. at < length ops) [
-  | inl e ↦ subst (λ (m : ℕ). m < length ops) (sym (eqb-true at n e)) (takes_below ops n 2 h.0)
-  | inr below ↦ elim (or_cases (has at t) (has at u) below) as (λ _. at < length ops) [
-    | inl left ↦ numbers_below ops t at h.1 left
-    | inr right ↦ numbers_below ops u at h.2 right
-  ]
-]
 
 pub some_start : (p : ProgramData) (inputs : List Bag) (physical : PhysicalData) (w : WorldData) → IsProgram p → AreInputsOf p inputs → IsPhysical physical → IsPlanOf p.functions p.ops physical.tree
     → 1 ≤ w.depth → w.physical ≡ physical → IsStanding (setting p inputs physical) w no_history → StandsForSome w

@@ -1,11 +1,9 @@
 -- Tables by number.
-use Rattle.std.proofs.Common.{◌≡◌, ◌<◌, ◌≤◌, ◌+◌, inl, inr, ℕ, false, true, None, List, [], ◌∷◌, get_or, length, set, refl, subst, sym, ◌∙◌, arith}
-use Rattle.std.specs.List.{AllByRecursion}
+use Rattle.std.proofs.Common.{◌≡◌, ◌<◌, ◌≤◌, ◌+◌, inl, inr, ℕ, false, true, None, List, get_or, length, set, refl, subst, sym, ◌∙◌, arith}
 use Rattle.std.proofs.lemmas.Bool.{cases_eq, cases_lt, false_from_ne_true}
 use Rattle.std.proofs.lemmas.List.{get_or-set_other, get_or-set_same, get_or_past}
-use Rattle.plan_trees.specs.Plans.{IsPlan, PlanTree, has, nodes, node_limit}
-use Rattle.plan_trees.proofs.DifferentNumbers.{IsIn}
-use Rattle.plan_trees.proofs.NodesOfTrees.{nodes-has}
+use Rattle.plan_trees.specs.Plans.{IsPlan, PlanTree, has, node_limit}
+use Rattle.plan_trees.proofs.Ships.{below_limit}
 use Rattle.flow_model.specs.Worlds.{reader_of}
 use Rattle.flow_model.proofs.Trees.{no_reader}
 use Rattle.flow_core.specs.Wired.{input_in}
@@ -28,16 +26,8 @@ all_set d f xs n limit enough long h beyond k = elim (cases_lt k limit) as (λ _
 
 -- ---- numbers that no plan has
 
-pub each_in : (P : ℕ → Type 0) (m : ℕ) (ns : List ℕ) → AllByRecursion P ns → IsIn m ns → P m
-each_in P m [] h i = absurd i
-each_in P m (n ∷ ns) h (inl e) = subst P (sym e) h.0
-each_in P m (n ∷ ns) h (inr later) = each_in P m ns h.1 later
-
-pub has_below : (tree : PlanTree) (at : ℕ) → IsPlan tree → has at tree ≡ true → at < node_limit
-has_below tree at plan there = each_in (λ n. n < node_limit) at (nodes tree) plan.below (nodes-has at tree there)
-
 pub beyond : (tree : PlanTree) (at : ℕ) → IsPlan tree → node_limit ≤ at → has at tree ≡ false
-beyond tree at plan more = false_from_ne_true (has at tree) (λ (there : has at tree ≡ true). omega (arith, more, has_below tree at plan there))
+beyond tree at plan more = false_from_ne_true (has at tree) (λ (there : has at tree ≡ true). omega (arith, more, below_limit at tree plan there))
 
 pub no_reader_beyond : (tree : PlanTree) → IsPlan tree → (edge : ℕ) → node_limit ≤ edge → reader_of edge tree ≡ None
 no_reader_beyond tree plan edge more = no_reader edge tree (beyond tree edge plan more)

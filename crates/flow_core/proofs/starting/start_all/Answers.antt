@@ -4,13 +4,13 @@ use Rattle.flow_model.specs.Spots.{setting}
 use Rattle.flow_core.specs.Starting.{AreStarted, AreStartedAt}
 use Rattle.flow_core.specs.Worlds.{StationData}
 use Rattle.flow_core.proofs.Dealing.{each_last}
-use Rattle.flow_core.proofs.Tables.{has_below}
+use Rattle.plan_trees.proofs.Ships.{below_limit}
 use Rattle.flow_core.proofs.starting.start_all.Goals as goal
 
 pub overflow_cast-at : goal.overflow_cast-at
 overflow_cast-at g c =
     let one_of : c.loop-at.at < length c.args.program.now.ops = subst (λ (ops : List Op). c.loop-at.at < length ops) c.ops-count.ensures.ops c.loop-at-test.true in
-    let few = has_below c.args.physical.now.tree c.loop-at.at c.workers-workers.ensures.physical.plan (c.requires.plan.all c.loop-at.at one_of) in
+    let few = below_limit c.loop-at.at c.args.physical.now.tree c.workers-workers.ensures.physical.plan (c.requires.plan.all c.loop-at.at one_of) in
     search (rules, few)
 
 pub loop-at-preserved : goal.loop-at-preserved

@@ -1,7 +1,8 @@
 use Rattle.std.proofs.Common.{length, refl}
 use Rattle.flow_model.specs.Spots.{setting}
 use Rattle.flow_core.specs.Worlds.{WorldData}
-use Rattle.flow_core.proofs.StartStands.{numbers_below, some_start, standing_start}
+use Rattle.flow_core.proofs.StartStands.{some_start, standing_start}
+use Rattle.flow_instance.proofs.PartsOfPlans.{number_below}
 use Rattle.flow_core.proofs.worlds.World.start.Goals as goal
 
 pub returns-clause-standing : goal.returns-clause-standing
@@ -10,7 +11,7 @@ returns-clause-standing g c =
     let physical = c.args.physical.now in
     let w : WorldData = record { physical = c.new.result; depth = c.args.depth; stations = c.in_ok-stations.stations.items } in
     let standing = standing_start (setting p c.args.inputs.now physical) (length p.ops) c.in_ok-stations.stations.items c.in_ok-stations.ensures w c.new.ensures refl
-    (λ at there. numbers_below p.ops physical.tree at c.requires.plan.arity there) (λ at less. c.requires.plan.all at less) in
+    (λ at there. number_below p.ops at physical.tree there c.requires.plan.arity) (λ at less. c.requires.plan.all at less) in
     standing
 
 pub returns-clause-stands : goal.returns-clause-stands
@@ -19,5 +20,5 @@ returns-clause-stands g c =
     let physical = c.args.physical.now in
     let w : WorldData = record { physical = c.new.result; depth = c.args.depth; stations = c.in_ok-stations.stations.items } in
     let standing = standing_start (setting p c.args.inputs.now physical) (length p.ops) c.in_ok-stations.stations.items c.in_ok-stations.ensures w c.new.ensures refl
-    (λ at there. numbers_below p.ops physical.tree at c.requires.plan.arity there) (λ at less. c.requires.plan.all at less) in
+    (λ at there. number_below p.ops at physical.tree there c.requires.plan.arity) (λ at less. c.requires.plan.all at less) in
     some_start p c.args.inputs.now physical w c.fields-fields.ensures.keeps c.requires.inputs c.workers-workers.ensures.physical c.requires.plan c.requires.depth.0 c.new.ensures standing
