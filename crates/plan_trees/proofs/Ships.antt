@@ -1,32 +1,25 @@
 -- Ships by the number of the node that an edge leaves.
-use Rattle.std.proofs.Common.{◌≡◌, ◌≢◌, ◌<◌, ◌==◌, inl, inr, ℕ, zero, suc, true, false, length, get_or, replicate, refl, ap, sym, ◌∙◌, arith}
+use Rattle.std.proofs.Common.{◌≡◌, ◌≢◌, ◌<◌, ◌==◌, inl, inr, ℕ, zero, suc, true, false, List, [], ◌∷◌, length, get_or, replicate, refl, ap, sym, subst, ◌∙◌, arith}
 use Rattle.std.specs.Prelude.{Some}
+use Rattle.std.specs.List.{AllByRecursion}
 use Rattle.std.proofs.lemmas.Bool.{cases_Bool}
-use Rattle.std.proofs.lemmas.Bool.Decides.{nat_tests, eqb_tells}
+use Rattle.std.proofs.lemmas.Bool.Decides.{nat_tests}
 use Rattle.std.proofs.lemmas.List.{get_or_default, get_or-set_same, ext_get_or}
 use Rattle.plan_trees.specs.declared.physicals.Ship.{Ship}
 use Rattle.plan_trees.specs.declared.physicals.Ship.TheVariants.{Forward}
-use Rattle.plan_trees.specs.Plans.{PlanTree, leaf, over, both, node_limit, root_of, has, IsPlan}
+use Rattle.plan_trees.specs.Plans.{PlanTree, node_limit, nodes, root_of, has, IsPlan}
 use Rattle.plan_trees.specs.Physicals.{PhysicalData, has_edge, ship_at, with_ship, IsPhysical}
-use Rattle.plan_trees.proofs.BelowRoot.{input_plan, left_plan, right_plan}
+use Rattle.plan_trees.proofs.DifferentNumbers.{IsIn}
+use Rattle.plan_trees.proofs.NodesOfTrees.{nodes-has}
+
+each_in : (P : ℕ → Type 0) (m : ℕ) (ns : List ℕ) → AllByRecursion P ns → IsIn m ns → P m
+each_in P m [] h i = absurd i
+each_in P m (n ∷ ns) h (inl e) = subst P (sym e) h.0
+each_in P m (n ∷ ns) h (inr later) = each_in P m ns h.1 later
 
 -- a node's number is below the limit
 pub below_limit : (at : ℕ) (t : PlanTree) → IsPlan t → has at t ≡ true → at < node_limit
-below_limit at (leaf n) h there = elim (eqb_tells at n) as (λ _. at < node_limit) [
-  | inl e ↦ (let below = h.below.0 in let same = e.1 in omega arith)
-  | inr e ↦ absurd (let not_here = e.0 in cc)
-]
-below_limit at (over n t) h there = elim (eqb_tells at n) as (λ _. at < node_limit) [
-  | inl e ↦ (let below = h.below.0 in let same = e.1 in omega arith)
-  | inr e ↦ below_limit at t (input_plan n t h) (simp e.0 at there)
-]
-below_limit at (both n t u) h there = elim (eqb_tells at n) as (λ _. at < node_limit) [
-  | inl e ↦ (let below = h.below.0 in let same = e.1 in omega arith)
-  | inr e ↦ elim (cases_Bool (has at t)) as (λ _. at < node_limit) [
-    | inl p ↦ below_limit at t (left_plan n t u h) p
-    | inr p ↦ below_limit at u (right_plan n t u h) (simp (e.0, p) at there)
-  ]
-]
+below_limit at t h there = each_in (λ n. n < node_limit) at (nodes t) h.below (nodes-has at t there)
 
 pub is_edge : (at : ℕ) (t : PlanTree) → has at t ≡ true → at ≢ root_of t → has_edge at t ≡ true
 is_edge at t there other =
