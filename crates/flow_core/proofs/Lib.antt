@@ -9,3 +9,4 @@ mod Idle
 mod Leaving
 mod Finishing
 mod RunAlone
+mod WorldLaws

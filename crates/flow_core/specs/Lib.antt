@@ -5,3 +5,4 @@ pub mod Starting
 pub mod Wired
 pub mod Replays
 pub mod Idle
+pub mod Laws

@@ -36,28 +36,19 @@ fn next_event<L: Local>(world: &World<L>, ready: &mut Ready) -> Option<Event>
     world.any_event()
 }
 
-// Lists the instance that did an event, and the one at the other end of the pipe as the next one.
+// Lists what a note that went along a pipe may have set free: the instances at both of its ends.
 fn list_around<L: Local>(
     ready: &mut Ready,
     world: &World<L>,
     event: Event,
 ) -> Result<(), OutOfMemory> {
-    match event {
-        Event::Put(pipe) => {
-            ready.push(pipe.edge, pipe.from)?;
-            let Some((at, _)) = world.reader(pipe.edge) else {
-                return Ok(());
-            };
-            ready.push(at, pipe.to)
-        }
-        Event::Take(pipe) => {
-            ready.push(pipe.edge, pipe.from)?;
-            let Some((at, _)) = world.reader(pipe.edge) else {
-                return Ok(());
-            };
-            ready.push(at, pipe.to)
-        }
-        Event::End { .. } => Ok(()),
+    let (Event::Put(pipe) | Event::Take(pipe)) = event else {
+        return Ok(());
+    };
+    ready.push(pipe.edge, pipe.from)?;
+    match world.reader(pipe.edge) {
+        Some((at, _)) => ready.push(at, pipe.to),
+        None => Ok(()),
     }
 }
 

@@ -6,7 +6,6 @@
 #![tactic(auto)]
 
 pub mod alone;
-pub mod laws;
 mod ready;
 pub mod replays;
 mod searching;

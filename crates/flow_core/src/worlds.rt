@@ -18,6 +18,7 @@ ghost use Rattle.pact_record.specs.Widths.{AreWide};
 ghost use Rattle.flow_core.specs.Stations.{IsReadyFor, total_given};
 ghost use Rattle.flow_model.specs.Worlds.{AreDone, History, does_want, enabled, reader_of};
 ghost use Rattle.flow_core.specs.Wired.{input_in};
+ghost use Rattle.flow_core.specs.Laws.{ObeysLaws};
 ghost use Rattle.flow_core.specs.Worlds.{IsStanding, IsWhole, StandsForSome, depth_limit, instance_in, queue_in, seen};
 
 use crate::starting::start_all;
@@ -91,6 +92,7 @@ impl<L: Local> World<L> {
         requires depth { (1 ≤ depth) × (depth ≤ depth_limit) }
         ensures standing { IfOk result (λ w. IsStanding (setting program.now inputs.now physical.now) w no_history) }
         ensures stands { IfOk result StandsForSome }
+        ensures laws { IfOk result ObeysLaws }
         ensures physical { IfOk result (λ w. w.physical ≡ physical.now) }
         ensures depth { IfOk result (λ w. w.depth ≡ depth) }
     {
@@ -307,6 +309,7 @@ impl<L: Local> World<L> {
         ensures physical { self.new.physical ≡ self.old.physical }
         ensures depth { self.new.depth ≡ self.old.depth }
         ensures stands { OnOk result (StandsForSome self.new) }
+        ensures laws { OnOk result (ObeysLaws self.new) }
     {
         self.change(event)
     }

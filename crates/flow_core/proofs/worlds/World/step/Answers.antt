@@ -3,6 +3,7 @@ use Rattle.flow_model.proofs.Events.{step_depth}
 use Rattle.flow_model.specs.Spots.{setting}
 use Rattle.flow_core.specs.Worlds.{seen}
 use Rattle.flow_instance.proofs.Results.{on_ok_two}
+use Rattle.flow_core.proofs.WorldLaws.{laws_hold}
 use Rattle.flow_core.proofs.Stepping.{some_after, standing_after}
 use Rattle.flow_core.proofs.worlds.World.step.Goals as goal
 
@@ -24,4 +25,10 @@ pub returns-clause-stands : goal.returns-clause-stands
 returns-clause-stands g c =
     on_ok_two c.change.result (λ steps whole.
     some_after c.args.self.now c.change.new.self c.args.event c.requires.can c.requires.stands steps c.change.ensures.physical c.change.ensures.depth whole)
+    c.change.ensures.stepped c.change.ensures.whole
+
+pub returns-clause-laws : goal.returns-clause-laws
+returns-clause-laws g c =
+    on_ok_two c.change.result (λ steps whole.
+    laws_hold c.change.new.self (some_after c.args.self.now c.change.new.self c.args.event c.requires.can c.requires.stands steps c.change.ensures.physical c.change.ensures.depth whole))
     c.change.ensures.stepped c.change.ensures.whole
