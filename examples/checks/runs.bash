@@ -3,7 +3,7 @@
 # ---- Programs that run
 
 cp filter.pact sum.pact push.pact "$scratch"
-# A sum that has no value where it is no number of 64 bits may depend on the order of a group, which is that of the file.
+# A sum that has no value where it is no number of 64 bits may depend on the order of a group, which for few rows is that of the file.
 sed 's/addw/add/' sum.pact >"$scratch/exact_sum.pact"
 # What `emit` hands out is what the record holds then.
 cat >"$scratch/emits.pact" <<'END'

@@ -1,6 +1,6 @@
 //! Worlds of instances and pipes, stepped by hand and run alone.
 
-ghost use Rattle.std.specs.Prelude.{◌≡◌, ◌≤◌, ◌<◌, IfOk};
+ghost use Rattle.std.specs.Prelude.{◌≡◌, ◌≤◌, ◌<◌, IfOk, OnOk};
 ghost use Rattle.plan_trees.specs.Physicals.{worker_limit};
 ghost use Rattle.flow_core.specs.Worlds.{StandsForSome};
 
@@ -96,6 +96,28 @@ fn end(at: u32, worker: u32) -> Event {
 fn nothing_can_be_taken_at_the_start(rt: HostRuntime) -> Result<(), Fail> {
     let world = world(rt.alloc(), TWICE, &["1,5\n1,5\n"], 2, 64, 4)?;
     assert_eq!(rt; followed(world, &[take(0, 0, 0)])?, (0, 4));
+    Ok(())
+}
+
+// Lets an event happen where it can, and tells whether it could.
+fn steps(world: &mut World<ListLocal>, event: Event) -> Result<bool, Fail>
+    requires { StandsForSome world.old }
+    ensures { OnOk result (StandsForSome world.new) }
+{
+    if !world.enabled(event) {
+        return Ok(false);
+    }
+    world.step(event)?;
+    Ok(true)
+}
+
+#[test]
+fn a_full_pipe_takes_no_note(rt: HostRuntime) -> Result<(), Fail> {
+    let mut world = world(rt.alloc(), TWICE, &["1,5\n1,6\n"], 1, 1, 1)?;
+    assert!(rt; steps(&mut world, put(0, 0, 0))?);
+    assert!(rt; !steps(&mut world, put(0, 0, 0))?);
+    assert!(rt; steps(&mut world, take(0, 0, 0))?);
+    assert!(rt; steps(&mut world, put(0, 0, 0))?);
     Ok(())
 }
 
