@@ -1,9 +1,10 @@
 -- Shares of rows, and rows of stations, item by item.
-use Rattle.std.proofs.Common.{◌≡◌, ◌<◌, ◌+◌, ◌%◌, ◌==◌, inl, inr, ℕ, zero, suc, Bool, true, false, cond, Some, List, slice_get, [], ◌∷◌, ◌++◌, get_or, length, take, refl, ap, subst, sym, ◌∙◌, arith}
+use Rattle.std.proofs.Common.{◌≡◌, ◌<◌, ◌+◌, ◌%◌, ◌==◌, inl, inr, ℕ, suc, Bool, true, false, cond, List, [], ◌∷◌, ◌++◌, drop, get_or, length, set, take, refl, ap, subst, sym, ◌∙◌, append-nil, arith, length-append, length-drop}
 use Rattle.std.specs.List.{AllByRecursion}
-use Rattle.std.proofs.lemmas.Bool.{cases_eq}
-use Rattle.std.proofs.lemmas.List.{get_or_append_left, length-take-le, take_more}
-use Rattle.std.proofs.lemmas.List.Elements.{recursion_from_All}
+use Rattle.std.proofs.lemmas.Bool.{cases_eq, eq-eqb, ne_eqb}
+use Rattle.std.proofs.lemmas.List.{drop_more, get_or_append_left, get_or_default, get_or-set_other, get_or-set_same, length-set, take_more}
+use Rattle.std.proofs.lemmas.List.Elements.{filter-append, recursion_from_All}
+use Rattle.std.proofs.lemmas.Option.{slice_get-get_or}
 use Rattle.std.proofs.Math.Seq.{get_or-append_seam}
 use Rattle.pact_bag.specs.Rows.{HaveOneWidth}
 use Rattle.pact_operators.specs.Allowed.{Bag}
@@ -11,14 +12,15 @@ use Rattle.pact_operators.specs.Inputs.{AreInputsOf}
 use Rattle.pact_operators.specs.PlanOps.{is_source_kind, kind_at, kind_in, source_place, sources_of}
 use Rattle.pact_operators.specs.Programs.{ProgramData}
 use Rattle.pact_operators.specs.declared.operators.Op.{Op}
+use Rattle.pact_operators.proofs.SourceRows.{input_widths, place_below}
 use Rattle.pact_record.specs.Widths.{AreWide}
-use Rattle.pact_operators.proofs.SourceRows.{input_widths}
-use Rattle.std.proofs.lemmas.Option.{get_or_from_slice_get, slice_get-get_or}
-use Rattle.tac_syntax.specs.declared.declarations.OpKind.TheVariants.{Source}
-use Rattle.flow_core.specs.Starting.{HasShare}
 use Rattle.pact_record.specs.declared.values.Value.{Value}
-use Rattle.pact_record.proofs.Lists.{AllByRecursion-cond, AllByRecursion-get_or, AllByRecursion-slice_get, AllByRecursion-weaker}
+use Rattle.pact_record.proofs.Lists.{AllByRecursion-cond, AllByRecursion-get_or}
 use Rattle.plan_trees.specs.Sending.{share_from}
+use Rattle.tac_syntax.specs.declared.declarations.OpKind.{OpKind}
+use Rattle.tac_syntax.specs.declared.declarations.OpKind.TheVariants.{Source, Map, Reduce, Match, Cross, CoGroup}
+use Rattle.flow_instance.proofs.Carried.{IsNext, next_width}
+use Rattle.flow_core.specs.Starting.{AreDealt, AreOwn, TakesOwn}
 
 -- ---- shares
 
@@ -42,52 +44,103 @@ share_from-last n workers worker (first ∷ rows) row =
     ∙ cond-append (n % workers == worker) first (share_from (suc n) workers worker rows) (cond ((suc n + length rows) % workers == worker) (row ∷ []) [])
     ∙ ap (λ (m : ℕ). cond (n % workers == worker) (first ∷ share_from (suc n) workers worker rows) (share_from (suc n) workers worker rows) ++ cond (m % workers == worker) (row ∷ []) []) place
 
-pub share_from-next : (workers worker n : ℕ) (rows : Bag) (row : List Value) → n < length rows → row ≡ get_or rows n row
-    → share_from 0 workers worker (take (n + 1) rows) ≡ share_from 0 workers worker (take n rows) ++ cond (n % workers == worker) (row ∷ []) []
-share_from-next workers worker n rows row less is =
-    let more = take_more rows n row less ∙ ap (λ (r : List Value). take n rows ++ r ∷ []) (sym is) in
-    let long : length (take n rows) ≡ n = length-take-le n rows (omega (arith, less)) in
-    let place : 0 + length (take n rows) ≡ n = omega (arith, long) in
-    ap (share_from 0 workers worker) more ∙ share_from-last 0 workers worker (take n rows) row
-    ∙ ap (λ (m : ℕ). share_from 0 workers worker (take n rows) ++ cond (m % workers == worker) (row ∷ []) []) place
+-- with one row more
+share_from-after : (workers worker : ℕ) (done : Bag) (row : List Value) → share_from 0 workers worker (done ++ row ∷ []) ≡ share_from 0 workers worker done ++ cond (length done % workers == worker) (row ∷ []) []
+share_from-after workers worker done row =
+    share_from-last 0 workers worker done row ∙ ap (λ (m : ℕ). share_from 0 workers worker done ++ cond (m % workers == worker) (row ∷ []) []) (omega arith)
 
-take-each : {X : Type 0} (P : X → Type 0) (n : ℕ) (xs : List X) → AllByRecursion P xs → AllByRecursion P (take n xs)
-take-each P zero xs h = tt
-take-each P (suc n) [] h = tt
-take-each P (suc n) (x ∷ xs) h = (h.0, take-each P n xs h.1)
+-- ---- shares that grow
 
--- what is dealt so far has the width of the next row
-pub share_wide : (workers worker n : ℕ) (rows : Bag) (row : List Value) → HaveOneWidth rows → n < length rows → row ≡ get_or rows n row
-    → AllByRecursion (λ held. length held ≡ length row) (share_from 0 workers worker (take n rows))
-share_wide workers worker n rows row wide less is =
-    let P = λ (held : List Value). length held ≡ wide.width in
-    let all = recursion_from_All P rows wide.all in
-    let own : length row ≡ wide.width = ap length is ∙ AllByRecursion-get_or P rows n row less all in
-    AllByRecursion-weaker P (λ held. length held ≡ length row) (share_from 0 workers worker (take n rows)) (λ held e. e ∙ sym own)
-    (share-each P 0 workers worker (take n rows) (take-each P n rows all))
+-- a share, however it was found
+pub share_is : (workers to : ℕ) (done share : Bag) (shares : List Bag) → to < workers → share ≡ get_or shares to share → AreDealt workers done shares → share ≡ share_from 0 workers to done
+share_is workers to done share shares less is dealt = is ∙ get_or_default shares to share [] (omega (arith, less, dealt.long)) ∙ dealt.each to less
 
--- ---- a worker's share of a source
+-- the share to which a row goes has its width
+pub share_width : (workers to : ℕ) (done rows share : Bag) (row : List Value) (shares : List Bag) → HaveOneWidth rows → IsNext done rows row → share ≡ share_from 0 workers to done
+    → ((fields : ℕ) → AreWide fields rows → AreWide fields done) → AllByRecursion (λ held. length held ≡ length row) share
+share_width workers to done rows share row shares one next is kept =
+    let wide = recursion_from_All (λ (r : List Value). length r ≡ one.width) rows one.all in
+    let own = subst (λ (w : ℕ). AreWide w done) (sym (next_width one.width done rows row wide next)) (kept one.width wide) in
+    subst (AreWide (length row)) (sym is) (share-each (λ (r : List Value). length r ≡ length row) 0 workers to done own)
 
-pub kind_found : (ops found : List Op) (at : ℕ) (d : Op) → found ≡ ops → at < length ops → kind_at ops at ≡ (get_or found at d).kind
-kind_found ops found at d e less = ap kind_in (slice_get-get_or ops at d less) ∙ ap (λ (l : List Op). (get_or l at d).kind) (sym e)
-
-pub has_share : (p : ProgramData) (inputs : List Bag) (at workers worker place : ℕ) (rows found : Bag) → AreInputsOf p inputs → kind_at p.ops at ≡ Source → place ≡ source_place p.ops at
-    → slice_get inputs place ≡ Some found → rows ≡ share_from 0 workers worker found → HasShare p inputs at workers worker rows
-has_share p inputs at workers worker place rows found h kind place_is found_is e =
-    let own : found ≡ get_or inputs (source_place p.ops at) [] = sym (get_or_from_slice_get inputs place found [] found_is) ∙ ap (λ (n : ℕ). get_or inputs n []) place_is in
-    let wide = AllByRecursion-slice_get (AreWide p.fields) inputs place found (input_widths p.fields (sources_of p.ops) inputs h) found_is in
-    record {
-      share = λ source. e ∙ ap (share_from 0 workers worker) own;
-      none = λ other. absurd (let clash : true ≡ false = sym (ap is_source_kind kind) ∙ other in cc);
-      wide = subst (AreWide p.fields) (sym e) (share-each (λ (row : List Value). length row ≡ p.fields) 0 workers worker found wide);
-    }
-
-pub no_share : (p : ProgramData) (inputs : List Bag) (at workers worker : ℕ) (rows : Bag) → (kind_at p.ops at ≡ Source → ⊥) → rows ≡ [] → HasShare p inputs at workers worker rows
-no_share p inputs at workers worker rows other e = record {
-  share = λ source. absurd (other source);
-  none = λ _. e;
-  wide = subst (AreWide p.fields) (sym e) tt;
+pub dealt-more : (workers to : ℕ) (done share more : Bag) (row : List Value) (shares : List Bag) → to < workers → share ≡ share_from 0 workers to done → to ≡ length done % workers → more ≡ share ++ row ∷ []
+    → AreDealt workers done shares → AreDealt workers (done ++ row ∷ []) (set shares to more)
+dealt-more workers to done share more row shares less is here m dealt = record {
+  long = length-set shares to more ∙ dealt.long;
+  each = λ w below. elim (cases_eq w to) as (λ _. get_or (set shares to more) w [] ≡ share_from 0 workers w (done ++ row ∷ [])) [
+    | inl e ↦ subst (λ (v : ℕ). get_or (set shares to more) v [] ≡ share_from 0 workers v (done ++ row ∷ [])) (sym e)
+        (get_or-set_same shares to more [] (omega (arith, less, dealt.long)) ∙ m ∙ ap (λ (l : Bag). l ++ row ∷ []) is
+        ∙ sym (share_from-after workers to done row ∙ ap (λ (b : Bool). share_from 0 workers to done ++ cond b (row ∷ []) []) (eq-eqb (length done % workers) to (sym here))))
+    | inr other ↦ get_or-set_other shares to w more [] other ∙ dealt.each w below
+        ∙ sym (share_from-after workers w done row ∙ ap (λ (b : Bool). share_from 0 workers w done ++ cond b (row ∷ []) []) (ne_eqb (length done % workers) w (λ e. other (sym (here ∙ e))))
+        ∙ append-nil (share_from 0 workers w done))
+  ];
 }
+
+-- ---- what a source or operator has of its own
+
+source_kind : (kind : OpKind) → is_source_kind kind ≡ true → kind ≡ Source
+source_kind Source h = refl
+source_kind Map h = absurd cc
+source_kind Reduce h = absurd cc
+source_kind Match h = absurd cc
+source_kind Cross h = absurd cc
+source_kind CoGroup h = absurd cc
+
+kind_is : (ops : List Op) (n : ℕ) (op : Op) → n < length ops → op ≡ get_or ops n op → kind_at ops n ≡ op.kind
+kind_is ops n op less is = ap kind_in (slice_get-get_or ops n op less) ∙ ap (λ (o : Op). o.kind) (sym is)
+
+counted : (b : Bool) (op : Op) → length (cond b (op ∷ []) []) ≡ cond b 1 0
+counted true op = refl
+counted false op = refl
+
+source_place-next : (ops : List Op) (n : ℕ) (op : Op) → n < length ops → op ≡ get_or ops n op → source_place ops (n + 1) ≡ source_place ops n + cond (is_source_kind op.kind) 1 0
+source_place-next ops n op less is =
+    ap (λ (l : List Op). length (sources_of l)) (take_more ops n op less ∙ ap (λ (o : Op). take n ops ++ o ∷ []) (sym is))
+    ∙ ap length (filter-append (λ (o : Op). is_source_kind o.kind) (take n ops) (op ∷ [])) ∙ length-append (sources_of (take n ops)) (sources_of (op ∷ []))
+    ∙ ap (λ (k : ℕ). source_place ops n + k) (counted (is_source_kind op.kind) op)
+
+-- where the next one is a source, there are rows left for it
+pub some_left : (p : ProgramData) (inputs left : List Bag) (n : ℕ) (op : Op) → AreInputsOf p inputs → n < length p.ops → op ≡ get_or p.ops n op → left ≡ drop (source_place p.ops n) inputs → is_source_kind op.kind ≡ true → 0 < length left
+some_left p inputs left n op are less is behind source =
+    let below = place_below p.fields p.ops inputs n are less (kind_is p.ops n op less is ∙ source_kind op.kind source) in
+    omega (arith, below, ap length behind, length-drop (source_place p.ops n) inputs)
+
+-- what was taken is its own, and the rows of the sources behind it are left
+pub record HasTaken (p : ProgramData) (inputs : List Bag) (at : ℕ) (own : Bag) (left : List Bag) : Type 0 where
+  pub own_are : AreOwn p inputs at own
+  pub none : is_source_kind (kind_at p.ops at) ≡ false → own ≡ []
+  pub wide : AreWide p.fields own
+  pub behind : left ≡ drop (source_place p.ops (at + 1)) inputs
+
+pub has_taken : (p : ProgramData) (inputs left : List Bag) (n : ℕ) (op : Op) (own : Bag) (rest : List Bag) → AreInputsOf p inputs → n < length p.ops → op ≡ get_or p.ops n op → left ≡ drop (source_place p.ops n) inputs
+    → TakesOwn (is_source_kind op.kind) left own rest → HasTaken p inputs n own rest
+has_taken p inputs left n op own rest are less is behind taken = by_kind (is_source_kind op.kind) refl taken
+  where
+    by_kind : (b : Bool) → is_source_kind op.kind ≡ b → TakesOwn b left own rest → HasTaken p inputs n own rest
+    by_kind true source t =
+        let place = source_place p.ops n in
+        let kind = kind_is p.ops n op less is in
+        let within = place_below p.fields p.ops inputs n are less (kind ∙ source_kind op.kind source) in
+        let parts = sym t ∙ behind ∙ drop_more inputs place [] within in
+        let first : own ≡ get_or inputs place [] = cc parts in
+        let others : rest ≡ drop (place + 1) inputs = cc parts in
+        record {
+          own_are = λ _. first;
+          none = λ other. absurd (let clash : true ≡ false = sym source ∙ ap is_source_kind (sym kind) ∙ other in cc);
+          wide = subst (AreWide p.fields) (sym first) (AllByRecursion-get_or (AreWide p.fields) inputs place [] within (input_widths p.fields (sources_of p.ops) inputs are));
+          behind = others ∙ ap (λ (k : ℕ). drop k inputs) (sym (source_place-next p.ops n op less is ∙ ap (λ (b : Bool). place + cond b 1 0) source));
+        }
+    by_kind false other t =
+        let place = source_place p.ops n in
+        let kind = kind_is p.ops n op less is in
+        let same : place + 0 ≡ place = omega arith in
+        record {
+          own_are = λ source. absurd (let clash : true ≡ false = ap is_source_kind (sym source ∙ kind) ∙ other in cc);
+          none = λ _. t.0;
+          wide = subst (AreWide p.fields) (sym t.0) tt;
+          behind = t.1 ∙ behind ∙ ap (λ (k : ℕ). drop k inputs) (sym (source_place-next p.ops n op less is ∙ ap (λ (b : Bool). place + cond b 1 0) other ∙ same));
+        }
 
 -- ---- one item more
 

@@ -1,21 +1,29 @@
 -- Stations at their start.
-use Rattle.std.specs.Prelude.{◌≡◌, ◌<◌, ℕ, false, List, [], get_or, length}
+use Rattle.std.specs.Prelude.{◌≡◌, ◌<◌, ℕ, Bool, true, false, List, [], ◌∷◌, get_or, length}
 use Rattle.std.specs.List.{AllByRecursion}
 use Rattle.pact_operators.specs.Allowed.{Bag}
-use Rattle.pact_operators.specs.PlanOps.{is_source_kind, kind_at}
+use Rattle.pact_operators.specs.PlanOps.{kind_at, plan_ops}
 use Rattle.pact_operators.specs.Programs.{ProgramData}
-use Rattle.pact_record.specs.Widths.{AreWide}
 use Rattle.plan_trees.specs.Plans.{subtree_of}
+use Rattle.plan_trees.specs.Sending.{share_from}
+use Rattle.tac_syntax.specs.declared.declarations.OpKind.TheVariants.{Source}
 use Rattle.flow_model.specs.Spots.{Setting, spot}
 use Rattle.flow_model.specs.Steps.{Started}
-use Rattle.flow_instance.specs.Starting.{IsShareOf}
 use Rattle.flow_core.specs.Worlds.{StationData, no_station}
 
--- The rows are the worker's share of those of a source, and none at an operator.
-pub record HasShare (p : ProgramData) (inputs : List Bag) (at workers worker : ℕ) (rows : Bag) : Type 0 where
-  pub share : IsShareOf p inputs at workers worker rows
-  pub none : is_source_kind (kind_at p.ops at) ≡ false → rows ≡ []
-  pub wide : AreWide p.fields rows
+-- of the rows that are left, a source takes those of the first one, and an operator none
+abbrev pub TakesOwn : Bool → (old : List Bag) → (own : Bag) → (new : List Bag) → Type 0
+TakesOwn true old own new = old ≡ own ∷ new
+TakesOwn false old own new = (own ≡ []) × (new ≡ old)
+
+-- where it is a source, the rows are those that it has in the program
+abbrev pub AreOwn : ProgramData → List Bag → (at : ℕ) → Bag → Type 0
+AreOwn p inputs at rows = kind_at p.ops at ≡ Source → rows ≡ (plan_ops p inputs).rows at
+
+-- each of so many workers has its share of the rows
+pub record AreDealt (workers : ℕ) (rows : Bag) (shares : List Bag) : Type 0 where
+  pub long : length shares ≡ workers
+  pub each : (worker : ℕ) → worker < workers → get_or shares worker [] ≡ share_from 0 workers worker rows
 
 -- an instance at its start, with empty pipes
 pub record IsStarted (g : Setting) (at worker : ℕ) (s : StationData) : Type 0 where

@@ -1,84 +1,66 @@
 //! The stations of a plan at their start.
 
-ghost use Rattle.std.specs.Prelude.{◌≡◌, ◌≤◌, ◌<◌, ◌++◌, ◌∷◌, [], cond, length, IfOk, OnOk};
+ghost use Rattle.std.specs.Prelude.{◌≡◌, ◌≤◌, ◌<◌, [], List, true, false, length, IfOk};
 ghost use Rattle.std.specs.List.{AllByRecursion};
+ghost use Rattle.pact_operators.specs.Allowed.{Bag};
 ghost use Rattle.pact_operators.specs.Inputs.{AreInputsOf};
-ghost use Rattle.pact_operators.specs.PlanOps.{source_place};
+ghost use Rattle.pact_operators.specs.PlanOps.{is_source_kind, kind_at};
 ghost use Rattle.pact_operators.specs.Programs.{IsPlanOf};
-ghost use Rattle.plan_trees.specs.Sending.{share_from};
+ghost use Rattle.pact_record.specs.Widths.{AreWide};
 ghost use Rattle.flow_instance.specs.Limits.{batch_limit};
 ghost use Rattle.flow_model.specs.Spots.{setting};
-ghost use Rattle.flow_core.specs.Starting.{AreStarted, AreStartedAt, HasShare};
+ghost use Rattle.flow_core.specs.Starting.{AreDealt, AreOwn, AreStarted, AreStartedAt, TakesOwn};
 
 use crate::stations::{Queue, Row, Station};
 use flow_instance::Instance;
 use local_strategy::Local;
 use pact_bag::{Inputs, Rows};
 use pact_operators::{Op, OpKind, Physical, Program};
-use pact_record::{OutOfMemory, Record};
+use pact_record::OutOfMemory;
 use std::alloc::Global;
 use std::collections::VecDeque;
 
-// The place of a source among the sources.
-fn source_place(ops: &[Op], at: u32) -> usize
-    requires { at ≤ length ops.now }
-    ensures { result ≡ source_place ops.now at }
+// The rows of the next source, where this is one. An operator has no rows.
+fn own_rows(alloc: Global, op: &Op, left: &mut Inputs) -> Rows
+    requires { is_source_kind op.now.kind ≡ true → 0 < length left.old }
+    ensures { TakesOwn (is_source_kind op.now.kind) left.old result left.new }
 {
-    let mut place = 0;
-    for op in &ops[..at as usize] {
-        if op.kind == OpKind::Source {
-            place += 1;
-        }
+    if op.kind == OpKind::Source {
+        left.take_first()
+    } else {
+        Rows::new(alloc)
     }
-    place
 }
 
-// Copies a row that is the worker's own.
-fn deal_row(alloc: Global, dealt: &mut Rows, row: &Record, is_own: bool) -> Result<(), OutOfMemory>
-    requires { AllByRecursion (λ held. length held ≡ length row.now) dealt.old }
-    ensures { OnOk result (dealt.new ≡ dealt.old ++ cond is_own (row.now ∷ []) []) }
-{
-    if !is_own {
-        return Ok(());
-    }
-    dealt.push(row.copy(alloc)?)?;
-    Ok(())
-}
-
-// The rows whose number is the worker's modulo the number of workers.
-fn deal(alloc: Global, rows: &Rows, workers: u32, worker: u32) -> Result<Rows, OutOfMemory>
+// No rows for each worker, with room for a share of so many.
+fn no_shares(alloc: Global, workers: u32, rows: usize) -> Result<Vec<Rows>, OutOfMemory>
     requires { 1 ≤ workers }
-    ensures { IfOk result (λ dealt. dealt ≡ share_from 0 workers worker rows.now) }
+    ensures { IfOk result (λ shares. AreDealt workers [] shares.items) }
 {
-    let mut dealt = Rows::new(alloc);
-    for (number, row) in rows.rows().iter().enumerate() {
-        let is_own = number % workers as usize == worker as usize;
-        deal_row(alloc, &mut dealt, row, is_own)?;
+    let room = rows.div_ceil(workers as usize);
+    let mut shares = Vec::with_capacity(alloc, workers as usize)?;
+    for _ in 0..workers {
+        shares.push_reserved(Rows::with_capacity(alloc, room)?);
     }
-    Ok(dealt)
+    Ok(shares)
 }
 
-// A worker's share of the rows of a source. An operator has none.
-fn share_of(
-    alloc: Global,
-    program: &Program,
-    inputs: &Inputs,
-    at: u32,
-    workers: u32,
-    worker: u32,
-) -> Result<Rows, OutOfMemory>
-    requires inputs { AreInputsOf program.now inputs.now }
-    requires at { at < length program.now.ops }
-    requires workers { 1 ≤ workers }
-    ensures { IfOk result (HasShare program.now inputs.now at workers worker) }
+// Moves each row to the worker whose number is the row's modulo the number of workers.
+fn deal(alloc: Global, rows: Rows, workers: u32) -> Result<Vec<Rows>, OutOfMemory>
+    requires { 1 ≤ workers }
+    ensures { IfOk result (λ shares. AreDealt workers rows shares.items) }
 {
-    match program.ops()[at as usize].kind {
-        OpKind::Source => {
-            let place = source_place(program.ops(), at);
-            deal(alloc, inputs.at(place), workers, worker)
-        }
-        _ => Ok(Rows::new(alloc)),
+    // they have one width
+    let _same = rows.rows();
+    let count = rows.len();
+    let mut shares = no_shares(alloc, workers, count)?;
+    let mut number: usize = 0;
+    for row in rows.into_records() {
+        let to = number % workers as usize;
+        shares[to].push(row)?;
+        number += 1;
     }
+    Ok(shares)
 }
 
 // An empty pipe to each worker.
@@ -95,51 +77,56 @@ fn empty_queues(alloc: Global, workers: u32) -> Result<Vec<Queue>, OutOfMemory>
     Ok(queues)
 }
 
-// The stations of a source or operator.
+// The stations of a source or operator, with the rows that are its own.
 fn start_row<L: Local>(
     alloc: Global,
     program: &Program,
     physical: &Physical,
-    inputs: &Inputs,
+    rows: Rows,
     batch: u32,
     at: u32,
 ) -> Result<Row<L>, OutOfMemory>
     requires plan { IsPlanOf program.now.functions program.now.ops physical.now.tree }
-    requires inputs { AreInputsOf program.now inputs.now }
+    requires wide { AreWide program.now.fields rows }
+    requires none { is_source_kind (kind_at program.now.ops at) ≡ false → rows ≡ [] }
     requires batch { (1 ≤ batch) × (batch ≤ batch_limit) }
     requires at { at < length program.now.ops }
-    ensures { IfOk result (AreStartedAt (setting program.now inputs.now physical.now) at) }
+    ensures { IfOk result (λ row. (inputs : List Bag) → AreOwn program.now inputs at rows → AreStartedAt (setting program.now inputs physical.now) at row) }
 {
     let workers = physical.workers();
     let mut held = Vec::with_capacity(alloc, workers as usize)?;
-    for worker in 0..workers {
-        let rows = share_of(alloc, program, inputs, at, workers, worker)?;
-        let instance = Instance::start(alloc, program, physical, at, worker, batch, rows)?;
+    let mut worker = 0;
+    let shares = deal(alloc, rows, workers)?;
+    for share in shares {
+        let instance = Instance::start(alloc, program, physical, at, worker, batch, share)?;
         let queues = empty_queues(alloc, workers)?;
         held.push(Station { instance, queues })?;
+        worker += 1;
     }
     Ok(Row { held })
 }
 
-/// The stations of all sources and operators, by their numbers.
+/// The stations of all sources and operators, by their numbers. Each row of a source moves to its worker.
 pub(crate) fn start_all<L: Local>(
     alloc: Global,
     program: &Program,
     physical: &Physical,
-    inputs: &Inputs,
+    inputs: Inputs,
     batch: u32,
 ) -> Result<Vec<Row<L>>, OutOfMemory>
     requires plan { IsPlanOf program.now.functions program.now.ops physical.now.tree }
-    requires inputs { AreInputsOf program.now inputs.now }
+    requires inputs { AreInputsOf program.now inputs }
     requires batch { (1 ≤ batch) × (batch ≤ batch_limit) }
-    ensures { IfOk result (λ rows. AreStarted (setting program.now inputs.now physical.now) (length program.now.ops) rows.items) }
+    ensures { IfOk result (λ rows. AreStarted (setting program.now inputs physical.now) (length program.now.ops) rows.items) }
 {
-    let count = program.ops().len();
+    let ops = program.ops();
     // a physical plan tells that it has few numbers
     let _workers = physical.workers();
-    let mut rows = Vec::with_capacity(alloc, count)?;
-    for at in 0..count {
-        rows.push(start_row(alloc, program, physical, inputs, batch, at as u32)?)?;
+    let mut left = inputs;
+    let mut rows = Vec::with_capacity(alloc, ops.len())?;
+    for (at, op) in ops.iter().enumerate() {
+        let own = own_rows(alloc, op, &mut left);
+        rows.push(start_row(alloc, program, physical, own, batch, at as u32)?)?;
     }
     Ok(rows)
 }

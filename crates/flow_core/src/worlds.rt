@@ -78,6 +78,37 @@ fn does_want(a: Want, b: Want) -> bool
 
 impl<L: Local> World<L> {
     /// The instances of a plan at their start, and empty pipes that hold at most `depth` notes each. An instance gives batches of at most `batch` records.
+    /// The rows of the sources are given away: each moves to its worker.
+    pub fn start_owned(
+        alloc: Global,
+        program: &Program,
+        physical: &Physical,
+        inputs: Inputs,
+        batch: u32,
+        depth: u32,
+    ) -> Result<World<L>, OutOfMemory>
+        requires plan { IsPlanOf program.now.functions program.now.ops physical.now.tree }
+        requires inputs { AreInputsOf program.now inputs }
+        requires batch { (1 ≤ batch) × (batch ≤ batch_limit) }
+        requires depth { (1 ≤ depth) × (depth ≤ depth_limit) }
+        ensures standing { IfOk result (λ w. IsStanding (setting program.now inputs physical.now) w no_history) }
+        ensures stands { IfOk result StandsForSome }
+        ensures laws { IfOk result ObeysLaws }
+        ensures physical { IfOk result (λ w. w.physical ≡ physical.now) }
+        ensures depth { IfOk result (λ w. w.depth ≡ depth) }
+    {
+        // a program tells that it is one, and a physical plan too
+        let (_fields, _workers) = (program.fields(), physical.workers());
+        let stations = start_all(alloc, program, physical, inputs, batch)?;
+        Ok(World {
+            alloc,
+            wiring: Wiring::new(physical),
+            depth,
+            stations,
+        })
+    }
+
+    /// The same of rows that are lent, of which each is copied once.
     pub fn start(
         alloc: Global,
         program: &Program,
@@ -96,15 +127,7 @@ impl<L: Local> World<L> {
         ensures physical { IfOk result (λ w. w.physical ≡ physical.now) }
         ensures depth { IfOk result (λ w. w.depth ≡ depth) }
     {
-        // a program tells that it is one, and a physical plan too
-        let (_fields, _workers) = (program.fields(), physical.workers());
-        let stations = start_all(alloc, program, physical, inputs, batch)?;
-        Ok(World {
-            alloc,
-            wiring: Wiring::new(physical),
-            depth,
-            stations,
-        })
+        World::start_owned(alloc, program, physical, inputs.copy(alloc)?, batch, depth)
     }
 
     pub(crate) fn alloc(&self) -> Global {

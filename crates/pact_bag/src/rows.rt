@@ -176,4 +176,22 @@ impl Inputs {
     {
         &self.held[source]
     }
+
+    pub fn copy(&self, alloc: Global) -> Result<Inputs, OutOfMemory>
+        ensures { IfOk result (λ inputs. inputs ≡ self.now) }
+    {
+        let mut held = Vec::with_capacity(alloc, self.held.len())?;
+        for rows in &self.held {
+            held.push_reserved(rows.copy(alloc)?);
+        }
+        Ok(Inputs { held })
+    }
+
+    /// Gives away the rows of the first source. Those of the next one are then the first.
+    pub fn take_first(&mut self) -> Rows
+        requires { 0 < length self.old }
+        ensures { self.old ≡ result ∷ self.new }
+    {
+        self.held.remove(0)
+    }
 }

@@ -14,7 +14,7 @@ use Rattle.pact_top.specs.declared.loaded.Loaded.{Loaded}
 
 module _ (l : Loaded) (workers plans : ℕ) (choice : Choice) where
   pub told-AreCounts : (bag : Bag) (counts : List ℕ) (asked : Bool) (told : Option (List ℕ)) → IsChoice l workers plans choice → Counted (plan_ops l.program l.inputs) choice.plan bag counts
-      → AreToldCounts l choice.plan counts asked told → AreCounts l workers plans bag asked told
+      → AreToldCounts l.program choice.plan counts asked told → AreCounts l workers plans bag asked told
   told-AreCounts bag counts true (Some text) chosen counted h = record { choice = choice; is_choice = chosen; counts = counts; counted = counted; spelled = same_Some text _ h }
   told-AreCounts bag counts true None chosen counted h = absurd (cc)
   told-AreCounts bag counts false told chosen counted h = h

@@ -71,9 +71,9 @@ abbrev pub AllowsWritten : Loaded → Bag → Type 0
 AllowsWritten l bag = Allows (plan_ops l.program l.inputs) l.program.plan bag
 
 -- counts of a plan as text, where they are asked for
-abbrev pub AreToldCounts : Loaded → PlanTree → List ℕ → Bool → Option (List ℕ) → Type 0
-AreToldCounts l plan counts true told = told ≡ Some (counts_text l.program plan counts)
-AreToldCounts l plan counts false told = told ≡ None
+abbrev pub AreToldCounts : ProgramData → PlanTree → List ℕ → Bool → Option (List ℕ) → Type 0
+AreToldCounts p plan counts true told = told ≡ Some (counts_text p plan counts)
+AreToldCounts p plan counts false told = told ≡ None
 
 -- The counts of an evaluation of the chosen plan that gives the bag, as text.
 pub record IsCountsText (l : Loaded) (workers plans : ℕ) (bag : Bag) (text : List ℕ) : Type 0 where

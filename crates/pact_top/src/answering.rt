@@ -148,7 +148,7 @@ fn run<F: Feed>(
     ensures { Comes (λ files. work.texts_for files (to_run name.now options counts)) (F.shows feed.old) (F.shows feed.new) result }
 {
     let loaded = load(alloc, feed, name)?;
-    let texts = run_texts(alloc, &loaded, options, counts)?;
+    let texts = run_texts(alloc, loaded, options, counts)?;
     Ok(texts)
 }
 

@@ -1,7 +1,7 @@
 //! The plan that is chosen of a program on the rows of its sources, and what is written of it.
 
 ghost use Rattle.std.specs.Prelude.{◌≡◌, ◌≤◌, ◌<◌, ◌+◌, ◌++◌, ◌∷◌, [], ℕ, true, cond, get_or, length, IfOk, OnOk};
-ghost use Rattle.pact_operators.specs.Allowed.{Counted};
+ghost use Rattle.pact_operators.specs.Allowed.{Allows, Counted};
 ghost use Rattle.pact_operators.specs.Inputs.{AreInputsOf};
 ghost use Rattle.pact_operators.specs.PlanOps.{is_source_kind, plan_ops};
 ghost use Rattle.pact_operators.specs.Programs.{AreNames, IsPlanOf};
@@ -13,7 +13,7 @@ ghost use Rattle.pact_record.specs.Widths.{AreWide};
 ghost use Rattle.pact_top.specs.CommandTexts as texts;
 ghost use Rattle.pact_top.specs.declared.loaded.Loaded.{Loaded as LoadedData};
 ghost use Rattle.ship_strategy.specs.Layouts.{layout_count};
-ghost use Rattle.pact_top.specs.CommandTexts.{AllowsWritten, AreToldCounts, IsAnswerOf, IsCertificateLine, IsChoice, IsDerived, IsOutAlone, IsPlanText};
+ghost use Rattle.pact_top.specs.CommandTexts.{AreToldCounts, IsAnswerOf, IsCertificateLine, IsChoice, IsDerived, IsOutAlone, IsPlanText};
 
 use crate::lines::sorted_lines;
 use crate::loaded::{Loaded, is_source};
@@ -107,61 +107,62 @@ pub fn choose_plan(
 // What a run of the chosen plan in parts gives: a bag that the plan as written allows too.
 fn run_plan(
     alloc: Global,
-    loaded: &Loaded,
+    program: &Program,
+    inputs: Inputs,
     choice: &Choice,
     options: Options,
 ) -> Result<Outcome, OutOfMemory>
-    requires inputs { AreInputsOf loaded.now.program loaded.now.inputs }
+    requires inputs { AreInputsOf program.now inputs }
     requires options { AreOptionsInRange options }
-    requires plan { IsPlanOf loaded.now.program.functions loaded.now.program.ops choice.now.plan }
-    requires layout { choice.now.chosen.layout < layout_count loaded.now.program.ops }
-    requires answers { KeepAnswers loaded.now.program loaded.now.program.plan choice.now.plan }
-    ensures allowed { IfOk result (λ o. AllowsWritten loaded.now o.rows) }
-    ensures counted { IfOk result (λ o. Counted (plan_ops loaded.now.program loaded.now.inputs) choice.now.plan o.rows o.counts) }
-    ensures widths { IfOk result (λ o. AreWide loaded.now.program.fields o.rows) }
+    requires plan { IsPlanOf program.now.functions program.now.ops choice.now.plan }
+    requires layout { choice.now.chosen.layout < layout_count program.now.ops }
+    requires answers { KeepAnswers program.now program.now.plan choice.now.plan }
+    ensures allowed { IfOk result (λ o. Allows (plan_ops program.now inputs) program.now.plan o.rows) }
+    ensures counted { IfOk result (λ o. Counted (plan_ops program.now inputs) choice.now.plan o.rows o.counts) }
+    ensures widths { IfOk result (λ o. AreWide program.now.fields o.rows) }
 {
-    let (program, inputs) = (&loaded.program, &loaded.inputs);
     // a program tells that it is one
     let _fields = program.fields();
     let physical = layout(program, &choice.plan, choice.chosen.layout, options.workers);
     let (batch, depth) = (options.batch, options.depth);
-    let world = World::<ListLocal>::start(alloc, program, &physical, inputs, batch, depth)?;
+    let world = World::<ListLocal>::start_owned(alloc, program, &physical, inputs, batch, depth)?;
     run_alone(world)
 }
 
 // The counts of a run of the chosen plan, where they are asked for.
 fn told_counts(
     alloc: Global,
-    loaded: &Loaded,
+    program: &Program,
     choice: &Choice,
     counts: &Counts,
     asked: bool,
 ) -> Result<Option<Bytes>, OutOfMemory>
-    requires plan { IsPlanOf loaded.now.program.functions loaded.now.program.ops choice.now.plan }
-    ensures { IfOk result (AreToldCounts loaded.now choice.now.plan counts.now asked) }
+    requires plan { IsPlanOf program.now.functions program.now.ops choice.now.plan }
+    ensures { IfOk result (AreToldCounts program.now choice.now.plan counts.now asked) }
 {
     if !asked {
         return Ok(None);
     }
-    let text = counts_text(alloc, &loaded.program, &choice.plan, counts)?;
+    let text = counts_text(alloc, program, &choice.plan, counts)?;
     Ok(Some(text))
 }
 
-/// The sorted rows of a run of the chosen plan, and its counts where they are asked for.
+/// The sorted rows of a run of the chosen plan, and its counts where they are asked for. The rows of the sources go into the run.
 pub fn run_texts(
     alloc: Global,
-    loaded: &Loaded,
+    loaded: Loaded,
     options: Options,
     counts: bool,
 ) -> Result<Texts, OutOfMemory>
-    requires inputs { AreInputsOf loaded.now.program loaded.now.inputs }
+    requires inputs { AreInputsOf loaded.program loaded.inputs }
     requires options { AreOptionsInRange options }
-    ensures { IfOk result (IsAnswerOf loaded.now options.workers options.plans counts) }
+    ensures { IfOk result (IsAnswerOf loaded options.workers options.plans counts) }
 {
-    let choice = choose_plan(alloc, loaded, options.workers, options.plans)?;
-    let outcome = run_plan(alloc, loaded, &choice, options)?;
-    let out = sorted_lines(alloc, &outcome.rows, loaded.program.sink())?;
-    let counts = told_counts(alloc, loaded, &choice, &outcome.counts, counts)?;
+    let choice = choose_plan(alloc, &loaded, options.workers, options.plans)?;
+    let Loaded { program, inputs } = loaded;
+    let outcome = run_plan(alloc, &program, inputs, &choice, options)?;
+    let out = sorted_lines(alloc, &outcome.rows, program.sink())?;
+    let counts = told_counts(alloc, &program, &choice, &outcome.counts, counts)?;
     Ok(Texts { out, counts })
 }
 

@@ -1,26 +1,41 @@
-use Rattle.std.proofs.Common.{◌≡◌, ◌<◌, ◌++◌, ◌%◌, ◌==◌, ◌∷◌, [], ap, cond, get_or, length, rules, subst, sym, ◌∙◌, List}
-use Rattle.std.specs.List.{AllByRecursion}
-use Rattle.pact_operators.specs.Allowed.{Bag}
-use Rattle.pact_record.specs.declared.values.Value.{Value}
-use Rattle.flow_core.proofs.Dealing.{share_from-next, share_wide}
+use Rattle.std.proofs.Common.{◌≡◌, ◌<◌, ◌%◌, ◌∷◌, [], ap, arith, length, length-append, ◌∙◌}
+use Rattle.std.proofs.lemmas.Iterator.Adapters.{YieldsList-from_vec}
+use Rattle.std.proofs.lemmas.Iterator.Consumers.{YieldsList-turn}
+use Rattle.flow_instance.proofs.Split.{more_wide}
+use Rattle.flow_core.proofs.Dealing.{dealt-more, share_is, share_width}
 use Rattle.flow_core.proofs.starting.deal.Goals as goal
 
-pub deal_row-requires : goal.deal_row-requires
-deal_row-requires c =
-    let rows_are : c.rows-row-items.result.now ≡ c.args.rows.now = c.rows-row-items.ensures.rows in
-    let n = c.loop-number.number in
-    let row = c.row-item.result in
-    let within : n < length c.rows-row-items.result.now = search rules in
-    let less : n < length c.args.rows.now = subst (λ (l : Bag). n < length l) rows_are within in
-    let is : row ≡ get_or c.args.rows.now n row = c.row-item.is ∙ ap (λ (l : Bag). get_or l n row) rows_are in
-    subst (λ (dealt : Bag). AllByRecursion (λ (held : List Value). length held ≡ length row) dealt) (sym c.loop-number.invariant) (share_wide c.args.workers c.args.worker n c.args.rows.now row c.rows-row-items.ensures.one_width less is)
+pub push-requires : goal.push-requires
+push-requires c =
+    let gives = c.into_iter-row-iterator.ensures.into_iter_gives in
+    let items = c.into_records-row-items in
+    let t = YieldsList-turn (YieldsList-from_vec {s = c.into_iter-row-iterator.result} c.args.rows (gives.0 ∙ items.ensures) (gives.1 ∙ items.result.ok.0 ∙ ap length items.ensures)) c.loop-row.yielded c.loop-row.row-iterator c.loop-row.yielded_by
+    c.next.result c.next.new.self c.in-Some.row c.in-Some.is c.next.ensures.steps in
+    let i = c.loop-row.invariant in
+    let to = c.loop-row.number % c.args.workers in
+    let is = share_is c.args.workers to c.loop-row.yielded c.index_mut.result.now c.loop-row.shares.items (omega (arith, c.requires)) c.index_mut.ensures.value i.1 in
+    share_width c.args.workers to c.loop-row.yielded c.args.rows c.index_mut.result.now c.in-Some.row c.loop-row.shares.items c.rows-same.ensures.one_width t is i.2
 
-pub loop-number-preserved : goal.loop-number-preserved
-loop-number-preserved c =
-    let rows_are : c.rows-row-items.result.now ≡ c.args.rows.now = c.rows-row-items.ensures.rows in
-    let n = c.loop-number.number in
-    let row = c.row-item.result in
-    let within : n < length c.rows-row-items.result.now = search rules in
-    let less : n < length c.args.rows.now = subst (λ (l : Bag). n < length l) rows_are within in
-    let is : row ≡ get_or c.args.rows.now n row = c.row-item.is ∙ ap (λ (l : Bag). get_or l n row) rows_are in
-    c.in_ok-deal_row.ensures ∙ ap (λ (l : Bag). l ++ cond (n % c.args.workers == c.args.worker) (row ∷ []) []) c.loop-number.invariant ∙ sym (share_from-next c.args.workers c.args.worker n c.args.rows.now row less is)
+pub overflow_add-number : goal.overflow_add-number
+overflow_add-number c =
+    let gives = c.into_iter-row-iterator.ensures.into_iter_gives in
+    let items = c.into_records-row-items in
+    let t = YieldsList-turn (YieldsList-from_vec {s = c.into_iter-row-iterator.result} c.args.rows (gives.0 ∙ items.ensures) (gives.1 ∙ items.result.ok.0 ∙ ap length items.ensures)) c.loop-row.yielded c.loop-row.row-iterator c.loop-row.yielded_by
+    c.next.result c.next.new.self c.in-Some.row c.in-Some.is c.next.ensures.steps in
+    omega (arith, t.0, c.loop-row.invariant.0, c.len-count.ensures)
+
+pub loop-row-preserved : goal.loop-row-preserved
+loop-row-preserved c =
+    let gives = c.into_iter-row-iterator.ensures.into_iter_gives in
+    let items = c.into_records-row-items in
+    let t = YieldsList-turn (YieldsList-from_vec {s = c.into_iter-row-iterator.result} c.args.rows (gives.0 ∙ items.ensures) (gives.1 ∙ items.result.ok.0 ∙ ap length items.ensures)) c.loop-row.yielded c.loop-row.row-iterator c.loop-row.yielded_by
+    c.next.result c.next.new.self c.in-Some.row c.in-Some.is c.next.ensures.steps in
+    let i = c.loop-row.invariant in
+    let to = c.loop-row.number % c.args.workers in
+    let less : to < c.args.workers = omega (arith, c.requires) in
+    let here : to ≡ length c.loop-row.yielded % c.args.workers = ap (λ n. n % c.args.workers) i.0 in
+    let is = share_is c.args.workers to c.loop-row.yielded c.index_mut.result.now c.loop-row.shares.items less c.index_mut.ensures.value i.1 in (
+      omega (arith, i.0, length-append c.loop-row.yielded (c.in-Some.row ∷ [])),
+      dealt-more c.args.workers to c.loop-row.yielded c.index_mut.result.now c.push.new.self c.in-Some.row c.loop-row.shares.items less is here c.in_ok-push.ensures.ok i.1,
+      more_wide c.loop-row.yielded c.args.rows c.in-Some.row t i.2,
+    )

@@ -1,6 +1,8 @@
-use Rattle.std.proofs.Common.{◌≡◌, take}
-use Rattle.plan_trees.specs.Sending.{share_from}
+use Rattle.std.proofs.Common.{◌≡◌, ℕ, length}
+use Rattle.pact_record.specs.Widths.{AreWide}
+use Rattle.flow_core.specs.Starting.{AreDealt}
 use Rattle.flow_core.proofs.starting.deal.Given as goal
 
-abbrev pub invariant-loop-number : goal.invariant-loop-number
-invariant-loop-number l = l.dealt ≡ share_from 0 l.workers l.worker (take l.number l.rows)
+abbrev pub invariant-loop-row : goal.invariant-loop-row
+invariant-loop-row l =
+    (l.number ≡ length l.yielded) × AreDealt l.workers l.yielded l.shares.items × ((fields : ℕ) → AreWide fields l.fn.rows → AreWide fields l.yielded)

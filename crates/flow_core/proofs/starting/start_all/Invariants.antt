@@ -1,6 +1,8 @@
+use Rattle.std.proofs.Common.{◌≡◌, drop}
+use Rattle.pact_operators.specs.PlanOps.{source_place}
 use Rattle.flow_model.specs.Spots.{setting}
 use Rattle.flow_core.specs.Starting.{AreStarted}
 use Rattle.flow_core.proofs.starting.start_all.Given as goal
 
 abbrev pub invariant-loop-at : goal.invariant-loop-at
-invariant-loop-at g l = AreStarted (setting l.program l.inputs l.physical) l.at l.rows.items
+invariant-loop-at g l = (l.left ≡ drop (source_place l.program.ops l.at) l.fn.inputs) × AreStarted (setting l.program l.fn.inputs l.physical) l.at l.rows.items

@@ -1,7 +1,11 @@
-use Rattle.std.proofs.Common.{◌≡◌, length}
+use Rattle.std.proofs.Common.{◌≡◌, List, length}
+use Rattle.pact_operators.specs.Allowed.{Bag}
 use Rattle.flow_model.specs.Spots.{setting}
-use Rattle.flow_core.specs.Starting.{AreBelow}
+use Rattle.flow_core.specs.Starting.{AreBelow, AreOwn}
 use Rattle.flow_core.proofs.starting.start_row.Given as goal
 
-abbrev pub invariant-loop-worker : goal.invariant-loop-worker
-invariant-loop-worker g l = (length l.held.items ≡ l.worker) × AreBelow (setting l.program l.inputs l.physical) l.at l.worker l.held.items
+abbrev pub invariant-loop-share : goal.invariant-loop-share
+invariant-loop-share g l =
+    (l.worker ≡ length l.yielded)
+    × (length l.held.items ≡ l.worker)
+    × ((inputs : List Bag) → AreOwn l.program inputs l.at l.fn.rows → AreBelow (setting l.program inputs l.physical) l.at l.worker l.held.items)
