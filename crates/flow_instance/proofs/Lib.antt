@@ -4,6 +4,7 @@ pub mod Split
 pub mod Sent
 pub mod EndedSenders
 pub mod Giving
+pub mod SmallBatches
 pub mod Kept
 pub mod Matched
 pub mod BothKeys

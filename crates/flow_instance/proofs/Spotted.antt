@@ -1,5 +1,5 @@
 -- What an instance keeps is what its program and plan say, and so what it owes follows.
-use Rattle.std.proofs.Common.{◌≡◌, ◌<◌, ◌||◌, not, ℕ, Bool, true, false, List, [], ◌∷◌, slice_get, ap, sym, ◌∙◌, subst}
+use Rattle.std.proofs.Common.{◌≡◌, ◌<◌, ◌||◌, not, ℕ, Bool, true, false, List, [], ◌∷◌, slice_get, refl, ap, sym, ◌∙◌, subst}
 use Rattle.std.specs.List.{AllByRecursion}
 use Rattle.flow_model.proofs.Locals.{took_local}
 use Rattle.flow_model.proofs.Offers.{IsPutting, batch, mark, putting_by, offered_local}
@@ -11,6 +11,10 @@ use Rattle.flow_model.specs.Steps.{Added, AddedTo, GivesNow, Took, next_note, of
 use Rattle.flow_model.specs.declared.notes.Note.{Note}
 use Rattle.flow_model.specs.declared.notes.Want.TheVariants.{Take, Put}
 use Rattle.pact_operators.specs.Allowed.{Bag}
+use Rattle.pact_operators.specs.PlanOps.{PlanOps}
+use Rattle.tac_syntax.specs.Call.{Out, of_group, of_groups, of_pair, of_record}
+use Rattle.tac_syntax.specs.declared.declarations.OpKind.{OpKind}
+use Rattle.tac_syntax.specs.declared.declarations.OpKind.TheVariants.{Source, Map, Reduce, Match, Cross, CoGroup}
 use Rattle.flow_instance.specs.States.{AreOpsOf, spot_of}
 use Rattle.flow_instance.proofs.Wanting.{is_note}
 
@@ -25,6 +29,33 @@ ops_of s on p h = record {
 }
 
 -- ---- a note is taken
+
+-- operators that call the function of a part at any number
+abbrev own_ops : Part → PlanOps
+own_ops p = record {
+  kind = λ n. p.kind;
+  rows = λ n. [];
+  of_record = λ n row. Out p.fields p.body (of_record row);
+  of_pair = λ n left right. Out p.fields p.body (of_pair left right);
+  of_group = λ n key group. Out p.fields p.body (of_group key group);
+  of_groups = λ n key left right. Out p.fields p.body (of_groups key left right);
+  left_keys = λ n. p.left_keys;
+  right_keys = λ n. p.right_keys;
+}
+
+are_own : (p : Part) → AreOpsOf (own_ops p) p
+are_own p = record { calls = calls p.kind; left_keys = refl; right_keys = refl } where
+  calls : (kind : OpKind) → Calls (spot_of p (own_ops p)) kind p.fields p.body
+  calls Source = tt
+  calls Map = λ row. refl
+  calls Reduce = λ key group. refl
+  calls Match = λ left right. refl
+  calls Cross = λ left right. refl
+  calls CoGroup = λ key left right. refl
+
+-- its part is as before
+pub same_part : (i j : Instance) (port from : ℕ) (note : Note) → ((ops : _) → AreOpsOf ops i.part → Took (spot_of i.part ops) i.part.worker i port from note j) → j.part ≡ i.part
+same_part i j port from note h = (h (own_ops i.part) (are_own i.part)).part
 
 pub took_for : (s : Spot) (i j : Instance) (port from : ℕ) (note : Note) (taken : ℕ → ℕ → List Note) (put : ℕ → List Note) → ((ops : _) → AreOpsOf ops i.part → Took (spot_of i.part ops) i.part.worker i port from note j) → IsLocal s i.part.worker i taken put
     → Took s i.part.worker i port from note j

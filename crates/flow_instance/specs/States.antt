@@ -46,6 +46,7 @@ part_of p = record {
   fields = p.fields;
   worker = p.worker;
   workers = p.workers;
+  batch = p.batch;
   ports = map port_of p.ports.items;
   out = p.out;
 }

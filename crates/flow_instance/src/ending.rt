@@ -5,6 +5,7 @@ ghost use Rattle.flow_model.specs.Local.{works_at_once};
 ghost use Rattle.flow_model.specs.Notes.{AreNotes};
 ghost use Rattle.flow_model.specs.declared.notes.Note.TheVariants.{End};
 ghost use Rattle.pact_record.specs.Widths.{AreWide};
+ghost use Rattle.flow_instance.specs.Sending.{AreFew};
 ghost use Rattle.flow_instance.specs.States.{AreGivenLast, AreOrderly, HasEnded, HasFlags, HasTaken, IsReady, IsSound, IsSoundIfTaking, IsWhole, is_reduce};
 
 use crate::flags::all_set;
@@ -119,6 +120,7 @@ impl<L: Local> State<L> {
         ensures sound { OnOk result (IsSoundIfTaking L.rows L.key_fields L.is_sealed self.new) }
         ensures orderly { OnOk result (AreOrderly self.new.part.workers self.new.queue.items) }
         ensures flags { OnOk result (HasFlags self.new) }
+        ensures batches { OnOk result (AreFew self.new.part.batch self.new.queue.items) }
     {
         self.end_sender(port, from)?;
         if !self.all_ended() {
@@ -138,6 +140,7 @@ impl<L: Local> State<L> {
         ensures sound { OnOk result (IsSoundIfTaking L.rows L.key_fields L.is_sealed self.new) }
         ensures orderly { OnOk result (AreOrderly self.new.part.workers self.new.queue.items) }
         ensures flags { OnOk result (HasFlags self.new) }
+        ensures batches { OnOk result (AreFew self.new.part.batch self.new.queue.items) }
     {
         match note {
             Note::Batch(rows) => self.take_batch(port, rows),

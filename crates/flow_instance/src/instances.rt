@@ -1,7 +1,7 @@
 //! One operator or source on one worker.
 
 ghost use Rattle.std.specs.Prelude.{◌≡◌, ◌≤◌, ◌<◌, ◌∷◌, [], ℕ, true, false, List, Some, length, map, slice_get, IfOk, OnOk};
-ghost use Rattle.flow_model.specs.Instances.{Instance as InstanceData, ended_at, want};
+ghost use Rattle.flow_model.specs.Instances.{HasSmallBatches, Instance as InstanceData, ended_at, want};
 ghost use Rattle.flow_model.specs.Local.{IsLocal};
 ghost use Rattle.flow_model.specs.Notes.{AreNotes};
 ghost use Rattle.flow_model.specs.Spots.{Spot, is_edge, setting, spot};
@@ -71,6 +71,8 @@ impl<L: Local> Instance<L> {
         requires no_rows { is_source_kind (kind_at program.now.ops at) ≡ false → rows ≡ [] }
         ensures number { IfOk result (λ i. i.part.at ≡ at) }
         ensures worker { IfOk result (λ i. i.part.worker ≡ worker) }
+        ensures batch { IfOk result (λ i. i.part.batch ≡ batch) }
+        ensures small { IfOk result HasSmallBatches }
         ensures started { IfOk result (λ i. (inputs : List Bag) → IsShareOf program.now inputs at physical.now.workers worker rows → Started (spot (setting program.now inputs physical.now) (subtree_of at physical.now.tree)) worker i) }
         ensures local { IfOk result (λ i. (inputs : List Bag) → IsShareOf program.now inputs at physical.now.workers worker rows
             → IsLocal (spot (setting program.now inputs physical.now) (subtree_of at physical.now.tree)) worker i (λ port from. []) (λ to. [])) }
@@ -111,6 +113,8 @@ impl<L: Local> Instance<L> {
         ensures took { OnOk result ((s : Spot) (taken : ℕ → ℕ → List NoteData) (put : ℕ → List NoteData) → IsLocal s self.old.part.worker self.old taken put → Took s self.old.part.worker self.old port from note self.new) }
         ensures local { OnOk result ((s : Spot) (taken new : ℕ → ℕ → List NoteData) (put : ℕ → List NoteData) → IsLocal s self.old.part.worker self.old taken put
             → Added taken port from note new → IsLocal s self.old.part.worker self.new new put) }
+        ensures part { OnOk result (self.new.part ≡ self.old.part) }
+        ensures small { OnOk result (HasSmallBatches self.new) }
     {
         if let Err(refused) = self.state.take(port, from, note) {
             self.state.close();

@@ -77,7 +77,8 @@ impl<L: Local> State<L> {
         requires wide { AreWide self.old.part.fields rows }
         requires placed { self.old.placed ≡ [] }
         requires none { self.old.queue.items ≡ [] }
-        ensures { OnOk result (HasBegun L.rows self.old rows self.new) }
+        ensures begun { OnOk result (HasBegun L.rows self.old rows self.new) }
+        ensures batches { OnOk result (AreFew self.old.part.batch self.new.queue.items) }
     {
         self.give(rows)?;
         if !self.all_ended() {

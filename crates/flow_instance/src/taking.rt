@@ -4,6 +4,7 @@ ghost use Rattle.std.specs.Prelude.{◌≡◌, [], ℕ, true, false, IfOk, OnOk}
 ghost use Rattle.flow_model.specs.Instances.{all_ended};
 ghost use Rattle.flow_model.specs.declared.notes.Note.TheVariants.{Batch};
 ghost use Rattle.pact_record.specs.Widths.{AreWide};
+ghost use Rattle.flow_instance.specs.Sending.{AreFew};
 ghost use Rattle.flow_instance.specs.States.{AreOrderly, ArePairsGiven, HasFlags, HasTaken, IsReady, IsSound, is_map, is_pairing};
 
 use crate::keeping::keep;
@@ -24,6 +25,7 @@ impl<L: Local> State<L> {
         ensures sound { OnOk result (IsSound L.rows L.key_fields L.is_sealed self.new) }
         ensures orderly { OnOk result (AreOrderly self.new.part.workers self.new.queue.items) }
         ensures flags { OnOk result (HasFlags self.new) }
+        ensures batches { OnOk result (AreFew self.new.part.batch self.new.queue.items) }
     {
         let out = map_rows(self.alloc, self.part.function(), rows)?;
         self.give(out)
@@ -59,6 +61,7 @@ impl<L: Local> State<L> {
         ensures sound { OnOk result (IsSound L.rows L.key_fields L.is_sealed self.new) }
         ensures orderly { OnOk result (AreOrderly self.new.part.workers self.new.queue.items) }
         ensures flags { OnOk result (HasFlags self.new) }
+        ensures batches { OnOk result (AreFew self.new.part.batch self.new.queue.items) }
     {
         let out = self.pairs(rows)?;
         self.give(out)
@@ -72,6 +75,7 @@ impl<L: Local> State<L> {
         ensures sound { OnOk result (IsSound L.rows L.key_fields L.is_sealed self.new) }
         ensures orderly { OnOk result (AreOrderly self.new.part.workers self.new.queue.items) }
         ensures flags { OnOk result (HasFlags self.new) }
+        ensures batches { OnOk result (AreFew self.new.part.batch self.new.queue.items) }
     {
         keep(&mut self.left, self.part.fields, rows)
     }
@@ -84,6 +88,7 @@ impl<L: Local> State<L> {
         ensures sound { OnOk result (IsSound L.rows L.key_fields L.is_sealed self.new) }
         ensures orderly { OnOk result (AreOrderly self.new.part.workers self.new.queue.items) }
         ensures flags { OnOk result (HasFlags self.new) }
+        ensures batches { OnOk result (AreFew self.new.part.batch self.new.queue.items) }
     {
         keep(&mut self.right, self.part.fields, rows)
     }
@@ -96,6 +101,7 @@ impl<L: Local> State<L> {
         ensures sound { OnOk result (IsSound L.rows L.key_fields L.is_sealed self.new) }
         ensures orderly { OnOk result (AreOrderly self.new.part.workers self.new.queue.items) }
         ensures flags { OnOk result (HasFlags self.new) }
+        ensures batches { OnOk result (AreFew self.new.part.batch self.new.queue.items) }
     {
         match (port == 0, self.part.maps(), self.part.pairs()) {
             (true, true, _) => self.map_batch(&rows),

@@ -1,5 +1,6 @@
 -- An instance as data, and what it wants.
-use Rattle.std.specs.Prelude.{◌&&◌, ℕ, zero, suc, Bool, true, false, List, [], ◌∷◌, Option, get_or}
+use Rattle.std.specs.Prelude.{◌&&◌, ◌≤◌, ℕ, zero, suc, Bool, true, false, List, [], ◌∷◌, Option, get_or, length}
+use Rattle.std.specs.List.{AllByRecursion}
 use Rattle.tac_syntax.specs.Code.{Code}
 use Rattle.tac_syntax.specs.declared.declarations.OpKind.{OpKind}
 use Rattle.plan_trees.specs.declared.physicals.Ship.{Ship}
@@ -19,6 +20,8 @@ pub record Part : Type 0 where
   pub fields : ℕ
   pub worker : ℕ
   pub workers : ℕ
+  -- a batch has at most so many records
+  pub batch : ℕ
   pub ports : List Port
   pub out : Option Ship
 
@@ -72,3 +75,7 @@ want_by [] [] true true true = Done
 -- What waits goes out first, then port 0 is taken and then port 1; at the end the instance ends.
 abbrev pub want : Instance → Want
 want i = want_by i.waiting i.marks (port_ended i 0) (port_ended i 1) i.finished
+
+-- no batch that waits has more records than its size
+abbrev pub HasSmallBatches : Instance → Type 0
+HasSmallBatches i = AllByRecursion (λ w. length w.1 ≤ i.part.batch) i.waiting
