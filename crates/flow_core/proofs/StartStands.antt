@@ -13,14 +13,14 @@ use Rattle.flow_model.specs.Events.{no_history}
 use Rattle.flow_model.specs.Spots.{Setting, setting}
 use Rattle.flow_model.proofs.Events.{start_stands}
 use Rattle.flow_core.specs.Starting.{AreStarted}
-use Rattle.flow_core.specs.Worlds.{IsStanding, IsWhole, StandsForSome, StationData, WorldData, no_station, queue_in, seen, station_in}
+use Rattle.flow_core.specs.Worlds.{HasBatchSize, IsStanding, IsWhole, StandsForSome, StationData, WorldData, no_station, queue_in, seen, station_in}
 
 all_empty : (queues : List (List Note)) (to : ℕ) → AllByRecursion (λ q. q ≡ []) queues → get_or queues to [] ≡ []
 all_empty [] to h = get_or_past [] to [] (omega arith)
 all_empty (q ∷ queues) zero h = h.0
 all_empty (q ∷ queues) (suc to) h = all_empty queues to h.1
 
-module _ (g : Setting) (count : ℕ) (stations : List (List StationData)) (s : AreStarted g count stations) where
+module _ (g : Setting) (size count : ℕ) (stations : List (List StationData)) (s : AreStarted g size count stations) where
   -- outside of the rows there is no station
   no_row : (at worker : ℕ) → count ≤ at → station_in stations at worker ≡ no_station
   no_row at worker more = ap (λ (r : List StationData). get_or r worker no_station) (get_or_past stations at [] (omega (arith, more, s.long))) ∙ get_or_past [] worker no_station (omega arith)
@@ -44,6 +44,12 @@ module _ (g : Setting) (count : ℕ) (stations : List (List StationData)) (s : A
     workers = λ at less. (s.each at (omega (arith, less, s.long))).long;
     pipes = λ at worker less below. ((s.each at (omega (arith, less, s.long))).each worker below).long;
   }
+
+  pub size_start : (w : WorldData) → w.physical ≡ g.physical → w.stations ≡ stations → ((at : ℕ) → has at g.physical.tree ≡ true → at < count) → HasBatchSize w size
+  size_start w same is each = λ at worker there below.
+      let there_too : has at g.physical.tree ≡ true = subst (λ (p : PhysicalData). has at p.tree ≡ true) same there in
+      let below_too : worker < g.physical.workers = subst (λ (p : PhysicalData). worker < p.workers) same below in
+      ap (λ (l : List (List StationData)). (station_in l at worker).instance.part.batch) is ∙ ((s.each at (each at there_too)).each worker below_too).batch
 
   pub standing_start : (w : WorldData) → w.physical ≡ g.physical → w.stations ≡ stations → ((at : ℕ) → has at g.physical.tree ≡ true → at < count) → ((at : ℕ) → at < count → has at g.physical.tree ≡ true)
       → IsStanding g w no_history

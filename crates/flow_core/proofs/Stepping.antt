@@ -1,5 +1,6 @@
 -- The world after an event.
-use Rattle.std.proofs.Common.{◌≡◌, ◌<◌, ◌≤◌, ℕ, true, Option, Some, List, slice_get, ap, subst, sym, ◌∙◌}
+use Rattle.std.proofs.Common.{◌≡◌, ◌<◌, ◌≤◌, inl, inr, ℕ, true, Option, Some, None, List, slice_get, ap, subst, sym, ◌∙◌}
+use Rattle.std.proofs.lemmas.Bool.{cases_eq}
 use Rattle.plan_trees.specs.Physicals.{IsPhysical, PhysicalData}
 use Rattle.plan_trees.specs.Plans.{has, subtree_of}
 use Rattle.pact_operators.specs.Programs.{IsPlanOf}
@@ -12,7 +13,7 @@ use Rattle.flow_model.specs.Instances.{Instance}
 use Rattle.flow_model.specs.Local.{IsLocal}
 use Rattle.flow_model.specs.Spots.{Setting, Spot, ports_of, setting, spot}
 use Rattle.flow_model.specs.Steps.{Took, later}
-use Rattle.flow_model.specs.Worlds.{History, enabled, lists_at, reader_of}
+use Rattle.flow_model.specs.Worlds.{History, World, enabled, lists_at, reader_of}
 use Rattle.flow_model.proofs.Events.{step_stands}
 use Rattle.flow_core.specs.Worlds.{IsStanding, IsWhole, StandsForSome, WorldData, instance_in, queue_in, seen}
 
@@ -46,6 +47,27 @@ take_steps g w u v h p at port note s reader there below same queue note_is took
       };
     } in
     subst (λ (o : Option (ℕ × ℕ)). TakesBy g (seen w) p o (seen v)) (sym reader_too) step
+
+-- ---- parts of instances
+
+-- where it is kept at the one place that changes
+parts_by : (w v : World) (at worker : ℕ) → (v.instance at worker).part ≡ (w.instance at worker).part → OthersSame w at worker v → (a b : ℕ) → (v.instance a b).part ≡ (w.instance a b).part
+parts_by w v at worker here others a b = elim (cases_eq a at) as (λ _. (v.instance a b).part ≡ (w.instance a b).part) [
+  | inr other ↦ ap (λ (i : Instance). i.part) (others a b (inl other))
+  | inl same ↦ elim (cases_eq b worker) as (λ _. (v.instance a b).part ≡ (w.instance a b).part) [
+    | inr other ↦ ap (λ (i : Instance). i.part) (others a b (inr other))
+    | inl same_too ↦ ap (λ (n : ℕ). (v.instance n b).part) same ∙ ap (λ (n : ℕ). (v.instance at n).part) same_too ∙ here ∙ sym (ap (λ (n : ℕ). (w.instance n b).part) same ∙ ap (λ (n : ℕ). (w.instance at n).part) same_too)
+  ]
+]
+
+-- no event changes what an instance keeps of its program and plan
+pub parts_kept : (g : Setting) (w v : World) (e : Event) → Steps g w e v → (at worker : ℕ) → (v.instance at worker).part ≡ (w.instance at worker).part
+parts_kept g w v (events.Put p) h = parts_by w v p.edge p.from (ap (λ (i : Instance). i.part) h.instance) h.others
+parts_kept g w v (events.Take p) h = by (reader_of p.edge g.physical.tree) h where
+  by : (o : Option (ℕ × ℕ)) → TakesBy g w p o v → (at worker : ℕ) → (v.instance at worker).part ≡ (w.instance at worker).part
+  by None t = absurd t
+  by (Some reader) t = parts_by w v reader.0 p.to t.instance.part t.others
+parts_kept g w v (events.End at worker) h = parts_by w v at worker (ap (λ (i : Instance). i.part) h.instance) h.others
 
 -- ---- what stands
 

@@ -25,22 +25,23 @@ pub record AreDealt (workers : ℕ) (rows : Bag) (shares : List Bag) : Type 0 wh
   pub long : length shares ≡ workers
   pub each : (worker : ℕ) → worker < workers → get_or shares worker [] ≡ share_from 0 workers worker rows
 
--- an instance at its start, with empty pipes
-pub record IsStarted (g : Setting) (at worker : ℕ) (s : StationData) : Type 0 where
+-- an instance at its start, with empty pipes, and batches of at most so many records
+pub record IsStarted (g : Setting) (size at worker : ℕ) (s : StationData) : Type 0 where
   pub started : Started (spot g (subtree_of at g.physical.tree)) worker s.instance
+  pub batch : s.instance.part.batch ≡ size
   pub long : length s.queues ≡ g.physical.workers
   pub empty : AllByRecursion (λ queue. queue ≡ []) s.queues
 
 -- one on each of the first workers
-abbrev pub AreBelow : Setting → (at count : ℕ) → List StationData → Type 0
-AreBelow g at count row = (worker : ℕ) → worker < count → IsStarted g at worker (get_or row worker no_station)
+abbrev pub AreBelow : Setting → (size at count : ℕ) → List StationData → Type 0
+AreBelow g size at count row = (worker : ℕ) → worker < count → IsStarted g size at worker (get_or row worker no_station)
 
 -- one on each worker
-pub record AreStartedAt (g : Setting) (at : ℕ) (row : List StationData) : Type 0 where
+pub record AreStartedAt (g : Setting) (size at : ℕ) (row : List StationData) : Type 0 where
   pub long : length row ≡ g.physical.workers
-  pub each : AreBelow g at g.physical.workers row
+  pub each : AreBelow g size at g.physical.workers row
 
 -- those of the first numbers
-pub record AreStarted (g : Setting) (count : ℕ) (stations : List (List StationData)) : Type 0 where
+pub record AreStarted (g : Setting) (size count : ℕ) (stations : List (List StationData)) : Type 0 where
   pub long : length stations ≡ count
-  pub each : (at : ℕ) → at < count → AreStartedAt g at (get_or stations at [])
+  pub each : (at : ℕ) → at < count → AreStartedAt g size at (get_or stations at [])

@@ -65,6 +65,10 @@ queue_in stations edge from to = get_or (station_in stations edge from).queues t
 abbrev pub seen : WorldData → World
 seen w = record { instance = λ at worker. instance_in w.stations at worker; queue = λ edge from to. queue_in w.stations edge from to }
 
+-- each instance has this size of a batch
+abbrev pub HasBatchSize : WorldData → ℕ → Type 0
+HasBatchSize w size = (at worker : ℕ) → has at w.physical.tree ≡ true → worker < w.physical.workers → (instance_in w.stations at worker).part.batch ≡ size
+
 -- ---- worlds that stand
 
 -- The stations are those of the plan's numbers, one on each worker, with a pipe to each.

@@ -91,7 +91,7 @@ fn start_row<L: Local>(
     requires none { is_source_kind (kind_at program.now.ops at) ≡ false → rows ≡ [] }
     requires batch { (1 ≤ batch) × (batch ≤ batch_limit) }
     requires at { at < length program.now.ops }
-    ensures { IfOk result (λ row. (inputs : List Bag) → AreOwn program.now inputs at rows → AreStartedAt (setting program.now inputs physical.now) at row) }
+    ensures { IfOk result (λ row. (inputs : List Bag) → AreOwn program.now inputs at rows → AreStartedAt (setting program.now inputs physical.now) batch at row) }
 {
     let workers = physical.workers();
     let mut held = Vec::with_capacity(alloc, workers as usize)?;
@@ -117,7 +117,7 @@ pub(crate) fn start_all<L: Local>(
     requires plan { IsPlanOf program.now.functions program.now.ops physical.now.tree }
     requires inputs { AreInputsOf program.now inputs }
     requires batch { (1 ≤ batch) × (batch ≤ batch_limit) }
-    ensures { IfOk result (λ rows. AreStarted (setting program.now inputs physical.now) (length program.now.ops) rows.items) }
+    ensures { IfOk result (λ rows. AreStarted (setting program.now inputs physical.now) batch (length program.now.ops) rows.items) }
 {
     let ops = program.ops();
     // a physical plan tells that it has few numbers

@@ -19,7 +19,7 @@ ghost use Rattle.flow_core.specs.Stations.{IsReadyFor, total_given};
 ghost use Rattle.flow_model.specs.Worlds.{AreDone, History, does_want, enabled, reader_of};
 ghost use Rattle.flow_core.specs.Wired.{input_in};
 ghost use Rattle.flow_core.specs.Laws.{ObeysLaws};
-ghost use Rattle.flow_core.specs.Worlds.{IsStanding, IsWhole, StandsForSome, depth_limit, instance_in, queue_in, seen};
+ghost use Rattle.flow_core.specs.Worlds.{HasBatchSize, IsStanding, IsWhole, StandsForSome, depth_limit, instance_in, queue_in, seen};
 
 use crate::starting::start_all;
 use crate::stations::Row;
@@ -96,6 +96,7 @@ impl<L: Local> World<L> {
         ensures laws { IfOk result ObeysLaws }
         ensures physical { IfOk result (λ w. w.physical ≡ physical.now) }
         ensures depth { IfOk result (λ w. w.depth ≡ depth) }
+        ensures batch { IfOk result (λ w. HasBatchSize w batch) }
     {
         // a program tells that it is one, and a physical plan too
         let (_fields, _workers) = (program.fields(), physical.workers());
@@ -126,6 +127,7 @@ impl<L: Local> World<L> {
         ensures laws { IfOk result ObeysLaws }
         ensures physical { IfOk result (λ w. w.physical ≡ physical.now) }
         ensures depth { IfOk result (λ w. w.depth ≡ depth) }
+        ensures batch { IfOk result (λ w. HasBatchSize w batch) }
     {
         World::start_owned(alloc, program, physical, inputs.copy(alloc)?, batch, depth)
     }
@@ -333,6 +335,7 @@ impl<L: Local> World<L> {
         ensures depth { self.new.depth ≡ self.old.depth }
         ensures stands { OnOk result (StandsForSome self.new) }
         ensures laws { OnOk result (ObeysLaws self.new) }
+        ensures parts { OnOk result ((at worker : ℕ) → (instance_in self.new.stations at worker).part ≡ (instance_in self.old.stations at worker).part) }
     {
         self.change(event)
     }

@@ -74,8 +74,8 @@ loop-at-preserved g c =
     let row = c.in_ok-start_row.field-0 in
     let i = c.loop-at.invariant.1 in (
       taken.behind,
-      subst (AreStarted s (n + 1)) (sym c.in_ok-push.ensures.items) (record {
+      subst (AreStarted s c.args.batch (n + 1)) (sym c.in_ok-push.ensures.items) (record {
         long = length-append old (row ∷ []) ∙ ap (λ k. k + 1) i.long;
-        each = each_last (λ k (r : List StationData). AreStartedAt s k r) old row [] n i.long i.each (c.in_ok-start_row.ensures c.args.inputs taken.own_are);
+        each = each_last (λ k (r : List StationData). AreStartedAt s c.args.batch k r) old row [] n i.long i.each (c.in_ok-start_row.ensures c.args.inputs taken.own_are);
       }),
     )

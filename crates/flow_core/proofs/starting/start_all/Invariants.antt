@@ -5,4 +5,4 @@ use Rattle.flow_core.specs.Starting.{AreStarted}
 use Rattle.flow_core.proofs.starting.start_all.Given as goal
 
 abbrev pub invariant-loop-at : goal.invariant-loop-at
-invariant-loop-at g l = (l.left ≡ drop (source_place l.program.ops l.at) l.fn.inputs) × AreStarted (setting l.program l.fn.inputs l.physical) l.at l.rows.items
+invariant-loop-at g l = (l.left ≡ drop (source_place l.program.ops l.at) l.fn.inputs) × AreStarted (setting l.program l.fn.inputs l.physical) l.batch l.at l.rows.items

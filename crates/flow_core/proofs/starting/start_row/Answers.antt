@@ -64,13 +64,14 @@ loop-share-preserved g c =
       λ inputs own.
           let s = setting p inputs c.args.physical.now in
           let share = subst (λ (n : ℕ). IsShareOf p inputs at n k c.in-Some.share) workers (λ source. is ∙ ap (share_from 0 c.workers-workers.result k) (own source)) in
-          let started : IsStarted s at k station = record {
+          let started : IsStarted s c.args.batch at k station = record {
             started = c.in_ok-instance.ensures.started inputs share;
+            batch = c.in_ok-instance.ensures.batch;
             long = c.in_ok-queues.ensures.long ∙ workers;
             empty = c.in_ok-queues.ensures.empty;
           } in
-          subst (λ (l : List StationData). AreBelow s at (k + 1) l) (sym c.in_ok-push.ensures.items)
-          (each_last (λ n (x : StationData). IsStarted s at n x) old station no_station k long (c.loop-share.invariant.2 inputs own) started),
+          subst (λ (l : List StationData). AreBelow s c.args.batch at (k + 1) l) (sym c.in_ok-push.ensures.items)
+          (each_last (λ n (x : StationData). IsStarted s c.args.batch at n x) old station no_station k long (c.loop-share.invariant.2 inputs own) started),
     )
 
 pub returns : goal.returns
@@ -83,5 +84,5 @@ returns g c = λ inputs own.
     let whole = i.0 ∙ all.1 ∙ c.in_ok-shares.ensures.long ∙ c.workers-workers.ensures.workers in
     record {
       long = i.1 ∙ whole;
-      each = subst (λ (n : ℕ). AreBelow (setting c.args.program.now inputs c.args.physical.now) c.args.at n c.loop-share.held.items) whole (i.2 inputs own);
+      each = subst (λ (n : ℕ). AreBelow (setting c.args.program.now inputs c.args.physical.now) c.args.batch c.args.at n c.loop-share.held.items) whole (i.2 inputs own);
     }

@@ -8,4 +8,4 @@ abbrev pub invariant-loop-share : goal.invariant-loop-share
 invariant-loop-share g l =
     (l.worker ≡ length l.yielded)
     × (length l.held.items ≡ l.worker)
-    × ((inputs : List Bag) → AreOwn l.program inputs l.at l.fn.rows → AreBelow (setting l.program inputs l.physical) l.at l.worker l.held.items)
+    × ((inputs : List Bag) → AreOwn l.program inputs l.at l.fn.rows → AreBelow (setting l.program inputs l.physical) l.batch l.at l.worker l.held.items)

@@ -2,7 +2,7 @@ use Rattle.std.proofs.Common.{length, refl}
 use Rattle.flow_model.specs.Spots.{setting}
 use Rattle.flow_core.specs.Worlds.{WorldData}
 use Rattle.flow_core.proofs.WorldLaws.{laws_hold}
-use Rattle.flow_core.proofs.StartStands.{some_start, standing_start}
+use Rattle.flow_core.proofs.StartStands.{size_start, some_start, standing_start}
 use Rattle.flow_instance.proofs.PartsOfPlans.{number_below}
 use Rattle.flow_core.proofs.worlds.World.start_owned.Goals as goal
 
@@ -11,7 +11,7 @@ returns-clause-standing g c =
     let p = c.args.program.now in
     let physical = c.args.physical.now in
     let w : WorldData = record { physical = c.new.result; depth = c.args.depth; stations = c.in_ok-stations.stations.items } in
-    let standing = standing_start (setting p c.args.inputs physical) (length p.ops) c.in_ok-stations.stations.items c.in_ok-stations.ensures w c.new.ensures refl
+    let standing = standing_start (setting p c.args.inputs physical) c.args.batch (length p.ops) c.in_ok-stations.stations.items c.in_ok-stations.ensures w c.new.ensures refl
     (λ at there. number_below p.ops at physical.tree there c.requires.plan.arity) (λ at less. c.requires.plan.all at less) in
     standing
 
@@ -20,7 +20,7 @@ returns-clause-stands g c =
     let p = c.args.program.now in
     let physical = c.args.physical.now in
     let w : WorldData = record { physical = c.new.result; depth = c.args.depth; stations = c.in_ok-stations.stations.items } in
-    let standing = standing_start (setting p c.args.inputs physical) (length p.ops) c.in_ok-stations.stations.items c.in_ok-stations.ensures w c.new.ensures refl
+    let standing = standing_start (setting p c.args.inputs physical) c.args.batch (length p.ops) c.in_ok-stations.stations.items c.in_ok-stations.ensures w c.new.ensures refl
     (λ at there. number_below p.ops at physical.tree there c.requires.plan.arity) (λ at less. c.requires.plan.all at less) in
     some_start p c.args.inputs physical w c.fields-fields.ensures.keeps c.requires.inputs c.workers-workers.ensures.physical c.requires.plan c.requires.depth.0 c.new.ensures standing
 
@@ -29,6 +29,13 @@ returns-clause-laws g c =
     let p = c.args.program.now in
     let physical = c.args.physical.now in
     let w : WorldData = record { physical = c.new.result; depth = c.args.depth; stations = c.in_ok-stations.stations.items } in
-    let standing = standing_start (setting p c.args.inputs physical) (length p.ops) c.in_ok-stations.stations.items c.in_ok-stations.ensures w c.new.ensures refl
+    let standing = standing_start (setting p c.args.inputs physical) c.args.batch (length p.ops) c.in_ok-stations.stations.items c.in_ok-stations.ensures w c.new.ensures refl
     (λ at there. number_below p.ops at physical.tree there c.requires.plan.arity) (λ at less. c.requires.plan.all at less) in
     laws_hold w (some_start p c.args.inputs physical w c.fields-fields.ensures.keeps c.requires.inputs c.workers-workers.ensures.physical c.requires.plan c.requires.depth.0 c.new.ensures standing)
+
+pub returns-clause-batch : goal.returns-clause-batch
+returns-clause-batch g c =
+    let p = c.args.program.now in
+    let physical = c.args.physical.now in
+    let w : WorldData = record { physical = c.new.result; depth = c.args.depth; stations = c.in_ok-stations.stations.items } in
+    size_start (setting p c.args.inputs physical) c.args.batch (length p.ops) c.in_ok-stations.stations.items c.in_ok-stations.ensures w c.new.ensures refl (λ at there. number_below p.ops at physical.tree there c.requires.plan.arity)

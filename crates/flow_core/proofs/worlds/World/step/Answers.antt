@@ -4,7 +4,7 @@ use Rattle.flow_model.specs.Spots.{setting}
 use Rattle.flow_core.specs.Worlds.{seen}
 use Rattle.flow_instance.proofs.Results.{on_ok_two}
 use Rattle.flow_core.proofs.WorldLaws.{laws_hold}
-use Rattle.flow_core.proofs.Stepping.{some_after, standing_after}
+use Rattle.flow_core.proofs.Stepping.{parts_kept, some_after, standing_after}
 use Rattle.flow_core.proofs.worlds.World.step.Goals as goal
 
 pub returns-clause-standing : goal.returns-clause-standing
@@ -32,3 +32,10 @@ returns-clause-laws g c =
     on_ok_two c.change.result (λ steps whole.
     laws_hold c.change.new.self (some_after c.args.self.now c.change.new.self c.args.event c.requires.can c.requires.stands steps c.change.ensures.physical c.change.ensures.depth whole))
     c.change.ensures.stepped c.change.ensures.whole
+
+pub returns-clause-parts : goal.returns-clause-parts
+returns-clause-parts g c =
+    let w = c.args.self.now in
+    let s = c.requires.stands in
+    let set = setting s.program s.inputs w.physical in
+    on_ok_weaker c.change.result (λ steps. parts_kept set (seen w) (seen c.change.new.self) c.args.event (steps set s.history s.standing)) c.change.ensures.stepped
