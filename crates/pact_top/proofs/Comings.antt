@@ -67,7 +67,7 @@ decides_stop k items a later bs (Decided status line) h g = each_stops k items a
 
 -- ---- a call that reads files
 
-rose_later : (first before now : ℕ) → first ≤ before → Rose before now → Rose first now
+pub rose_later : (first before now : ℕ) → first ≤ before → Rose before now → Rose first now
 rose_later first before now l (inl r) = inl (omega (arith, l, r))
 rose_later first before now l (inr r) = inr r
 

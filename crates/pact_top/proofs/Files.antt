@@ -1,16 +1,19 @@
 -- One file, from the opening to what is told of it.
-use Rattle.std.proofs.Common.{◌≡◌, ◌≤◌, ◌<◌, ◌+◌, ℕ, List, length, replicate, Option, Some, None, IfSome, Result, Ok, Err, refl, ap, subst, sym, ◌∙◌, arith}
+use Rattle.std.proofs.Common.{◌≡◌, ◌<◌, ◌+◌, ℕ, List, length, replicate, Option, Some, None, IfSome, Result, Ok, Err, refl, ap, subst, sym, ◌∙◌, arith}
 use Rattle.std.specs.Option.{option_and_then}
 use Rattle.std.proofs.lemmas.List.{length-replicate}
 use Rattle.pact_outside.specs.declared.files.NamedFile.{NamedFile}
 use Rattle.pact_outside.specs.Outside.{AfterOpen, Feeding, Opens, file_named}
+use Rattle.pact_top.specs.declared.transfer.Stop.{Stop}
+use Rattle.pact_top.specs.declared.transfer.Stop.TheVariants.{Memory, Fault, Long}
 use Rattle.pact_top.specs.declared.refusals.Refusal.{Refusal}
 use Rattle.pact_top.specs.declared.refusals.Refusal.TheVariants.{OutOfMemory, Usage, CannotRead, CannotWrite, Decided}
-use Rattle.pact_top.specs.Readings.{HasOpened, HasRead, Holds, IsBroken, IsLong, IsWhole, only}
+use Rattle.pact_top.specs.Readings.{HasOpened, HasRead, Holds, IsLong, ReadingEnds, ReadsFile, only}
 use Rattle.pact_top.specs.Refusal.{Answers, Comes, Says}
 use Rattle.pact_top.specs.RefusalLines.{long_line}
-use Rattle.pact_top.specs.Transfer.{behind}
+use Rattle.pact_top.specs.Transfer.{ReadsRest, RestEnds, behind}
 use Rattle.pact_top.specs.Work.{file}
+use Rattle.pact_top.proofs.Comings.{rose_later}
 
 -- ---- opened and read
 
@@ -21,7 +24,7 @@ left_only : (files : Option (List NamedFile)) (name : List ℕ) (limit : ℕ) (l
 left_only None name limit left now o e = e ∙ ap (behind limit) o
 left_only (Some held) name limit left now o e = e ∙ ap (behind limit) (o.2 ∙ sym o.1)
 
-pub read_only : (before mid now : Feeding) (name : List ℕ) (limit : ℕ) {T E : Type 0} (done : T) → AfterOpen {T = T} {E = E} before mid name (Ok done) → now.opened ≡ mid.opened → now.history ≡ mid.history → now.left ≡ behind limit mid.left
+read_only : (before mid now : Feeding) (name : List ℕ) (limit : ℕ) {T E : Type 0} (done : T) → AfterOpen {T = T} {E = E} before mid name (Ok done) → now.opened ≡ mid.opened → now.history ≡ mid.history → now.left ≡ behind limit mid.left
     → HasRead before now (only name limit)
 read_only before mid now name limit done o named noted left =
     record { opened = opened_only before mid now name limit _ o named noted; left = left_only before.files name limit mid.left now.left o.current left }
@@ -32,28 +35,39 @@ long_held None name limit left o h =
     (replicate (limit + 1) 0, tt, omega (arith, long))
 long_held (Some held) name limit left o h = (o.0, o.1, subst (λ l. IfSome l (λ all. limit < length all)) o.2 h)
 
-pub is_long : (before mid now : Feeding) (name : List ℕ) (limit : ℕ) {T E : Type 0} (done : T) → AfterOpen {T = T} {E = E} before mid name (Ok done) → now.opened ≡ mid.opened → now.history ≡ mid.history
-    → now.left ≡ behind limit mid.left → IfSome mid.left (λ all. limit < length all) → IsLong name limit before now
-is_long before mid now name limit done o named noted left l =
-    let held = long_held before.files name limit mid.left o.current l in
-    record { read = read_only before mid now name limit done o named noted left; bytes = held.0; held = held.1; long = held.2 }
+rest_held : (files : Option (List NamedFile)) (name : List ℕ) (left : Option (List ℕ)) (read : List ℕ) → Opens files name left → IfSome left (λ all. read ≡ all) → Holds files name read
+rest_held None name left read o h = tt
+rest_held (Some held) name left read o h = o.1 ∙ ap Some (sym (subst (λ l. IfSome l (λ all. read ≡ all)) o.2 h))
+
+-- what is opened and then read to its end
+pub file_read : (before mid now : Feeding) (name : List ℕ) (limit : ℕ) {T E : Type 0} (done : T) (result : Result (List ℕ) Stop) → AfterOpen {T = T} {E = E} before mid name (Ok done) → ReadsRest limit mid now result → ReadsFile name limit before now result
+file_read before mid now name limit done result o r = record { files = r.on.files ∙ o.files; later = (let l = o.cause.later in let m = r.on.later in omega (arith, l, m)); ends = ends result r.ends }
+  where
+    ends : (x : Result (List ℕ) Stop) → RestEnds limit mid now x → ReadingEnds name limit before now x
+    ends (Ok read) h = record { read = read_only before mid now name limit done o r.on.named r.on.noted h.left; held = rest_held before.files name mid.left read o.current h.bytes; short = h.short }
+    ends (Err Memory) h = tt
+    ends (Err Fault) h = record { opened = opened_only before mid now name limit _ o r.on.named r.on.noted; rose = rose_later before.faults mid.faults now.faults o.cause.later h.0; shut = h.1 }
+    ends (Err Long) h =
+        let held = long_held before.files name limit mid.left o.current h.long in
+        record { read = read_only before mid now name limit done o r.on.named r.on.noted h.left; bytes = held.0; held = held.1; long = held.2 }
 
 -- ---- told
 
-pub whole_comes : {before now : Feeding} (name : List ℕ) (limit : ℕ) (bytes : List ℕ) → now.files ≡ before.files → before.faults ≤ now.faults → IsWhole name limit before now bytes → Comes (λ f. file f name limit) before now (Ok bytes)
-whole_comes name limit bytes same later h = record { files = same; later = later; told = record { readings = only name limit; read = h.read; ends = (refl, (h.held, h.short)) } }
+pub whole_comes : {before now : Feeding} (name : List ℕ) (limit : ℕ) (bytes : List ℕ) → ReadsFile name limit before now (Ok bytes) → Comes (λ f. file f name limit) before now (Ok bytes)
+whole_comes name limit bytes r = record { files = r.files; later = r.later; told = record { readings = only name limit; read = r.ends.read; ends = (refl, (r.ends.held, r.ends.short)) } }
 
-pub broken_comes : {before now : Feeding} (name told : List ℕ) (limit : ℕ) → told ≡ name → now.files ≡ before.files → before.faults ≤ now.faults → IsBroken name limit before now
-    → Comes (λ f. file f name limit) before now (Err (CannotRead told))
-broken_comes name told limit e same later h = record {
-  files = same;
-  later = later;
-  told = record { rose = h.rose; shut = h.shut; named = h.opened.last ∙ sym e; readings = only name limit; opened = h.opened; ends = (refl, e) };
-}
+pub broken_comes : {before now : Feeding} (name told : List ℕ) (limit : ℕ) (stop : Stop) → stop ≡ Fault → told ≡ name → ReadsFile name limit before now (Err stop) → Comes (λ f. file f name limit) before now (Err (CannotRead told))
+broken_comes {before} {now} name told limit stop is e r =
+    let h = subst (λ (s : Stop). ReadingEnds name limit before now (Err s)) is r.ends in
+    record {
+      files = r.files;
+      later = r.later;
+      told = record { rose = h.rose; shut = h.shut; named = h.opened.last ∙ sym e; readings = only name limit; opened = h.opened; ends = (refl, e) };
+    }
 
-pub long_comes : {before now : Feeding} (name : List ℕ) (limit : ℕ) (r : Refusal) → now.files ≡ before.files → before.faults ≤ now.faults → IsLong name limit before now → Says 8 (long_line name limit) r
-    → Comes (λ f. file f name limit) before now (Err r)
-long_comes {before} {now} name limit r same later h s = record { files = same; later = later; told = told before now name limit r h s }
+pub long_comes : {before now : Feeding} (name : List ℕ) (limit : ℕ) (stop : Stop) (r : Refusal) → stop ≡ Long → Says 8 (long_line name limit) r → ReadsFile name limit before now (Err stop) → Comes (λ f. file f name limit) before now (Err r)
+long_comes {before} {now} name limit stop r is s read =
+    record { files = read.files; later = read.later; told = told before now name limit r (subst (λ (x : Stop). ReadingEnds name limit before now (Err x)) is read.ends) s }
   where
     told : (before now : Feeding) (name : List ℕ) (limit : ℕ) (r : Refusal) → IsLong name limit before now → Says 8 (long_line name limit) r → Answers (file before.files name limit) before now (Err r)
     told before now name limit OutOfMemory h s = tt

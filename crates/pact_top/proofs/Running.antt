@@ -1,7 +1,8 @@
 -- The commands, from the words to the texts.
-use Rattle.std.proofs.Common.{◌≡◌, ◌⊎◌, inl, inr, ℕ, Bool, true, false, List, Option, Some, None, Result, Ok, Err, IfOk, IfErr, refl, sym, subst, arith, ap}
+use Rattle.std.proofs.Common.{◌≡◌, inl, inr, ℕ, Bool, true, false, List, Option, Some, None, Result, Ok, Err, refl, sym, subst, arith, ap}
 use Rattle.pact_operators.specs.Allowed.{Bag}
-use Rattle.pact_operators.specs.Programs.{IsProgram, ProgramData}
+use Rattle.pact_operators.specs.Inputs.{AreInputsOf}
+use Rattle.pact_operators.specs.Programs.{AreNames, IsProgram, ProgramData}
 use Rattle.pact_outside.specs.declared.files.NamedFile.{NamedFile}
 use Rattle.pact_outside.specs.Outside.{Feeding}
 use Rattle.plan_trees.specs.Plans.{PlanTree}
@@ -13,16 +14,17 @@ use Rattle.pact_top.specs.declared.loaded.Loaded.{Loaded}
 use Rattle.pact_top.specs.declared.refusals.Refusal.{Refusal}
 use Rattle.pact_top.specs.declared.refusals.Refusal.TheVariants.{OutOfMemory, Usage, CannotRead, CannotWrite, Decided}
 use Rattle.pact_top.specs.declared.texts.Texts.{Texts}
-use Rattle.pact_top.specs.Refusal.{Answers, AskForCounts, Comes, ComesTo, Decides, IsRefused}
+use Rattle.pact_top.specs.Refusal.{Answers, AskForCounts, Comes, ComesTo, Decides, IsAnswered, IsRefused, IsTold, IsUsageTold}
 use Rattle.pact_top.specs.Stages.{Reading, Stage, and_then, fails, give, gives, misses, stops}
 use Rattle.pact_top.specs.RefusalLines.{usage_line}
 use Rattle.pact_top.specs.Work.{accepted, certificate_file, loaded, program_file, ready_for, rechecked, sources, texts_for, work}
 use Rattle.pact_words.specs.declared.commands.Options.{Options}
 use Rattle.pact_words.specs.Words.{AreRefused, Asked, IsAsked, to_certify, to_check, to_plan, to_run, to_tell_sets}
 use Rattle.pact_top.proofs.Comings.{comes_decided, comes_err, comes_then, decides_err, decides_then}
-use Rattle.pact_top.proofs.Decided.{IsKnown, work_known}
+use Rattle.pact_top.proofs.Decided.{IsKnown, file-AreNames, work_known}
 use Rattle.pact_top.proofs.OnlyBag.{one_text, only_bag}
 use Rattle.pact_top.proofs.SourceNames.{work_fails}
+use Rattle.pact_top.proofs.Sources.{are_inputs}
 
 -- ---- a program and its rows
 
@@ -40,6 +42,24 @@ load_both name p inputs h g =
     let l : Loaded = record { program = p; inputs = inputs } in
     comes_then (λ f q. and_then (sources q f) (λ read. give (λ all. all ≡ record { program = q; inputs = read }))) p (Ok l) h
     (comes_decided {s = sources p} (λ read. give (λ all. all ≡ record { program = p; inputs = read })) inputs (Ok l) g (refl, refl))
+
+-- what was loaded has the rows of its sources, and the names of its declarations
+pub record IsLoaded (l : Loaded) : Type 0 where
+  pub inputs : AreInputsOf l.program l.inputs
+  pub names : AreNames l.program.ops
+
+loaded_is : (files : Option (List NamedFile)) (name : List ℕ) (l : Loaded) (r : List Reading) → (loaded files name).Ends r (gives l) → IsLoaded l
+loaded_is files name l r (gives p, r1, r2, e, f, (gives inputs, r3, r4, e2, g, h)) =
+    subst IsLoaded (sym h.1) (record { inputs = are_inputs p files inputs r3 g; names = file-AreNames files name p r1 f })
+loaded_is files name l r (gives p, r1, r2, e, f, (stops s m, r3, r4, e2, g, h)) = absurd cc
+loaded_is files name l r (gives p, r1, r2, e, f, (misses n, r3, r4, e2, g, h)) = absurd cc
+loaded_is files name l r (gives p, r1, r2, e, f, (fails n, r3, r4, e2, g, h)) = absurd cc
+loaded_is files name l r (stops s m, r1, r2, e, f, h) = absurd cc
+loaded_is files name l r (misses n, r1, r2, e, f, h) = absurd cc
+loaded_is files name l r (fails n, r1, r2, e, f, h) = absurd cc
+
+pub is_loaded : {before now : Feeding} (name : List ℕ) (l : Loaded) → Comes (λ f. loaded f name) before now (Ok l) → IsLoaded l
+is_loaded {before} name l h = loaded_is before.files name l h.told.readings h.told.ends
 
 -- ---- what is made of them: the commands `run`, `plan` and `cert`
 
@@ -132,33 +152,17 @@ no_words : (words : List (List ℕ)) (status : ℕ) (line : List ℕ) → IsKnow
 no_words words status line (inl k) e = k.0
 no_words words status line (inr k) e = let l = k.0 in absurd (omega (arith, l, e))
 
--- where the words are refused, nothing but that is told, or that memory is wanting
-abbrev IsUsage : List (List ℕ) → Refusal → Type 0
-IsUsage words r = AreRefused words → (◌≡◌ {A = Result Texts Refusal} (Err r) (Err Usage)) ⊎ (◌≡◌ {A = Result Texts Refusal} (Err r) (Err OutOfMemory))
-
-stop_refused : (words : List (List ℕ)) (before now : Feeding) (status : ℕ) (line : List ℕ) → IsUsage words (Decided status line)
+stop_refused : (words : List (List ℕ)) (before now : Feeding) (status : ℕ) (line : List ℕ) → ¬ (AreRefused words)
     → ComesTo (work words before.files) before now (stops status line) → IsKnown words status line → IsRefused words before now (Decided status line)
-stop_refused words before now status line usage h (inl k) = elim (usage k.0) as (λ _. IsRefused words before now (Decided status line)) [
-  | inl bad ↦ absurd cc
-  | inr bad ↦ absurd cc
-]
+stop_refused words before now status line usage h (inl k) = absurd (usage k.0)
 stop_refused words before now status line usage h (inr k) = (k.0, k.1, h)
 
-refused_so : (words : List (List ℕ)) (before now : Feeding) (r : Refusal) → IsUsage words r → Answers (work words before.files) before now (Err r) → IsRefused words before now r
+refused_so : (words : List (List ℕ)) (before now : Feeding) (r : Refusal) → (AreRefused words → IsUsageTold words (Err r)) → Answers (work words before.files) before now (Err r) → IsRefused words before now r
 refused_so words before now OutOfMemory usage h = tt
 refused_so words before now Usage usage h = (no_words words 2 usage_line ((work_known words before.files).so 2 usage_line h.readings h.ends) refl, h)
 refused_so words before now (CannotRead name) usage h = (h, (work_fails words before.files).so name h.readings h.ends)
 refused_so words before now CannotWrite usage h = absurd h
 refused_so words before now (Decided status line) usage h = stop_refused words before now status line usage h ((work_known words before.files).so status line h.readings h.ends)
-
-pub texts_come : (words : List (List ℕ)) (before now : Feeding) (x : Result Texts Refusal) → Answers (work words before.files) before now x → IfOk x (λ texts. ComesTo (work words before.files) before now (gives texts))
-texts_come words before now (Ok texts) h = h
-texts_come words before now (Err r) h = tt
-
-pub is_refused : (words : List (List ℕ)) (before now : Feeding) (x : Result Texts Refusal) → (AreRefused words → (x ≡ Err Usage) ⊎ (x ≡ Err OutOfMemory)) → Answers (work words before.files) before now x
-    → IfErr x (IsRefused words before now)
-is_refused words before now (Ok texts) usage h = tt
-is_refused words before now (Err r) usage h = refused_so words before now r usage h
 
 -- ---- counts are asked for where they are told
 
@@ -202,7 +206,13 @@ counts_in words files p texts text (stops status line, q, r, e, h, g) told = abs
 counts_in words files p texts text (misses name, q, r, e, h, g) told = absurd cc
 counts_in words files p texts text (fails name, q, r, e, h, g) told = absurd cc
 
-pub counts_come : (words : List (List ℕ)) (before now : Feeding) (x : Result Texts Refusal) → Answers (work words before.files) before now x
-    → IfOk x (λ texts. (text : List ℕ) → texts.counts ≡ Some text → AskForCounts words)
-counts_come words before now (Ok texts) h = λ text. counts_in words before.files h.readings texts text h.ends
-counts_come words before now (Err r) h = tt
+-- ---- answers
+
+told_so : (words : List (List ℕ)) (before now : Feeding) (x : Result Texts Refusal) → (AreRefused words → IsUsageTold words x) → Answers (work words before.files) before now x → IsTold words before now x
+told_so words before now (Ok texts) usage h = record { texts_are = h; counts = λ text. counts_in words before.files h.readings texts text h.ends }
+told_so words before now (Err r) usage h = refused_so words before now r usage h
+
+-- what the work comes to is an answer
+pub answered : {before now : Feeding} {Untouched : Type 0} (words : List (List ℕ)) (x : Result Texts Refusal) → (AreRefused words → IsUsageTold words x) → (AreRefused words → Untouched) → Comes (work words) before now x
+    → IsAnswered words Untouched before now x
+answered {before} {now} words x usage untouched h = record { told = told_so words before now x usage h.told; usage = usage; untouched = untouched }

@@ -1,5 +1,5 @@
 -- The sources among the operators of a program.
-use Rattle.std.proofs.Common.{◌≡◌, ◌<◌, ◌+◌, ℕ, zero, suc, Bool, true, false, cond, List, [], ◌∷◌, ◌++◌, Option, Result, Ok, Err, IfOk, get_or, length, take, refl, ap, sym, ◌∙◌, subst, arith, append-nil}
+use Rattle.std.proofs.Common.{◌≡◌, ◌<◌, ◌+◌, ℕ, zero, suc, Bool, true, false, cond, List, [], ◌∷◌, ◌++◌, Option, Result, Ok, Err, get_or, length, take, refl, ap, sym, ◌∙◌, subst, arith, append-nil}
 use Rattle.std.proofs.lemmas.List.{take_more}
 use Rattle.std.proofs.lemmas.List.Elements.{filter-append}
 use Rattle.std.specs.List.{AllByRecursion}
@@ -16,7 +16,7 @@ use Rattle.pact_outside.specs.declared.files.NamedFile.{NamedFile}
 use Rattle.pact_outside.specs.Outside.{Feeding}
 use Rattle.pact_record.specs.declared.values.Value.{Value}
 use Rattle.pact_top.specs.declared.refusals.Refusal.{Refusal}
-use Rattle.pact_top.specs.Refusal.{Answers, Comes}
+use Rattle.pact_top.specs.Refusal.{Comes}
 use Rattle.pact_top.specs.Stages.{Reading, Stage, each, fails, gives, misses, stops}
 use Rattle.pact_top.specs.Work.{source_file, sources}
 use Rattle.pact_top.proofs.Comings.{comes_more, comes_stop}
@@ -79,7 +79,7 @@ sink_within width fields (row ∷ bag) h k = (fields_within width (length row) f
 
 -- ---- the rows of sources
 
-are_inputs : (p : ProgramData) (files : Option (List NamedFile)) (inputs : List Bag) (r : List Reading) → (sources p files).Ends r (gives inputs) → HaveRows p.fields (sources_of p.ops) inputs
+pub are_inputs : (p : ProgramData) (files : Option (List NamedFile)) (inputs : List Bag) (r : List Reading) → (sources p files).Ends r (gives inputs) → HaveRows p.fields (sources_of p.ops) inputs
 are_inputs p files inputs r h = have_rows p.fields files (sources_of p.ops) inputs r h
   where
     source_wide : (fields : ℕ) (files : Option (List NamedFile)) (s : Op) (rows : Bag) (r : List Reading) → (source_file fields files s).Ends r (gives rows) → AreSourceRows fields s.columns rows
@@ -93,10 +93,6 @@ are_inputs p files inputs r h = have_rows p.fields files (sources_of p.ops) inpu
     have_rows fields files (s ∷ ops) inputs r h =
         let all = gave_cons (source_file fields files) s ops r inputs h in
         subst (HaveRows fields (s ∷ ops)) (sym all.together) (source_wide fields files s all.value all.front all.first, have_rows fields files ops all.values all.later all.others)
-
-pub are_inputs_read : (p : ProgramData) (before now : Feeding) (x : Result (List Bag) Refusal) → Answers (sources p before.files) before now x → IfOk x (HaveRows p.fields (sources_of p.ops))
-are_inputs_read p before now (Ok inputs) h = are_inputs p before.files inputs h.readings h.ends
-are_inputs_read p before now (Err r) h = tt
 
 -- ---- one stage for each source, as a loop goes over all operators
 

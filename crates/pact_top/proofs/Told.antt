@@ -1,14 +1,15 @@
 -- What a refusal says of the exit status.
-use Rattle.std.proofs.Common.{◌≡◌, ◌≤◌, ◌⊎◌, inl, inr, ℕ, List, refl, ap, subst, sym, arith}
+use Rattle.std.proofs.Common.{◌≡◌, ◌≤◌, ◌⊎◌, inl, inr, ℕ, List, Err, refl, ap, subst, sym, arith}
 use Rattle.pact_outside.specs.Outside.{Feeding, Rose}
 use Rattle.pact_top.specs.declared.refusals.Refusal.{Refusal}
 use Rattle.pact_top.specs.declared.refusals.Refusal.TheVariants.{OutOfMemory, Usage, CannotRead, CannotWrite, Decided}
-use Rattle.pact_top.specs.Refusal.{AreTold, ComesTo, HasFailed, IsRefused, status_of, refusal_line}
+use Rattle.pact_top.specs.Refusal.{AreTold, ComesTo, HasFailed, IsRefused, IsUsageTold, status_of, refusal_line}
 use Rattle.pact_top.specs.RefusalLines.{line_of, usage_line}
 use Rattle.pact_top.specs.Stages.{CanEnd, gives, stops, misses}
 use Rattle.pact_top.specs.CommandTexts.{Ready}
 use Rattle.pact_top.specs.Work.{ready, work}
 use Rattle.pact_top.specs.declared.texts.Texts.{Texts}
+use Rattle.pact_words.specs.Words.{AreRefused, AreRefusedBy, AreUnnamed}
 use Rattle.pact_top.proofs.Decided.{ready_agrees, work_decided}
 
 pub line_is : (words : List (List ℕ)) (before now : Feeding) (r : Refusal) → IsRefused words before now r → status_of r ≤ 3 → refusal_line r ≡ line_of (status_of r) now.opened
@@ -68,3 +69,22 @@ not_missing words before now texts Goal g told name m = absurd ((work_decided wo
 pub not_stopped : (words : List (List ℕ)) (before now : Feeding) (texts : Texts) (Goal : ℕ → Type 0) → ComesTo (work words before.files) before now (gives texts) → AreTold before.files → (status : ℕ) (line : List ℕ)
     → CanEnd (work words before.files) (stops status line) → Goal status
 not_stopped words before now texts Goal g told status line s = absurd ((work_decided words before.files told).alike (gives texts) (stops status line) g.readings s.readings g.ends s.ends)
+
+-- ---- words that ask for no command
+
+pub unnamed_refused : (words : List (List ℕ)) → AreUnnamed words → AreRefused words
+unnamed_refused words none = subst (λ k. AreRefusedBy k words) (sym none) tt
+
+pub usage_told : (words : List (List ℕ)) (r : Refusal) → IsUsageTold words (Err r) → (status_of r ≡ 1) ⊎ (status_of r ≡ 2)
+usage_told words OutOfMemory h = inl refl
+usage_told words Usage h = inr refl
+usage_told words (CannotRead name) h = absurd h
+usage_told words CannotWrite h = absurd h
+usage_told words (Decided status line) h = absurd h
+
+pub usage_unnamed : (words : List (List ℕ)) (r : Refusal) → AreUnnamed words → IsUsageTold words (Err r) → status_of r ≡ 2
+usage_unnamed words OutOfMemory none h = absurd (h none)
+usage_unnamed words Usage none h = refl
+usage_unnamed words (CannotRead name) none h = absurd h
+usage_unnamed words CannotWrite none h = absurd h
+usage_unnamed words (Decided status line) none h = absurd h

@@ -1,18 +1,20 @@
 -- What each command writes, from what it has read.
-use Rattle.std.specs.Prelude.{◌≡◌, ◌++◌, ℕ, Bool, true, false, cond, List, [], ◌∷◌, drop, get_or, length, Option, Some, None, Ok, codes}
+use Rattle.std.specs.Prelude.{◌≡◌, ◌<◌, ◌++◌, ℕ, Bool, true, false, cond, List, [], ◌∷◌, drop, get_or, length, Option, Some, None, Ok, codes}
 use Rattle.std.specs.List.Sorted.{IsPermutation}
 use Rattle.serde_json.specs.Written.{compact_text}
+use Rattle.pact_bag.specs.declared.outcomes.Outcome.{Outcome}
+use Rattle.pact_record.specs.Widths.{AreWide}
 use Rattle.pact_operators.specs.declared.operators.Op.{Op}
 use Rattle.pact_operators.specs.Allowed.{Allows, Bag, Counted}
 use Rattle.pact_operators.specs.PlanOps.{is_source_kind, plan_ops}
-use Rattle.pact_operators.specs.Programs.{ProgramData}
+use Rattle.pact_operators.specs.Programs.{IsPlanOf, ProgramData}
 use Rattle.plan_trees.specs.Plans.{PlanTree}
 use Rattle.reorder_pair.specs.declared.legality.Condition.{Condition}
 use Rattle.reorder_pair.specs.Legal.{KeepAnswers}
 use Rattle.reorder_pair.specs.Reach.{Reach}
 use Rattle.reorder_pair.specs.ToldExchanges.{Lead}
 use Rattle.ship_strategy.specs.PlanFacts.{facts_of}
-use Rattle.ship_strategy.specs.Layouts.{layout_of}
+use Rattle.ship_strategy.specs.Layouts.{layout_count, layout_of}
 use Rattle.plan_enumerate.specs.Choices.{IsChosen}
 use Rattle.plan_enumerate.specs.Listing.{IsAt, IsListing, plans_of}
 use Rattle.plan_enumerate.specs.Steps.{AreStepsTo}
@@ -58,6 +60,14 @@ pub record IsChoice (l : Loaded) (workers plans : ℕ) (c : Choice) : Type 0 whe
   pub chosen : IsChosen l.program (plans_of c.listed.entries) (row_counts l.program.ops l.inputs) workers c.chosen
   pub plan : IsAt c.listed.entries c.chosen.entry c.plan
 
+-- Its plan is one of the program's and allows the same bags as the plan as written, and its numbers are those of an entry and of a layout.
+pub record IsPlanChosen (l : Loaded) (workers plans : ℕ) (c : Choice) : Type 0 where
+  pub choice : IsChoice l workers plans c
+  pub plan : IsPlanOf l.program.functions l.program.ops c.plan
+  pub answers : KeepAnswers l.program l.program.plan c.plan
+  pub entry : c.chosen.entry < length c.listed.entries
+  pub layout : c.chosen.layout < layout_count l.program.ops
+
 -- These are the exchanges by which it was listed: one legal exchange after the other leads to it from the plan as written.
 pub record IsDerived (l : Loaded) (workers plans : ℕ) (c : Choice) (steps : List Condition) : Type 0 where
   pub choice : IsChoice l workers plans c
@@ -69,6 +79,12 @@ pub record IsDerived (l : Loaded) (workers plans : ℕ) (c : Choice) (steps : Li
 -- what the program as written allows on the rows of its sources
 abbrev pub AllowsWritten : Loaded → Bag → Type 0
 AllowsWritten l bag = Allows (plan_ops l.program l.inputs) l.program.plan bag
+
+-- what a run of a plan gives: such a bag, and the counts of one evaluation of the plan that gives it
+pub record IsOutcome (l : Loaded) (plan : PlanTree) (o : Outcome) : Type 0 where
+  pub allowed : AllowsWritten l o.rows
+  pub counted : Counted (plan_ops l.program l.inputs) plan o.rows o.counts
+  pub widths : AreWide l.program.fields o.rows
 
 -- counts of a plan as text, where they are asked for
 abbrev pub AreToldCounts : ProgramData → PlanTree → List ℕ → Bool → Option (List ℕ) → Type 0

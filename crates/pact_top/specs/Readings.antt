@@ -1,8 +1,10 @@
 -- What the reading of files leaves of a feed.
-use Rattle.std.specs.Prelude.{◌≡◌, ◌≤◌, ◌<◌, ℕ, false, List, [], ◌∷◌, length, Option, Some, None}
+use Rattle.std.specs.Prelude.{◌≡◌, ◌≤◌, ◌<◌, ℕ, false, List, [], ◌∷◌, length, Option, Some, None, Result, Ok, Err}
 use Rattle.std.specs.Option.{option_and_then}
 use Rattle.pact_outside.specs.declared.files.NamedFile.{NamedFile}
 use Rattle.pact_outside.specs.Outside.{Feeding, Rose, file_named, with_name}
+use Rattle.pact_top.specs.declared.transfer.Stop.{Stop}
+use Rattle.pact_top.specs.declared.transfer.Stop.TheVariants.{Memory, Fault, Long}
 use Rattle.pact_top.specs.Stages.{Reading}
 use Rattle.pact_top.specs.Transfer.{behind}
 
@@ -64,3 +66,16 @@ pub record IsBroken (name : List ℕ) (limit : ℕ) (before now : Feeding) : Typ
   pub opened : HasOpened before now (only name limit)
   pub rose : Rose before.faults now.faults
   pub shut : now.is_open ≡ false
+
+-- what the reading of a named file ended with
+abbrev pub ReadingEnds : List ℕ → (limit : ℕ) → (before now : Feeding) → Result (List ℕ) Stop → Type 0
+ReadingEnds name limit before now (Ok bytes) = IsWhole name limit before now bytes
+ReadingEnds name limit before now (Err Memory) = Unit {0}
+ReadingEnds name limit before now (Err Fault) = IsBroken name limit before now
+ReadingEnds name limit before now (Err Long) = IsLong name limit before now
+
+-- a call that opens a file and reads it whole
+pub record ReadsFile (name : List ℕ) (limit : ℕ) (before now : Feeding) (result : Result (List ℕ) Stop) : Type 0 where
+  pub files : now.files ≡ before.files
+  pub later : before.faults ≤ now.faults
+  pub ends : ReadingEnds name limit before now result

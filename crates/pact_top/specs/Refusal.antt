@@ -3,12 +3,16 @@ use Rattle.std.specs.Prelude.{◌≡◌, ◌≤◌, ◌⊎◌, ℕ, true, false,
 use Rattle.pact_outside.specs.declared.files.NamedFile.{NamedFile}
 use Rattle.pact_outside.specs.Outside.{Feeding, Rose}
 use Rattle.pact_words.specs.declared.commands.Options.{Options}
-use Rattle.pact_words.specs.Words.{Asked, to_run, to_plan, to_certify, to_tell_sets, to_check, AreRefused, IsAsked}
+use Rattle.pact_words.specs.Words.{Asked, to_run, to_plan, to_certify, to_tell_sets, to_check, AreRefused, AreUnnamed, IsAsked}
 use Rattle.pact_operators.specs.declared.checking.NotProgram.{NotProgram}
 use Rattle.pact_operators.specs.declared.checking.NotProgram.TheVariants as nots
 use Rattle.text_lines.specs.declared.lines.TextFault.{TextFault}
 use Rattle.text_lines.specs.declared.lines.TextFault.TheVariants as faults
 use Rattle.tac_syntax.specs.Names.{is_file_name}
+use Rattle.pact_operators.specs.Programs.{ProgramData}
+use Rattle.plan_trees.specs.Plans.{PlanTree}
+use Rattle.reorder_pair.specs.Legal.{KeepAnswers}
+use Rattle.reorder_pair.specs.Reach.{Reach}
 use Rattle.csv_source.specs.declared.reading.BadRow.{BadRow}
 use Rattle.csv_source.specs.declared.reading.BadRow.TheVariants as bads
 use Rattle.swap_certificate.specs.declared.certificates.CertFault.{CertFault}
@@ -17,12 +21,14 @@ use Rattle.swap_certificate.specs.declared.certificates.Certificate.{Certificate
 use Rattle.swap_certificate.specs.declared.certificates.NotCertificate.{NotCertificate}
 use Rattle.swap_certificate.specs.declared.certificates.NotCertificate.TheVariants as unread
 use Rattle.swap_certificate.specs.FaultTexts.{fault_text, not_certificate_text}
+use Rattle.swap_certificate.specs.PlanLines as plan_lines
 use Rattle.pact_top.specs.Readings.{HasOpened, HasRead}
 use Rattle.pact_top.specs.Stages.{End, gives, stops, fails, Reading, Stage}
 use Rattle.pact_top.specs.RefusalLines.{line_of, program_line, source_line, text_line, usage_line}
-use Rattle.pact_top.specs.Work.{work}
+use Rattle.pact_top.specs.Work.{rechecked, work}
 use Rattle.pact_top.specs.declared.refusals.Refusal.{Refusal}
 use Rattle.pact_top.specs.declared.refusals.Refusal.TheVariants.{OutOfMemory, Usage, CannotRead, CannotWrite, Decided}
+use Rattle.pact_top.specs.declared.texts.Texts.{Texts}
 
 abbrev pub status_of : Refusal → ℕ
 status_of OutOfMemory = 1
@@ -105,6 +111,18 @@ Decides stage (Err OutOfMemory) = Unit {0}
 Decides stage (Err (Decided status line)) = stage.Ends [] (stops status line)
 Decides stage (Err refusal) = ⊥
 
+-- the certificate leads to this plan: it states its line, legal exchanges lead to it, and it allows the bags of the plan as written
+pub record IsPlanReached (p : ProgramData) (c : Certificate) (plan : PlanTree) : Type 0 where
+  pub decides : Decides (rechecked p c) (Ok plan)
+  pub line : c.plan ≡ plan_lines.line_of p.ops plan
+  pub reached : Reach p plan
+  pub answers : KeepAnswers p p.plan plan
+
+-- what the following of a certificate comes to
+abbrev pub IsRechecked : ProgramData → Certificate → Result PlanTree Refusal → Type 0
+IsRechecked p c (Ok plan) = IsPlanReached p c plan
+IsRechecked p c (Err refusal) = Decides (rechecked p c) (Err refusal)
+
 -- the command names the file
 abbrev pub Names : Asked → List ℕ → Type 0
 Names (to_run program options counts) name = name ≡ program
@@ -133,3 +151,28 @@ IsRefused words before now Usage = AreRefused words × ComesTo (work words befor
 IsRefused words before now (CannotRead name) = HasFailed (work words before.files) before now name × IsNamed words name
 IsRefused words before now CannotWrite = ⊥
 IsRefused words before now (Decided status line) = (5 ≤ status) × (status ≤ 9) × ComesTo (work words before.files) before now (stops status line)
+
+-- the texts that the work comes to, with counts among them only where they are asked for
+pub record AreAnswered (words : List (List ℕ)) (before now : Feeding) (texts : Texts) : Type 0 where
+  pub texts_are : ComesTo (work words before.files) before now (gives texts)
+  pub counts : (text : List ℕ) → texts.counts ≡ Some text → AskForCounts words
+
+-- there are texts, or there is a reason for none
+abbrev pub IsTold : List (List ℕ) → Feeding → Feeding → Result Texts Refusal → Type 0
+IsTold words before now (Ok texts) = AreAnswered words before now texts
+IsTold words before now (Err refusal) = IsRefused words before now refusal
+
+-- That no command is asked for is told, or that memory is wanting to read the words. It never is where the words name none.
+abbrev pub IsUsageTold : List (List ℕ) → Result Texts Refusal → Type 0
+IsUsageTold words (Ok texts) = ⊥
+IsUsageTold words (Err OutOfMemory) = ¬ (AreUnnamed words)
+IsUsageTold words (Err Usage) = Unit {0}
+IsUsageTold words (Err (CannotRead name)) = ⊥
+IsUsageTold words (Err CannotWrite) = ⊥
+IsUsageTold words (Err (Decided status line)) = ⊥
+
+-- what is answered to the words; words that ask for no command leave the feed untouched
+pub record IsAnswered (words : List (List ℕ)) (Untouched : Type 0) (before now : Feeding) (result : Result Texts Refusal) : Type 0 where
+  pub told : IsTold words before now result
+  pub usage : AreRefused words → IsUsageTold words result
+  pub untouched : AreRefused words → Untouched

@@ -1,15 +1,12 @@
 //! From the command line's words and the files to the text that is to be written.
 
-ghost use Rattle.std.specs.Prelude.{◌≡◌, ◌≤◌, ◌<◌, ◌^◌, ◌++◌, ◌∷◌, ◌⊎◌, ℕ, List, [], Some, Err, IfErr, IfOk, OnOk};
+ghost use Rattle.std.specs.Prelude.{◌≡◌, ◌≤◌, ◌<◌, ◌^◌, ◌++◌, ◌∷◌, [], OnOk};
 ghost use Rattle.std.specs.List.{AllByRecursion};
-ghost use Rattle.pact_operators.specs.Inputs.{AreInputsOf};
-ghost use Rattle.pact_operators.specs.Programs.{AreNames};
 ghost use Rattle.plan_enumerate.specs.Listing.{entry_limit};
 ghost use Rattle.plan_trees.specs.Physicals.{worker_limit};
-ghost use Rattle.pact_top.specs.Refusal.{AskForCounts, Comes, ComesTo, Decides, IsRefused, RowRefused};
-ghost use Rattle.pact_top.specs.Stages.{gives};
+ghost use Rattle.pact_top.specs.Refusal.{Comes, Decides, IsAnswered, RowRefused};
 ghost use Rattle.pact_top.specs.Work as work;
-ghost use Rattle.pact_words.specs.Words.{AreOptionsInRange, AreRefused, AreUnnamed, IsInRange, asked, texts_of, to_certify, to_check, to_plan, to_run, to_tell_sets};
+ghost use Rattle.pact_words.specs.Words.{AreOptionsInRange, IsInRange, asked, texts_of, to_certify, to_check, to_plan, to_run, to_tell_sets};
 
 use crate::certificates::{certificate_in, rechecked};
 use crate::choosing::{certificate_texts, plan_texts, run_texts};
@@ -113,26 +110,12 @@ fn push_rows(inputs: &mut Inputs, rows: Rows) -> Result<(), OutOfMemory>
     Ok(())
 }
 
-/// The rows of each source, with what an evaluation asks of them.
-pub fn load_inputs<F: Feed>(
-    alloc: Global,
-    feed: &mut F,
-    program: &Program,
-) -> Result<Inputs, Refusal>
-    ensures comes { Comes (work.sources program.now) (F.shows feed.old) (F.shows feed.new) result }
-    ensures inputs { IfOk result (AreInputsOf program.now) }
-{
-    load_sources(alloc, feed, program)
-}
-
-/// A program and the rows of its sources, with what an evaluation and a certificate ask of them.
+/// A program and the rows of its sources.
 pub fn load<F: Feed>(alloc: Global, feed: &mut F, name: &[u8]) -> Result<Loaded, Refusal>
-    ensures comes { Comes (λ files. work.loaded files name.now) (F.shows feed.old) (F.shows feed.new) result }
-    ensures inputs { IfOk result (λ l. AreInputsOf l.program l.inputs) }
-    ensures names { IfOk result (λ l. AreNames l.program.ops) }
+    ensures { Comes (λ files. work.loaded files name.now) (F.shows feed.old) (F.shows feed.new) result }
 {
     let program = load_program(alloc, feed, name)?;
-    let inputs = load_inputs(alloc, feed, &program)?;
+    let inputs = load_sources(alloc, feed, &program)?;
     Ok(Loaded { program, inputs })
 }
 
@@ -246,28 +229,13 @@ fn texts_for<F: Feed>(alloc: Global, command: Command, feed: &mut F) -> Result<T
     }
 }
 
-// From the words to the texts, one stage after the other.
-fn answered<F: Feed>(alloc: Global, words: &[&str], feed: &mut F) -> Result<Texts, Refusal>
-    ensures unnamed { AreUnnamed (texts_of words.now) → result ≡ Err Refusal.Usage }
-    ensures usage { AreRefused (texts_of words.now) → (result ≡ Err Refusal.Usage) ⊎ (result ≡ Err Refusal.OutOfMemory) }
-    ensures usage_untouched { AreRefused (texts_of words.now) → feed.new ≡ feed.old }
-    ensures comes { Comes (work.work (texts_of words.now)) (F.shows feed.old) (F.shows feed.new) result }
+/// The texts that the words ask for, or the first refusal that stands, one stage after the other.
+pub fn answer<F: Feed>(alloc: Global, words: &[&str], feed: &mut F) -> Result<Texts, Refusal>
+    ensures { IsAnswered (texts_of words.now) (feed.new ≡ feed.old) (F.shows feed.old) (F.shows feed.new) result }
 {
     match read_words(alloc, words) {
         Ok(command) => texts_for(alloc, command, feed),
         Err(Refused::Usage) => Err(Refusal::Usage),
         Err(Refused::OutOfMemory) => Err(Refusal::OutOfMemory),
     }
-}
-
-/// The texts that the words ask for, or the first refusal that stands.
-pub fn answer<F: Feed>(alloc: Global, words: &[&str], feed: &mut F) -> Result<Texts, Refusal>
-    ensures unnamed { AreUnnamed (texts_of words.now) → result ≡ Err Refusal.Usage }
-    ensures usage { AreRefused (texts_of words.now) → (result ≡ Err Refusal.Usage) ⊎ (result ≡ Err Refusal.OutOfMemory) }
-    ensures usage_untouched { AreRefused (texts_of words.now) → feed.new ≡ feed.old }
-    ensures texts { IfOk result (λ texts. ComesTo (work.work (texts_of words.now) (F.shows feed.old).files) (F.shows feed.old) (F.shows feed.new) (gives texts)) }
-    ensures counts { IfOk result (λ texts. (text : List ℕ) → texts.counts ≡ Some text → AskForCounts (texts_of words.now)) }
-    ensures refused { IfErr result (IsRefused (texts_of words.now) (F.shows feed.old) (F.shows feed.new)) }
-{
-    answered(alloc, words, feed)
 }

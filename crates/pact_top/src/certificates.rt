@@ -1,11 +1,7 @@
 //! From the bytes of a certificate to the plan that it leads to.
 
-ghost use Rattle.std.specs.Prelude.{◌≡◌, IfOk};
 ghost use Rattle.pact_operators.specs.Programs.{NamesDiffer};
-ghost use Rattle.reorder_pair.specs.Legal.{KeepAnswers};
-ghost use Rattle.reorder_pair.specs.Reach.{Reach};
-ghost use Rattle.swap_certificate.specs.PlanLines.{line_of};
-ghost use Rattle.pact_top.specs.Refusal.{CertificateRefused, CertificateUnread, Decides};
+ghost use Rattle.pact_top.specs.Refusal.{CertificateRefused, CertificateUnread, Decides, IsRechecked};
 ghost use Rattle.pact_top.specs.Work as work;
 
 use crate::refusal_lines::{bad_certificate, no_certificate};
@@ -49,10 +45,7 @@ pub fn rechecked(
     certificate: &Certificate,
 ) -> Result<Plan, Refusal>
     requires names { NamesDiffer program.now.ops }
-    ensures decides { Decides (work.rechecked program.now certificate.now) result }
-    ensures line { IfOk result (λ plan. certificate.now.plan ≡ line_of program.now.ops plan) }
-    ensures reached { IfOk result (Reach program.now) }
-    ensures answers { IfOk result (KeepAnswers program.now program.now.plan) }
+    ensures { IsRechecked program.now certificate.now result }
 {
     match recheck(alloc, program, certificate) {
         Ok(plan) => Ok(plan),

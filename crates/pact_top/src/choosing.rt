@@ -1,19 +1,17 @@
 //! The plan that is chosen of a program on the rows of its sources, and what is written of it.
 
 ghost use Rattle.std.specs.Prelude.{◌≡◌, ◌≤◌, ◌<◌, ◌+◌, ◌++◌, ◌∷◌, [], ℕ, true, cond, get_or, length, IfOk, OnOk};
-ghost use Rattle.pact_operators.specs.Allowed.{Allows, Counted};
 ghost use Rattle.pact_operators.specs.Inputs.{AreInputsOf};
-ghost use Rattle.pact_operators.specs.PlanOps.{is_source_kind, plan_ops};
+ghost use Rattle.pact_operators.specs.PlanOps.{is_source_kind};
 ghost use Rattle.pact_operators.specs.Programs.{AreNames, IsPlanOf};
 ghost use Rattle.plan_trees.specs.Physicals.{worker_limit};
 ghost use Rattle.plan_enumerate.specs.Listing.{entry_limit};
 ghost use Rattle.pact_words.specs.Words.{AreOptionsInRange};
 ghost use Rattle.reorder_pair.specs.Legal.{KeepAnswers};
-ghost use Rattle.pact_record.specs.Widths.{AreWide};
 ghost use Rattle.pact_top.specs.CommandTexts as texts;
 ghost use Rattle.pact_top.specs.declared.loaded.Loaded.{Loaded as LoadedData};
 ghost use Rattle.ship_strategy.specs.Layouts.{layout_count};
-ghost use Rattle.pact_top.specs.CommandTexts.{AreToldCounts, IsAnswerOf, IsCertificateLine, IsChoice, IsDerived, IsOutAlone, IsPlanText};
+ghost use Rattle.pact_top.specs.CommandTexts.{AreToldCounts, IsAnswerOf, IsCertificateLine, IsChoice, IsDerived, IsOutAlone, IsOutcome, IsPlanChosen, IsPlanText};
 
 use crate::lines::sorted_lines;
 use crate::loaded::{Loaded, is_source};
@@ -87,11 +85,7 @@ pub fn choose_plan(
     requires inputs { AreInputsOf loaded.now.program loaded.now.inputs }
     requires workers { (1 ≤ workers) × (workers ≤ worker_limit) }
     requires plans { (1 ≤ plans) × (plans ≤ entry_limit) }
-    ensures choice { IfOk result (IsChoice loaded.now workers plans) }
-    ensures plan { IfOk result (λ c. IsPlanOf loaded.now.program.functions loaded.now.program.ops c.plan) }
-    ensures answers { IfOk result (λ c. KeepAnswers loaded.now.program loaded.now.program.plan c.plan) }
-    ensures entry { IfOk result (λ c. c.chosen.entry < length c.listed.entries) }
-    ensures layout { IfOk result (λ c. c.chosen.layout < layout_count loaded.now.program.ops) }
+    ensures { IfOk result (IsPlanChosen loaded.now workers plans) }
 {
     let listed = enumerate(alloc, &loaded.program, plans)?;
     let counts = row_counts(alloc, &loaded.program, &loaded.inputs)?;
@@ -117,9 +111,7 @@ fn run_plan(
     requires plan { IsPlanOf program.now.functions program.now.ops choice.now.plan }
     requires layout { choice.now.chosen.layout < layout_count program.now.ops }
     requires answers { KeepAnswers program.now program.now.plan choice.now.plan }
-    ensures allowed { IfOk result (λ o. Allows (plan_ops program.now inputs) program.now.plan o.rows) }
-    ensures counted { IfOk result (λ o. Counted (plan_ops program.now inputs) choice.now.plan o.rows o.counts) }
-    ensures widths { IfOk result (λ o. AreWide program.now.fields o.rows) }
+    ensures { IfOk result (IsOutcome (record { program = program.now; inputs = inputs }) choice.now.plan) }
 {
     // a program tells that it is one
     let _fields = program.fields();

@@ -1,8 +1,7 @@
 //! Why a call gives no answer, and what is told of it.
 
-ghost use Rattle.std.specs.Prelude.{◌≡◌, ◌≤◌, OnOk, OnErr, IfOk};
-ghost use Rattle.pact_outside.specs.Outside.{HasCause};
-ghost use Rattle.pact_top.specs.Transfer.{Gains, GainsFront, Tells};
+ghost use Rattle.std.specs.Prelude.{◌≡◌, ◌≤◌};
+ghost use Rattle.pact_top.specs.Transfer.{Tells, Writes};
 ghost use Rattle.pact_top.specs.Refusal.{status_of, refusal_line};
 ghost use Rattle.pact_top.specs.RefusalLines.{line_of};
 ghost use Rattle.pact_top.specs.declared.refusals.Refusal.TheVariants as refusals;
@@ -55,9 +54,7 @@ fn tell_line<E: Sink>(err: &mut E, line: &[u8])
 }
 
 fn write_unreadable<E: Sink>(err: &mut E, name: &[u8]) -> Result<(), Failed>
-    ensures all { OnOk result (Gains (E.taken err.old) (E.taken err.new) (line_of 3 name.now)) }
-    ensures part { OnErr result (GainsFront (E.taken err.old) (E.taken err.new) (line_of 3 name.now)) }
-    ensures cause { HasCause (E.faults err.old) (E.faults err.new) result }
+    ensures { Writes (E.taken err.old) (E.taken err.new) (E.faults err.old) (E.faults err.new) (line_of 3 name.now) result }
 {
     write_all(err, b"cannot read ")?;
     write_all(err, name)?;

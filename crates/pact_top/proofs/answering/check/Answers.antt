@@ -21,7 +21,7 @@ pub returns-in_err-_plan : goal.returns-in_err-_plan
 returns-in_err-_plan g c =
     let e = err_from_is_err_and c.from_residual-in_err-_plan.result c.from_residual-in_err-_plan.ensures.1 in
     rw (e.1, e.2)
-    (check_refused c.args.name.now c.args.other.now c.in_ok-program.program c.in_ok-program.ensures c.in_ok-certificate.certificate c.in_ok-certificate.ensures c.in_err-_plan.field-0.0 c.in_err-_plan.ensures.decides)
+    (check_refused c.args.name.now c.args.other.now c.in_ok-program.program c.in_ok-program.ensures c.in_ok-certificate.certificate c.in_ok-certificate.ensures c.in_err-_plan.field-0.0 c.in_err-_plan.ensures)
 
 pub returns : goal.returns
 returns g c =
