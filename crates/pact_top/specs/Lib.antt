@@ -6,5 +6,6 @@ pub mod Readings
 pub mod Refusal
 pub mod RefusalLines
 pub mod Stages
+pub mod Statuses
 pub mod Transfer
 pub mod Work

@@ -2,9 +2,10 @@
 
 ghost use Rattle.std.specs.Prelude.{◌≡◌, ◌≢◌, ◌≤◌, ◌⊎◌, ℕ, List, [], Some, false};
 ghost use Rattle.pact_outside.specs.Outside.{Rose};
-ghost use Rattle.pact_top.specs.Headline.{Answered, AnsweredQuietly, AreCountsCut, Complete, IsTextCut, MissingFile, NoOther, NothingWritten, Refused, RefusedAlways, Told, UnreadName, UnreadOpened, Unwritten, UnwrittenCause, Usage, UsageAlways, UsageUnnamed};
+ghost use Rattle.pact_top.specs.Headline.{Answered, AnsweredQuietly, Complete, MissingFile, NoOther, NothingWritten, Refused, RefusedAlways, Told, UnreadName, UnreadOpened, Unwritten, UnwrittenCause, Usage, UsageAlways, UsageUnnamed};
 ghost use Rattle.pact_top.specs.Refusal.{status_of, refusal_line};
 ghost use Rattle.pact_top.specs.RefusalLines.{line_of};
+ghost use Rattle.pact_top.specs.Statuses.{AreCountsCut, IsTextCut};
 ghost use Rattle.pact_top.specs.Transfer.{Gains, GainsCounts, Tells, TellsBehind};
 ghost use Rattle.pact_words.specs.Words.{AreRefused, texts_of};
 
