@@ -1,21 +1,14 @@
 -- The inputs of a tree whose edges lie in a physical plan.
-use Rattle.std.proofs.Common.{◌≡◌, ◌≢◌, ◌<◌, ℕ, true, ap, sym, subst, ◌∙◌, arith}
+use Rattle.std.proofs.Common.{◌≡◌, ◌≢◌, ◌<◌, ℕ, true, ap, subst, arith}
 use Rattle.plan_trees.specs.declared.plans.Parts.{Parts}
-use Rattle.plan_trees.specs.declared.plans.Parts.TheVariants.{OverOne, OverTwo}
+use Rattle.plan_trees.specs.declared.plans.Parts.TheVariants.{Alone, OverOne, OverTwo}
 use Rattle.plan_trees.specs.PlanParts.{parts_of}
 use Rattle.plan_trees.specs.Plans.{PlanTree, over, both, root_of, has, IsPlan}
 use Rattle.plan_trees.specs.Preorders.{count_of}
 use Rattle.plan_trees.proofs.RootParts.{is_both, is_over}
 use Rattle.plan_trees.proofs.SubtreesOfPlans.{has-root}
-use Rattle.cost_model.specs.Edges.{EdgesLieIn}
+use Rattle.cost_model.specs.Edges.{AreInner, EdgesLieIn, IsInner}
 use Rattle.cost_model.proofs.NumbersApart.{above_one, above_two}
-
--- an input of a tree: it is smaller, its edges lie in the whole, and so does the edge that it leaves
-pub record IsInner (whole s t : PlanTree) : Type 0 where
-  pub less : count_of t < count_of s
-  pub lies : EdgesLieIn t whole
-  pub there : has (root_of t) whole ≡ true
-  pub edge : root_of t ≢ root_of whole
 
 -- all numbers of an input are those of edges
 abbrev AllLieIn : PlanTree → PlanTree → Type 0
@@ -31,12 +24,6 @@ over_lies whole t n h lies k e =
     let s = above_one n t h in
     lies k (s.whole k e) (λ d. s.root (subst (λ (x : ℕ). has x t ≡ true) d e))
 
-pub inner_one : (whole : PlanTree) {s t : PlanTree} {n : ℕ} {p : Parts} → p ≡ parts_of s → p ≡ OverOne n t → IsPlan s → EdgesLieIn s whole → IsInner whole s t
-inner_one whole {s = s} {t = t} {n = n} e f h lies =
-    let same : s ≡ over n t = is_over s t n (sym f ∙ e) in
-    let less : count_of t < count_of s = omega (arith, ap count_of same) in
-    inner whole s t less (over_lies whole t n (subst IsPlan same h) (subst (λ (x : PlanTree). EdgesLieIn x whole) same lies))
-
 left_lies : (whole t u : PlanTree) (n : ℕ) → IsPlan (both n t u) → EdgesLieIn (both n t u) whole → AllLieIn t whole
 left_lies whole t u n h lies k e =
     let s = above_two n t u h in
@@ -47,14 +34,15 @@ right_lies whole t u n h lies k e =
     let s = above_two n t u h in
     lies k (s.right_whole k e) (λ d. s.right_root (subst (λ (x : ℕ). has x u ≡ true) d e))
 
-pub inner_left : (whole : PlanTree) {s t u : PlanTree} {n : ℕ} {p : Parts} → p ≡ parts_of s → p ≡ OverTwo n t u → IsPlan s → EdgesLieIn s whole → IsInner whole s t
-inner_left whole {s = s} {t = t} {u = u} {n = n} e f h lies =
-    let same : s ≡ both n t u = is_both s t u n (sym f ∙ e) in
+-- each input of a tree, by what its parts are
+pub inner_parts : (whole s : PlanTree) (p : Parts) → p ≡ parts_of s → IsPlan s → EdgesLieIn s whole → AreInner whole s p
+inner_parts whole s (Alone n) e h lies = tt
+inner_parts whole s (OverOne n t) e h lies =
+    let same : s ≡ over n t = is_over s t n e in
     let less : count_of t < count_of s = omega (arith, ap count_of same) in
-    inner whole s t less (left_lies whole t u n (subst IsPlan same h) (subst (λ (x : PlanTree). EdgesLieIn x whole) same lies))
-
-pub inner_right : (whole : PlanTree) {s t u : PlanTree} {n : ℕ} {p : Parts} → p ≡ parts_of s → p ≡ OverTwo n t u → IsPlan s → EdgesLieIn s whole → IsInner whole s u
-inner_right whole {s = s} {t = t} {u = u} {n = n} e f h lies =
-    let same : s ≡ both n t u = is_both s t u n (sym f ∙ e) in
-    let less : count_of u < count_of s = omega (arith, ap count_of same) in
-    inner whole s u less (right_lies whole t u n (subst IsPlan same h) (subst (λ (x : PlanTree). EdgesLieIn x whole) same lies))
+    inner whole s t less (over_lies whole t n (subst IsPlan same h) (subst (λ (x : PlanTree). EdgesLieIn x whole) same lies))
+inner_parts whole s (OverTwo n t u) e h lies =
+    let same : s ≡ both n t u = is_both s t u n e in
+    let plan = subst IsPlan same h in
+    let edges = subst (λ (x : PlanTree). EdgesLieIn x whole) same lies in
+    (inner whole s t (omega (arith, ap count_of same)) (left_lies whole t u n plan edges), inner whole s u (omega (arith, ap count_of same)) (right_lies whole t u n plan edges))

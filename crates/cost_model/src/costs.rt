@@ -9,7 +9,7 @@ ghost use Rattle.cost_model.specs.Edges.{EdgesLieIn};
 ghost use Rattle.plan_trees.specs.Physicals.{ship_of};
 ghost use Rattle.cost_model.specs.Estimates.{estimate};
 
-use crate::edges::ship_below;
+use crate::edges::{parts_within, ship_below};
 use crate::estimates::{estimate_above_one, estimate_above_two, plus, rows_at, times};
 use pact_bag::Counts;
 use pact_operators::{Parts, Physical, Plan, Program, Ship};
@@ -46,7 +46,7 @@ fn spent_in(program: &Program, counts: &Counts, physical: &Physical, tree: &Plan
     ensures estimate { result.estimate ≡ estimate program.now counts.now tree.now }
     ensures cost { result.cost ≡ costs.spent program.now counts.now physical.now tree.now }
 {
-    match tree.parts() {
+    match parts_within(physical, tree) {
         Parts::Alone { at } => Spent {
             estimate: rows_at(counts, at),
             cost: 0,

@@ -3,8 +3,19 @@
 ghost use Rattle.std.specs.Prelude.{◌≡◌, ◌≢◌, true};
 ghost use Rattle.plan_trees.specs.Plans.{has, root_of};
 ghost use Rattle.plan_trees.specs.Physicals.{ship_of};
+ghost use Rattle.plan_trees.specs.PlanParts.{parts_of};
+ghost use Rattle.cost_model.specs.Edges.{AreInner, EdgesLieIn};
 
-use pact_operators::{Physical, Plan, Ship};
+use pact_operators::{Parts, Physical, Plan, Ship};
+
+/// The root of a tree and the plans of its inputs, whose edges are the physical plan's as the tree's own are.
+pub fn parts_within(physical: &Physical, tree: &Plan) -> Parts
+    requires { EdgesLieIn tree.now physical.now.tree }
+    ensures parts { result ≡ parts_of tree.now }
+    ensures inner { AreInner physical.now.tree tree.now result }
+{
+    tree.parts()
+}
 
 /// How the records of an input's root go to its consumer.
 pub fn ship_below(physical: &Physical, input: &Plan) -> Ship

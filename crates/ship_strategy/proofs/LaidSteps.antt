@@ -1,8 +1,8 @@
 -- What laying ships keeps of a physical plan, and how the layout of a tree is made from those of its inputs.
-use Rattle.std.proofs.Common.{◌≡◌, ◌≢◌, ℕ, true, refl, ap, sym, ◌∙◌}
+use Rattle.std.proofs.Common.{◌≡◌, ℕ, refl, ap, sym, ◌∙◌}
 use Rattle.plan_trees.specs.declared.physicals.Ship.{Ship}
 use Rattle.plan_trees.specs.Physicals.{PhysicalData, with_ship}
-use Rattle.plan_trees.specs.Plans.{PlanTree, leaf, over, both, root_of, has}
+use Rattle.plan_trees.specs.Plans.{PlanTree, leaf, over, both, root_of}
 use Rattle.ship_strategy.specs.declared.ways.Way.{Way}
 use Rattle.ship_strategy.specs.Facts.{NodeFacts, Facts}
 use Rattle.ship_strategy.specs.Ships.{Placement}
@@ -20,12 +20,6 @@ laid_workers f w (both n t u) p = laid_workers f w u (laid f w t p) ∙ laid_wor
 
 pub after : (f : Facts) (w : ℕ → Way) (t : PlanTree) (p q : PhysicalData) → p ≡ laid f w t q → p.tree ≡ q.tree
 after f w t p q e = ap (λ (d : PhysicalData). d.tree) e ∙ laid_tree f w t q
-
-pub has_moved : (n : ℕ) (whole now : PlanTree) → now ≡ whole → has n whole ≡ true → has n now ≡ true
-has_moved n whole now e there = ap (has n) e ∙ there
-
-pub edge_moved : (n : ℕ) (whole now : PlanTree) → now ≡ whole → n ≢ root_of whole → n ≢ root_of now
-edge_moved n whole now e other same = other (same ∙ ap root_of e)
 
 pub both_laid : (f : Facts) (w : ℕ → Way) (s t u : PlanTree) (n : ℕ) (x : NodeFacts) (way : Way) (left right : Placement) (l r : Ship) (q first second third fourth : PhysicalData)
     → s ≡ both n t u → x ≡ f n → way ≡ w n → left ≡ planned f w t → right ≡ planned f w u → l ≡ left_ship way x.left_keys left → r ≡ right_ship way x.right_keys right

@@ -12,6 +12,7 @@ use crate::edges::{left_ship, only_ship, right_ship};
 use crate::placements::{placed_both, placed_over};
 use crate::tables::Table;
 use crate::ways::Ways;
+use cost_model::parts_within;
 use pact_operators::{Parts, Physical, Plan, Ship};
 use pact_record::Keys;
 
@@ -32,7 +33,7 @@ pub(crate) fn lay(table: &Table, ways: &Ways, tree: &Plan, physical: &mut Physic
     ensures laid { physical.new ≡ layouts.laid (facts_in table.now) (ways_in ways.now) tree.now physical.old }
     ensures tree { physical.new.tree ≡ physical.old.tree }
 {
-    match tree.parts() {
+    match parts_within(physical, tree) {
         Parts::Alone { .. } => None,
         Parts::OverOne { at, input } => {
             let below = lay(table, ways, &input, physical);

@@ -18,7 +18,7 @@ use crate::placements::{
     edge_placement, is_broadcast, is_exactly, is_within, placed_both, placed_over,
 };
 use crate::tables::{OpFacts, Table};
-use cost_model::ship_below;
+use cost_model::{parts_within, ship_below};
 use pact_operators::{OpKind, Parts, Physical, Plan, Program, Ship};
 use pact_record::Keys;
 
@@ -112,7 +112,7 @@ fn look(table: &Table, physical: &Physical, tree: &Plan) -> Looked
     ensures placement { result.placement ≡ ships.placement (facts_in table.now) physical.now tree.now }
     ensures legal { result.legal ≡ is_legal (facts_in table.now) physical.now tree.now }
 {
-    match tree.parts() {
+    match parts_within(physical, tree) {
         Parts::Alone { .. } => Looked {
             placement: None,
             legal: true,
