@@ -1,5 +1,5 @@
 -- Declarations and their words: each declaration that a text can spell has words of its own, and those words are the ones without a fault.
-use Rattle.std.proofs.Common.{◌≡◌, ◌≢◌, ◌≤◌, ◌&&◌, ℕ, Bool, true, false, if◌then◌else◌, nat_le, List, [], ◌∷◌, map, length, Some, None, Result, Ok, Err, codes, decimal, refl, ap, sym, ◌∙◌, arith}
+use Rattle.std.proofs.Common.{◌≡◌, ◌≢◌, ◌≤◌, ◌&&◌, ℕ, Bool, true, false, if◌then◌else◌, nat_le, List, [], ◌∷◌, map, length, Some, None, Result, Ok, Err, bytes_eq, codes, decimal, refl, ap, sym, subst, ◌∙◌, arith}
 use Rattle.std.specs.Prelude.{IfErr, IfOk}
 use Rattle.std.specs.List.{AllByRecursion}
 use Rattle.text_lines.specs.LineReading.{IsFaultOf, TellsFault}
@@ -43,16 +43,18 @@ declared words some h = decl_of_words words some h
 
 -- ---- some words, and no other declaration's
 
+-- no other declaration begins as a function does
+abbrev pub OtherFirst : List LineWord → Type 0
+OtherFirst (plain_word word ∷ words) = bytes_eq word (codes "function") ≡ false
+OtherFirst words = ⊥
+
+pub decl_first : (d : Decl) → IsSpelledDecl d → OtherFirst (words_of_decl d)
+decl_first (Function number) h = absurd h
+decl_first (Op name SourceKind function left right left_keys right_keys) h = absurd h.3
+decl_first d h = refl
+
 pub words_of_decl-some : (d : Decl) → IsSpelledDecl d → words_of_decl d ≢ []
-words_of_decl-some (Source name file columns) h = λ e. absurd cc
-words_of_decl-some (Function number) h = absurd h
-words_of_decl-some (Op name SourceKind function left right left_keys right_keys) h = absurd h.3
-words_of_decl-some (Op name Map function left right left_keys right_keys) h = λ e. absurd cc
-words_of_decl-some (Op name Reduce function left right left_keys right_keys) h = λ e. absurd cc
-words_of_decl-some (Op name Match function left right left_keys right_keys) h = λ e. absurd cc
-words_of_decl-some (Op name Cross function left right left_keys right_keys) h = λ e. absurd cc
-words_of_decl-some (Op name CoGroup function left right left_keys right_keys) h = λ e. absurd cc
-words_of_decl-some (Sink input fields) h = λ e. absurd cc
+words_of_decl-some d h e = subst OtherFirst e (decl_first d h)
 
 -- a name is short enough to be kept
 abbrev kept : List ℕ → List ℕ

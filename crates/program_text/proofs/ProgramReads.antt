@@ -1,9 +1,6 @@
 -- The lines of a text lead a reader of programs on exactly where a program's text goes on.
 use Rattle.std.proofs.Common.{◌≡◌, ◌≢◌, inr, ℕ, Bool, true, false, bytes_eq, codes, List, [], ◌∷◌, ◌++◌, map, Some, None, refl, ap, sym, subst, ◌∙◌}
-use Rattle.tac_syntax.specs.declared.declarations.OpKind.{OpKind}
-use Rattle.tac_syntax.specs.declared.declarations.OpKind.TheVariants.{Source as SourceKind, Map, Reduce, Match, Cross, CoGroup}
 use Rattle.tac_syntax.specs.declared.declarations.Decl.{Decl}
-use Rattle.tac_syntax.specs.declared.declarations.Decl.TheVariants.{Source, Function as FunctionDecl, Op, Sink}
 use Rattle.tac_syntax.specs.Declarations.{IsSpelledDecl}
 use Rattle.tac_syntax.specs.Drafts.{DraftData}
 use Rattle.tac_syntax.specs.declared.functions.Kind.{Kind}
@@ -28,73 +25,33 @@ use Rattle.program_text.specs.DeclarationFaults.{declaration_fault}
 use Rattle.program_text.specs.DeclarationWords.{words_of_decl}
 use Rattle.program_text.specs.ProgramStates.{ProgramLine, version, field_count, declares, begins, inside, ProgramState, nothing_read, version_read, drafted, open_function, MaySay, program_place, said_on, words_of_program_line, RunsTo}
 use Rattle.program_text.specs.ProgramTexts.{IsProgramText, ProgramText, between_fault, program_fault}
-use Rattle.program_text.proofs.DeclarationLaws.{AreDeclarationWords, declared, faultless, words_of_decl-some, words_of_decl-unique}
+use Rattle.program_text.proofs.DeclarationLaws.{AreDeclarationWords, OtherFirst, decl_first, declared, faultless, words_of_decl-some, words_of_decl-unique}
 use Rattle.program_text.proofs.FirstLineLaws.{AreFieldCountWords, AreVersionWords, field_count_declared, field_count_faultless, field_count_words-some, field_count_words-unique, version_declared, version_faultless, version_words-some}
 use Rattle.program_text.proofs.ProgramRuns.{Leads, StateFront, can_end, lines_read, program_leads}
 use Rattle.text_lines.proofs.Faultless.{some_length}
 
 -- ---- declarations, and the first lines of functions
 
--- no other declaration begins as a function does
-abbrev OtherFirst : List LineWord → Type 0
-OtherFirst [] = ⊥
-OtherFirst (plain_word word ∷ words) = bytes_eq word (codes "function") ≡ false
-OtherFirst (literal_word bytes ∷ words) = ⊥
-
-op_first : (kind : OpKind) (name function left right left_keys right_keys : List ℕ) → IsSpelledDecl (Op name kind function left right left_keys right_keys)
-    → OtherFirst (words_of_decl (Op name kind function left right left_keys right_keys))
-op_first SourceKind name function left right left_keys right_keys h = absurd h.3
-op_first Map name function left right left_keys right_keys h = refl
-op_first Reduce name function left right left_keys right_keys h = refl
-op_first Match name function left right left_keys right_keys h = refl
-op_first Cross name function left right left_keys right_keys h = refl
-op_first CoGroup name function left right left_keys right_keys h = refl
-
-decl_first : (d : Decl) → IsSpelledDecl d → OtherFirst (words_of_decl d)
-decl_first (Source name file columns) h = refl
-decl_first (FunctionDecl number) h = absurd h
-decl_first (Op name kind function left right left_keys right_keys) h = op_first kind name function left right left_keys right_keys h
-decl_first (Sink input fields) h = refl
-
 between-other : (words : List LineWord) → OtherFirst words → between_fault words ≡ declaration_fault words
-between-other [] h = absurd h
 between-other (plain_word word ∷ words) h = rw h refl
-between-other (literal_word bytes ∷ words) h = absurd h
+between-other words h = absurd h
 
 between-header : (name : List ℕ) (kind : Kind) (keys : ℕ) → between_fault (header_words name kind keys) ≡ header_fault (header_words name kind keys)
 between-header name kind keys = refl
 
 not_both : (d : Decl) (name : List ℕ) (kind : Kind) (keys : ℕ) → IsSpelledDecl d → words_of_decl d ≡ header_words name kind keys → ⊥
 not_both d name kind keys h e =
-    let other : OtherFirst (header_words name kind keys) = subst OtherFirst e (decl_first d h) in
-    clash (bytes_eq (codes "function") (codes "function")) refl other
-  where
-    clash : (b : Bool) → b ≡ true → b ≡ false → ⊥
-    clash b p q = cc
+    let other : true ≡ false = subst OtherFirst e (decl_first d h) in cc
 
 -- ---- what may be said has words of its own
 
 some_said : (s : ProgramState) (l : ProgramLine) → MaySay s l → words_of_program_line l ≢ []
 some_said nothing_read version h = version_words-some
-some_said nothing_read (field_count count) h = absurd h
-some_said nothing_read (declares decl) h = absurd h
-some_said nothing_read (begins name kind keys) h = absurd h
-some_said nothing_read (inside line) h = absurd h
-some_said version_read version h = absurd h
 some_said version_read (field_count count) h = field_count_words-some count h
-some_said version_read (declares decl) h = absurd h
-some_said version_read (begins name kind keys) h = absurd h
-some_said version_read (inside line) h = absurd h
-some_said (drafted d) version h = absurd h
-some_said (drafted d) (field_count count) h = absurd h
 some_said (drafted d) (declares decl) h = words_of_decl-some decl h
 some_said (drafted d) (begins name kind keys) h = λ e. absurd cc
-some_said (drafted d) (inside line) h = absurd h
-some_said (open_function d o) version h = absurd h
-some_said (open_function d o) (field_count count) h = absurd h
-some_said (open_function d o) (declares decl) h = absurd h
-some_said (open_function d o) (begins name kind keys) h = absurd h
 some_said (open_function d o) (inside line) h = words_of_line-some (lists_in o.build.blocks) line (IsSpelledLine-MayStand (place_of o.build) line h)
+some_said s l h = absurd h
 
 header_parts : (a b : List ℕ) (j k : Kind) (m n : ℕ) → header a j m ≡ header b k n → begins a j m ≡ begins b k n
 header_parts a b j k m n e = ap (λ (l : FunctionLine). line_of l) e
@@ -103,50 +60,20 @@ header_parts a b j k m n e = ap (λ (l : FunctionLine). line_of l) e
     line_of (header name kind keys) = begins name kind keys
     line_of (FunctionLine.inside line) = version
 
-unique_first : (l m : ProgramLine) → MaySay nothing_read l → MaySay nothing_read m → l ≡ m
-unique_first version version h k = refl
-unique_first version (field_count count) h k = absurd k
-unique_first version (declares decl) h k = absurd k
-unique_first version (begins name kind keys) h k = absurd k
-unique_first version (inside line) h k = absurd k
-unique_first (field_count count) m h k = absurd h
-unique_first (declares decl) m h k = absurd h
-unique_first (begins name kind keys) m h k = absurd h
-unique_first (inside line) m h k = absurd h
-
 unique_said : (s : ProgramState) (l m : ProgramLine) → MaySay s l → MaySay s m → words_of_program_line l ≡ words_of_program_line m → l ≡ m
-unique_said nothing_read l m h k e = unique_first l m h k
+unique_said nothing_read version version h k e = refl
 unique_said version_read (field_count i) (field_count j) h k e = ap field_count (field_count_words-unique i j h k e)
-unique_said version_read version m h k e = absurd h
-unique_said version_read (declares decl) m h k e = absurd h
-unique_said version_read (begins name kind keys) m h k e = absurd h
-unique_said version_read (inside line) m h k e = absurd h
-unique_said version_read (field_count i) version h k e = absurd k
-unique_said version_read (field_count i) (declares decl) h k e = absurd k
-unique_said version_read (field_count i) (begins name kind keys) h k e = absurd k
-unique_said version_read (field_count i) (inside line) h k e = absurd k
 unique_said (drafted d) (declares a) (declares b) h k e = ap declares (words_of_decl-unique a b h k e)
 unique_said (drafted d) (declares a) (begins name kind keys) h k e = absurd (not_both a name kind keys h e)
 unique_said (drafted d) (begins name kind keys) (declares b) h k e = absurd (not_both b name kind keys k (sym e))
 unique_said (drafted d) (begins a j m) (begins b i n) h k e = header_parts a b j i m n (one_header a b j i m n h k e)
-unique_said (drafted d) version m h k e = absurd h
-unique_said (drafted d) (field_count count) m h k e = absurd h
-unique_said (drafted d) (inside line) m h k e = absurd h
-unique_said (drafted d) (declares a) version h k e = absurd k
-unique_said (drafted d) (declares a) (field_count count) h k e = absurd k
-unique_said (drafted d) (declares a) (inside line) h k e = absurd k
-unique_said (drafted d) (begins a j m) version h k e = absurd k
-unique_said (drafted d) (begins a j m) (field_count count) h k e = absurd k
-unique_said (drafted d) (begins a j m) (inside line) h k e = absurd k
 unique_said (open_function d o) (inside l) (inside m) h k e = ap inside (words_of_one_line (place_of o.build) (place_of o.build) l m h k e)
-unique_said (open_function d o) version m h k e = absurd h
-unique_said (open_function d o) (field_count count) m h k e = absurd h
-unique_said (open_function d o) (declares decl) m h k e = absurd h
-unique_said (open_function d o) (begins name kind keys) m h k e = absurd h
-unique_said (open_function d o) (inside l) version h k e = absurd k
-unique_said (open_function d o) (inside l) (field_count count) h k e = absurd k
-unique_said (open_function d o) (inside l) (declares decl) h k e = absurd k
-unique_said (open_function d o) (inside l) (begins name kind keys) h k e = absurd k
+unique_said nothing_read version m h k e = absurd k
+unique_said version_read (field_count i) m h k e = absurd k
+unique_said (drafted d) (declares a) m h k e = absurd k
+unique_said (drafted d) (begins a j m) l h k e = absurd k
+unique_said (open_function d o) (inside l) m h k e = absurd k
+unique_said s l m h k e = absurd h
 
 pub program_sayings : AreSayings words_of_program_line MaySay
 program_sayings = record { some = some_said; unique = unique_said }
@@ -161,25 +88,11 @@ fault_none (open_function d o) = refl
 
 fault_sound : (s : ProgramState) (l : ProgramLine) → MaySay s l → program_fault (program_place s) (words_of_program_line l) ≡ None
 fault_sound nothing_read version h = version_faultless
-fault_sound nothing_read (field_count count) h = absurd h
-fault_sound nothing_read (declares decl) h = absurd h
-fault_sound nothing_read (begins name kind keys) h = absurd h
-fault_sound nothing_read (inside line) h = absurd h
-fault_sound version_read version h = absurd h
 fault_sound version_read (field_count count) h = field_count_faultless count h
-fault_sound version_read (declares decl) h = absurd h
-fault_sound version_read (begins name kind keys) h = absurd h
-fault_sound version_read (inside line) h = absurd h
-fault_sound (drafted d) version h = absurd h
-fault_sound (drafted d) (field_count count) h = absurd h
 fault_sound (drafted d) (declares decl) h = between-other (words_of_decl decl) (decl_first decl h) ∙ faultless decl h
 fault_sound (drafted d) (begins name kind keys) h = between-header name kind keys ∙ header_fault-header_words name kind keys h
-fault_sound (drafted d) (inside line) h = absurd h
-fault_sound (open_function d o) version h = absurd h
-fault_sound (open_function d o) (field_count count) h = absurd h
-fault_sound (open_function d o) (declares decl) h = absurd h
-fault_sound (open_function d o) (begins name kind keys) h = absurd h
 fault_sound (open_function d o) (inside line) h = statement_fault-words_of_line (place_of o.build) line h
+fault_sound s l h = absurd h
 
 pub said_between : (d : DraftData) (ws : List LineWord) → ws ≢ [] → between_fault ws ≡ None → (l : ProgramLine) × (ws ≡ words_of_program_line l) × MaySay (drafted d) l
 said_between d [] some e = absurd (some refl)
@@ -207,25 +120,11 @@ program_faults = record { none = fault_none; sound = fault_sound; complete = fau
 
 pub said_words : (s : ProgramState) (l : ProgramLine) → MaySay s l → AreLineWords (words_of_program_line l)
 said_words nothing_read version h = AreVersionWords
-said_words nothing_read (field_count count) h = absurd h
-said_words nothing_read (declares decl) h = absurd h
-said_words nothing_read (begins name kind keys) h = absurd h
-said_words nothing_read (inside line) h = absurd h
-said_words version_read version h = absurd h
 said_words version_read (field_count count) h = AreFieldCountWords count h
-said_words version_read (declares decl) h = absurd h
-said_words version_read (begins name kind keys) h = absurd h
-said_words version_read (inside line) h = absurd h
-said_words (drafted d) version h = absurd h
-said_words (drafted d) (field_count count) h = absurd h
 said_words (drafted d) (declares decl) h = AreDeclarationWords decl h
 said_words (drafted d) (begins name kind keys) h = AreLineWords-fine (header_words name kind keys) (AreFine-header_words name kind keys h)
-said_words (drafted d) (inside line) h = absurd h
-said_words (open_function d o) version h = absurd h
-said_words (open_function d o) (field_count count) h = absurd h
-said_words (open_function d o) (declares decl) h = absurd h
-said_words (open_function d o) (begins name kind keys) h = absurd h
 said_words (open_function d o) (inside line) h = AreLineWords-fine (words_of_line line) (AreFine-words_of_line (place_of o.build).lists line (IsSpelledLine-MayStand (place_of o.build) line h))
+said_words s l h = absurd h
 
 written_lines : (s t : ProgramState) (ls : List ProgramLine) → Leads s ls t → (lines : List (List ℕ)) × RunsTo s lines t
 written_lines s t [] p = ([], p)

@@ -4,12 +4,12 @@ use Rattle.std.specs.List.{AllByRecursion}
 use Rattle.std.proofs.lemmas.List.{map-append}
 use Rattle.pact_record.proofs.Lists.{AllByRecursion-last}
 use Rattle.tac_syntax.specs.declared.declarations.Decl.{Decl}
-use Rattle.tac_syntax.specs.declared.declarations.Decl.TheVariants.{Source, Function as FunctionDecl, Op, Sink}
+use Rattle.tac_syntax.specs.declared.declarations.Decl.TheVariants.{Function as FunctionDecl}
 use Rattle.tac_syntax.specs.Declarations.{IsSpelledDecl}
 use Rattle.tac_syntax.specs.Drafts.{AreDeclared, DraftData}
 use Rattle.tac_syntax.proofs.Declared.{IsSpelledDraft-decl, IsSpelledDraft-function}
 use Rattle.tac_syntax.specs.declared.functions.Function.{Function}
-use Rattle.tac_syntax.specs.Code.{Code, Line, simple, test, turns, over, otherwise, close, nesting}
+use Rattle.tac_syntax.specs.Code.{Code, Line, close, nesting}
 use Rattle.tac_syntax.specs.Functions.{IsSpelledFunction}
 use Rattle.tac_syntax.specs.Limits.{nesting_limit}
 use Rattle.tac_text.specs.declared.building.Block.{Block}
@@ -35,13 +35,8 @@ Leads s lines t = Steps MaySay said_on s lines t
 -- ---- the words of a program take the reader to it
 
 pub inside_stays : (line : Line) (blocks : List Block) → IsInside line blocks → ends_function line blocks ≡ false
-inside_stays (simple s) blocks h = refl
-inside_stays (test on) blocks h = refl
-inside_stays (turns count) blocks h = refl
-inside_stays (over name list) blocks h = refl
-inside_stays otherwise blocks h = refl
 inside_stays close [] h = absurd h
-inside_stays close (block ∷ blocks) h = refl
+inside_stays line blocks h = refl
 
 inside_leads : (d : DraftData) (o : OpenData) (c : Build) (lines : List Line) → Steps MayInside built_on o.build lines c → Leads (open_function d o) (map inside lines) (open_function d (with_build o c))
 inside_leads d o c [] h = ap (λ (b : Build). open_function d (with_build o b)) h
@@ -104,8 +99,6 @@ decls_lead d n count functions [] said h w k a e =
         ap (λ (x : List Function). record { fields = d.fields; functions = x; decls = d.decls }) (sym p)
         ∙ ap (λ (x : List Decl). record { fields = d.fields; functions = d.functions ++ []; decls = x }) (sym q)
         ∙ ap (λ (x : List Function). record { fields = d.fields; functions = d.functions ++ x; decls = d.decls ++ [] }) r
-decls_lead d n count functions (Source name file columns ∷ decls) said h w k a e =
-    led_by d (Source name file columns) said h.0 _ _ h.1 a.0 (decls_lead (with_decl d (Source name file columns)) n count functions decls h.0 h.2 w k a.1 e) (with_decl-appended d (Source name file columns) functions decls)
 decls_lead d n count [] (FunctionDecl number ∷ decls) said h w k a e = absurd h
 decls_lead d n count (f ∷ functions) (FunctionDecl number ∷ decls) said h w k a e =
     let body = h.3 in
@@ -119,11 +112,8 @@ decls_lead d n count (f ∷ functions) (FunctionDecl number ∷ decls) said h w 
       leads = Steps-append MaySay said_on (drafted d) (drafted (with_function d f)) _ lines more.lines first
           (subst (λ (x : DraftData). Leads (drafted (with_function d f)) more.lines (drafted x)) (with_function-appended d f number functions decls (a.0 ∙ e)) more.leads);
     }
-decls_lead d n count functions (Op name kind function left right left_keys right_keys ∷ decls) said h w k a e =
-    led_by d (Op name kind function left right left_keys right_keys) said h.0 _ _ h.1 a.0
-    (decls_lead (with_decl d (Op name kind function left right left_keys right_keys)) n count functions decls h.0 h.2 w k a.1 e) (with_decl-appended d (Op name kind function left right left_keys right_keys) functions decls)
-decls_lead d n count functions (Sink input fields ∷ decls) said h w k a e =
-    led_by d (Sink input fields) said h.0 _ _ h.1 a.0 (decls_lead (with_decl d (Sink input fields)) n count functions decls h.0 h.2 w k a.1 e) (with_decl-appended d (Sink input fields) functions decls)
+decls_lead d n count functions (decl ∷ decls) said h w k a e =
+    led_by d decl said h.0 _ _ h.1 a.0 (decls_lead (with_decl d decl) n count functions decls h.0 h.2 w k a.1 e) (with_decl-appended d decl functions decls)
 
 -- the words of a program's text, from the first line on
 pub program_leads : (d : DraftData) (said : List (List LineWord)) → SpellsProgram d said → IsWritableDraft d → (lines : List ProgramLine) × (said ≡ map words_of_program_line lines) × Leads nothing_read lines (drafted d)
@@ -160,18 +150,14 @@ StateFront (open_function d o) lines = OpenSo d o lines
 
 SpellsDecls-append : (f g : List Function) (a b : List Decl) (x y : List (List LineWord)) → SpellsDecls f a x → SpellsDecls g b y → SpellsDecls (f ++ g) (a ++ b) (x ++ y)
 SpellsDecls-append f g [] b x y h k = rw (h.0, h.1) k
-SpellsDecls-append f g (Source name file columns ∷ a) b x y h k = (h.0 ++ y, ap (λ (z : List (List LineWord)). z ++ y) h.1, SpellsDecls-append f g a b h.0 y h.2 k)
 SpellsDecls-append [] g (FunctionDecl number ∷ a) b x y h k = absurd h
 SpellsDecls-append (e ∷ f) g (FunctionDecl number ∷ a) b x y h k =
     (h.0, h.1 ++ y, ap (λ (z : List (List LineWord)). z ++ y) h.2 ∙ append_assoc h.0 h.1 y, h.3, SpellsDecls-append f g a b h.1 y h.4 k)
-SpellsDecls-append f g (Op name kind function left right left_keys right_keys ∷ a) b x y h k = (h.0 ++ y, ap (λ (z : List (List LineWord)). z ++ y) h.1, SpellsDecls-append f g a b h.0 y h.2 k)
-SpellsDecls-append f g (Sink input fields ∷ a) b x y h k = (h.0 ++ y, ap (λ (z : List (List LineWord)). z ++ y) h.1, SpellsDecls-append f g a b h.0 y h.2 k)
+SpellsDecls-append f g (decl ∷ a) b x y h k = (h.0 ++ y, ap (λ (z : List (List LineWord)). z ++ y) h.1, SpellsDecls-append f g a b h.0 y h.2 k)
 
 SpellsDecls-one : (decl : Decl) → IsSpelledDecl decl → SpellsDecls [] (decl ∷ []) (words_of_decl decl ∷ [])
-SpellsDecls-one (Source name file columns) h = ([], refl, (refl, refl))
 SpellsDecls-one (FunctionDecl number) h = absurd h
-SpellsDecls-one (Op name kind function left right left_keys right_keys) h = ([], refl, (refl, refl))
-SpellsDecls-one (Sink input fields) h = ([], refl, (refl, refl))
+SpellsDecls-one decl h = ([], refl, (refl, refl))
 
 decl_read : (d : DraftData) (decl : Decl) (lines : List ProgramLine) → ReadSo d lines → IsSpelledDecl decl → ReadSo (with_decl d decl) (lines ++ declares decl ∷ [])
 decl_read d decl lines h s = record {
@@ -222,13 +208,8 @@ data EndsOrNot (line : Line) (blocks : List Block) : Type 0 where
   goes_on : ends_function line blocks ≡ false → IsInside line blocks → EndsOrNot line blocks
 
 ends_or_not : (line : Line) (blocks : List Block) → EndsOrNot line blocks
-ends_or_not (simple s) blocks = goes_on refl tt
-ends_or_not (test on) blocks = goes_on refl tt
-ends_or_not (turns count) blocks = goes_on refl tt
-ends_or_not (over name list) blocks = goes_on refl tt
-ends_or_not otherwise blocks = goes_on refl tt
 ends_or_not close [] = ends refl refl refl
-ends_or_not close (block ∷ blocks) = goes_on refl tt
+ends_or_not line blocks = goes_on refl tt
 
 line_inside : (d : DraftData) (o : OpenData) (lines : List ProgramLine) (line : Line) → OpenSo d o lines → MayStand (place_of o.build) line
     → EndsOrNot line o.build.blocks → StateFront (said_inside d o line) (lines ++ inside line ∷ [])
@@ -243,30 +224,16 @@ line_inside d o lines line h may (goes_on e i) = rw e (inside_read d o lines lin
 
 pub line_read : (s : ProgramState) (l : ProgramLine) (lines : List ProgramLine) → StateFront s lines → MaySay s l → StateFront (said_on s l) (lines ++ l ∷ [])
 line_read nothing_read version lines h m = ap (λ (x : List ProgramLine). x ++ version ∷ []) h
-line_read nothing_read (field_count count) lines h m = absurd m
-line_read nothing_read (declares decl) lines h m = absurd m
-line_read nothing_read (begins name kind keys) lines h m = absurd m
-line_read nothing_read (inside line) lines h m = absurd m
-line_read version_read version lines h m = absurd m
 line_read version_read (field_count count) lines h m = record {
   decls = [];
   all = ap (λ (x : List ProgramLine). x ++ field_count count ∷ []) h;
   spelled = (refl, refl);
   writable = record { spelled = record { some_field = m.0; few_fields = m.1; functions = tt; declared = refl }; nested = tt };
 }
-line_read version_read (declares decl) lines h m = absurd m
-line_read version_read (begins name kind keys) lines h m = absurd m
-line_read version_read (inside line) lines h m = absurd m
-line_read (drafted d) version lines h m = absurd m
-line_read (drafted d) (field_count count) lines h m = absurd m
 line_read (drafted d) (declares decl) lines h m = decl_read d decl lines h m
 line_read (drafted d) (begins name kind keys) lines h m = record { outer = lines; inner = []; all = refl; read = h; header = m; front = front_start; fits = fits_start }
-line_read (drafted d) (inside line) lines h m = absurd m
-line_read (open_function d o) version lines h m = absurd m
-line_read (open_function d o) (field_count count) lines h m = absurd m
-line_read (open_function d o) (declares decl) lines h m = absurd m
-line_read (open_function d o) (begins name kind keys) lines h m = absurd m
 line_read (open_function d o) (inside line) lines h m = line_inside d o lines line h m (ends_or_not line o.build.blocks)
+line_read s l lines h m = absurd m
 
 pub lines_read : (s t : ProgramState) (lines more : List ProgramLine) → StateFront s lines → Leads s more t → StateFront t (lines ++ more)
 lines_read s t lines [] h e = subst (StateFront t) (sym (append-nil lines)) (subst (λ (x : ProgramState). StateFront x lines) e h)

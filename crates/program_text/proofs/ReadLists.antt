@@ -3,6 +3,7 @@ use Rattle.std.proofs.Common.{◌≡◌, ◌≢◌, ◌≤◌, ◌+◌, ◌-◌,
 use Rattle.std.specs.List.{AllByRecursion}
 use Rattle.std.proofs.lemmas.Bool.Decides.{nat_tests}
 use Rattle.std.proofs.lemmas.List.{map-append}
+use Rattle.pact_record.proofs.Lists.{AllByRecursion-last}
 use Rattle.tac_syntax.specs.Declarations.{AreNumbers}
 use Rattle.tac_syntax.specs.Functions.{key_limit}
 use Rattle.tac_syntax.specs.Grammar.{IsNumber}
@@ -21,10 +22,6 @@ pub record ListRead {X : Type 0} (item : Item) (spelled : X → LineWord) (Good 
   pub good : AllByRecursion Good items
   pub fault : list_fault item limit whole ≡ items_fault item (limit - length items) left
 
-pub all_and_one : {X : Type 0} (Good : X → Type 0) (xs : List X) (x : X) → AllByRecursion Good xs → Good x → AllByRecursion Good (xs ++ x ∷ [])
-all_and_one Good [] x h k = (k, tt)
-all_and_one Good (y ∷ xs) x h k = (h.0, all_and_one Good xs x h.1 k)
-
 some_room : (n : ℕ) → 1 ≤ n → (n == 0) ≡ false
 some_room n h = grind (arith, nat_tests)
 
@@ -40,7 +37,7 @@ list_goes_on item spelled Good limit whole left next xs x read other fits good e
       parts = read.parts ∙ ap (λ (ws : List LineWord). map spelled xs ++ ws) e ∙ sym (append_assoc (map spelled xs) (spelled x ∷ []) next) ∙ ap (λ (ws : List LineWord). ws ++ next) (sym (map-append spelled xs (x ∷ [])));
       some = omega (arith, size);
       few = omega (arith, size, few, other);
-      good = all_and_one Good xs x read.good good;
+      good = AllByRecursion-last Good xs x read.good good;
       fault = read.fault ∙ ap (items_fault item (limit - length xs)) e ∙ rw (fits, some_room (limit - length xs) more) (ap (λ (n : ℕ). items_fault item n next) rest);
     }
 
@@ -69,7 +66,7 @@ keys_go_on whole left next keys n read other room fits good e =
       parts = read.parts ∙ ap (λ (ws : List LineWord). number_words keys ++ ws) e ∙ sym (append_assoc (number_words keys) (number_word n ∷ []) next) ∙ ap (λ (ws : List LineWord). ws ++ next) (sym (map-append number_word keys (n ∷ [])));
       some = omega (arith, size);
       few = omega (arith, size, few, room);
-      good = all_and_one IsNumber keys n read.good good;
+      good = AllByRecursion-last IsNumber keys n read.good good;
       fault = read.fault ∙ ap (left_keys_fault (key_limit - length keys)) e
           ∙ rw (other_first left next (number_word n) other e, fits, some_room (key_limit - length keys) more) (ap (λ (k : ℕ). left_keys_fault k next) rest);
     }

@@ -4,7 +4,7 @@ use Rattle.std.specs.List.{AllByRecursion}
 use Rattle.std.proofs.Math.Seq.{drop-append_seam}
 use Rattle.std.proofs.lemmas.List.{drop_all}
 use Rattle.tac_syntax.specs.declared.declarations.Decl.{Decl}
-use Rattle.tac_syntax.specs.declared.declarations.Decl.TheVariants.{Source, Function as FunctionDecl, Op, Sink}
+use Rattle.tac_syntax.specs.declared.declarations.Decl.TheVariants.{Function as FunctionDecl}
 use Rattle.tac_syntax.specs.Declarations.{IsSpelledDecl}
 use Rattle.tac_syntax.specs.Drafts.{AreDeclared, DraftData, IsSpelledDraft}
 use Rattle.tac_syntax.specs.declared.functions.Function.{Function}
@@ -36,18 +36,14 @@ nth_spelled (f ∷ functions) (suc n) lt h = nth_spelled functions n (omega (ari
 
 count_declared : (n count : ℕ) (decls : List Decl) → AreDeclared n count decls → n ≤ count
 count_declared n count [] h = omega (arith, h)
-count_declared n count (Source name file columns ∷ decls) h = count_declared n count decls h.1
 count_declared n count (FunctionDecl number ∷ decls) h = omega (arith, count_declared (n + 1) count decls h.1)
-count_declared n count (Op name kind function left right left_keys right_keys ∷ decls) h = count_declared n count decls h.1
-count_declared n count (Sink input fields ∷ decls) h = count_declared n count decls h.1
+count_declared n count (decl ∷ decls) h = count_declared n count decls h.1
 
 pub all_writable : (functions : List Function) (n : ℕ) (decls : List Decl) → AllByRecursion IsSpelledFunction functions → AreDeclared n (length functions) decls → AllByRecursion (CanWrite functions) decls
 all_writable functions n [] h a = tt
-all_writable functions n (Source name file columns ∷ decls) h a = (a.0, all_writable functions n decls h a.1)
 all_writable functions n (FunctionDecl number ∷ decls) h a =
     (nth_spelled functions number (omega (arith, a.0, count_declared (n + 1) (length functions) decls a.1)) h, all_writable functions (n + 1) decls h a.1)
-all_writable functions n (Op name kind function left right left_keys right_keys ∷ decls) h a = (a.0, all_writable functions n decls h a.1)
-all_writable functions n (Sink input fields ∷ decls) h a = (a.0, all_writable functions n decls h a.1)
+all_writable functions n (decl ∷ decls) h a = (a.0, all_writable functions n decls h a.1)
 
 -- ---- lines
 
@@ -120,8 +116,6 @@ decls_written : (functions later : List Function) (n : ℕ) (decls : List Decl) 
 decls_written functions later n [] rest e w k a c lt =
     let all : later ≡ [] = e ∙ drop_all n functions (omega (arith, a)) in
     record { said = []; spelled = (refl, all); says = says_none [] refl }
-decls_written functions later n (Source name file columns ∷ decls) rest e w k a c lt =
-    one_decl functions later (Source name file columns) decls rest c.0 (λ said h. (said, refl, h)) refl (decls_written functions later n decls rest e w k a.1 c.1 lt)
 decls_written functions later n (FunctionDecl number ∷ decls) rest e w k a c lt =
     let f = c.0.0 in
     let here : slice_get functions n ≡ Some f = subst (λ (m : ℕ). slice_get functions m ≡ Some f) a.0 c.0.1 in
@@ -135,10 +129,8 @@ decls_written functions later n (FunctionDecl number ∷ decls) rest e w k a c l
       spelled = subst (λ (x : List Function). SpellsDecls x (FunctionDecl number ∷ decls) (own.own ++ more.said)) (sym parts) (own.own, more.said, refl, own.spelled, more.spelled);
       says = record { says = subst (λ (x : Option Function). Say (lines_of (function_text x ++ flat_map (decl_spelling functions) decls)) (own.own ++ more.said)) (sym c.0.1) own.says.says };
     }
-decls_written functions later n (Op name kind function left right left_keys right_keys ∷ decls) rest e w k a c lt =
-    one_decl functions later (Op name kind function left right left_keys right_keys) decls rest c.0 (λ said h. (said, refl, h)) refl (decls_written functions later n decls rest e w k a.1 c.1 lt)
-decls_written functions later n (Sink input fields ∷ decls) rest e w k a c lt =
-    one_decl functions later (Sink input fields) decls rest c.0 (λ said h. (said, refl, h)) refl (decls_written functions later n decls rest e w k a.1 c.1 lt)
+decls_written functions later n (decl ∷ decls) rest e w k a c lt =
+    one_decl functions later decl decls rest c.0 (λ said h. (said, refl, h)) refl (decls_written functions later n decls rest e w k a.1 c.1 lt)
 
 pub written_text : (d : DraftData) (text : List ℕ) → IsWritableDraft d → text ≡ program_spelling d → ProgramText d (lines_of text)
 written_text d text w e =

@@ -1,7 +1,7 @@
 -- The text of a declaration's line, part by part.
 use Rattle.std.specs.Prelude.{ℕ, Bool, true, false, if◌then◌else◌, List, [], ◌∷◌, map, flat_map, codes}
 use Rattle.tac_syntax.specs.declared.declarations.OpKind.{OpKind}
-use Rattle.tac_syntax.specs.declared.declarations.OpKind.TheVariants.{Source as SourceKind, Map, Reduce, Match, Cross, CoGroup}
+use Rattle.tac_syntax.specs.declared.declarations.OpKind.TheVariants.{Reduce, Match, Cross, CoGroup}
 use Rattle.text_lines.specs.CanonicalLines.{word_text}
 use Rattle.text_lines.specs.declared.line_words.LineWord.{LineWord}
 use Rattle.text_lines.specs.declared.line_words.LineWord.TheVariants.{Plain as plain_word}
@@ -22,9 +22,7 @@ abbrev pub right_words : OpKind → List ℕ → List LineWord
 right_words kind right = if has_right kind then plain_word right ∷ [] else []
 
 abbrev pub keys_words : OpKind → List ℕ → List ℕ → List LineWord
-keys_words SourceKind left_keys right_keys = []
-keys_words Map left_keys right_keys = []
 keys_words Reduce left_keys right_keys = plain_word (codes "by") ∷ number_words left_keys
 keys_words Match left_keys right_keys = plain_word (codes "by") ∷ key_pair_words left_keys right_keys
-keys_words Cross left_keys right_keys = []
 keys_words CoGroup left_keys right_keys = plain_word (codes "by") ∷ key_pair_words left_keys right_keys
+keys_words kind left_keys right_keys = []

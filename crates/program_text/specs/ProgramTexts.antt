@@ -93,10 +93,8 @@ function_text None = []
 function_text (Some f) = function_spelling f
 
 abbrev pub decl_spelling : List Function → Decl → List ℕ
-decl_spelling functions (Source name file columns) = line_spelling (words_of_decl (Source name file columns))
 decl_spelling functions (FunctionDecl number) = function_text (slice_get functions number)
-decl_spelling functions (Op name kind function left right left_keys right_keys) = line_spelling (words_of_decl (Op name kind function left right left_keys right_keys))
-decl_spelling functions (Sink input fields) = line_spelling (words_of_decl (Sink input fields))
+decl_spelling functions decl = line_spelling (words_of_decl decl)
 
 -- in the order of the declarations
 abbrev pub program_spelling : DraftData → List ℕ

@@ -2,7 +2,7 @@
 use Rattle.std.specs.Prelude.{◌≡◌, ℕ, List, ◌∷◌, Option, Some, None, Result, Ok, Err, codes}
 use Rattle.tac_syntax.specs.Code.{Line}
 use Rattle.tac_syntax.specs.Grammar.{IsSpelledSimple}
-use Rattle.tac_syntax.specs.Trees.{Statement, one_line, choice, turning, going_through, statement_of}
+use Rattle.tac_syntax.specs.Trees.{Statement, one_line, statement_of}
 use Rattle.tac_syntax.specs.declared.statements.Stmt.{Stmt}
 use Rattle.text_lines.specs.declared.line_words.LineWord.{LineWord}
 use Rattle.text_lines.specs.declared.line_words.LineWord.TheVariants.{Plain as plain_word}
@@ -20,9 +20,7 @@ use Rattle.statement_lines.specs.Spelling.{words_of_simple, words_of_line}
 -- a statement of one line, whose words these are
 abbrev pub HasWordsOf : Statement → List LineWord → Type 0
 HasWordsOf (one_line s) words = (words ≡ words_of_simple s) × IsSpelledSimple s
-HasWordsOf (choice on body other) words = ⊥
-HasWordsOf (turning count body) words = ⊥
-HasWordsOf (going_through name list body) words = ⊥
+HasWordsOf stmt words = ⊥
 
 -- the statement whose words these are behind a target, `=` and a form, or their fault
 abbrev pub ReadsForm : (form target : List ℕ) → Result Stmt NotRead → List LineWord → Type 0

@@ -183,12 +183,9 @@ abbrev FitsOn : List Block → Code → Line → Type 0
 FitsOn blocks body l = FitsBuild (build blocks body) → MayInside (build blocks body) l → FitsBuild (built_on (build blocks body) l)
 
 part_fits : (blocks : List Block) (body : Code) → FitsOn blocks body otherwise
-part_fits [] body fits may = absurd (let e = may.0 in cc)
 part_fits (If on before ∷ around) body fits may =
     ((fits.0.0, fits.0.1, fits.0.2, fits.0.3, FitsBody-deeper (length around) (lists_in around) body fits.1), (tt, omega (arith, fits.0.1)))
-part_fits (Else on first before ∷ around) body fits may = absurd (let e = may.0 in cc)
-part_fits (Repeat count before ∷ around) body fits may = absurd (let e = may.0 in cc)
-part_fits (Each name list before ∷ around) body fits may = absurd (let e = may.0 in cc)
+part_fits blocks body fits may = absurd (let e = may.0 in cc)
 
 end_fits : (blocks : List Block) (body : Code) → FitsOn blocks body close
 end_fits [] body fits may = absurd may.1
@@ -216,7 +213,6 @@ statement_front blocks body s lines (outer, inside, p, q, e) fits may =
     (outer, inside ++ simple s ∷ [], p, SpellsBody-joined body (plain s stop) inside (simple s ∷ []) q ([], refl, refl), behind outer inside lines (simple s ∷ []) e)
 
 part_front : (blocks : List Block) (body : Code) → FrontOn blocks body otherwise
-part_front [] body lines front fits may = absurd (let e = may.0 in cc)
 part_front (If on before ∷ around) body lines (fronts, inside, (outer, b, begun, p, q, r, e), sp, f) fits may =
     let inner : begun ++ (inside ++ otherwise ∷ []) ≡ test on ∷ (inside ++ otherwise ∷ []) = rw r refl in
     let all : lines ++ otherwise ∷ [] ≡ outer ++ (b ++ (test on ∷ (inside ++ otherwise ∷ []))) =
@@ -224,9 +220,7 @@ part_front (If on before ∷ around) body lines (fronts, inside, (outer, b, begu
     ∙ behind outer (b ++ begun) fronts (inside ++ otherwise ∷ []) e
     ∙ ap (λ (x : List Line). outer ++ x) (append_assoc b begun (inside ++ otherwise ∷ []) ∙ ap (λ (x : List Line). b ++ x) inner) in
     (lines ++ otherwise ∷ [], [], (outer, b, test on ∷ (inside ++ otherwise ∷ []), p, q, (inside, sp, refl), all), refl, sym (append-nil (lines ++ otherwise ∷ [])))
-part_front (Else on first before ∷ around) body lines front fits may = absurd (let e = may.0 in cc)
-part_front (Repeat count before ∷ around) body lines front fits may = absurd (let e = may.0 in cc)
-part_front (Each name list before ∷ around) body lines front fits may = absurd (let e = may.0 in cc)
+part_front blocks body lines front fits may = absurd (let e = may.0 in cc)
 
 end_front : (blocks : List Block) (body : Code) → FrontOn blocks body close
 end_front [] body lines front fits may = absurd may.1
@@ -243,23 +237,17 @@ line_front blocks body close lines front fits may = end_front blocks body lines 
 
 -- a line that may follow is taken
 taken_part : (blocks : List Block) (body : Code) → MayInside (build blocks body) otherwise → built (build blocks body) otherwise ≡ Some (built_on (build blocks body) otherwise)
-taken_part [] body may = absurd (let e = may.0 in cc)
 taken_part (If on before ∷ around) body may = refl
-taken_part (Else on first before ∷ around) body may = absurd (let e = may.0 in cc)
-taken_part (Repeat count before ∷ around) body may = absurd (let e = may.0 in cc)
-taken_part (Each name list before ∷ around) body may = absurd (let e = may.0 in cc)
+taken_part blocks body may = absurd (let e = may.0 in cc)
 
 taken_end : (blocks : List Block) (body : Code) → FitsBuild (build blocks body) → MayInside (build blocks body) close → built (build blocks body) close ≡ Some (built_on (build blocks body) close)
 taken_end [] body fits may = absurd may.1
 taken_end (block ∷ around) body fits may = let deep = ended_deep block around body fits in built-close block around body deep ∙ ap Some (sym (built_on-close block around body deep))
 
 taken_line : (blocks : List Block) (body : Code) (l : Line) → FitsBuild (build blocks body) → MayInside (build blocks body) l → built (build blocks body) l ≡ Some (built_on (build blocks body) l)
-taken_line blocks body (simple s) fits may = refl
-taken_line blocks body (test on) fits may = refl
-taken_line blocks body (turns count) fits may = refl
-taken_line blocks body (over name list) fits may = refl
 taken_line blocks body otherwise fits may = taken_part blocks body may
 taken_line blocks body close fits may = taken_end blocks body fits may
+taken_line blocks body l fits may = refl
 
 pub built-inside : (b : Build) (l : Line) → FitsBuild b → MayInside b l → built b l ≡ Some (built_on b l)
 built-inside b l fits may = taken_line b.blocks b.body l fits may

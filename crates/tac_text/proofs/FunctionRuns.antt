@@ -4,7 +4,7 @@ use Rattle.std.proofs.lemmas.List.{map-append}
 use Rattle.tac_syntax.specs.declared.functions.Function.{Function}
 use Rattle.tac_syntax.specs.declared.functions.Kind.{Kind}
 use Rattle.tac_syntax.specs.declared.functions.Kind.TheVariants.{Map}
-use Rattle.tac_syntax.specs.Code.{Code, Line, simple, test, turns, over, otherwise, close}
+use Rattle.tac_syntax.specs.Code.{Code, Line, close}
 use Rattle.text_lines.specs.CanonicalLines.{AreLineWords, canonical_line}
 use Rattle.text_lines.specs.FirstFaults.{IsStart}
 use Rattle.text_lines.specs.Runs.{Steps, AreSayings, TellsFaults}
@@ -35,19 +35,15 @@ use Rattle.text_lines.proofs.Faultless.{some_length}
 
 some_follow : (s : FunctionState) (l : FunctionLine) → MayFollow s l → words_of_function_line l ≢ []
 some_follow waiting (header name kind keys) h e = absurd cc
-some_follow waiting (inside l) h e = h
-some_follow (reading o) (header name kind keys) h e = h
 some_follow (reading o) (inside l) h e = words_of_line-some (lists_in o.build.blocks) l (IsSpelledLine-MayStand (place_of o.build) l h) e
-some_follow (whole f) l h e = h
+some_follow s l h e = h
 
 unique_follow : (s : FunctionState) (l m : FunctionLine) → MayFollow s l → MayFollow s m → words_of_function_line l ≡ words_of_function_line m → l ≡ m
 unique_follow waiting (header a j m) (header b k n) h i e = one_header a b j k m n h i e
-unique_follow waiting (header a j m) (inside l) h i e = absurd i
-unique_follow waiting (inside l) m h i e = absurd h
-unique_follow (reading o) (header a j m) l h i e = absurd h
-unique_follow (reading o) (inside l) (header b k n) h i e = absurd i
 unique_follow (reading o) (inside l) (inside m) h i e = ap inside (words_of_one_line (place_of o.build) (place_of o.build) l m h i e)
-unique_follow (whole f) l m h i e = absurd h
+unique_follow waiting (header a j m) l h i e = absurd i
+unique_follow (reading o) (inside l) m h i e = absurd i
+unique_follow s l m h i e = absurd h
 
 pub function_sayings : AreSayings words_of_function_line MayFollow
 function_sayings = record { some = some_follow; unique = unique_follow }
@@ -61,10 +57,8 @@ fault_none (whole f) = refl
 
 fault_sound : (s : FunctionState) (l : FunctionLine) → MayFollow s l → function_fault (place_at s) (words_of_function_line l) ≡ None
 fault_sound waiting (header name kind keys) h = header_fault-header_words name kind keys h
-fault_sound waiting (inside l) h = absurd h
-fault_sound (reading o) (header name kind keys) h = absurd h
 fault_sound (reading o) (inside l) h = statement_fault-words_of_line (place_of o.build) l h
-fault_sound (whole f) l h = absurd h
+fault_sound s l h = absurd h
 
 not_ended : (words : List LineWord) → words ≢ [] → ended_fault words ≡ None → ⊥
 not_ended [] some e = some refl
@@ -81,13 +75,8 @@ function_faults = record { none = fault_none; sound = fault_sound; complete = fa
 -- ---- a function's lines may follow each other
 
 after_inside-inside : (l : Line) (blocks : List Block) (o : OpenData) → IsInside l blocks → after_inside l blocks o ≡ reading (with_build o (built_on o.build l))
-after_inside-inside (simple s) blocks o h = refl
-after_inside-inside (test on) blocks o h = refl
-after_inside-inside (turns count) blocks o h = refl
-after_inside-inside (over name list) blocks o h = refl
-after_inside-inside otherwise blocks o h = refl
 after_inside-inside close [] o h = absurd h
-after_inside-inside close (block ∷ blocks) o h = refl
+after_inside-inside l blocks o h = refl
 
 -- what an open function takes leads on
 pub LeadsOn-TakesWords : (ended : Bool) (words : List LineWord) (old now : OpenData) → TakesWords ended words old now → LeadsOn ended words (Some old) (Some now)
@@ -150,20 +139,13 @@ led_whole o ls (lines, e, head, front, fits) none =
     (lines, ap (λ (x : List FunctionLine). x ++ inside close ∷ []) e, body.0, (record { name = head.0; keys = head.1; body = body.1 }, body.2))
 
 led_on : (l : Line) (blocks : List Block) (o : OpenData) (ls : List FunctionLine) → o.build.blocks ≡ blocks → LedBy (reading o) ls → MayStand (place_of o.build) l → LedBy (after_inside l blocks o) (ls ++ inside l ∷ [])
-led_on (simple s) blocks o ls e led may = led_inside o (simple s) ls led (may, tt)
-led_on (test on) blocks o ls e led may = led_inside o (test on) ls led (may, tt)
-led_on (turns count) blocks o ls e led may = led_inside o (turns count) ls led (may, tt)
-led_on (over name list) blocks o ls e led may = led_inside o (over name list) ls led (may, tt)
-led_on otherwise blocks o ls e led may = led_inside o otherwise ls led (may, tt)
 led_on close [] o ls e led may = led_whole o ls led e
-led_on close (block ∷ blocks) o ls e led may = led_inside o close ls led (tt, subst (IsInside close) (sym e) tt)
+led_on l blocks o ls e led may = led_inside o l ls led (may, subst (IsInside l) (sym e) tt)
 
 led_step : (s : FunctionState) (l : FunctionLine) (ls : List FunctionLine) → LedBy s ls → MayFollow s l → LedBy (after s l) (ls ++ l ∷ [])
 led_step waiting (header name kind keys) ls led may = ([], ap (λ (x : List FunctionLine). x ++ header name kind keys ∷ []) led, may, front_start, fits_start)
-led_step waiting (inside l) ls led may = absurd may
-led_step (reading o) (header name kind keys) ls led may = absurd may
 led_step (reading o) (inside l) ls led may = led_on l o.build.blocks o ls refl led may
-led_step (whole f) l ls led may = absurd may
+led_step s l ls led may = absurd may
 
 led_steps : (s t : FunctionState) (ls more : List FunctionLine) → LedBy s ls → StepsTo s more t → LedBy t (ls ++ more)
 led_steps s t ls [] led p = subst (LedBy t) (sym (append-nil ls)) (subst (λ (x : FunctionState). LedBy x ls) p led)
@@ -192,11 +174,9 @@ finished (whole f) ls led = ([], f, refl)
 
 follow_words : (s : FunctionState) (l : FunctionLine) → MayFollow s l → AreLineWords (words_of_function_line l)
 follow_words waiting (header name kind keys) h = AreLineWords-fine (header_words name kind keys) (AreFine-header_words name kind keys h)
-follow_words waiting (inside l) h = absurd h
-follow_words (reading o) (header name kind keys) h = absurd h
 follow_words (reading o) (inside l) h =
     AreLineWords-fine (words_of_line l) (AreFine-words_of_line (place_of o.build).lists l (IsSpelledLine-MayStand (place_of o.build) l h))
-follow_words (whole f) l h = absurd h
+follow_words s l h = absurd h
 
 -- what may follow can stand in a text
 written_steps : (s t : FunctionState) (ls : List FunctionLine) → StepsTo s ls t → (lines : List (List ℕ)) × Leads s lines t

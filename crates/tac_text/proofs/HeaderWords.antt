@@ -24,11 +24,9 @@ use Rattle.text_lines.proofs.Faultless.{by_cases, told_unless-none, or_else-none
 -- ---- a header's words have no fault
 
 first_fault-keys : (kind : Kind) (keys : ℕ) → HasKeys kind keys → first_fault (key_slots kind) (map plain_word (key_words kind keys)) ≡ None
-first_fault-keys Map keys h = refl
-first_fault-keys Match keys h = refl
-first_fault-keys Cross keys h = refl
 first_fault-keys Reduce keys h = rw (is_in_range-decimal 1 key_limit keys h.0 h.1 (omega (arith, h.1))) refl
 first_fault-keys CoGroup keys h = rw (is_in_range-decimal 1 key_limit keys h.0 h.1 (omega (arith, h.1))) refl
+first_fault-keys kind keys h = refl
 
 kind_named-kind_word : (kind : Kind) → kind_named (kind_word kind) ≡ Some kind
 kind_named-kind_word Map = refl
@@ -57,11 +55,9 @@ none_left : (words : List LineWord) → first_fault [] words ≡ None → words 
 none_left words h = (filled [] words tt h).1
 
 keys_of_words : (kind : Kind) (words : List LineWord) → first_fault (key_slots kind) words ≡ None → KeysFor kind words
-keys_of_words Map words h = (0, none_left words h, refl)
-keys_of_words Match words h = (0, none_left words h, refl)
-keys_of_words Cross words h = (0, none_left words h, refl)
 keys_of_words Reduce words h = some_keys words h
 keys_of_words CoGroup words h = some_keys words h
+keys_of_words kind words h = (0, none_left words h, refl)
 
 -- words behind the name
 abbrev KindFor : List LineWord → Type 0
@@ -111,11 +107,9 @@ one_kind : (a b : Kind) → kind_word a ≡ kind_word b → a ≡ b
 one_kind a b e = let same : Some a ≡ Some b = sym (kind_named-kind_word a) ∙ ap kind_named e ∙ kind_named-kind_word b in cc
 
 one_keys : (kind : Kind) (k m : ℕ) → HasKeys kind k → HasKeys kind m → map plain_word (key_words kind k) ≡ map plain_word (key_words kind m) → k ≡ m
-one_keys Map k m h l e = h ∙ sym l
-one_keys Match k m h l e = h ∙ sym l
-one_keys Cross k m h l e = h ∙ sym l
 one_keys Reduce k m h l e = keys_value k m h.1 l.1 (let same : decimal k ≡ decimal m = cc in same)
 one_keys CoGroup k m h l e = keys_value k m h.1 l.1 (let same : decimal k ≡ decimal m = cc in same)
+one_keys kind k m h l e = h ∙ sym l
 
 -- two headers with the same words are one
 pub one_header : (a b : List ℕ) (j k : Kind) (m n : ℕ) → IsHeader a j m → IsHeader b k n → header_words a j m ≡ header_words b k n → header a j m ≡ header b k n
@@ -151,5 +145,3 @@ pub TellsFault-header : (r : Result OpenData NotRead) (words : List LineWord) �
 TellsFault-header (Ok o) words read told what h = let none = ap header_fault read.0 ∙ header_fault-header_words o.name o.kind o.keys read.1 in absurd cc
 TellsFault-header (Err (Fault e)) words read told what h = cc
 TellsFault-header (Err Memory) words read told what h = tt
-
--- ---- names

@@ -16,11 +16,9 @@ fine_kind Reduce = refl
 fine_kind CoGroup = refl
 
 fine_keys : (kind : Kind) (keys : ℕ) → HasKeys kind keys → AreFine (map plain_word (key_words kind keys))
-fine_keys Map keys h = tt
-fine_keys Match keys h = tt
-fine_keys Cross keys h = tt
 fine_keys Reduce keys h = (fine_decimal keys (omega (arith, h.1)), tt)
 fine_keys CoGroup keys h = (fine_decimal keys (omega (arith, h.1)), tt)
+fine_keys kind keys h = tt
 
 pub AreFine-header_words : (name : List ℕ) (kind : Kind) (keys : ℕ) → IsHeader name kind keys → AreFine (header_words name kind keys)
 AreFine-header_words name kind keys h = (refl, (fine_name name h.0, (fine_kind kind, fine_keys kind keys h.1)))

@@ -22,11 +22,8 @@ opened b block = Some (record { blocks = block ∷ b.blocks; body = stop })
 
 -- `else` behind the first body of an `if`
 abbrev pub parted : List Block → Code → Option Build
-parted [] body = None
 parted (If on before ∷ blocks) body = Some (record { blocks = Else on body before ∷ blocks; body = stop })
-parted (Else on first before ∷ blocks) body = None
-parted (Repeat count before ∷ blocks) body = None
-parted (Each name list before ∷ blocks) body = None
+parted blocks body = None
 
 -- the innermost block ends: it is a statement of the body around it
 abbrev pub closed : List Block → Code → Option Build

@@ -38,11 +38,9 @@ kind_of_word (literal_word bytes) = None
 
 -- what stands behind a kind: the number of keys for the kinds that have keys
 abbrev pub key_slots : Kind → List Slot
-key_slots Map = []
-key_slots Match = []
-key_slots Cross = []
 key_slots Reduce = number 1 key_limit ∷ []
 key_slots CoGroup = number 1 key_limit ∷ []
+key_slots kind = []
 
 -- fault 9 where a word is no kind
 abbrev pub keys_fault : Option Kind → List LineWord → Option ℕ

@@ -1,6 +1,6 @@
 -- Reading a function: where its lines have led, and which may follow.
 use Rattle.std.specs.Prelude.{◌≡◌, Bool, true, false, ℕ, List, [], ◌∷◌, Option, Some, None}
-use Rattle.tac_syntax.specs.Code.{Line, simple, test, turns, over, otherwise, close}
+use Rattle.tac_syntax.specs.Code.{Line, close}
 use Rattle.tac_syntax.specs.declared.functions.Function.{Function}
 use Rattle.text_lines.specs.declared.line_words.LineWord.{LineWord}
 use Rattle.text_lines.specs.FirstFaults.{HasFault}
@@ -29,13 +29,8 @@ MayFollow state l = ⊥
 
 -- an `end` where no block is open ends the function
 abbrev pub after_inside : Line → List Block → OpenData → FunctionState
-after_inside (simple s) blocks o = reading (with_build o (built_on o.build (simple s)))
-after_inside (test on) blocks o = reading (with_build o (built_on o.build (test on)))
-after_inside (turns count) blocks o = reading (with_build o (built_on o.build (turns count)))
-after_inside (over name list) blocks o = reading (with_build o (built_on o.build (over name list)))
-after_inside otherwise blocks o = reading (with_build o (built_on o.build otherwise))
 after_inside close [] o = whole (function_of o)
-after_inside close (block ∷ blocks) o = reading (with_build o (built_on o.build close))
+after_inside l blocks o = reading (with_build o (built_on o.build l))
 
 -- a line that may not follow leads nowhere
 abbrev pub after : FunctionState → FunctionLine → FunctionState

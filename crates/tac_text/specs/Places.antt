@@ -1,6 +1,6 @@
 -- Where a line of a body stands, and what the lines before it have come to.
 use Rattle.std.specs.Prelude.{◌≡◌, ◌≤◌, ◌<◌, ◌+◌, ℕ, Bool, true, false, Option, Some, None, List, [], ◌∷◌, ◌++◌, length}
-use Rattle.tac_syntax.specs.Code.{Code, Line, simple, test, turns, over, otherwise, close, nesting}
+use Rattle.tac_syntax.specs.Code.{Code, Line, test, turns, over, otherwise, close, nesting}
 use Rattle.tac_syntax.specs.Grammar.{IsSpelled, IsSpelledLine}
 use Rattle.tac_syntax.specs.Limits.{nesting_limit}
 use Rattle.tac_text.specs.declared.building.Block.{Block}
@@ -14,10 +14,8 @@ use Rattle.statement_lines.specs.StatementLines.{LinePlace, MayStand}
 -- how many of the open blocks are `each`
 abbrev pub lists_in : List Block → ℕ
 lists_in [] = 0
-lists_in (If on before ∷ blocks) = lists_in blocks
-lists_in (Else on first before ∷ blocks) = lists_in blocks
-lists_in (Repeat count before ∷ blocks) = lists_in blocks
 lists_in (Each name list before ∷ blocks) = lists_in blocks + 1
+lists_in (block ∷ blocks) = lists_in blocks
 
 -- `else` may follow where the innermost block is the first body of an `if`
 abbrev pub may_part : List Block → Bool
@@ -29,13 +27,8 @@ place_of b = record { blocks = length b.blocks; lists = lists_in b.blocks; may_p
 
 -- An `end` where no block is open ends what the body belongs to, and is no line of the body.
 abbrev pub IsInside : Line → List Block → Type 0
-IsInside (simple s) blocks = Unit {0}
-IsInside (test on) blocks = Unit {0}
-IsInside (turns count) blocks = Unit {0}
-IsInside (over name list) blocks = Unit {0}
-IsInside otherwise blocks = Unit {0}
 IsInside close [] = ⊥
-IsInside close (block ∷ blocks) = Unit {0}
+IsInside l blocks = Unit {0}
 
 -- a line that the body may go on with
 abbrev pub MayInside : Build → Line → Type 0
@@ -71,10 +64,8 @@ FitsBody blocks lists body = IsSpelled lists body × (blocks + nesting body ≤ 
 
 -- the first body of an `if` whose second is open
 abbrev pub FitsFirst : List Block → Block → Type 0
-FitsFirst around (If on before) = Unit {0}
 FitsFirst around (Else on first before) = FitsBody (length around + 1) (lists_in around) first
-FitsFirst around (Repeat count before) = Unit {0}
-FitsFirst around (Each name list before) = Unit {0}
+FitsFirst around block = Unit {0}
 
 -- each open block may stand where it does, and what was read before it and in it fits there
 abbrev pub FitsBlocks : List Block → Type 0

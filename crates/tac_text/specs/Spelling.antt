@@ -44,11 +44,9 @@ kind_word CoGroup = codes "cogroup"
 
 -- the number of keys, where the kind has keys
 abbrev pub key_words : Kind → ℕ → List (List ℕ)
-key_words Map keys = []
-key_words Match keys = []
-key_words Cross keys = []
 key_words Reduce keys = decimal keys ∷ []
 key_words CoGroup keys = decimal keys ∷ []
+key_words kind keys = []
 
 abbrev pub header_texts : List ℕ → Kind → ℕ → List (List ℕ)
 header_texts name kind keys = codes "function" ∷ name ∷ kind_word kind ∷ key_words kind keys
