@@ -1,16 +1,17 @@
 -- The two lines that a program begins with, and their words.
-use Rattle.std.proofs.Common.{◌≡◌, ◌≢◌, ℕ, List, [], ◌∷◌, Some, None, Result, Ok, Err, codes, decimal, refl, ap, sym, ◌∙◌, arith}
-use Rattle.std.specs.Prelude.{IfErr, IfOk}
-use Rattle.text_lines.proofs.DigitWords.{is_in_range-decimal, number_spelled}
+use Rattle.std.proofs.Common.{◌≡◌, ◌≢◌, ℕ, List, [], ◌∷◌, Some, None, codes, refl, ap, sym, ◌∙◌, arith}
+use Rattle.text_lines.proofs.DigitWords.{is_in_range-decimal}
 use Rattle.text_lines.specs.CanonicalLines.{AreLineWords}
 use Rattle.text_lines.specs.LineGrammar.{is_plain}
 use Rattle.text_lines.specs.declared.line_words.LineWord.{LineWord}
-use Rattle.text_lines.specs.declared.line_words.LineWord.TheVariants.{Plain as plain_word, Literal as literal_word}
+use Rattle.text_lines.specs.declared.line_words.LineWord.TheVariants.{Plain as plain_word}
 use Rattle.program_text.specs.DeclarationFaults.{nothing_left}
 use Rattle.program_text.proofs.DeclaredWords.{number_in, plain_at}
-use Rattle.program_text.specs.FirstLines.{IsFieldCount, count_fault, count_word_fault, field_count_words, fields_fault, one_fault, version_fault, version_words}
+use Rattle.program_text.specs.FirstLines.{IsFieldCount, field_count_words, fields_fault, one_fault, version_fault, version_words}
 use Rattle.program_text.proofs.ItemWords.{number_in-decimal}
-use Rattle.text_lines.proofs.Faultless.{by_cases, is_plain-same, or_else-none, told_unless-none}
+use Rattle.text_lines.proofs.Faultless.{by_cases, is_plain-same, told_unless-none}
+use Rattle.text_lines.proofs.FilledSlots.{filled}
+use Rattle.text_lines.specs.Slots.{number}
 use Rattle.text_lines.proofs.FineWords.{AreFine, AreLineWords-fine, fine_decimal}
 
 -- ---- the version
@@ -59,43 +60,22 @@ field_count_words-unique m n h k e =
 pub field_count_faultless : (count : ℕ) → IsFieldCount count → fields_fault (field_count_words count) ≡ None
 field_count_faultless count h = rw (is_in_range-decimal 1 64 count h.0 h.1 (omega (arith, h.1))) refl
 
--- the word of a number in range
-count_spelled : (word : LineWord) → count_word_fault word ≡ None → (count : ℕ) × IsFieldCount count × (word ≡ plain_word (decimal count))
-count_spelled (plain_word w) h =
-    let s = number_spelled 1 64 w (omega arith) (told_unless-none _ _ h) in (s.number, (s.above, s.below), ap plain_word s.spelled)
-count_spelled (literal_word w) h = absurd cc
-
 pub none_left : (words : List LineWord) → nothing_left words ≡ None → words ≡ []
 none_left [] h = refl
 none_left (word ∷ words) h = absurd cc
-
-count_left : (words : List LineWord) → count_fault words ≡ None → (count : ℕ) × IsFieldCount count × (words ≡ plain_word (decimal count) ∷ [])
-count_left [] h = absurd cc
-count_left (word ∷ words) h =
-    let both = or_else-none (count_word_fault word) _ h in
-    let s = count_spelled word both.0 in
-    let none = none_left words both.1 in
-    (s.0, s.1, λ i. s.2 i ∷ none i)
 
 pub field_count_declared : (words : List LineWord) → words ≢ [] → fields_fault words ≡ None → (count : ℕ) × (words ≡ field_count_words count) × IsFieldCount count
 field_count_declared [] some h = absurd (some refl)
 field_count_declared (word ∷ words) some h = by_cases (is_plain (codes "fields") word) _ _
     (λ named rest.
     let e = is_plain-same (codes "fields") word named in
-    let s = count_left words rest in
-    (s.0, (λ i. e i ∷ s.2 i), s.1)) (λ _ e. absurd cc) h
+    let f = filled (number 1 64 ∷ []) words (omega arith, tt) rest in
+    (f.0.0, (λ i. e i ∷ f.1 i), f.2.0)) (λ _ e. absurd cc) h
 
 -- ---- what the second line's reader answers
 
-abbrev ReadsIt : ℕ → List LineWord → Type 0
-ReadsIt count words = IsFieldCount count × (words ≡ field_count_words count)
+pub same_count : (found count : ℕ) (words : List LineWord) → IsFieldCount found → words ≡ field_count_words found → IsFieldCount count → words ≡ field_count_words count → found ≡ count
+same_count found count words h e k f = field_count_words-unique found count h k (sym e ∙ f)
 
-pub count_read : (r : Result ℕ ℕ) (words : List LineWord) → IfOk r (λ count. ReadsIt count words) → IfErr r (λ what. fields_fault words ≡ Some what)
-    → (count : ℕ) → IsFieldCount count → words ≡ field_count_words count → r ≡ Ok count
-count_read (Ok found) words read told count h e = ap Ok (field_count_words-unique found count read.0 h (sym read.1 ∙ e))
-count_read (Err what) words read told count h e = let none = ap fields_fault e ∙ field_count_faultless count h in absurd cc
-
-pub count_fault_told : (r : Result ℕ ℕ) (words : List LineWord) → IfOk r (λ count. ReadsIt count words) → IfErr r (λ what. fields_fault words ≡ Some what)
-    → (what : ℕ) → fields_fault words ≡ Some what → r ≡ Err what
-count_fault_told (Ok found) words read told what h = let none = ap fields_fault read.1 ∙ field_count_faultless found read.0 in absurd cc
-count_fault_told (Err e) words read told what h = cc
+pub no_count_fault : (count what : ℕ) (words : List LineWord) → IsFieldCount count → words ≡ field_count_words count → fields_fault words ≡ Some what → ⊥
+no_count_fault count what words h e told = let none = ap fields_fault e ∙ field_count_faultless count h in cc

@@ -1,11 +1,11 @@
 -- The two lines that a program begins with: their words, and what is wrong with others.
 use Rattle.std.specs.Prelude.{◌≤◌, ℕ, if◌then◌else◌, Option, Some, None, List, [], ◌∷◌, codes}
-use Rattle.text_lines.specs.Digits.{is_in_range, told_unless, or_else}
+use Rattle.text_lines.specs.Digits.{told_unless}
 use Rattle.text_lines.specs.declared.line_words.LineWord.{LineWord}
-use Rattle.text_lines.specs.declared.line_words.LineWord.TheVariants.{Plain as plain_word, Literal as literal_word}
-use Rattle.program_text.specs.DeclarationFaults.{nothing_left}
+use Rattle.text_lines.specs.declared.line_words.LineWord.TheVariants.{Plain as plain_word}
 use Rattle.program_text.specs.DeclarationWords.{plain_words, number_word}
 use Rattle.text_lines.specs.LineGrammar.{is_plain}
+use Rattle.text_lines.specs.Slots.{first_fault, number}
 
 -- ---- the version
 
@@ -31,15 +31,7 @@ IsFieldCount count = (1 ≤ count) × (count ≤ 64)
 abbrev pub field_count_words : ℕ → List LineWord
 field_count_words count = plain_word (codes "fields") ∷ number_word count ∷ []
 
-abbrev pub count_word_fault : LineWord → Option ℕ
-count_word_fault (plain_word word) = told_unless (is_in_range 1 64 word) 7
-count_word_fault (literal_word bytes) = Some 7
-
-abbrev pub count_fault : List LineWord → Option ℕ
-count_fault [] = Some 4
-count_fault (word ∷ words) = or_else (count_word_fault word) (nothing_left words)
-
 -- another first word is no second line
 abbrev pub fields_fault : List LineWord → Option ℕ
 fields_fault [] = None
-fields_fault (word ∷ words) = if is_plain (codes "fields") word then count_fault words else Some 12
+fields_fault (word ∷ words) = if is_plain (codes "fields") word then first_fault (number 1 64 ∷ []) words else Some 12

@@ -19,6 +19,11 @@ abbrev pub IsFaultOf : NotRead → Option ℕ → Type 0
 IsFaultOf (Fault what) fault = fault ≡ Some what
 IsFaultOf Memory fault = Unit {0}
 
+-- a fault, and not want of memory
+abbrev pub IsTold : NotRead → Type 0
+IsTold (Fault what) = Unit {0}
+IsTold Memory = ⊥
+
 -- this fault, or want of memory
 abbrev pub TellsFault : {A : Type 0} → Result A NotRead → ℕ → Type 0
 TellsFault (Ok x) what = ⊥

@@ -7,6 +7,7 @@ ghost use Rattle.tac_syntax.specs.Grammar.{IsLoopName, IsNumber, IsSpelledRecord
 ghost use Rattle.text_lines.specs.Cursors.{IsNoPlain, IsOther, ReadsEnd, ReadsNext};
 ghost use Rattle.text_lines.specs.declared.faults.NotRead.TheVariants.{Fault};
 ghost use Rattle.text_lines.specs.LineGrammar.{literal_word, plain_word};
+ghost use Rattle.text_lines.specs.LineReading.{IsTold};
 ghost use Rattle.text_lines.specs.OperandWords.{list_word, loop_name, record_register, record_word, value_register};
 ghost use Rattle.text_lines.specs.Slots.{fixed, list, loop, number, operand, register, signed, text};
 ghost use mir.Syntax.{w64};
@@ -59,6 +60,7 @@ impl<'a> Cursor<'a> {
     fn plain(&mut self, what: u32) -> Result<&'a [u8], NotRead>
         ensures word { IfOk result (λ word. self.old ≡ plain_word word.now ∷ self.new) }
         ensures fault { IfErr result (λ e. IsNoPlain what e self.old) }
+        ensures told { IfErr result IsTold }
     {
         match self.next()? {
             LineWord::Plain(bytes) => Ok(bytes.bytes()),
@@ -124,7 +126,8 @@ impl<'a> Cursor<'a> {
 
     /// A number in a range.
     pub fn number(&mut self, low: u32, high: u32) -> Result<u32, NotRead>
-        ensures { ReadsNext (number low high) (λ n. (low ≤ n) × (n ≤ high)) (λ n. plain_word (decimal n)) result self.old self.new }
+        ensures read { ReadsNext (number low high) (λ n. (low ≤ n) × (n ≤ high)) (λ n. plain_word (decimal n)) result self.old self.new }
+        ensures told { IfErr result IsTold }
     {
         number_in(low, high, self.plain(7)?)
     }
@@ -162,7 +165,8 @@ impl<'a> Cursor<'a> {
 
     /// The line's end: fault 5 where a word is left over.
     pub fn end(&mut self) -> Result<(), NotRead>
-        ensures { ReadsEnd result self.old }
+        ensures read { ReadsEnd result self.old }
+        ensures told { IfErr result IsTold }
     {
         if self.words.is_empty() {
             Ok(())

@@ -1,6 +1,8 @@
 //! Why words aren't read.
 
 ghost use Rattle.std.specs.Prelude.{◌≡◌};
+ghost use Rattle.text_lines.specs.declared.faults.NotRead.TheVariants.{Fault};
+ghost use Rattle.text_lines.specs.LineReading.{IsTold};
 
 use pact_record::OutOfMemory;
 
@@ -10,6 +12,19 @@ pub enum NotRead {
     /// Its first fault, by its number.
     Fault { what: u32 },
     Memory,
+}
+
+impl NotRead {
+    /// The number of a fault that is told.
+    pub fn told(self) -> u32
+        requires { IsTold self }
+        ensures { self ≡ Fault result }
+    {
+        match self {
+            NotRead::Fault { what } => what,
+            NotRead::Memory => unreachable!(),
+        }
+    }
 }
 
 impl From<OutOfMemory> for NotRead {

@@ -1,10 +1,11 @@
 //! Operands, each read from its word.
 
-ghost use Rattle.std.specs.Prelude.{◌≡◌, ◌≤◌, ◌∷◌, FitsSigned, IfSome, None, Some, decimal, false, if◌then◌else◌, true};
+ghost use Rattle.std.specs.Prelude.{◌≡◌, ◌≤◌, ◌∷◌, FitsSigned, IfErr, IfSome, None, Some, decimal, false, if◌then◌else◌, true};
 ghost use Rattle.std.specs.Fmt.{signed_decimal};
 ghost use Rattle.tac_syntax.specs.Grammar.{IsLoopName, IsNumber, IsSpelledRecord};
 ghost use Rattle.text_lines.specs.Cursors.{ReadsPlain};
 ghost use Rattle.text_lines.specs.Digits.{is_in_form, is_in_range, is_signed_word, told_unless};
+ghost use Rattle.text_lines.specs.LineReading.{IsTold};
 ghost use Rattle.text_lines.specs.OperandWords.{fixed_record, list_word, loop_name, record_register, record_word, value_register};
 ghost use Rattle.text_lines.specs.Slots.{is_list_word, name_fault, numbered_fault, operand_fault, register_fault};
 ghost use mir.Syntax.{w64};
@@ -29,7 +30,8 @@ pub fn number_within(low: u32, high: u32, word: &[u8]) -> Option<u32>
 
 /// A number in a range.
 pub fn number_in(low: u32, high: u32, word: &[u8]) -> Result<u32, NotRead>
-    ensures { ReadsPlain (told_unless (is_in_range low high word.now) 7) (λ n. (low ≤ n) × (n ≤ high)) decimal result word.now }
+    ensures read { ReadsPlain (told_unless (is_in_range low high word.now) 7) (λ n. (low ≤ n) × (n ≤ high)) decimal result word.now }
+    ensures told { IfErr result IsTold }
 {
     match number_within(low, high, word) {
         Some(number) => Ok(number),

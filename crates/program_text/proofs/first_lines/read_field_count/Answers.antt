@@ -1,8 +1,17 @@
-use Rattle.program_text.proofs.FirstLineLaws.{count_read, count_fault_told}
+use Rattle.std.proofs.Common.{◌≡◌, Ok, Some, ap, subst}
+use Rattle.text_lines.specs.declared.faults.NotRead.{NotRead}
+use Rattle.text_lines.specs.LineReading.{IsFaultOf}
+use Rattle.program_text.specs.FirstLines.{fields_fault}
+use Rattle.program_text.proofs.FirstLineLaws.{no_count_fault, same_count}
 use Rattle.program_text.proofs.first_lines.read_field_count.Goals as goal
 
-pub returns-clause-count_always : goal.returns-clause-count_always
-returns-clause-count_always c = count_read c.read_fields.result c.args.words.now c.read_fields.ensures.count c.read_fields.ensures.fault
+pub returns-in-Ok-clause-count_always : goal.returns-in-Ok-clause-count_always
+returns-in-Ok-clause-count_always c count h e = let read = c.in-Ok.ensures.count in ap Ok (same_count c.in-Ok.count count c.args.words.now read.0 read.1 h e)
 
-pub returns-clause-fault_always : goal.returns-clause-fault_always
-returns-clause-fault_always c = count_fault_told c.read_fields.result c.args.words.now c.read_fields.ensures.count c.read_fields.ensures.fault
+pub returns-in-Ok-clause-fault_always : goal.returns-in-Ok-clause-fault_always
+returns-in-Ok-clause-fault_always c what h = let read = c.in-Ok.ensures.count in absurd (no_count_fault c.in-Ok.count what c.args.words.now read.0 read.1 h)
+
+pub returns-in-Err-clause-count_always : goal.returns-in-Err-clause-count_always
+returns-in-Err-clause-count_always c count h e =
+    let told : fields_fault c.args.words.now ≡ Some c.told.result = subst (λ (not : NotRead). IsFaultOf not (fields_fault c.args.words.now)) c.told.ensures c.in-Err.ensures.fault in
+    absurd (no_count_fault count c.told.result c.args.words.now h e told)
