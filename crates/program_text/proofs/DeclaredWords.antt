@@ -1,17 +1,16 @@
--- The declaration that words without a fault are for. What doesn't fit is read as nothing, or as 0.
-use Rattle.std.specs.Prelude.{ℕ, true, false, if◌then◌else◌, nat_le, List, [], ◌∷◌, map, length, get_or, drop, codes, bytes_eq}
-use Rattle.std.specs.Str.Parse.{digits_value}
+-- The declaration that words without a fault are for.
+use Rattle.std.specs.Prelude.{ℕ, true, false, if◌then◌else◌, List, [], ◌∷◌, map, get_or, drop, codes, bytes_eq}
 use Rattle.pact_record.specs.declared.columns.Column.{Column}
 use Rattle.tac_syntax.specs.declared.declarations.OpKind.{OpKind}
 use Rattle.tac_syntax.specs.declared.declarations.OpKind.TheVariants.{Map, Reduce, Match, Cross, CoGroup}
 use Rattle.tac_syntax.specs.declared.declarations.Decl.{Decl}
 use Rattle.tac_syntax.specs.declared.declarations.Decl.TheVariants.{Source, Op, Sink}
-use Rattle.pact_record.specs.declared.words.TheConstants.{MAX_WORD}
 use Rattle.text_lines.specs.declared.line_words.LineWord.{LineWord}
 use Rattle.text_lines.specs.declared.line_words.LineWord.TheVariants.{Plain as plain_word, Literal as literal_word}
-use Rattle.program_text.specs.DeclarationFaults.{begins_with, is_number}
-use Rattle.program_text.specs.DeclarationWriting.{has_right}
 use Rattle.text_lines.specs.LineGrammar.{is_plain}
+use Rattle.text_lines.specs.Slots.{begins_with}
+use Rattle.text_lines.proofs.DigitWords.{number_in}
+use Rattle.program_text.specs.DeclarationWriting.{has_right}
 
 -- ---- single words
 
@@ -23,13 +22,6 @@ plain_text (literal_word bytes) = []
 -- a plain word by its place
 abbrev pub plain_at : List LineWord → ℕ → List ℕ
 plain_at words n = get_or (map plain_text words) n []
-
--- no name is longer
-abbrev pub name_at : List LineWord → ℕ → List ℕ
-name_at words n = if nat_le (length (plain_at words n)) MAX_WORD then plain_at words n else []
-
-abbrev pub number_in : List ℕ → ℕ
-number_in word = if is_number word then digits_value 10 word else 0
 
 abbrev pub column_in : List ℕ → Column
 column_in word =
@@ -64,15 +56,15 @@ abbrev pub keys_at : OpKind → ℕ
 keys_at kind = if has_right kind then 6 else 5
 
 abbrev pub right_in : OpKind → List LineWord → List ℕ
-right_in kind words = if has_right kind then name_at words 4 else []
+right_in kind words = if has_right kind then plain_at words 4 else []
 
 abbrev pub op_in : OpKind → List LineWord → Decl
 op_in kind words =
-    Op (name_at words 1) kind (name_at words 2) (name_at words 3) (right_in kind words)
+    Op (plain_at words 1) kind (plain_at words 2) (plain_at words 3) (right_in kind words)
     (numbers_in (drop (keys_at kind) words)) (numbers_in (behind_equals (drop (keys_at kind) words)))
 
 abbrev pub decl_in : List LineWord → Decl
 decl_in words =
-    if bytes_eq (plain_at words 0) (codes "source") then Source (name_at words 1) (name_at words 2) (columns_in (drop 3 words))
-    else (if bytes_eq (plain_at words 0) (codes "sink") then Sink (name_at words 1) (numbers_in (drop 2 words))
+    if bytes_eq (plain_at words 0) (codes "source") then Source (plain_at words 1) (plain_at words 2) (columns_in (drop 3 words))
+    else (if bytes_eq (plain_at words 0) (codes "sink") then Sink (plain_at words 1) (numbers_in (drop 2 words))
     else op_in (kind_in (plain_at words 0)) words)

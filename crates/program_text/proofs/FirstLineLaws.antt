@@ -1,16 +1,14 @@
 -- The two lines that a program begins with, and their words.
 use Rattle.std.proofs.Common.{◌≡◌, ◌≢◌, ℕ, List, [], ◌∷◌, Some, None, codes, refl, ap, sym, ◌∙◌, arith}
-use Rattle.text_lines.proofs.DigitWords.{is_in_range-decimal}
+use Rattle.text_lines.proofs.DigitWords.{is_in_range-decimal, number_back, number_in}
 use Rattle.text_lines.specs.CanonicalLines.{AreLineWords}
 use Rattle.text_lines.specs.LineGrammar.{is_plain}
 use Rattle.text_lines.specs.declared.line_words.LineWord.{LineWord}
 use Rattle.text_lines.specs.declared.line_words.LineWord.TheVariants.{Plain as plain_word}
-use Rattle.program_text.specs.DeclarationFaults.{nothing_left}
-use Rattle.program_text.proofs.DeclaredWords.{number_in, plain_at}
+use Rattle.program_text.proofs.DeclaredWords.{plain_at}
 use Rattle.program_text.specs.FirstLines.{IsFieldCount, field_count_words, fields_fault, one_fault, version_fault, version_words}
-use Rattle.program_text.proofs.ItemWords.{number_in-decimal}
 use Rattle.text_lines.proofs.Faultless.{by_cases, is_plain-same, told_unless-none}
-use Rattle.text_lines.proofs.FilledSlots.{filled}
+use Rattle.text_lines.proofs.FilledSlots.{filled_line}
 use Rattle.text_lines.specs.Slots.{number}
 use Rattle.text_lines.proofs.FineWords.{AreFine, AreLineWords-fine, fine_decimal}
 
@@ -49,9 +47,8 @@ AreFieldCountWords count h = AreLineWords-fine (field_count_words count) (AreFin
 pub field_count_words-some : (count : ℕ) → IsFieldCount count → field_count_words count ≢ []
 field_count_words-some count h = λ e. absurd cc
 
--- what is read at the place of the number
-pub number_in-field_count_words : (count : ℕ) → IsFieldCount count → number_in (plain_at (field_count_words count) 1) ≡ count
-number_in-field_count_words count h = number_in-decimal count (omega (arith, h.1))
+number_in-field_count_words : (count : ℕ) → IsFieldCount count → number_in (plain_at (field_count_words count) 1) ≡ count
+number_in-field_count_words count h = number_back count (omega (arith, h.1))
 
 pub field_count_words-unique : (m n : ℕ) → IsFieldCount m → IsFieldCount n → field_count_words m ≡ field_count_words n → m ≡ n
 field_count_words-unique m n h k e =
@@ -60,16 +57,12 @@ field_count_words-unique m n h k e =
 pub field_count_faultless : (count : ℕ) → IsFieldCount count → fields_fault (field_count_words count) ≡ None
 field_count_faultless count h = rw (is_in_range-decimal 1 64 count h.0 h.1 (omega (arith, h.1))) refl
 
-pub none_left : (words : List LineWord) → nothing_left words ≡ None → words ≡ []
-none_left [] h = refl
-none_left (word ∷ words) h = absurd cc
-
-pub field_count_declared : (words : List LineWord) → words ≢ [] → fields_fault words ≡ None → (count : ℕ) × (words ≡ field_count_words count) × IsFieldCount count
-field_count_declared [] some h = absurd (some refl)
-field_count_declared (word ∷ words) some h = by_cases (is_plain (codes "fields") word) _ _
+pub field_count_declared : (words : List LineWord) → words ≢ [] → AreLineWords words → fields_fault words ≡ None → (count : ℕ) × (words ≡ field_count_words count) × IsFieldCount count
+field_count_declared [] some good h = absurd (some refl)
+field_count_declared (word ∷ words) some good h = by_cases (is_plain (codes "fields") word) _ _
     (λ named rest.
     let e = is_plain-same (codes "fields") word named in
-    let f = filled (number 1 64 ∷ []) words (omega arith, tt) rest in
+    let f = filled_line (number 1 64 ∷ []) words (omega arith, tt) good.1 rest in
     (f.0.0, (λ i. e i ∷ f.1 i), f.2.0)) (λ _ e. absurd cc) h
 
 -- ---- what the second line's reader answers

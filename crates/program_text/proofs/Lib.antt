@@ -1,6 +1,4 @@
 pub mod DeclaredWords
-pub mod ReadLists
-pub mod ItemWords
 pub mod ListWords
 pub mod SpelledLines
 pub mod DeclarationLaws

@@ -25,7 +25,8 @@ use Rattle.program_text.specs.DeclarationFaults.{declaration_fault}
 use Rattle.program_text.specs.DeclarationWords.{words_of_decl}
 use Rattle.program_text.specs.ProgramStates.{ProgramLine, version, field_count, declares, begins, inside, ProgramState, nothing_read, version_read, drafted, open_function, MaySay, program_place, said_on, words_of_program_line, RunsTo}
 use Rattle.program_text.specs.ProgramTexts.{IsProgramText, ProgramText, between_fault, program_fault}
-use Rattle.program_text.proofs.DeclarationLaws.{AreDeclarationWords, OtherFirst, decl_first, declared, faultless, words_of_decl-some, words_of_decl-unique}
+use Rattle.program_text.proofs.DeclarationLaws.{AreDeclarationWords, OtherFirst, decl_first, faultless, words_of_decl-some, words_of_decl-unique}
+use Rattle.program_text.proofs.SpelledLines.{decl_of_words}
 use Rattle.program_text.proofs.FirstLineLaws.{AreFieldCountWords, AreVersionWords, field_count_declared, field_count_faultless, field_count_words-some, field_count_words-unique, version_declared, version_faultless, version_words-some}
 use Rattle.program_text.proofs.ProgramRuns.{Leads, StateFront, can_end, lines_read, program_leads}
 use Rattle.text_lines.proofs.Faultless.{some_length}
@@ -94,23 +95,23 @@ fault_sound (drafted d) (begins name kind keys) h = between-header name kind key
 fault_sound (open_function d o) (inside line) h = statement_fault-words_of_line (place_of o.build) line h
 fault_sound s l h = absurd h
 
-pub said_between : (d : DraftData) (ws : List LineWord) → ws ≢ [] → between_fault ws ≡ None → (l : ProgramLine) × (ws ≡ words_of_program_line l) × MaySay (drafted d) l
-said_between d [] some e = absurd (some refl)
-said_between d (literal_word bytes ∷ words) some e = let bad : Some 3 ≡ None = e in absurd cc
-said_between d (plain_word word ∷ words) some e = by_word (bytes_eq word (codes "function")) refl
+pub said_between : (d : DraftData) (ws : List LineWord) → ws ≢ [] → AreLineWords ws → between_fault ws ≡ None → (l : ProgramLine) × (ws ≡ words_of_program_line l) × MaySay (drafted d) l
+said_between d [] some good e = absurd (some refl)
+said_between d (literal_word bytes ∷ words) some good e = let bad : Some 3 ≡ None = e in absurd cc
+said_between d (plain_word word ∷ words) some good e = by_word (bytes_eq word (codes "function")) refl
   where
     by_word : (b : Bool) → bytes_eq word (codes "function") ≡ b → (l : ProgramLine) × (plain_word word ∷ words ≡ words_of_program_line l) × MaySay (drafted d) l
     by_word true w =
         let told : header_fault (plain_word word ∷ words) ≡ None = rw w (rw w at e) in
-        let h = header_of_words (plain_word word ∷ words) some told in (begins h.0 h.1 h.2, h.3, h.4)
+        let h = header_of_words (plain_word word ∷ words) some good told in (begins h.0 h.1 h.2, h.3, h.4)
     by_word false w =
         let told : declaration_fault (plain_word word ∷ words) ≡ None = rw w at e in
-        let h = declared (plain_word word ∷ words) some told in (declares h.0, h.1, h.2)
+        let h = decl_of_words (plain_word word ∷ words) some good told in (declares h.0, h.1, h.2)
 
 fault_complete : (s : ProgramState) (ws : List LineWord) → ws ≢ [] → AreLineWords ws → program_fault (program_place s) ws ≡ None → (l : ProgramLine) × (ws ≡ words_of_program_line l) × MaySay s l
 fault_complete nothing_read ws some good e = (version, version_declared ws some e, tt)
-fault_complete version_read ws some good e = let h = field_count_declared ws some e in (field_count h.0, h.1, h.2)
-fault_complete (drafted d) ws some good e = said_between d ws some e
+fault_complete version_read ws some good e = let h = field_count_declared ws some good e in (field_count h.0, h.1, h.2)
+fault_complete (drafted d) ws some good e = said_between d ws some good e
 fault_complete (open_function d o) ws some good e = let h = line_of_words (place_of o.build) ws (some_length ws some) good e in (inside h.0, h.1, h.2)
 
 pub program_faults : TellsFaults words_of_program_line MaySay (λ s. program_fault (program_place s))

@@ -1,127 +1,62 @@
 -- Words without a fault are those of a declaration.
-use Rattle.std.proofs.Common.{◌≡◌, ◌≢◌, ◌||◌, ℕ, IsTrue, List, [], ◌∷◌, map, None, codes, bytes_eq, refl, ap, sym, ◌∙◌}
-use Rattle.pact_record.specs.declared.columns.Column.{Column}
+use Rattle.std.proofs.Common.{◌≡◌, ◌≢◌, ◌||◌, ℕ, List, [], ◌∷◌, map, Option, None, codes, bytes_eq, refl, ap, sym, ◌∙◌}
 use Rattle.tac_syntax.specs.declared.declarations.OpKind.TheVariants.{Map, Reduce, Match, Cross, CoGroup}
 use Rattle.tac_syntax.specs.declared.declarations.Decl.{Decl}
 use Rattle.tac_syntax.specs.declared.declarations.Decl.TheVariants.{Source, Op, Sink}
-use Rattle.tac_syntax.specs.Declarations.{AreColumns, AreSinkFields, IsKeyList, IsSpelledDecl}
-use Rattle.tac_syntax.specs.Names.{is_file_name, is_name}
+use Rattle.tac_syntax.specs.Declarations.{AreColumns, AreSinkFields, IsKeyList, IsSpelledDecl, field_list_limit}
+use Rattle.tac_syntax.specs.Functions.{key_limit}
+use Rattle.text_lines.specs.CanonicalLines.{AreLineWords}
 use Rattle.text_lines.specs.declared.line_words.LineWord.{LineWord}
 use Rattle.text_lines.specs.declared.line_words.LineWord.TheVariants.{Plain as plain_word, Literal as literal_word}
-use Rattle.program_text.specs.DeclarationFaults.{Slot, Name, FileName, By, Tail, Nothing, Columns as ColumnTail, Fields, Keys, KeyPair, declaration_fault, slot_fault, slots_then, tail_fault, word_fault}
+use Rattle.text_lines.specs.Slots.{Slot, fault_then, file_name, fixed, identifier, nothing_left}
+use Rattle.program_text.specs.DeclarationFaults.{columns_fault, declaration_fault, key_pair_fault, numbers_fault, word_fault}
 use Rattle.program_text.specs.DeclarationWords.{column_word, key_pair_words, number_words, words_of_decl}
-use Rattle.program_text.proofs.FirstLineLaws.{none_left}
 use Rattle.program_text.proofs.ListWords.{spells_columns, spells_fields, spells_key_pair, spells_keys}
-use Rattle.text_lines.proofs.Faultless.{by_cases, or_else-none, same_word, told_unless-none}
-
--- ---- single words, and what a line ends with
-
-abbrev Value : Slot → Type 0
-Value Name = List ℕ
-Value FileName = List ℕ
-Value By = Unit {0}
-
-abbrev word_of : (slot : Slot) → Value slot → LineWord
-word_of Name name = plain_word name
-word_of FileName name = plain_word name
-word_of By x = plain_word (codes "by")
-
-abbrev Fits : (slot : Slot) → Value slot → Type 0
-Fits Name name = IsTrue (is_name name)
-Fits FileName name = IsTrue (is_file_name name)
-Fits By x = Unit {0}
-
-fills : (slot : Slot) (word : LineWord) → slot_fault slot word ≡ None → (x : Value slot) × (word ≡ word_of slot x) × Fits slot x
-fills Name (plain_word w) h = (w, refl, told_unless-none _ _ h)
-fills FileName (plain_word w) h = (w, refl, told_unless-none _ _ h)
-fills By (plain_word w) h = (tt, ap plain_word (same_word w _ (told_unless-none _ _ h)), tt)
-fills slot (literal_word bytes) h = absurd cc
-
-abbrev EndValue : Tail → Type 0
-EndValue Nothing = Unit {0}
-EndValue ColumnTail = List Column
-EndValue Fields = List ℕ
-EndValue Keys = List ℕ
-EndValue KeyPair = List ℕ × List ℕ
-
-abbrev end_words : (tail : Tail) → EndValue tail → List LineWord
-end_words Nothing x = []
-end_words ColumnTail columns = map column_word columns
-end_words Fields fields = number_words fields
-end_words Keys keys = number_words keys
-end_words KeyPair keys = key_pair_words keys.0 keys.1
-
-abbrev EndFits : (tail : Tail) → EndValue tail → Type 0
-EndFits Nothing x = Unit {0}
-EndFits ColumnTail columns = AreColumns columns
-EndFits Fields fields = AreSinkFields fields
-EndFits Keys keys = IsKeyList keys
-EndFits KeyPair keys = IsKeyList keys.0 × IsKeyList keys.1
-
-ends : (tail : Tail) (words : List LineWord) → tail_fault tail words ≡ None → (x : EndValue tail) × (words ≡ end_words tail x) × EndFits tail x
-ends Nothing words h = (tt, none_left words h, tt)
-ends ColumnTail words h = spells_columns words h
-ends Fields words h = spells_fields words h
-ends Keys words h = spells_keys words h
-ends KeyPair words h = let keys = spells_key_pair words h in ((keys.0, keys.1), keys.2, (keys.3, keys.4))
-
--- ---- the words behind a line's first
-
-abbrev Values : List Slot → Type 0
-Values [] = Unit {0}
-Values (slot ∷ slots) = Value slot × Values slots
-
-abbrev words_with : (slots : List Slot) → Values slots → List LineWord → List LineWord
-words_with [] xs more = more
-words_with (slot ∷ slots) xs more = word_of slot xs.0 ∷ words_with slots xs.1 more
-
-abbrev AllFit : (slots : List Slot) → Values slots → Type 0
-AllFit [] xs = Unit {0}
-AllFit (slot ∷ slots) xs = Fits slot xs.0 × AllFit slots xs.1
-
-record Filled (slots : List Slot) (tail : Tail) (words : List LineWord) : Type 0 where
-  pub values : Values slots
-  pub end_value : EndValue tail
-  pub parts : words ≡ words_with slots values (end_words tail end_value)
-  pub fit : AllFit slots values
-  pub end_fits : EndFits tail end_value
-
-filled : (slots : List Slot) (tail : Tail) (words : List LineWord) → slots_then slots tail words ≡ None → Filled slots tail words
-filled [] tail words h = let e = ends tail words h in record { values = tt; end_value = e.0; parts = e.1; fit = tt; end_fits = e.2 }
-filled (slot ∷ slots) tail [] h = absurd cc
-filled (slot ∷ slots) tail (word ∷ words) h =
-    let both = or_else-none (slot_fault slot word) (slots_then slots tail words) h in
-    let first = fills slot word both.0 in
-    let rest = filled slots tail words both.1 in
-    record { values = (first.0, rest.values); end_value = rest.end_value; parts = λ i. first.1 i ∷ rest.parts i; fit = (first.2, rest.fit); end_fits = rest.end_fits }
-
--- ---- lines, by their first word
+use Rattle.text_lines.proofs.Faultless.{by_cases, same_word}
+use Rattle.text_lines.proofs.FilledSlots.{AllFit, AreUsual, Values, filled, none_left, words_then}
 
 -- the declaration whose words these are
 abbrev pub DeclFor : List LineWord → Type 0
 DeclFor words = (d : Decl) × (words ≡ words_of_decl d) × IsSpelledDecl d
 
-decl_of_slots : (word name : List ℕ) (words : List LineWord) (slots : List Slot) (tail : Tail) (decl : Values slots → EndValue tail → Decl)
-    → ((xs : Values slots) (x : EndValue tail) → words_of_decl (decl xs x) ≡ plain_word name ∷ words_with slots xs (end_words tail x))
-    → ((xs : Values slots) (x : EndValue tail) → AllFit slots xs → EndFits tail x → IsSpelledDecl (decl xs x))
-    → word ≡ name → slots_then slots tail words ≡ None → DeclFor (plain_word word ∷ words)
-decl_of_slots word name words slots tail decl spelled fits is h =
-    let f = filled slots tail words h in
-    let all : plain_word word ∷ words ≡ plain_word name ∷ words_with slots f.values (end_words tail f.end_value) = let e = f.parts in λ i. plain_word (is i) ∷ e i in
-    (decl f.values f.end_value, all ∙ sym (spelled f.values f.end_value), fits f.values f.end_value f.fit f.end_fits)
+-- what a line ends with: the words without a fault are those of good values
+abbrev EndsIn : {X : Type 0} → (List LineWord → Option ℕ) → (X → List LineWord) → (X → Type 0) → Type 0
+EndsIn {X = X} behind spelled Good = (words : List LineWord) → AreLineWords words → behind words ≡ None → (x : X) × (words ≡ spelled x) × Good x
 
-word_line : (word : List ℕ) (words : List LineWord) → word_fault word words ≡ None → DeclFor (plain_word word ∷ words)
-word_line word words h =
-    by_cases (bytes_eq word (codes "source")) _ _ (λ is k. decl_of_slots word (codes "source") words (Name ∷ FileName ∷ []) ColumnTail (λ x y. Source x.0 x.1.0 y) (λ x y. refl) (λ x y f e. (f.0, f.1.0, e)) (same_word word _ is) k) (λ _ h0.
-    by_cases (bytes_eq word (codes "map")) _ _ (λ is k. decl_of_slots word (codes "map") words (Name ∷ Name ∷ Name ∷ []) Nothing (λ x y. Op x.0 Map x.1.0 x.1.1.0 [] [] []) (λ x y. refl) (λ x y f e. (f.0, f.1.0, f.1.1.0, (refl, refl, refl))) (same_word word _ is) k) (λ _ h1.
-    by_cases (bytes_eq word (codes "reduce")) _ _ (λ is k. decl_of_slots word (codes "reduce") words (Name ∷ Name ∷ Name ∷ By ∷ []) Keys (λ x y. Op x.0 Reduce x.1.0 x.1.1.0 [] y []) (λ x y. refl) (λ x y f e. (f.0, f.1.0, f.1.1.0, (refl, e, refl))) (same_word word _ is) k) (λ _ h2.
-    by_cases (bytes_eq word (codes "match")) _ _ (λ is k. decl_of_slots word (codes "match") words (Name ∷ Name ∷ Name ∷ Name ∷ By ∷ []) KeyPair (λ x y. Op x.0 Match x.1.0 x.1.1.0 x.1.1.1.0 y.0 y.1) (λ x y. refl) (λ x y f e. (f.0, f.1.0, f.1.1.0, (f.1.1.1.0, e.0, e.1))) (same_word word _ is) k) (λ _ h3.
-    by_cases (bytes_eq word (codes "cross")) _ _ (λ is k. decl_of_slots word (codes "cross") words (Name ∷ Name ∷ Name ∷ Name ∷ []) Nothing (λ x y. Op x.0 Cross x.1.0 x.1.1.0 x.1.1.1.0 [] []) (λ x y. refl) (λ x y f e. (f.0, f.1.0, f.1.1.0, (f.1.1.1.0, refl, refl))) (same_word word _ is) k) (λ _ h4.
-    by_cases (bytes_eq word (codes "cogroup")) _ _ (λ is k. decl_of_slots word (codes "cogroup") words (Name ∷ Name ∷ Name ∷ Name ∷ By ∷ []) KeyPair (λ x y. Op x.0 CoGroup x.1.0 x.1.1.0 x.1.1.1.0 y.0 y.1) (λ x y. refl) (λ x y f e. (f.0, f.1.0, f.1.1.0, (f.1.1.1.0, e.0, e.1))) (same_word word _ is) k) (λ _ h5.
-    by_cases (bytes_eq word (codes "sink")) _ _ (λ is k. decl_of_slots word (codes "sink") words (Name ∷ []) Fields (λ x y. Sink x.0 y) (λ x y. refl) (λ x y f e. (f.0, e)) (same_word word _ is) k) (λ _ h6.
+decl_of_slots : {X : Type 0} (word name : List ℕ) (words : List LineWord) (behind : List LineWord → Option ℕ) (spelled : X → List LineWord) (Good : X → Type 0) (slots : List Slot) (decl : Values slots → X → Decl)
+    → EndsIn behind spelled Good → AreUsual slots
+    → ((xs : Values slots) (x : X) → words_of_decl (decl xs x) ≡ plain_word name ∷ words_then slots xs (spelled x))
+    → ((xs : Values slots) (x : X) → AllFit slots xs → Good x → IsSpelledDecl (decl xs x))
+    → AreLineWords words → word ≡ name → fault_then behind slots words ≡ None → DeclFor (plain_word word ∷ words)
+decl_of_slots word name words behind spelled Good slots decl ends usual parts fits line is h =
+    let f = filled behind slots words usual line h in
+    let end = ends f.more f.good f.faultless in
+    let more = ap (words_then slots f.values) end.1 in
+    let e = f.parts ∙ more in
+    let all : plain_word word ∷ words ≡ plain_word name ∷ words_then slots f.values (spelled end.0) = λ i. plain_word (is i) ∷ e i in
+    (decl f.values end.0, all ∙ sym (parts f.values end.0), fits f.values end.0 f.fit end.2)
+
+abbrev pair_words : List ℕ × List ℕ → List LineWord
+pair_words keys = key_pair_words keys.0 keys.1
+
+abbrev AreKeyLists : List ℕ × List ℕ → Type 0
+AreKeyLists keys = IsKeyList keys.0 × IsKeyList keys.1
+
+nothing : EndsIn nothing_left (λ (_ : Unit {0}). []) (λ _. Unit {0})
+nothing words line h = (tt, none_left words h, tt)
+
+word_line : (word : List ℕ) (words : List LineWord) → AreLineWords words → word_fault word words ≡ None → DeclFor (plain_word word ∷ words)
+word_line word words line h =
+    by_cases (bytes_eq word (codes "source")) _ _ (λ is k. decl_of_slots word (codes "source") words columns_fault (map column_word) AreColumns (identifier ∷ file_name ∷ []) (λ x y. Source x.0 x.1.0 y) spells_columns (tt, (tt, tt)) (λ x y. refl) (λ x y f e. (f.0, f.1.0, e)) line (same_word word _ is) k) (λ _ h0.
+    by_cases (bytes_eq word (codes "map")) _ _ (λ is k. decl_of_slots word (codes "map") words nothing_left (λ _. []) (λ _. Unit {0}) (identifier ∷ identifier ∷ identifier ∷ []) (λ x y. Op x.0 Map x.1.0 x.1.1.0 [] [] []) nothing (tt, (tt, (tt, tt))) (λ x y. refl) (λ x y f e. (f.0, f.1.0, f.1.1.0, (refl, refl, refl))) line (same_word word _ is) k) (λ _ h1.
+    by_cases (bytes_eq word (codes "reduce")) _ _ (λ is k. decl_of_slots word (codes "reduce") words (numbers_fault key_limit) number_words IsKeyList (identifier ∷ identifier ∷ identifier ∷ fixed (codes "by") ∷ []) (λ x y. Op x.0 Reduce x.1.0 x.1.1.0 [] y []) spells_keys (tt, (tt, (tt, (refl, tt)))) (λ x y. refl) (λ x y f e. (f.0, f.1.0, f.1.1.0, (refl, e, refl))) line (same_word word _ is) k) (λ _ h2.
+    by_cases (bytes_eq word (codes "match")) _ _ (λ is k. decl_of_slots word (codes "match") words key_pair_fault pair_words AreKeyLists (identifier ∷ identifier ∷ identifier ∷ identifier ∷ fixed (codes "by") ∷ []) (λ x y. Op x.0 Match x.1.0 x.1.1.0 x.1.1.1.0 y.0 y.1) spells_key_pair (tt, (tt, (tt, (tt, (refl, tt))))) (λ x y. refl) (λ x y f e. (f.0, f.1.0, f.1.1.0, (f.1.1.1.0, e.0, e.1))) line (same_word word _ is) k) (λ _ h3.
+    by_cases (bytes_eq word (codes "cross")) _ _ (λ is k. decl_of_slots word (codes "cross") words nothing_left (λ _. []) (λ _. Unit {0}) (identifier ∷ identifier ∷ identifier ∷ identifier ∷ []) (λ x y. Op x.0 Cross x.1.0 x.1.1.0 x.1.1.1.0 [] []) nothing (tt, (tt, (tt, (tt, tt)))) (λ x y. refl) (λ x y f e. (f.0, f.1.0, f.1.1.0, (f.1.1.1.0, refl, refl))) line (same_word word _ is) k) (λ _ h4.
+    by_cases (bytes_eq word (codes "cogroup")) _ _ (λ is k. decl_of_slots word (codes "cogroup") words key_pair_fault pair_words AreKeyLists (identifier ∷ identifier ∷ identifier ∷ identifier ∷ fixed (codes "by") ∷ []) (λ x y. Op x.0 CoGroup x.1.0 x.1.1.0 x.1.1.1.0 y.0 y.1) spells_key_pair (tt, (tt, (tt, (tt, (refl, tt))))) (λ x y. refl) (λ x y f e. (f.0, f.1.0, f.1.1.0, (f.1.1.1.0, e.0, e.1))) line (same_word word _ is) k) (λ _ h5.
+    by_cases (bytes_eq word (codes "sink")) _ _ (λ is k. decl_of_slots word (codes "sink") words (numbers_fault field_list_limit) number_words AreSinkFields (identifier ∷ []) (λ x y. Sink x.0 y) spells_fields (tt, tt) (λ x y. refl) (λ x y f e. (f.0, e)) line (same_word word _ is) k) (λ _ h6.
     by_cases (bytes_eq word (codes "else") || bytes_eq word (codes "end")) _ _ (λ _ e. absurd cc) (λ _ e. absurd cc) h6) h5) h4) h3) h2) h1) h0) h
 
-pub decl_of_words : (words : List LineWord) → words ≢ [] → declaration_fault words ≡ None → DeclFor words
-decl_of_words [] some h = absurd (some refl)
-decl_of_words (plain_word word ∷ words) some h = word_line word words h
-decl_of_words (literal_word bytes ∷ words) some h = absurd cc
+pub decl_of_words : (words : List LineWord) → words ≢ [] → AreLineWords words → declaration_fault words ≡ None → DeclFor words
+decl_of_words [] some line h = absurd (some refl)
+decl_of_words (plain_word word ∷ words) some line h = word_line word words line.1 h
+decl_of_words (literal_word bytes ∷ words) some line h = absurd cc

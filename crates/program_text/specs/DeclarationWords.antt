@@ -1,5 +1,5 @@
 -- The words of a declaration's line.
-use Rattle.std.specs.Prelude.{ℕ, if◌then◌else◌, List, [], ◌∷◌, ◌++◌, map, codes, decimal}
+use Rattle.std.specs.Prelude.{ℕ, List, [], ◌∷◌, ◌++◌, map, codes, decimal}
 use Rattle.pact_record.specs.declared.columns.Column.{Column}
 use Rattle.tac_syntax.specs.declared.declarations.OpKind.{OpKind}
 use Rattle.tac_syntax.specs.declared.declarations.OpKind.TheVariants.{Source as SourceKind, Map, Reduce, Match, Cross, CoGroup}
@@ -7,6 +7,7 @@ use Rattle.tac_syntax.specs.declared.declarations.Decl.{Decl}
 use Rattle.tac_syntax.specs.declared.declarations.Decl.TheVariants.{Source, Function, Op, Sink}
 use Rattle.text_lines.specs.declared.line_words.LineWord.{LineWord}
 use Rattle.text_lines.specs.declared.line_words.LineWord.TheVariants.{Plain as plain_word}
+use Rattle.text_lines.specs.OperandWords.{column_text}
 
 -- words as they stand in the line
 abbrev pub plain_words : List (List ℕ) → List LineWord
@@ -18,10 +19,6 @@ number_word n = plain_word (decimal n)
 
 abbrev pub number_words : List ℕ → List LineWord
 number_words numbers = map number_word numbers
-
--- a column is its field's number behind `text:` or `int:`
-abbrev pub column_text : Column → List ℕ
-column_text c = (if c.text then codes "text:" else codes "int:") ++ decimal c.field
 
 abbrev pub column_word : Column → LineWord
 column_word c = plain_word (column_text c)

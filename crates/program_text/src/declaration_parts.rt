@@ -1,73 +1,31 @@
 //! The parts of a declaration, read from its words.
 
-ghost use Rattle.std.specs.Prelude.{◌≡◌, ◌≤◌, ◌++◌, ◌∷◌, [], OnOk};
+ghost use Rattle.std.specs.Prelude.{◌≡◌, ◌≤◌, ◌++◌, ◌∷◌, [], IsTrue, OnOk};
 ghost use Rattle.tac_syntax.specs.Grammar.{IsNumber};
-ghost use Rattle.program_text.specs.DeclarationAnswers.{ReadsColumn, ReadsColumns, ReadsKeyPair, ReadsLeftKeys, ReadsNextColumn, ReadsNumbers, ReadsPlace};
-ghost use Rattle.program_text.specs.DeclarationFaults.{FileName, Name};
+ghost use Rattle.tac_syntax.specs.Names.{is_file_name, is_name};
+ghost use Rattle.text_lines.specs.Cursors.{ReadsNext};
+ghost use Rattle.text_lines.specs.declared.line_words.LineWord.TheVariants.{Plain as plain_word};
+ghost use Rattle.text_lines.specs.Slots.{file_name, identifier};
+ghost use Rattle.program_text.specs.DeclarationAnswers.{ReadsColumns, ReadsKeyPair, ReadsLeftKeys, ReadsNumbers};
 
 use pact_record::{Column, Columns, MAX_KEYS, OutOfMemory, Word};
 use std::alloc::Global;
-use tac_syntax::{Numbers, is_file_name, is_name};
-use text_lines::{Cursor, LineWord, NotRead, number_in};
+use tac_syntax::Numbers;
+use text_lines::{Cursor, NotRead};
 
 /// A source has at most so many columns, and a sink so many fields.
 pub const MAX_LISTED: usize = 64;
 
-/// A name: fault 6 for another word.
 pub fn read_name(alloc: Global, words: &mut Cursor<'_>) -> Result<Word, NotRead>
-    ensures { ReadsPlace Name result words.old words.new }
+    ensures { ReadsNext identifier (λ name. IsTrue (is_name name)) (λ name. plain_word name) result words.old words.new }
 {
-    match words.next()? {
-        LineWord::Plain(bytes) => {
-            if !is_name(bytes.bytes()) {
-                return Err(NotRead::Fault { what: 6 });
-            }
-            Ok(Word::from_bytes(alloc, bytes.bytes())?)
-        }
-        LineWord::Literal(_) => Err(NotRead::Fault { what: 6 }),
-    }
+    Ok(Word::from_bytes(alloc, words.name()?)?)
 }
 
-/// A file's name: fault 6 for another word.
 pub fn read_file_name(alloc: Global, words: &mut Cursor<'_>) -> Result<Word, NotRead>
-    ensures { ReadsPlace FileName result words.old words.new }
+    ensures { ReadsNext file_name (λ name. IsTrue (is_file_name name)) (λ name. plain_word name) result words.old words.new }
 {
-    match words.next()? {
-        LineWord::Plain(bytes) => {
-            if !is_file_name(bytes.bytes()) {
-                return Err(NotRead::Fault { what: 6 });
-            }
-            Ok(Word::from_bytes(alloc, bytes.bytes())?)
-        }
-        LineWord::Literal(_) => Err(NotRead::Fault { what: 6 }),
-    }
-}
-
-fn column_in(word: &[u8]) -> Result<Column, NotRead>
-    ensures { ReadsColumn result word.now }
-{
-    if let Some(digits) = word.strip_prefix(b"text:") {
-        return Ok(Column {
-            field: number_in(0, 255, digits)?,
-            text: true,
-        });
-    }
-    match word.strip_prefix(b"int:") {
-        Some(digits) => Ok(Column {
-            field: number_in(0, 255, digits)?,
-            text: false,
-        }),
-        None => Err(NotRead::Fault { what: 8 }),
-    }
-}
-
-fn read_column(words: &mut Cursor<'_>) -> Result<Column, NotRead>
-    ensures { ReadsNextColumn result words.old words.new }
-{
-    match words.next()? {
-        LineWord::Plain(bytes) => column_in(bytes.bytes()),
-        LineWord::Literal(_) => Err(NotRead::Fault { what: 8 }),
-    }
+    Ok(Word::from_bytes(alloc, words.file_name()?)?)
 }
 
 fn add_column(columns: &mut Columns, column: Column) -> Result<(), OutOfMemory>
@@ -90,10 +48,10 @@ pub fn read_columns(alloc: Global, words: &mut Cursor<'_>) -> Result<Columns, No
     ensures { ReadsColumns result words.old }
 {
     let mut columns = Columns::new(alloc);
-    let first = read_column(words)?;
+    let first = words.column()?;
     add_column(&mut columns, first)?;
     while words.left() > 0 {
-        let column = read_column(words)?;
+        let column = words.column()?;
         if columns.len() == MAX_LISTED {
             return Err(NotRead::Fault { what: 5 });
         }

@@ -1,6 +1,5 @@
 -- Words without a fault are the words of a line.
-use Rattle.std.proofs.Common.{◌≡◌, length, ◌<◌, ◌+◌, inl, inr, ℕ, Bool, true, false, nat_lt, if◌then◌else◌, List, [], ◌∷◌, Option, Some, None, codes, bytes_eq, decimal, refl, sym, subst, ◌∙◌, arith}
-use Rattle.std.specs.List.{AllByRecursion}
+use Rattle.std.proofs.Common.{◌≡◌, length, ◌<◌, ◌+◌, inl, inr, ℕ, Bool, true, false, nat_lt, if◌then◌else◌, List, [], ◌∷◌, Option, Some, None, codes, bytes_eq, decimal, refl, sym, ◌∙◌, arith}
 use Rattle.std.proofs.lemmas.Bool.{ltb-true}
 use Rattle.tac_syntax.specs.Code.{load_int, load_text, load_null, move_value, get_field, get_key, apply_one, apply_two, new_record, copy_record, set_field, emit_record, Line, simple, test, turns, over, otherwise, close}
 use Rattle.tac_syntax.specs.Limits.{nesting_limit}
@@ -11,7 +10,7 @@ use Rattle.text_lines.specs.LineGrammar.{is_plain}
 use Rattle.text_lines.specs.Slots.{Slot, fixed, register, operand, number, signed, text, loop, list, first_fault}
 use Rattle.text_lines.specs.Digits.{or_else}
 use Rattle.text_lines.proofs.Faultless.{by_cases, or_else-none, same_word, is_plain-same}
-use Rattle.text_lines.proofs.FilledSlots.{AllFit, IsSmall, Values, filled, named, words_with}
+use Rattle.text_lines.proofs.FilledSlots.{AllFit, AreUsual, Values, filled_line, named, words_then}
 use Rattle.statement_lines.specs.Spelling.{op1_word, op2_word}
 use Rattle.statement_lines.specs.StatementLines.{LinePlace, MayStand}
 use Rattle.statement_lines.specs.Spelling.{words_of_line}
@@ -25,47 +24,47 @@ LineFor p words = (l : Line) × (words ≡ words_of_line l) × MayStand p l
 -- ---- lines that are no assignments
 
 -- a line of a first word and the words of slots, whose values make it
-line_of_slots : (p : LinePlace) (word name : List ℕ) (words : List LineWord) (slots : List Slot) → AllByRecursion IsSmall slots → (line : Values slots → Line)
-    → ((xs : Values slots) → words_of_line (line xs) ≡ plain_word name ∷ words_with slots xs) → ((xs : Values slots) → AllFit slots xs → MayStand p (line xs))
-    → word ≡ name → first_fault slots words ≡ None → LineFor p (plain_word word ∷ words)
-line_of_slots p word name words slots small line spelled may is h =
-    let f = filled slots words small h in
-    let all : plain_word word ∷ words ≡ plain_word name ∷ words_with slots f.0 = λ i. plain_word (is i) ∷ f.1 i in
+line_of_slots : (p : LinePlace) (word name : List ℕ) (words : List LineWord) (slots : List Slot) → AreUsual slots → (line : Values slots → Line)
+    → ((xs : Values slots) → words_of_line (line xs) ≡ plain_word name ∷ words_then slots xs []) → ((xs : Values slots) → AllFit slots xs → MayStand p (line xs))
+    → AreLineWords words → word ≡ name → first_fault slots words ≡ None → LineFor p (plain_word word ∷ words)
+line_of_slots p word name words slots usual line spelled may good is h =
+    let f = filled_line slots words usual good h in
+    let all : plain_word word ∷ words ≡ plain_word name ∷ words_then slots f.0 [] = λ i. plain_word (is i) ∷ f.1 i in
     (line f.0, all ∙ sym (spelled f.0), may f.0 f.2)
 
-set_line : (p : LinePlace) (word : List ℕ) (words : List LineWord) → word ≡ codes "set" → first_fault (register 114 ∷ number 0 255 ∷ register 118 ∷ []) words ≡ None → LineFor p (plain_word word ∷ words)
-set_line p word words is h = line_of_slots p word (codes "set") words (register 114 ∷ number 0 255 ∷ register 118 ∷ []) (tt, (omega arith, (tt, tt)))
-    (λ x. simple (set_field x.0 x.1.0 x.1.1.0)) (λ x. refl) (λ x fit. (fit.0, fit.1.0.1, fit.1.1.0)) is h
+set_line : (p : LinePlace) (word : List ℕ) (words : List LineWord) → AreLineWords words → word ≡ codes "set" → first_fault (register 114 ∷ number 0 255 ∷ register 118 ∷ []) words ≡ None → LineFor p (plain_word word ∷ words)
+set_line p word words good is h = line_of_slots p word (codes "set") words (register 114 ∷ number 0 255 ∷ register 118 ∷ []) (refl, (omega arith, (refl, tt)))
+    (λ x. simple (set_field x.0 x.1.0 x.1.1.0)) (λ x. refl) (λ x fit. (fit.0, fit.1.0.1, fit.1.1.0)) good is h
 
-emit_line : (p : LinePlace) (word : List ℕ) (words : List LineWord) → word ≡ codes "emit" → first_fault (register 114 ∷ []) words ≡ None → LineFor p (plain_word word ∷ words)
-emit_line p word words is h = line_of_slots p word (codes "emit") words (register 114 ∷ []) (tt, tt) (λ x. simple (emit_record x.0)) (λ x. refl) (λ x fit. fit.0) is h
+emit_line : (p : LinePlace) (word : List ℕ) (words : List LineWord) → AreLineWords words → word ≡ codes "emit" → first_fault (register 114 ∷ []) words ≡ None → LineFor p (plain_word word ∷ words)
+emit_line p word words good is h = line_of_slots p word (codes "emit") words (register 114 ∷ []) (refl, tt) (λ x. simple (emit_record x.0)) (λ x. refl) (λ x fit. fit.0) good is h
 
 -- there is room for a block, and its words have no fault
 block_parts : (p : LinePlace) (slots : List Slot) (words : List LineWord) → block_fault p slots words ≡ None → (p.blocks < nesting_limit) × (first_fault slots words ≡ None)
 block_parts p slots words h = by_cases (nat_lt p.blocks nesting_limit) _ _ (λ room rest. (ltb-true p.blocks nesting_limit room, rest)) (λ _ e. absurd cc) h
 
-if_line : (p : LinePlace) (word : List ℕ) (words : List LineWord) → word ≡ codes "if" → block_fault p (register 118 ∷ []) words ≡ None → LineFor p (plain_word word ∷ words)
-if_line p word words is h =
+if_line : (p : LinePlace) (word : List ℕ) (words : List LineWord) → AreLineWords words → word ≡ codes "if" → block_fault p (register 118 ∷ []) words ≡ None → LineFor p (plain_word word ∷ words)
+if_line p word words good is h =
     let b = block_parts p (register 118 ∷ []) words h in
-    line_of_slots p word (codes "if") words (register 118 ∷ []) (tt, tt) (λ x. test x.0) (λ x. refl) (λ x fit. (b.0, fit.0)) is b.1
+    line_of_slots p word (codes "if") words (register 118 ∷ []) (refl, tt) (λ x. test x.0) (λ x. refl) (λ x fit. (b.0, fit.0)) good is b.1
 
-repeat_line : (p : LinePlace) (word : List ℕ) (words : List LineWord) → word ≡ codes "repeat" → block_fault p (number 1 1000 ∷ []) words ≡ None → LineFor p (plain_word word ∷ words)
-repeat_line p word words is h =
+repeat_line : (p : LinePlace) (word : List ℕ) (words : List LineWord) → AreLineWords words → word ≡ codes "repeat" → block_fault p (number 1 1000 ∷ []) words ≡ None → LineFor p (plain_word word ∷ words)
+repeat_line p word words good is h =
     let b = block_parts p (number 1 1000 ∷ []) words h in
-    line_of_slots p word (codes "repeat") words (number 1 1000 ∷ []) (omega arith, tt) (λ x. turns x.0) (λ x. refl) (λ x fit. (b.0, fit.0)) is b.1
+    line_of_slots p word (codes "repeat") words (number 1 1000 ∷ []) (omega arith, tt) (λ x. turns x.0) (λ x. refl) (λ x fit. (b.0, fit.0)) good is b.1
 
-each_line : (p : LinePlace) (word : List ℕ) (words : List LineWord) → word ≡ codes "each" → block_fault p (loop (p.lists + 1) ∷ fixed (codes "of") ∷ list ∷ []) words ≡ None → LineFor p (plain_word word ∷ words)
-each_line p word words is h =
+each_line : (p : LinePlace) (word : List ℕ) (words : List LineWord) → AreLineWords words → word ≡ codes "each" → block_fault p (loop (p.lists + 1) ∷ fixed (codes "of") ∷ list ∷ []) words ≡ None → LineFor p (plain_word word ∷ words)
+each_line p word words good is h =
     let b = block_parts p (loop (p.lists + 1) ∷ fixed (codes "of") ∷ list ∷ []) words h in
-    line_of_slots p word (codes "each") words (loop (p.lists + 1) ∷ fixed (codes "of") ∷ list ∷ []) (tt, (tt, (tt, tt)))
-    (λ x. over (p.lists + 1) x.1.1.0) (λ x. refl) (λ x fit. (b.0, (refl, fit.0))) is b.1
+    line_of_slots p word (codes "each") words (loop (p.lists + 1) ∷ fixed (codes "of") ∷ list ∷ []) (tt, (refl, (tt, tt)))
+    (λ x. over (p.lists + 1) x.1.1.0) (λ x. refl) (λ x fit. (b.0, (refl, fit.0))) good is b.1
 
-else_line : (p : LinePlace) (word : List ℕ) (words : List LineWord) → word ≡ codes "else" → (if p.may_part then first_fault [] words else Some 10) ≡ None → LineFor p (plain_word word ∷ words)
-else_line p word words is h = by_cases p.may_part _ _
-    (λ parts rest. line_of_slots p word (codes "else") words [] tt (λ x. otherwise) (λ x. refl) (λ x fit. parts) is rest) (λ _ e. absurd cc) h
+else_line : (p : LinePlace) (word : List ℕ) (words : List LineWord) → AreLineWords words → word ≡ codes "else" → (if p.may_part then first_fault [] words else Some 10) ≡ None → LineFor p (plain_word word ∷ words)
+else_line p word words good is h = by_cases p.may_part _ _
+    (λ parts rest. line_of_slots p word (codes "else") words [] tt (λ x. otherwise) (λ x. refl) (λ x fit. parts) good is rest) (λ _ e. absurd cc) h
 
-end_line : (p : LinePlace) (word : List ℕ) (words : List LineWord) → word ≡ codes "end" → first_fault [] words ≡ None → LineFor p (plain_word word ∷ words)
-end_line p word words is h = line_of_slots p word (codes "end") words [] tt (λ x. close) (λ x. refl) (λ x fit. tt) is h
+end_line : (p : LinePlace) (word : List ℕ) (words : List LineWord) → AreLineWords words → word ≡ codes "end" → first_fault [] words ≡ None → LineFor p (plain_word word ∷ words)
+end_line p word words good is h = line_of_slots p word (codes "end") words [] tt (λ x. close) (λ x. refl) (λ x fit. tt) good is h
 
 -- ---- assignments
 
@@ -77,32 +76,32 @@ abbrev AssignmentFor : LinePlace → List ℕ → LineWord → List ℕ → List
 AssignmentFor p target equals form words = LineFor p (plain_word target ∷ equals ∷ plain_word form ∷ words)
 
 -- a target, `=`, a form and the words of slots; the target fills the first slot
-line_of_form : (p : LinePlace) (target : List ℕ) (equals : LineWord) (form name : List ℕ) (words : List LineWord) (letter : ℕ) (slots : List Slot) → AllByRecursion IsSmall slots
+line_of_form : (p : LinePlace) (target : List ℕ) (equals : LineWord) (form name : List ℕ) (words : List LineWord) (letter : ℕ) (slots : List Slot) → AreUsual (register letter ∷ slots)
     → (line : Values (register letter ∷ slots) → Line)
-    → ((xs : Values (register letter ∷ slots)) → words_of_line (line xs) ≡ plain_word (letter ∷ decimal xs.0) ∷ plain_word (codes "=") ∷ plain_word name ∷ words_with slots xs.1)
-    → ((xs : Values (register letter ∷ slots)) → words ≡ words_with slots xs.1 → AllFit (register letter ∷ slots) xs → MayStand p (line xs))
-    → equals ≡ plain_word (codes "=") → form ≡ name → first_fault (register letter ∷ slots) (plain_word target ∷ words) ≡ None → AssignmentFor p target equals form words
-line_of_form p target equals form name words letter slots small line spelled may eq is h =
-    let f = filled (register letter ∷ slots) (plain_word target ∷ words) (tt, small) h in
+    → ((xs : Values (register letter ∷ slots)) → words_of_line (line xs) ≡ plain_word (letter ∷ decimal xs.0) ∷ plain_word (codes "=") ∷ plain_word name ∷ words_then slots xs.1 [])
+    → ((xs : Values (register letter ∷ slots)) → AllFit (register letter ∷ slots) xs → MayStand p (line xs))
+    → AreLineWords (plain_word target ∷ words) → equals ≡ plain_word (codes "=") → form ≡ name → first_fault (register letter ∷ slots) (plain_word target ∷ words) ≡ None → AssignmentFor p target equals form words
+line_of_form p target equals form name words letter slots usual line spelled may good eq is h =
+    let f = filled_line (register letter ∷ slots) (plain_word target ∷ words) usual good h in
     let first : plain_word target ≡ plain_word (letter ∷ decimal f.0.0) = let e = f.1 in cc in
-    let rest : words ≡ words_with slots f.0.1 = let e = f.1 in cc in
-    let all : plain_word target ∷ equals ∷ plain_word form ∷ words ≡ plain_word (letter ∷ decimal f.0.0) ∷ plain_word (codes "=") ∷ plain_word name ∷ words_with slots f.0.1 =
+    let rest : words ≡ words_then slots f.0.1 [] = let e = f.1 in cc in
+    let all : plain_word target ∷ equals ∷ plain_word form ∷ words ≡ plain_word (letter ∷ decimal f.0.0) ∷ plain_word (codes "=") ∷ plain_word name ∷ words_then slots f.0.1 [] =
     λ i. first i ∷ eq i ∷ plain_word (is i) ∷ rest i in
-    (line f.0, all ∙ sym (spelled f.0), may f.0 rest f.2)
+    (line f.0, all ∙ sym (spelled f.0), may f.0 f.2)
 
-op1_line : (p : LinePlace) (target : List ℕ) (equals : LineWord) (form : List ℕ) (words : List LineWord) → equals ≡ plain_word (codes "=") → is_op1 form ≡ true
+op1_line : (p : LinePlace) (target : List ℕ) (equals : LineWord) (form : List ℕ) (words : List LineWord) → AreLineWords (plain_word target ∷ words) → equals ≡ plain_word (codes "=") → is_op1 form ≡ true
     → first_fault (register 118 ∷ register 118 ∷ []) (plain_word target ∷ words) ≡ None → AssignmentFor p target equals form words
-op1_line p target equals form words eq is h = elim (named op1_word form OPS1) [
-  | inl (op, e) ↦ line_of_form p target equals form (op1_word op) words 118 (register 118 ∷ []) (tt, tt) (λ x. simple (apply_one x.0 op x.1.0)) (λ x. refl) (λ x _ fit. (fit.0, fit.1.0)) eq e h
+op1_line p target equals form words good eq is h = elim (named op1_word form OPS1) [
+  | inl (op, e) ↦ line_of_form p target equals form (op1_word op) words 118 (register 118 ∷ []) (refl, (refl, tt)) (λ x. simple (apply_one x.0 op x.1.0)) (λ x. refl) (λ x fit. (fit.0, fit.1.0)) good eq e h
   | inr none ↦ let no : is_op1 form ≡ false = rw (none.0, none.1.0, none.1.1.0) refl in absurd cc
 ]
 
-op2_line : (p : LinePlace) (target : List ℕ) (equals : LineWord) (form : List ℕ) (words : List LineWord) → equals ≡ plain_word (codes "=") → is_op2 form ≡ true
+op2_line : (p : LinePlace) (target : List ℕ) (equals : LineWord) (form : List ℕ) (words : List LineWord) → AreLineWords (plain_word target ∷ words) → equals ≡ plain_word (codes "=") → is_op2 form ≡ true
     → first_fault (register 118 ∷ register 118 ∷ register 118 ∷ []) (plain_word target ∷ words) ≡ None → AssignmentFor p target equals form words
-op2_line p target equals form words eq is h = elim (named op2_word form OPS2) [
+op2_line p target equals form words good eq is h = elim (named op2_word form OPS2) [
   | inl (op, e) ↦
-      line_of_form p target equals form (op2_word op) words 118 (register 118 ∷ register 118 ∷ []) (tt, (tt, tt))
-      (λ x. simple (apply_two x.0 op x.1.0 x.1.1.0)) (λ x. refl) (λ x _ fit. (fit.0, fit.1.0, fit.1.1.0)) eq e h
+      line_of_form p target equals form (op2_word op) words 118 (register 118 ∷ register 118 ∷ []) (refl, (refl, (refl, tt)))
+      (λ x. simple (apply_two x.0 op x.1.0 x.1.1.0)) (λ x. refl) (λ x fit. (fit.0, fit.1.0, fit.1.1.0)) good eq e h
   | inr (a, (b, (c, (d, (e, (f, (g, (i, (j, (k, (l, (m, (n, (o, _)))))))))))))) ↦ let no : is_op2 form ≡ false = rw (a, b, c, d, e, f, g, i, j, k, l, m, n, o) refl in absurd cc
 ]
 
@@ -110,44 +109,44 @@ by_form : {C : Type 0} (f : Option Wanted → Option ℕ) (b : Bool) (x y : Opti
 by_form f true x y g k h = g refl h
 by_form f false x y g k h = k refl h
 
-form_line : (p : LinePlace) (target : List ℕ) (equals : LineWord) (form : List ℕ) (words : List LineWord) → AreLineWords words → equals ≡ plain_word (codes "=")
+form_line : (p : LinePlace) (target : List ℕ) (equals : LineWord) (form : List ℕ) (words : List LineWord) → AreLineWords (plain_word target ∷ words) → equals ≡ plain_word (codes "=")
     → form_fault target (wanted_by form) words ≡ None → AssignmentFor p target equals form words
 form_line p target equals form words good eq h =
     let f : Option Wanted → Option ℕ = λ w. form_fault target w words in
-    by_form f (bytes_eq form (codes "int")) _ _ (λ e k. line_of_form p target equals form (codes "int") words 118 (signed ∷ []) (tt, tt) (λ x. simple (load_int x.0 x.1.0)) (λ x. refl) (λ x _ fit. (fit.0, fit.1.0)) eq (same_word form _ e) k) (λ _ h0.
-    by_form f (bytes_eq form (codes "text")) _ _ (λ e k. line_of_form p target equals form (codes "text") words 118 (text ∷ []) (tt, tt) (λ x. simple (load_text x.0 x.1.0)) (λ x. refl) (λ x said fit. (fit.0, (subst AreLineWords said good).0)) eq (same_word form _ e) k) (λ _ h1.
-    by_form f (bytes_eq form (codes "null")) _ _ (λ e k. line_of_form p target equals form (codes "null") words 118 [] tt (λ x. simple (load_null x.0)) (λ x. refl) (λ x _ fit. fit.0) eq (same_word form _ e) k) (λ _ h2.
-    by_form f (bytes_eq form (codes "mov")) _ _ (λ e k. line_of_form p target equals form (codes "mov") words 118 (register 118 ∷ []) (tt, tt) (λ x. simple (move_value x.0 x.1.0)) (λ x. refl) (λ x _ fit. (fit.0, fit.1.0)) eq (same_word form _ e) k) (λ _ h3.
-    by_form f (bytes_eq form (codes "get")) _ _ (λ e k. line_of_form p target equals form (codes "get") words 118 (operand ∷ number 0 255 ∷ []) (tt, (omega arith, tt)) (λ x. simple (get_field x.0 x.1.0 x.1.1.0)) (λ x. refl) (λ x _ fit. (fit.0, fit.1.0, fit.1.1.0.1)) eq (same_word form _ e) k) (λ _ h4.
-    by_form f (bytes_eq form (codes "key")) _ _ (λ e k. line_of_form p target equals form (codes "key") words 118 (number 0 255 ∷ []) (omega arith, tt) (λ x. simple (get_key x.0 x.1.0)) (λ x. refl) (λ x _ fit. (fit.0, fit.1.0.1)) eq (same_word form _ e) k) (λ _ h5.
-    by_form f (bytes_eq form (codes "new")) _ _ (λ e k. line_of_form p target equals form (codes "new") words 114 [] tt (λ x. simple (new_record x.0)) (λ x. refl) (λ x _ fit. fit.0) eq (same_word form _ e) k) (λ _ h6.
-    by_form f (bytes_eq form (codes "copy")) _ _ (λ e k. line_of_form p target equals form (codes "copy") words 114 (operand ∷ []) (tt, tt) (λ x. simple (copy_record x.0 x.1.0)) (λ x. refl) (λ x _ fit. (fit.0, fit.1.0)) eq (same_word form _ e) k) (λ _ h7.
-    by_form f (is_op1 form) _ _ (λ e k. op1_line p target equals form words eq e k) (λ _ h8.
-    by_form f (is_op2 form) _ _ (λ e k. op2_line p target equals form words eq e k) (λ _ k. absurd (some_fault (target_alone target) 9 k)) h8) h7) h6) h5) h4) h3) h2) h1) h0) h
+    by_form f (bytes_eq form (codes "int")) _ _ (λ e k. line_of_form p target equals form (codes "int") words 118 (signed ∷ []) (refl, (tt, tt)) (λ x. simple (load_int x.0 x.1.0)) (λ x. refl) (λ x fit. (fit.0, fit.1.0)) good eq (same_word form _ e) k) (λ _ h0.
+    by_form f (bytes_eq form (codes "text")) _ _ (λ e k. line_of_form p target equals form (codes "text") words 118 (text ∷ []) (refl, (tt, tt)) (λ x. simple (load_text x.0 x.1.0)) (λ x. refl) (λ x fit. (fit.0, fit.1.0)) good eq (same_word form _ e) k) (λ _ h1.
+    by_form f (bytes_eq form (codes "null")) _ _ (λ e k. line_of_form p target equals form (codes "null") words 118 [] (refl, tt) (λ x. simple (load_null x.0)) (λ x. refl) (λ x fit. fit.0) good eq (same_word form _ e) k) (λ _ h2.
+    by_form f (bytes_eq form (codes "mov")) _ _ (λ e k. line_of_form p target equals form (codes "mov") words 118 (register 118 ∷ []) (refl, (refl, tt)) (λ x. simple (move_value x.0 x.1.0)) (λ x. refl) (λ x fit. (fit.0, fit.1.0)) good eq (same_word form _ e) k) (λ _ h3.
+    by_form f (bytes_eq form (codes "get")) _ _ (λ e k. line_of_form p target equals form (codes "get") words 118 (operand ∷ number 0 255 ∷ []) (refl, (tt, (omega arith, tt))) (λ x. simple (get_field x.0 x.1.0 x.1.1.0)) (λ x. refl) (λ x fit. (fit.0, fit.1.0, fit.1.1.0.1)) good eq (same_word form _ e) k) (λ _ h4.
+    by_form f (bytes_eq form (codes "key")) _ _ (λ e k. line_of_form p target equals form (codes "key") words 118 (number 0 255 ∷ []) (refl, (omega arith, tt)) (λ x. simple (get_key x.0 x.1.0)) (λ x. refl) (λ x fit. (fit.0, fit.1.0.1)) good eq (same_word form _ e) k) (λ _ h5.
+    by_form f (bytes_eq form (codes "new")) _ _ (λ e k. line_of_form p target equals form (codes "new") words 114 [] (refl, tt) (λ x. simple (new_record x.0)) (λ x. refl) (λ x fit. fit.0) good eq (same_word form _ e) k) (λ _ h6.
+    by_form f (bytes_eq form (codes "copy")) _ _ (λ e k. line_of_form p target equals form (codes "copy") words 114 (operand ∷ []) (refl, (tt, tt)) (λ x. simple (copy_record x.0 x.1.0)) (λ x. refl) (λ x fit. (fit.0, fit.1.0)) good eq (same_word form _ e) k) (λ _ h7.
+    by_form f (is_op1 form) _ _ (λ e k. op1_line p target equals form words good eq e k) (λ _ h8.
+    by_form f (is_op2 form) _ _ (λ e k. op2_line p target equals form words good eq e k) (λ _ k. absurd (some_fault (target_alone target) 9 k)) h8) h7) h6) h5) h4) h3) h2) h1) h0) h
 
-assignment_line : (p : LinePlace) (target : List ℕ) (words : List LineWord) → AreLineWords words → assignment_fault target words ≡ None → LineFor p (plain_word target ∷ words)
+assignment_line : (p : LinePlace) (target : List ℕ) (words : List LineWord) → AreLineWords (plain_word target ∷ words) → assignment_fault target words ≡ None → LineFor p (plain_word target ∷ words)
 assignment_line p target [] good h = absurd (some_fault (target_alone target) 4 h)
 assignment_line p target (equals ∷ []) good h = by_cases (is_plain (codes "=") equals) _ _
     (λ _ e. absurd cc) (λ _ e. absurd cc) (or_else-none (target_alone target) _ h).1
 assignment_line p target (equals ∷ plain_word form ∷ words) good h = by_cases (is_plain (codes "=") equals) _ _
-    (λ e rest. form_line p target equals form words good.1.1 (is_plain-same (codes "=") equals e) rest) (λ _ e. absurd (some_fault (target_alone target) 8 e)) h
+    (λ e rest. form_line p target equals form words (good.0, good.1.1.1) (is_plain-same (codes "=") equals e) rest) (λ _ e. absurd (some_fault (target_alone target) 8 e)) h
 assignment_line p target (equals ∷ literal_word form ∷ words) good h = by_cases (is_plain (codes "=") equals) _ _
     (λ _ e. absurd (some_fault (target_alone target) 9 e)) (λ _ e. absurd (some_fault (target_alone target) 8 e)) h
 
 -- ---- all lines
 
-word_line : (p : LinePlace) (word : List ℕ) (words : List LineWord) → AreLineWords words → word_fault p word words ≡ None → LineFor p (plain_word word ∷ words)
+word_line : (p : LinePlace) (word : List ℕ) (words : List LineWord) → AreLineWords (plain_word word ∷ words) → word_fault p word words ≡ None → LineFor p (plain_word word ∷ words)
 word_line p word words good h =
-    by_cases (bytes_eq word (codes "set")) _ _ (λ e k. set_line p word words (same_word word _ e) k) (λ _ h0.
-    by_cases (bytes_eq word (codes "emit")) _ _ (λ e k. emit_line p word words (same_word word _ e) k) (λ _ h1.
-    by_cases (bytes_eq word (codes "if")) _ _ (λ e k. if_line p word words (same_word word _ e) k) (λ _ h2.
-    by_cases (bytes_eq word (codes "repeat")) _ _ (λ e k. repeat_line p word words (same_word word _ e) k) (λ _ h3.
-    by_cases (bytes_eq word (codes "each")) _ _ (λ e k. each_line p word words (same_word word _ e) k) (λ _ h4.
-    by_cases (bytes_eq word (codes "else")) _ _ (λ e k. else_line p word words (same_word word _ e) k) (λ _ h5.
-    by_cases (bytes_eq word (codes "end")) _ _ (λ e k. end_line p word words (same_word word _ e) k) (λ _ h6.
+    by_cases (bytes_eq word (codes "set")) _ _ (λ e k. set_line p word words good.1 (same_word word _ e) k) (λ _ h0.
+    by_cases (bytes_eq word (codes "emit")) _ _ (λ e k. emit_line p word words good.1 (same_word word _ e) k) (λ _ h1.
+    by_cases (bytes_eq word (codes "if")) _ _ (λ e k. if_line p word words good.1 (same_word word _ e) k) (λ _ h2.
+    by_cases (bytes_eq word (codes "repeat")) _ _ (λ e k. repeat_line p word words good.1 (same_word word _ e) k) (λ _ h3.
+    by_cases (bytes_eq word (codes "each")) _ _ (λ e k. each_line p word words good.1 (same_word word _ e) k) (λ _ h4.
+    by_cases (bytes_eq word (codes "else")) _ _ (λ e k. else_line p word words good.1 (same_word word _ e) k) (λ _ h5.
+    by_cases (bytes_eq word (codes "end")) _ _ (λ e k. end_line p word words good.1 (same_word word _ e) k) (λ _ h6.
     by_cases (is_target word) _ _ (λ _ k. assignment_line p word words good k) (λ _ k. absurd cc) h6) h5) h4) h3) h2) h1) h0) h
 
 pub line_of_words : (p : LinePlace) (words : List LineWord) → 0 < length words → AreLineWords words → statement_fault p words ≡ None → (l : Line) × (words ≡ words_of_line l) × MayStand p l
 line_of_words p [] some good h = absurd (omega (arith, some))
-line_of_words p (plain_word word ∷ words) some good h = word_line p word words good.1 h
+line_of_words p (plain_word word ∷ words) some good h = word_line p word words good h
 line_of_words p (literal_word bytes ∷ words) some good h = absurd cc

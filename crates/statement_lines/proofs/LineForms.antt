@@ -1,7 +1,7 @@
 -- A line is told from its words: no two lines that may stand have the same.
 use Rattle.std.proofs.Common.{◌≡◌, ◌<◌, ◌^◌, ◌==◌, inr, inl, ℕ, suc, ℤ, pos, negsuc, neg_ℤ, if◌then◌else◌, Option, None, unwrap_or, FitsSigned, List, [], ◌∷◌, ◌++◌, map, length, drop, get_or, nat_lt, codes, bytes_eq, decimal, refl, ap, ◌∙◌, arith, w64}
 use Rattle.std.specs.Fmt.{signed_decimal}
-use Rattle.std.specs.Str.Parse.{AllDigits, digits_value}
+use Rattle.std.specs.Str.Parse.{AllDigits}
 use Rattle.std.proofs.lemmas.Fmt.{decimal_is_IsNumeral}
 use Rattle.pact_record.specs.declared.operations.Op1.{Op1}
 use Rattle.pact_record.specs.declared.operations.Op1.TheVariants.{Not}
@@ -12,10 +12,11 @@ use Rattle.tac_syntax.specs.declared.statements.Rec.TheVariants.{Reg, Loop, Inpu
 use Rattle.tac_syntax.specs.declared.statements.LoopList.{LoopList}
 use Rattle.tac_syntax.specs.declared.statements.LoopList.TheVariants.{Group, Left as LeftGroup, Right as RightGroup}
 use Rattle.tac_syntax.specs.Code.{load_int, load_text, load_null, move_value, get_field, get_key, apply_one, apply_two, new_record, copy_record, set_field, emit_record, Line, simple, test, turns, over, otherwise, close}
-use Rattle.tac_syntax.specs.Grammar.{IsNumber, IsSpelledRecord, IsSpelledLine}
+use Rattle.tac_syntax.specs.Grammar.{IsSpelledRecord, IsSpelledLine}
 use Rattle.text_lines.specs.declared.line_words.LineWord.{LineWord}
 use Rattle.text_lines.specs.declared.line_words.LineWord.TheVariants.{Plain as plain_word, Literal as literal_word}
 use Rattle.text_lines.specs.OperandWords.{fixed_record, list_word, record_word, value_register}
+use Rattle.text_lines.proofs.DigitWords.{number_back, number_in, number_in-decimal}
 use Rattle.text_lines.proofs.SlotWords.{bytes_eq-decimal, digit_other}
 use Rattle.statement_lines.proofs.Operations.{each_op1, each_op2}
 use Rattle.statement_lines.specs.declared.operation_words.TheConstants.{OPS1, OPS2}
@@ -34,9 +35,6 @@ line_texts l = map word_bytes (words_of_line l)
 
 abbrev word_in : List (List ℕ) → ℕ → List ℕ
 word_in words n = get_or words n []
-
-abbrev number_in : List ℕ → ℕ
-number_in word = digits_value 10 word
 
 abbrev signed_in : List ℕ → ℤ
 signed_in [] = pos 0
@@ -89,9 +87,6 @@ line_in words = if bytes_eq (word_in words 1) (codes "=") then assigned_line (wo
 
 -- ---- a word stands for what it was made of
 
-pub number_in-decimal : (n : ℕ) → n < 2 ^ 64 → number_in (decimal n) ≡ n
-number_in-decimal n h = (decimal_is_IsNumeral n h).1
-
 signed_in-digits : (w : List ℕ) → AllDigits 10 w → signed_in w ≡ pos (number_in w)
 signed_in-digits [] h = refl
 signed_in-digits (b ∷ bs) h = let e = digit_other b 45 bs h (inl (omega arith)) in rw e refl
@@ -130,9 +125,6 @@ assigned_line-op2_word target a b =
     (refl, (refl, (refl, (refl, (refl, (refl, (refl, (refl, (refl, (refl, (refl, (refl, (refl, (refl, tt))))))))))))))
 
 -- ---- the line
-
-number_back : (n : ℕ) → IsNumber n → number_in (decimal n) ≡ n
-number_back n h = number_in-decimal n (omega (arith, h))
 
 pub line_in-line_texts : (lists : ℕ) (l : Line) → IsSpelledLine lists l → line_in (line_texts l) ≡ l
 line_in-line_texts lists (simple (load_int to value)) h =

@@ -65,7 +65,7 @@ not_ended [] some e = some refl
 not_ended (word ∷ words) some e = cc
 
 fault_complete : (s : FunctionState) (ws : List LineWord) → ws ≢ [] → AreLineWords ws → function_fault (place_at s) ws ≡ None → (l : FunctionLine) × (ws ≡ words_of_function_line l) × MayFollow s l
-fault_complete waiting ws some good e = let h = header_of_words ws some e in (header h.0 h.1 h.2, h.3, h.4)
+fault_complete waiting ws some good e = let h = header_of_words ws some good e in (header h.0 h.1 h.2, h.3, h.4)
 fault_complete (reading o) ws some good e = let l = line_of_words (place_of o.build) ws (some_length ws some) good e in (inside l.0, l.1, l.2)
 fault_complete (whole f) ws some good e = absurd (not_ended ws some e)
 

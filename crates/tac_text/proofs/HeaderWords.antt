@@ -1,25 +1,24 @@
 -- The words of a header, which are those of no other, and words without a fault.
 use Rattle.std.proofs.Common.{◌≡◌, ◌≢◌, ◌≤◌, ℕ, Bool, true, false, if◌then◌else◌, List, [], ◌∷◌, map, Option, Some, None, Result, Ok, Err, codes, bytes_eq, decimal, refl, ap, sym, subst, ◌∙◌, arith}
 use Rattle.std.specs.Prelude.{IfErr, IfOk}
-use Rattle.std.specs.Str.Parse.{digits_value}
-use Rattle.std.proofs.lemmas.Fmt.{decimal_is_IsNumeral}
 use Rattle.tac_syntax.specs.declared.functions.Kind.{Kind}
 use Rattle.tac_syntax.specs.declared.functions.Kind.TheVariants.{Map, Match, Cross, Reduce, CoGroup}
 use Rattle.tac_syntax.specs.Functions.{HasKeys, key_limit}
 use Rattle.text_lines.specs.declared.line_words.LineWord.{LineWord}
 use Rattle.text_lines.specs.declared.line_words.LineWord.TheVariants.{Plain as plain_word, Literal as literal_word}
-use Rattle.text_lines.proofs.DigitWords.{is_in_range-decimal}
+use Rattle.text_lines.proofs.DigitWords.{is_in_range-decimal, number_in, number_in-decimal}
 use Rattle.text_lines.specs.LineReading.{IsFaultOf, TellsFault}
 use Rattle.text_lines.specs.declared.faults.NotRead.{NotRead}
 use Rattle.text_lines.specs.declared.faults.NotRead.TheVariants.{Fault, Memory}
 use Rattle.tac_text.specs.Building.{build_start}
 use Rattle.tac_text.specs.FunctionAnswers.{GivesHeader, OpenData, begun}
-use Rattle.tac_text.specs.FunctionFaults.{function_name_fault, kind_named, key_slots, keys_fault, kind_fault, named_fault, is_part_or_end, header_fault}
+use Rattle.tac_text.specs.FunctionFaults.{kind_named, key_slots, keys_fault, kind_fault, named_fault, is_part_or_end, header_fault}
 use Rattle.tac_text.specs.FunctionLines.{header, header_words, IsHeader}
 use Rattle.tac_text.specs.Spelling.{kind_word, key_words}
-use Rattle.text_lines.specs.Slots.{number, first_fault}
-use Rattle.text_lines.proofs.FilledSlots.{filled}
-use Rattle.text_lines.proofs.Faultless.{by_cases, told_unless-none, or_else-none, same_word}
+use Rattle.text_lines.specs.CanonicalLines.{AreLineWords}
+use Rattle.text_lines.specs.Slots.{identifier, number, first_fault}
+use Rattle.text_lines.proofs.FilledSlots.{filled, filled_line, none_left}
+use Rattle.text_lines.proofs.Faultless.{by_cases, same_word}
 
 -- ---- a header's words have no fault
 
@@ -48,60 +47,57 @@ HeaderFor words = (name : List ℕ) × (kind : Kind) × (keys : ℕ) × (words �
 abbrev KeysFor : Kind → List LineWord → Type 0
 KeysFor kind words = (keys : ℕ) × (words ≡ map plain_word (key_words kind keys)) × HasKeys kind keys
 
-some_keys : (words : List LineWord) → first_fault (number 1 key_limit ∷ []) words ≡ None → (keys : ℕ) × (words ≡ plain_word (decimal keys) ∷ []) × ((1 ≤ keys) × (keys ≤ key_limit))
-some_keys words h = let f = filled (number 1 key_limit ∷ []) words (omega arith, tt) h in (f.0.0, f.1, f.2.0)
+some_keys : (words : List LineWord) → AreLineWords words → first_fault (number 1 key_limit ∷ []) words ≡ None → (keys : ℕ) × (words ≡ plain_word (decimal keys) ∷ []) × ((1 ≤ keys) × (keys ≤ key_limit))
+some_keys words good h =
+    let f = filled_line (number 1 key_limit ∷ []) words (omega arith, tt) good h in (f.0.0, f.1, f.2.0)
 
-none_left : (words : List LineWord) → first_fault [] words ≡ None → words ≡ []
-none_left words h = (filled [] words tt h).1
-
-keys_of_words : (kind : Kind) (words : List LineWord) → first_fault (key_slots kind) words ≡ None → KeysFor kind words
-keys_of_words Reduce words h = some_keys words h
-keys_of_words CoGroup words h = some_keys words h
-keys_of_words kind words h = (0, none_left words h, refl)
+keys_of_words : (kind : Kind) (words : List LineWord) → AreLineWords words → first_fault (key_slots kind) words ≡ None → KeysFor kind words
+keys_of_words Reduce words good h = some_keys words good h
+keys_of_words CoGroup words good h = some_keys words good h
+keys_of_words kind words good h = (0, none_left words h, refl)
 
 -- words behind the name
 abbrev KindFor : List LineWord → Type 0
 KindFor words = (kind : Kind) × (keys : ℕ) × (words ≡ plain_word (kind_word kind) ∷ map plain_word (key_words kind keys)) × HasKeys kind keys
 
-kind_found : (word : List ℕ) (words : List LineWord) (kind : Kind) → word ≡ kind_word kind → first_fault (key_slots kind) words ≡ None → KindFor (plain_word word ∷ words)
-kind_found word words kind e h = let keys = keys_of_words kind words h in (kind, keys.0, (λ i. plain_word (e i) ∷ keys.1 i), keys.2)
+kind_found : (word : List ℕ) (words : List LineWord) (kind : Kind) → AreLineWords words → word ≡ kind_word kind → first_fault (key_slots kind) words ≡ None → KindFor (plain_word word ∷ words)
+kind_found word words kind good e h = let keys = keys_of_words kind words good h in (kind, keys.0, (λ i. plain_word (e i) ∷ keys.1 i), keys.2)
 
 by_kind : {C : Type 0} (f : Option Kind → Option ℕ) (b : Bool) (x y : Option Kind) → (b ≡ true → f x ≡ None → C) → (f y ≡ None → C) → f (if b then x else y) ≡ None → C
 by_kind f true x y g k h = g refl h
 by_kind f false x y g k h = k h
 
-kind_of_words : (word : List ℕ) (words : List LineWord) → keys_fault (kind_named word) words ≡ None → KindFor (plain_word word ∷ words)
-kind_of_words word words h =
+kind_of_words : (word : List ℕ) (words : List LineWord) → AreLineWords words → keys_fault (kind_named word) words ≡ None → KindFor (plain_word word ∷ words)
+kind_of_words word words good h =
     let f : Option Kind → Option ℕ = λ k. keys_fault k words in
-    by_kind f (bytes_eq word (codes "map")) _ _ (λ e k. kind_found word words Map (same_word word _ e) k) (
-    by_kind f (bytes_eq word (codes "match")) _ _ (λ e k. kind_found word words Match (same_word word _ e) k) (
-    by_kind f (bytes_eq word (codes "cross")) _ _ (λ e k. kind_found word words Cross (same_word word _ e) k) (
-    by_kind f (bytes_eq word (codes "reduce")) _ _ (λ e k. kind_found word words Reduce (same_word word _ e) k) (
-    by_kind f (bytes_eq word (codes "cogroup")) _ _ (λ e k. kind_found word words CoGroup (same_word word _ e) k) (λ k. absurd cc))))) h
+    by_kind f (bytes_eq word (codes "map")) _ _ (λ e k. kind_found word words Map good (same_word word _ e) k) (
+    by_kind f (bytes_eq word (codes "match")) _ _ (λ e k. kind_found word words Match good (same_word word _ e) k) (
+    by_kind f (bytes_eq word (codes "cross")) _ _ (λ e k. kind_found word words Cross good (same_word word _ e) k) (
+    by_kind f (bytes_eq word (codes "reduce")) _ _ (λ e k. kind_found word words Reduce good (same_word word _ e) k) (
+    by_kind f (bytes_eq word (codes "cogroup")) _ _ (λ e k. kind_found word words CoGroup good (same_word word _ e) k) (λ k. absurd cc))))) h
 
-behind_name : (words : List LineWord) → kind_fault words ≡ None → KindFor words
-behind_name [] h = absurd cc
-behind_name (plain_word word ∷ words) h = kind_of_words word words h
-behind_name (literal_word bytes ∷ words) h = absurd cc
+behind_name : (words : List LineWord) → AreLineWords words → kind_fault words ≡ None → KindFor words
+behind_name [] good h = absurd cc
+behind_name (plain_word word ∷ words) good h = kind_of_words word words good.1 h
+behind_name (literal_word bytes ∷ words) good h = absurd cc
 
-behind_function : (first : List ℕ) (words : List LineWord) → first ≡ codes "function" → named_fault words ≡ None → HeaderFor (plain_word first ∷ words)
-behind_function first [] e h = absurd cc
-behind_function first (plain_word name ∷ words) e h =
-    let parts = or_else-none (function_name_fault (plain_word name)) (kind_fault words) h in
-    let kind = behind_name words parts.1 in
-    (name, kind.0, kind.1, (λ i. plain_word (e i) ∷ plain_word name ∷ kind.2 i), (told_unless-none _ _ parts.0, kind.3))
-behind_function first (literal_word bytes ∷ words) e h = absurd (let p = or_else-none (function_name_fault (literal_word bytes)) (kind_fault words) h in let q = p.0 in cc)
+behind_function : (first : List ℕ) (words : List LineWord) → AreLineWords words → first ≡ codes "function" → named_fault words ≡ None → HeaderFor (plain_word first ∷ words)
+behind_function first words good e h =
+    let f = filled kind_fault (identifier ∷ []) words (tt, tt) good h in
+    let kind = behind_name f.more f.good f.faultless in
+    let all = f.parts ∙ ap (λ (more : List LineWord). plain_word f.values.0 ∷ more) kind.2 in
+    (f.values.0, kind.0, kind.1, (λ i. plain_word (e i) ∷ all i), (f.fit.0, kind.3))
 
-pub header_of_words : (words : List LineWord) → words ≢ [] → header_fault words ≡ None → HeaderFor words
-header_of_words [] some h = absurd (some refl)
-header_of_words (plain_word word ∷ words) some h = by_cases (bytes_eq word (codes "function")) _ _
-    (λ e k. behind_function word words (same_word word _ e) k) (λ _ k. by_cases (is_part_or_end word) _ _ (λ _ e. absurd cc) (λ _ e. absurd cc) k) h
-header_of_words (literal_word bytes ∷ words) some h = absurd cc
+pub header_of_words : (words : List LineWord) → words ≢ [] → AreLineWords words → header_fault words ≡ None → HeaderFor words
+header_of_words [] some good h = absurd (some refl)
+header_of_words (plain_word word ∷ words) some good h = by_cases (bytes_eq word (codes "function")) _ _
+    (λ e k. behind_function word words good.1 (same_word word _ e) k) (λ _ k. by_cases (is_part_or_end word) _ _ (λ _ e. absurd cc) (λ _ e. absurd cc) k) h
+header_of_words (literal_word bytes ∷ words) some good h = absurd cc
 
 -- ---- words are those of one header
 
 keys_value : (k m : ℕ) → k ≤ key_limit → m ≤ key_limit → decimal k ≡ decimal m → k ≡ m
-keys_value k m h l e = sym (decimal_is_IsNumeral k (omega (arith, h))).1 ∙ ap (digits_value 10) e ∙ (decimal_is_IsNumeral m (omega (arith, l))).1
+keys_value k m h l e = sym (number_in-decimal k (omega (arith, h))) ∙ ap number_in e ∙ number_in-decimal m (omega (arith, l))
 
 one_kind : (a b : Kind) → kind_word a ≡ kind_word b → a ≡ b
 one_kind a b e = let same : Some a ≡ Some b = sym (kind_named-kind_word a) ∙ ap kind_named e ∙ kind_named-kind_word b in cc

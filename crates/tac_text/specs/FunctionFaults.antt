@@ -3,12 +3,10 @@ use Rattle.std.specs.Prelude.{ℕ, Bool, ◌||◌, if◌then◌else◌, Option, 
 use Rattle.tac_syntax.specs.declared.functions.Kind.{Kind}
 use Rattle.tac_syntax.specs.declared.functions.Kind.TheVariants.{Map, Match, Cross, Reduce, CoGroup}
 use Rattle.tac_syntax.specs.Functions.{key_limit}
-use Rattle.tac_syntax.specs.Names.{is_name}
 use Rattle.text_lines.specs.declared.line_words.LineWord.{LineWord}
 use Rattle.text_lines.specs.declared.line_words.LineWord.TheVariants.{Plain as plain_word, Literal as literal_word}
-use Rattle.text_lines.specs.Digits.{told_unless, or_else}
 use Rattle.statement_lines.specs.StatementFaults.{statement_fault}
-use Rattle.text_lines.specs.Slots.{Slot, number, first_fault}
+use Rattle.text_lines.specs.Slots.{Slot, identifier, number, fault_then, first_fault}
 use Rattle.statement_lines.specs.StatementLines.{LinePlace}
 
 -- before the header, inside the function, and behind its `end`
@@ -18,11 +16,6 @@ pub data FunctionPlace : Type 0 where
   function_ended : FunctionPlace
 
 -- ---- headers
-
--- fault 6 where a word is no name
-abbrev pub function_name_fault : LineWord → Option ℕ
-function_name_fault (plain_word word) = told_unless (is_name word) 6
-function_name_fault (literal_word bytes) = Some 6
 
 abbrev pub kind_named : List ℕ → Option Kind
 kind_named word =
@@ -54,8 +47,7 @@ kind_fault (word ∷ words) = keys_fault (kind_of_word word) words
 
 -- the words behind `function`
 abbrev pub named_fault : List LineWord → Option ℕ
-named_fault [] = Some 4
-named_fault (word ∷ words) = or_else (function_name_fault word) (kind_fault words)
+named_fault words = fault_then kind_fault (identifier ∷ []) words
 
 abbrev pub is_part_or_end : List ℕ → Bool
 is_part_or_end word = bytes_eq word (codes "else") || bytes_eq word (codes "end")

@@ -1,8 +1,6 @@
 -- What reading the words of a header answers: each part, or the first fault from it on.
-use Rattle.std.specs.Prelude.{◌≡◌, ℕ, List, ◌∷◌, map, Result, Ok, Err, IsTrue, codes}
-use Rattle.std.specs.Borrow.{Bor}
+use Rattle.std.specs.Prelude.{◌≡◌, ℕ, List, ◌∷◌, map, Result, Ok, Err, codes}
 use Rattle.tac_syntax.specs.Functions.{HasKeys}
-use Rattle.tac_syntax.specs.Names.{is_name}
 use Rattle.tac_syntax.specs.declared.functions.Kind.{Kind}
 use Rattle.text_lines.specs.declared.line_words.LineWord.{LineWord}
 use Rattle.text_lines.specs.declared.line_words.LineWord.TheVariants.{Plain as plain_word}
@@ -17,10 +15,6 @@ use Rattle.tac_text.specs.Spelling.{key_words, kind_word}
 abbrev pub ReadsFirst : {T : Type 0} → Result T NotRead → List LineWord → List LineWord → Type 0
 ReadsFirst (Ok x) old now = (old ≡ plain_word (codes "function") ∷ now) × (header_fault old ≡ named_fault now)
 ReadsFirst (Err e) old now = IsFaultOf e (header_fault old)
-
-abbrev pub ReadsName : Result (Bor (List ℕ)) NotRead → List LineWord → List LineWord → Type 0
-ReadsName (Ok name) old now = (old ≡ plain_word name.now ∷ now) × IsTrue (is_name name.now) × (named_fault old ≡ kind_fault now)
-ReadsName (Err e) old now = IsFaultOf e (named_fault old)
 
 abbrev pub ReadsKind : Result Kind NotRead → List LineWord → List LineWord → Type 0
 ReadsKind (Ok kind) old now = (old ≡ plain_word (kind_word kind) ∷ now) × (kind_fault old ≡ first_fault (key_slots kind) now)

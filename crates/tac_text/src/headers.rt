@@ -2,10 +2,10 @@
 
 ghost use Rattle.std.specs.Prelude.{◌≡◌, ◌<◌, length};
 ghost use Rattle.tac_text.specs.FunctionFaults.{is_part_or_end, kind_of_word};
-ghost use Rattle.tac_text.specs.HeaderReading.{ReadsFirst, ReadsHeader, ReadsKeys, ReadsKind, ReadsName};
+ghost use Rattle.tac_text.specs.HeaderReading.{ReadsFirst, ReadsHeader, ReadsKeys, ReadsKind};
 
 use crate::kind_words::kind_named;
-use tac_syntax::{Kind, is_name};
+use tac_syntax::Kind;
 use text_lines::{Cursor, LineWord, NotRead, is_word};
 
 /// What a header says.
@@ -14,21 +14,6 @@ pub struct Header<'a> {
     pub name: &'a [u8],
     pub kind: Kind,
     pub keys: u32,
-}
-
-fn read_name<'a>(words: &mut Cursor<'a>) -> Result<&'a [u8], NotRead>
-    ensures { ReadsName result words.old words.new }
-{
-    match words.next()? {
-        LineWord::Plain(bytes) => {
-            if is_name(bytes.bytes()) {
-                Ok(bytes.bytes())
-            } else {
-                Err(NotRead::Fault { what: 6 })
-            }
-        }
-        LineWord::Literal(_) => Err(NotRead::Fault { what: 6 }),
-    }
 }
 
 fn kind_of_word(word: &LineWord) -> Option<Kind>
@@ -93,7 +78,7 @@ pub fn read_parts<'a>(words: &'a [LineWord]) -> Result<Header<'a>, NotRead>
 {
     let mut words = Cursor::new(words);
     read_first(&mut words)?;
-    let name = read_name(&mut words)?;
+    let name = words.name()?;
     let kind = read_kind(&mut words)?;
     let keys = read_keys(kind, &mut words)?;
     Ok(Header { name, kind, keys })

@@ -8,6 +8,7 @@ use Rattle.std.proofs.lemmas.Bool.Decides.{nat_tests}
 use Rattle.std.proofs.lemmas.Fmt.{IsAscii-from_digits, decimal-digits_value, decimal_is_IsNumeral, first_decimal, length-decimal-le}
 use Rattle.std.proofs.lemmas.Str.{IsUtf8-from_ascii}
 use Rattle.std.proofs.lemmas.Str.Parse.{IsDigitsTest, IsNumeralModel, numerals_by_value}
+use Rattle.tac_syntax.specs.Grammar.{IsNumber}
 use Rattle.text_lines.specs.Digits.{is_digit, are_digits, is_number_word, is_in_range, is_signed_word}
 
 -- no byte is another than a digit
@@ -70,6 +71,16 @@ pub is_in_range-decimal : (low high n : ℕ) → low ≤ n → n ≤ high → n 
 is_in_range-decimal low high n above below small =
     let v = (decimal_is_IsNumeral n small).1 in
     rw (are_digits-decimal n small, first_or_short n small, v, le-leb low n above, le-leb n high below) refl
+
+-- the number of a word in digits
+abbrev pub number_in : List ℕ → ℕ
+number_in word = digits_value 10 word
+
+pub number_in-decimal : (n : ℕ) → n < 2 ^ 64 → number_in (decimal n) ≡ n
+number_in-decimal n h = (decimal_is_IsNumeral n h).1
+
+pub number_back : (n : ℕ) → IsNumber n → number_in (decimal n) ≡ n
+number_back n h = number_in-decimal n (omega (arith, h))
 
 -- ---- numbers with a sign
 

@@ -14,3 +14,4 @@ pub mod ReadOperands
 pub mod SlotWords
 pub mod FineWords
 pub mod FilledSlots
+pub mod ListSlots

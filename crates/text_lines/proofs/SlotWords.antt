@@ -1,5 +1,5 @@
 -- The words that fill slots.
-use Rattle.std.proofs.Common.{◌≡◌, ◌≤◌, ◌<◌, ◌^◌, ◌==◌, ◌&&◌, ◌⊎◌, inl, inr, false, ℕ, zero, suc, nat_le, nat_lt, ◌-◌, ℤ, pos, negsuc, true, List, [], ◌∷◌, None, FitsSigned, w64, codes, bytes_eq, decimal, refl, ap, sym, ◌∙◌, arith}
+use Rattle.std.proofs.Common.{◌≡◌, ◌≤◌, ◌<◌, ◌^◌, ◌==◌, ◌&&◌, ◌++◌, ◌⊎◌, inl, inr, Bool, false, ℕ, take, drop, zero, suc, nat_le, nat_lt, ◌-◌, ℤ, pos, negsuc, true, List, [], ◌∷◌, None, FitsSigned, w64, codes, bytes_eq, decimal, take-append-drop, refl, ap, sym, ◌∙◌, arith}
 use Rattle.std.specs.Fmt.{signed_decimal}
 use Rattle.std.specs.Str.Parse.{AllDigits, digits_value}
 use Rattle.std.proofs.lemmas.Bool.{and_from, and_parts, eq-eqb, eqb-true, le-leb, ltb-true, or_cases}
@@ -11,8 +11,9 @@ use Rattle.tac_syntax.specs.declared.statements.Rec.TheVariants.{Reg, Loop, Inpu
 use Rattle.tac_syntax.specs.declared.statements.LoopList.{LoopList}
 use Rattle.tac_syntax.specs.declared.statements.LoopList.TheVariants.{Group, Left as LeftGroup, Right as RightGroup}
 use Rattle.tac_syntax.specs.Grammar.{IsNumber, IsLoopName, IsTurnCount, IsSpelledRecord}
-use Rattle.text_lines.specs.OperandWords.{record_word, list_word}
-use Rattle.text_lines.specs.Slots.{numbered_fault, register_fault, is_fixed_record, operand_fault, name_fault, is_list_word}
+use Rattle.pact_record.specs.declared.columns.Column.{Column}
+use Rattle.text_lines.specs.OperandWords.{column_text, record_word, list_word}
+use Rattle.text_lines.specs.Slots.{begins_with, column_fault, numbered_fault, register_fault, is_fixed_record, operand_fault, name_fault, is_list_word}
 use Rattle.text_lines.specs.Digits.{is_in_form, is_in_range, is_number_word, is_signed_word}
 use Rattle.text_lines.proofs.Faultless.{by_cases, same_word, told_unless-none}
 use Rattle.text_lines.proofs.DigitWords.{are_digits-decimal, is_in_range-decimal, number_spelled}
@@ -54,6 +55,10 @@ operand_fault-record_word Left h = refl
 operand_fault-record_word Right h = refl
 operand_fault-record_word Join h = refl
 operand_fault-record_word First h = refl
+
+pub column_fault-column_text : (field : ℕ) (text : Bool) → IsNumber field → column_fault (column_text (record { field = field; text = text })) ≡ None
+column_fault-column_text field true h = rw (number_fits field h) refl
+column_fault-column_text field false h = rw (number_fits field h) refl
 
 pub is_list_word-list_word : (l : LoopList) → is_list_word (list_word l) ≡ true
 is_list_word-list_word Group = refl
@@ -167,3 +172,23 @@ name_spelled name (b ∷ bytes) h = by_cases (is_in_form 120 (b ∷ bytes)) _ _
     ((omega (arith, n.above, same), omega (arith, n.below, same)), λ i. letter i ∷ (n.spelled ∙ ap decimal same) i))
     (λ _ e. absurd cc) rest)
     (λ _ e. absurd cc) h
+
+pub record ColumnSpelled (word : List ℕ) : Type 0 where
+  pub column : Column
+  pub fits : IsNumber column.field
+  pub spelled : word ≡ column_text column
+
+-- what stands behind the bytes that a word begins with
+split_at : (front word : List ℕ) (n : ℕ) → bytes_eq (take n word) front ≡ true → word ≡ front ++ drop n word
+split_at front word n h = sym (take-append-drop n word) ∙ ap (λ (x : List ℕ). x ++ drop n word) (same_word (take n word) front h)
+
+pub column_spelled : (word : List ℕ) → column_fault word ≡ None → ColumnSpelled word
+column_spelled word h = by_cases (begins_with (codes "text:") word) _ _
+    (λ begins told.
+    let n = number_spelled 0 255 (drop 5 word) (omega arith) (told_unless-none _ _ told) in
+    record { column = record { field = n.number; text = true }; fits = n.below; spelled = split_at (codes "text:") word 5 begins ∙ ap (λ (digits : List ℕ). codes "text:" ++ digits) n.spelled })
+    (λ _ other. by_cases (begins_with (codes "int:") word) _ _
+    (λ begins told.
+    let n = number_spelled 0 255 (drop 4 word) (omega arith) (told_unless-none _ _ told) in
+    record { column = record { field = n.number; text = false }; fits = n.below; spelled = split_at (codes "int:") word 4 begins ∙ ap (λ (digits : List ℕ). codes "int:" ++ digits) n.spelled })
+    (λ _ e. absurd cc) other) h

@@ -1,6 +1,7 @@
 -- The words of operands.
 use Rattle.std.specs.Prelude.{ℕ, List, ◌++◌, Option, Some, None, if◌then◌else◌, codes, bytes_eq}
 use Rattle.std.specs.Fmt.{decimal}
+use Rattle.pact_record.specs.declared.columns.Column.{Column}
 use Rattle.tac_syntax.specs.declared.statements.Rec.{Rec}
 use Rattle.tac_syntax.specs.declared.statements.Rec.TheVariants.{Reg, Loop, Input, Left, Right, Join, First}
 use Rattle.tac_syntax.specs.declared.statements.LoopList.{LoopList}
@@ -28,6 +29,10 @@ abbrev pub list_word : LoopList → List ℕ
 list_word Group = codes "group"
 list_word LeftGroup = codes "left"
 list_word RightGroup = codes "right"
+
+-- a column is its field's number behind `text:` or `int:`
+abbrev pub column_text : Column → List ℕ
+column_text c = (if c.text then codes "text:" else codes "int:") ++ decimal c.field
 
 -- the record of a word that has no number
 abbrev pub fixed_record : List ℕ → Option Rec

@@ -1,8 +1,9 @@
 -- What is wanted at the places of a line, and what is wrong with the words that stand there: the first fault from the left.
-use Rattle.std.specs.Prelude.{ℕ, ◌==◌, Bool, ◌||◌, if◌then◌else◌, Option, Some, None, List, [], ◌∷◌, codes, bytes_eq}
+use Rattle.std.specs.Prelude.{ℕ, ◌-◌, ◌==◌, Bool, false, ◌||◌, if◌then◌else◌, Option, Some, None, List, [], ◌∷◌, length, take, drop, codes, bytes_eq}
 use Rattle.std.specs.Str.Parse.{digits_value}
+use Rattle.tac_syntax.specs.Names.{is_name, is_file_name}
 use Rattle.text_lines.specs.Digits.{is_in_form, is_in_range, is_signed_word, told_unless, or_else}
-use Rattle.text_lines.specs.LineGrammar.{LineWord, plain_word, literal_word}
+use Rattle.text_lines.specs.LineGrammar.{LineWord, plain_word, literal_word, is_plain}
 
 -- what is wanted at a word's place
 pub data Slot : Type 0 where
@@ -14,6 +15,9 @@ pub data Slot : Type 0 where
   text : Slot
   loop : (name : ℕ) → Slot
   list : Slot
+  identifier : Slot
+  file_name : Slot
+  column : Slot
 
 -- behind a letter
 abbrev pub numbered_fault : ℕ → ℕ → List ℕ → Option ℕ
@@ -42,28 +46,74 @@ name_fault name (b ∷ bytes) =
 abbrev pub is_list_word : List ℕ → Bool
 is_list_word word = bytes_eq word (codes "group") || bytes_eq word (codes "left") || bytes_eq word (codes "right")
 
--- a literal stands only where a text is wanted; where a number is, it is no number
+abbrev pub begins_with : List ℕ → List ℕ → Bool
+begins_with front word = bytes_eq (take (length front) word) front
+
+-- a field's number behind `text:` or `int:`
+abbrev pub column_fault : List ℕ → Option ℕ
+column_fault word =
+    if begins_with (codes "text:") word then told_unless (is_in_range 0 255 (drop 5 word)) 7
+    else (if begins_with (codes "int:") word then told_unless (is_in_range 0 255 (drop 4 word)) 7 else Some 8)
+
+-- what is told of a word of another kind
+abbrev pub other_fault : Slot → ℕ
+other_fault (number low high) = 7
+other_fault signed = 7
+other_fault identifier = 6
+other_fault file_name = 6
+other_fault slot = 8
+
+-- A literal stands only where a text is wanted, and nothing else does.
 abbrev pub slot_fault : Slot → LineWord → Option ℕ
 slot_fault (fixed w) (plain_word word) = told_unless (bytes_eq word w) 8
-slot_fault (fixed w) (literal_word bytes) = Some 8
 slot_fault (register letter) (plain_word word) = register_fault letter word
-slot_fault (register letter) (literal_word bytes) = Some 8
 slot_fault operand (plain_word word) = operand_fault word
-slot_fault operand (literal_word bytes) = Some 8
 slot_fault (number low high) (plain_word word) = told_unless (is_in_range low high word) 7
-slot_fault (number low high) (literal_word bytes) = Some 7
 slot_fault signed (plain_word word) = told_unless (is_signed_word word) 7
-slot_fault signed (literal_word bytes) = Some 7
-slot_fault text (plain_word word) = Some 8
-slot_fault text (literal_word bytes) = None
 slot_fault (loop name) (plain_word word) = name_fault name word
-slot_fault (loop name) (literal_word bytes) = Some 8
 slot_fault list (plain_word word) = told_unless (is_list_word word) 8
-slot_fault list (literal_word bytes) = Some 8
+slot_fault identifier (plain_word word) = told_unless (is_name word) 6
+slot_fault file_name (plain_word word) = told_unless (is_file_name word) 6
+slot_fault column (plain_word word) = column_fault word
+slot_fault text (literal_word bytes) = None
+slot_fault slot word = Some (other_fault slot)
 
--- from the left: a word that is needed and missing, or left over
+-- ---- the words of a line, from the left
+
+abbrev pub nothing_left : List LineWord → Option ℕ
+nothing_left [] = None
+nothing_left (word ∷ words) = Some 5
+
+-- a word at each place, and behind them words that have this fault
+abbrev pub fault_then : (List LineWord → Option ℕ) → List Slot → List LineWord → Option ℕ
+fault_then behind [] words = behind words
+fault_then behind (slot ∷ slots) [] = Some 4
+fault_then behind (slot ∷ slots) (word ∷ words) = or_else (slot_fault slot word) (fault_then behind slots words)
+
+-- a word that is needed and missing, or left over
 abbrev pub first_fault : List Slot → List LineWord → Option ℕ
-first_fault [] [] = None
-first_fault [] (word ∷ words) = Some 5
-first_fault (slot ∷ slots) [] = Some 4
-first_fault (slot ∷ slots) (word ∷ words) = or_else (slot_fault slot word) (first_fault slots words)
+first_fault slots words = fault_then nothing_left slots words
+
+-- What a list ends with: a word behind which others stand, or none; and what is told where it is missing, and where it is due.
+pub record ListEnd : Type 0 where
+  pub ends : LineWord → Bool
+  pub behind : List LineWord → Option ℕ
+  pub missing : Option ℕ
+  pub full : ℕ
+
+abbrev pub line_end : ListEnd
+line_end = record { ends = λ _. false; behind = λ _. None; missing = None; full = 5 }
+
+abbrev pub equals_then : (List LineWord → Option ℕ) → ListEnd
+equals_then behind = record { ends = is_plain (codes "="); behind = behind; missing = Some 4; full = 8 }
+
+-- Where there is room for so many more: each word up to the list's end has to fit, also the first that is too many.
+abbrev pub items_fault : Slot → ListEnd → ℕ → List LineWord → Option ℕ
+items_fault slot e room [] = e.missing
+items_fault slot e room (word ∷ words) =
+    if e.ends word then e.behind words else or_else (slot_fault slot word) (if room == 0 then Some e.full else items_fault slot e (room - 1) words)
+
+-- one word or more, up to the limit
+abbrev pub list_fault : Slot → ListEnd → ℕ → List LineWord → Option ℕ
+list_fault slot e limit [] = Some 4
+list_fault slot e limit (word ∷ words) = or_else (slot_fault slot word) (items_fault slot e (limit - 1) words)

@@ -1,26 +1,30 @@
 //! The words of a line, read from the left.
 
-ghost use Rattle.std.specs.Prelude.{◌≡◌, ◌≤◌, ◌∷◌, [], FitsSigned, IfErr, IfOk, decimal, length};
+ghost use Rattle.std.specs.Prelude.{◌≡◌, ◌≤◌, ◌∷◌, [], FitsSigned, IfErr, IfOk, IsTrue, decimal, length};
 ghost use Rattle.std.specs.Bool.{OnFalse, OnTrue};
 ghost use Rattle.std.specs.Fmt.{signed_decimal};
 ghost use Rattle.tac_syntax.specs.Grammar.{IsLoopName, IsNumber, IsSpelledRecord};
+ghost use Rattle.tac_syntax.specs.Names as names;
 ghost use Rattle.text_lines.specs.Cursors.{IsNoPlain, IsOther, ReadsEnd, ReadsNext};
 ghost use Rattle.text_lines.specs.declared.faults.NotRead.TheVariants.{Fault};
 ghost use Rattle.text_lines.specs.LineGrammar.{literal_word, plain_word};
 ghost use Rattle.text_lines.specs.LineReading.{IsTold};
-ghost use Rattle.text_lines.specs.OperandWords.{list_word, loop_name, record_register, record_word, value_register};
-ghost use Rattle.text_lines.specs.Slots.{fixed, list, loop, number, operand, register, signed, text};
+ghost use Rattle.text_lines.specs.OperandWords.{column_text, list_word, loop_name, record_register, record_word, value_register};
+ghost use Rattle.text_lines.specs.Slots.{column, file_name, fixed, identifier, list, loop, number, operand, register, signed, text};
 ghost use mir.Syntax.{w64};
 
 use crate::faults::NotRead;
 use crate::line_words::LineWord;
-use crate::operands::{list_in, name_in, number_in, operand_in, record_in, signed_in, value_in};
+use crate::operands::{
+    column_in, list_in, name_in, number_in, operand_in, record_in, signed_in, value_in,
+};
+use pact_record::Column;
 use std::marker::Model;
-use tac_syntax::{LoopList, Rec};
+use tac_syntax::{LoopList, Rec, is_file_name, is_name};
 
 /// The words of a line that aren't read yet. Each call that reads a word moves behind it, or tells the first fault
-/// of these words: fault 4 where there is none, fault 7 for a number out of range, fault 8 for a word of another
-/// kind. Behind a fault nothing is known of the place.
+/// of these words: fault 4 where there is none, fault 6 for no name, fault 7 for a number out of range, fault 8 for a
+/// word of another kind. Behind a fault nothing is known of the place.
 #[derive(Debug, Drop)]
 pub struct Cursor<'a> {
     words: &'a [LineWord],
@@ -161,6 +165,37 @@ impl<'a> Cursor<'a> {
         ensures { ReadsNext list (λ _. Unit {0}) (λ items. plain_word (list_word items)) result self.old self.new }
     {
         list_in(self.plain(8)?)
+    }
+
+    /// A name of what a program declares.
+    pub fn name(&mut self) -> Result<&'a [u8], NotRead>
+        ensures { ReadsNext identifier (λ name. IsTrue (names.is_name name.now)) (λ name. plain_word name.now) result self.old self.new }
+    {
+        let word = self.plain(6)?;
+        if is_name(word) {
+            Ok(word)
+        } else {
+            Err(NotRead::Fault { what: 6 })
+        }
+    }
+
+    /// The name of a file.
+    pub fn file_name(&mut self) -> Result<&'a [u8], NotRead>
+        ensures { ReadsNext file_name (λ name. IsTrue (names.is_file_name name.now)) (λ name. plain_word name.now) result self.old self.new }
+    {
+        let word = self.plain(6)?;
+        if is_file_name(word) {
+            Ok(word)
+        } else {
+            Err(NotRead::Fault { what: 6 })
+        }
+    }
+
+    /// A column of a source.
+    pub fn column(&mut self) -> Result<Column, NotRead>
+        ensures { ReadsNext column (λ c. IsNumber c.field) (λ c. plain_word (column_text c)) result self.old self.new }
+    {
+        column_in(self.plain(8)?)
     }
 
     /// The line's end: fault 5 where a word is left over.

@@ -6,14 +6,15 @@ ghost use Rattle.tac_syntax.specs.Grammar.{IsLoopName, IsNumber, IsSpelledRecord
 ghost use Rattle.text_lines.specs.Cursors.{ReadsPlain};
 ghost use Rattle.text_lines.specs.Digits.{is_in_form, is_in_range, is_signed_word, told_unless};
 ghost use Rattle.text_lines.specs.LineReading.{IsTold};
-ghost use Rattle.text_lines.specs.OperandWords.{fixed_record, list_word, loop_name, record_register, record_word, value_register};
-ghost use Rattle.text_lines.specs.Slots.{is_list_word, name_fault, numbered_fault, operand_fault, register_fault};
+ghost use Rattle.text_lines.specs.OperandWords.{column_text, fixed_record, list_word, loop_name, record_register, record_word, value_register};
+ghost use Rattle.text_lines.specs.Slots.{column_fault, is_list_word, name_fault, numbered_fault, operand_fault, register_fault};
 ghost use mir.Syntax.{w64};
 
 use crate::digits::{is_in_form, is_in_range};
 use crate::faults::NotRead;
 use crate::line_words::is_word;
 use crate::numbers::{read_number, read_signed};
+use pact_record::Column;
 use tac_syntax::{LoopList, Rec};
 
 /// A number in a range, if the word is one.
@@ -118,6 +119,25 @@ pub fn operand_in(word: &[u8]) -> Result<Rec, NotRead>
         return Ok(Rec::Reg(numbered(b'r', 0, 255, word)?));
     }
     Ok(Rec::Loop(numbered(b'x', 1, 64, word)?))
+}
+
+/// A column of a source.
+pub fn column_in(word: &[u8]) -> Result<Column, NotRead>
+    ensures { ReadsPlain (column_fault word.now) (λ c. IsNumber c.field) column_text result word.now }
+{
+    if let Some(digits) = word.strip_prefix(b"text:") {
+        return Ok(Column {
+            field: number_in(0, 255, digits)?,
+            text: true,
+        });
+    }
+    match word.strip_prefix(b"int:") {
+        Some(digits) => Ok(Column {
+            field: number_in(0, 255, digits)?,
+            text: false,
+        }),
+        None => Err(NotRead::Fault { what: 8 }),
+    }
 }
 
 /// The list of a loop.
