@@ -1,155 +1,87 @@
 //! The canonical lines of declarations.
 
-ghost use Rattle.std.specs.Prelude.{◌≡◌, ◌++◌, ◌∷◌, [], IfOk, OnOk, codes, decimal, map};
-ghost use Rattle.tac_syntax.specs.declared.declarations.OpKind.TheVariants.{Match};
-ghost use Rattle.tac_syntax.specs.Declarations.{IsSpelledDecl, kind_word};
-ghost use Rattle.text_lines.specs.CanonicalLines.{canonical_line};
-ghost use Rattle.program_text.specs.DeclarationWords.{column_word, number_words, plain_words, words_of_decl};
-ghost use Rattle.program_text.specs.DeclarationWriting.{has_right, keys_words, right_words, words_text};
+ghost use Rattle.std.specs.Prelude.{◌≡◌, ◌++◌, ◌∷◌, [], IfOk, codes, map};
+ghost use Rattle.tac_syntax.specs.Declarations.{IsSpelledDecl};
+ghost use Rattle.text_lines.specs.CanonicalLines.{canonical_line, word_text};
+ghost use Rattle.text_lines.specs.declared.line_words.LineWord.TheVariants.{Plain as plain_word};
+ghost use Rattle.program_text.specs.DeclarationWords.{column_word, key_pair_words, number_words, words_of_decl};
+ghost use Rattle.program_text.specs.DeclarationWriting.{behind_left};
 
 use pact_record::{Bytes, Columns, OutOfMemory, Word};
+use statement_lines::{Words, put_line};
 use std::alloc::Global;
 use tac_syntax::{Decl, Numbers, OpKind};
 
-// Whether operators of the kind have a second input.
-fn has_right(kind: OpKind) -> bool
-    ensures { result ≡ has_right kind }
-{
-    match kind {
-        OpKind::Source | OpKind::Map | OpKind::Reduce => false,
-        OpKind::Match | OpKind::Cross | OpKind::CoGroup => true,
-    }
-}
-
-fn put_word(line: &mut Bytes, word: &[u8]) -> Result<(), OutOfMemory>
-    ensures { OnOk result (line.new ≡ line.old ++ 32 ∷ word.now) }
-{
-    line.push(b' ')?;
-    line.extend_from_slice(word)
-}
-
-// A number behind other bytes.
-fn put_number(alloc: Global, line: &mut Bytes, front: &[u8], number: u32) -> Result<(), OutOfMemory>
-    ensures { OnOk result (line.new ≡ line.old ++ 32 ∷ (front.now ++ decimal number)) }
-{
-    put_word(line, front)?;
-    line.extend_from_slice(number.to_string(alloc)?.as_bytes())
-}
-
-fn put_numbers(alloc: Global, line: &mut Bytes, numbers: &Numbers) -> Result<(), OutOfMemory>
-    ensures { OnOk result (line.new ≡ line.old ++ words_text (number_words numbers.now)) }
+fn and_numbers(alloc: Global, mut words: Words, numbers: &Numbers) -> Result<Words, OutOfMemory>
+    ensures { IfOk result (λ all. all ≡ words ++ map word_text (number_words numbers.now)) }
 {
     for number in numbers.numbers() {
-        put_number(alloc, line, b"", *number)?;
+        words = words.and_number(alloc, b"", *number)?;
     }
-    Ok(())
+    Ok(words)
 }
 
-fn put_columns(alloc: Global, line: &mut Bytes, columns: &Columns) -> Result<(), OutOfMemory>
-    ensures { OnOk result (line.new ≡ line.old ++ words_text (map column_word columns.now)) }
+fn and_columns(alloc: Global, mut words: Words, columns: &Columns) -> Result<Words, OutOfMemory>
+    ensures { IfOk result (λ all. all ≡ words ++ map word_text (map column_word columns.now)) }
 {
     for column in columns.columns() {
         let front: &[u8] = if column.text { b"text:" } else { b"int:" };
-        put_number(alloc, line, front, column.field)?;
+        words = words.and_number(alloc, front, column.field)?;
     }
-    Ok(())
+    Ok(words)
 }
 
-fn put_right(line: &mut Bytes, kind: OpKind, right: &Word) -> Result<(), OutOfMemory>
-    ensures { OnOk result (line.new ≡ line.old ++ words_text (right_words kind right.now)) }
-{
-    if has_right(kind) {
-        put_word(line, right.bytes())?;
-    }
-    Ok(())
-}
-
-fn put_key_pair(
+fn and_key_pair(
     alloc: Global,
-    line: &mut Bytes,
+    words: Words,
     left_keys: &Numbers,
     right_keys: &Numbers,
-) -> Result<(), OutOfMemory>
-    ensures { OnOk result (line.new ≡ line.old ++ words_text (keys_words Match left_keys.now right_keys.now)) }
+) -> Result<Words, OutOfMemory>
+    ensures { IfOk result (λ all. all ≡ words ++ map word_text (plain_word (codes "by") ∷ key_pair_words left_keys.now right_keys.now)) }
 {
-    put_word(line, b"by")?;
-    put_numbers(alloc, line, left_keys)?;
-    put_word(line, b"=")?;
-    put_numbers(alloc, line, right_keys)
+    let words = and_numbers(alloc, words.and_word(alloc, b"by")?, left_keys)?;
+    let words = words.and_word(alloc, b"=")?;
+    and_numbers(alloc, words, right_keys)
 }
 
-fn put_keys(
+// The words behind an operator's first input.
+fn and_others(
     alloc: Global,
-    line: &mut Bytes,
+    words: Words,
     kind: OpKind,
+    right: &Word,
     left_keys: &Numbers,
     right_keys: &Numbers,
-) -> Result<(), OutOfMemory>
-    ensures { OnOk result (line.new ≡ line.old ++ words_text (keys_words kind left_keys.now right_keys.now)) }
+) -> Result<Words, OutOfMemory>
+    ensures { IfOk result (λ all. all ≡ words ++ map word_text (behind_left kind right.now left_keys.now right_keys.now)) }
 {
     match kind {
-        OpKind::Source | OpKind::Map | OpKind::Cross => Ok(()),
-        OpKind::Reduce => {
-            put_word(line, b"by")?;
-            put_numbers(alloc, line, left_keys)
+        OpKind::Source | OpKind::Map => Ok(words),
+        OpKind::Reduce => and_numbers(alloc, words.and_word(alloc, b"by")?, left_keys),
+        OpKind::Cross => words.and_word(alloc, right.bytes()),
+        OpKind::Match | OpKind::CoGroup => {
+            let words = words.and_word(alloc, right.bytes())?;
+            and_key_pair(alloc, words, left_keys, right_keys)
         }
-        OpKind::Match | OpKind::CoGroup => put_key_pair(alloc, line, left_keys, right_keys),
     }
 }
 
-// The words in front of an operator's second input.
-fn op_front(
-    alloc: Global,
-    kind: OpKind,
-    name: &Word,
-    function: &Word,
-    left: &Word,
-) -> Result<Bytes, OutOfMemory>
-    ensures { IfOk result (λ line. line ≡ kind_word kind ++ words_text (plain_words (name.now ∷ function.now ∷ left.now ∷ []))) }
-{
-    let mut line = Bytes::from_slice(alloc, kind.word())?;
-    put_word(&mut line, name.bytes())?;
-    put_word(&mut line, function.bytes())?;
-    put_word(&mut line, left.bytes())?;
-    Ok(line)
-}
-
-fn source_line(
-    alloc: Global,
-    name: &Word,
-    file: &Word,
-    columns: &Columns,
-) -> Result<Bytes, OutOfMemory>
-    ensures { IfOk result (λ line.
-        line ≡ codes "source" ++ words_text (plain_words (name.now ∷ file.now ∷ []) ++ map column_word columns.now)) }
-{
-    let mut line = Bytes::from_slice(alloc, b"source")?;
-    put_word(&mut line, name.bytes())?;
-    put_word(&mut line, file.bytes())?;
-    put_columns(alloc, &mut line, columns)?;
-    Ok(line)
-}
-
-fn sink_line(alloc: Global, input: &Word, fields: &Numbers) -> Result<Bytes, OutOfMemory>
-    ensures { IfOk result (λ line. line ≡ codes "sink" ++ words_text (plain_words (input.now ∷ []) ++ number_words fields.now)) }
-{
-    let mut line = Bytes::from_slice(alloc, b"sink")?;
-    put_word(&mut line, input.bytes())?;
-    put_numbers(alloc, &mut line, fields)?;
-    Ok(line)
-}
-
-// The line without its end.
-fn line_of(alloc: Global, decl: &Decl) -> Result<Bytes, OutOfMemory>
+fn decl_words(alloc: Global, decl: &Decl) -> Result<Words, OutOfMemory>
     requires { IsSpelledDecl decl.now }
-    ensures { IfOk result (λ line. line ≡ canonical_line 0 (words_of_decl decl.now)) }
+    ensures { IfOk result (λ words. words ≡ map word_text (words_of_decl decl.now)) }
 {
     match decl {
         Decl::Source {
             name,
             file,
             columns,
-        } => source_line(alloc, name, file, columns),
+        } => {
+            let words = Words::new(alloc)
+                .and_word(alloc, b"source")?
+                .and_word(alloc, name.bytes())?
+                .and_word(alloc, file.bytes())?;
+            and_columns(alloc, words, columns)
+        }
         Decl::Function { .. } => unreachable!(),
         Decl::Op {
             name,
@@ -160,12 +92,19 @@ fn line_of(alloc: Global, decl: &Decl) -> Result<Bytes, OutOfMemory>
             left_keys,
             right_keys,
         } => {
-            let mut line = op_front(alloc, *kind, name, function, left)?;
-            put_right(&mut line, *kind, right)?;
-            put_keys(alloc, &mut line, *kind, left_keys, right_keys)?;
-            Ok(line)
+            let words = Words::new(alloc)
+                .and_word(alloc, kind.word())?
+                .and_word(alloc, name.bytes())?
+                .and_word(alloc, function.bytes())?
+                .and_word(alloc, left.bytes())?;
+            and_others(alloc, words, *kind, right, left_keys, right_keys)
         }
-        Decl::Sink { input, fields } => sink_line(alloc, input, fields),
+        Decl::Sink { input, fields } => {
+            let words = Words::new(alloc)
+                .and_word(alloc, b"sink")?
+                .and_word(alloc, input.bytes())?;
+            and_numbers(alloc, words, fields)
+        }
     }
 }
 
@@ -174,7 +113,7 @@ pub fn write_declaration(alloc: Global, decl: &Decl) -> Result<Bytes, OutOfMemor
     requires { IsSpelledDecl decl.now }
     ensures { IfOk result (λ text. text ≡ canonical_line 0 (words_of_decl decl.now) ++ 10 ∷ []) }
 {
-    let mut text = line_of(alloc, decl)?;
-    text.push(b'\n')?;
+    let mut text = Bytes::new(alloc);
+    put_line(&mut text, 0, &decl_words(alloc, decl)?)?;
     Ok(text)
 }

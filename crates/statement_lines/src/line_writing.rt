@@ -42,7 +42,5 @@ pub fn put_line(out: &mut Bytes, depth: u32, words: &Words) -> Result<(), OutOfM
 pub fn put_word(alloc: Global, out: &mut Bytes, depth: u32, word: &[u8]) -> Result<(), OutOfMemory>
     ensures { OnOk result (out.new ≡ out.old ++ line_text (record { depth = depth; words = word.now ∷ [] })) }
 {
-    let mut words = Words::new(alloc);
-    words.add(alloc, word)?;
-    put_line(out, depth, &words)
+    put_line(out, depth, &Words::new(alloc).and_word(alloc, word)?)
 }

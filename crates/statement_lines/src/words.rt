@@ -1,11 +1,13 @@
 //! Words of a line, made one after the other.
 
-ghost use Rattle.std.specs.Prelude.{◌≡◌, ◌++◌, ◌∷◌, [], IfErr, OnOk, OnErr, map};
+ghost use Rattle.std.specs.Prelude.{◌≡◌, ◌++◌, ◌∷◌, [], IfOk, map};
 ghost use Rattle.std.specs.Fmt.{decimal, signed_decimal};
+ghost use Rattle.text_lines.specs.OperandWords.{record_word};
 
 use pact_record::{Bytes, OutOfMemory};
-use std::alloc::{AllocFailed, Global};
+use std::alloc::Global;
 use std::marker::Model;
+use tac_syntax::Rec;
 
 /// The words of a line.
 #[derive(Debug, Drop)]
@@ -30,52 +32,55 @@ impl Words {
         }
     }
 
-    pub fn push(&mut self, word: Bytes) -> Result<(), AllocFailed<Bytes>>
-        ensures ok { OnOk result (self.new ≡ self.old ++ word ∷ []) }
-        ensures err { OnErr result (self.new ≡ self.old) }
-        ensures handed_back { IfErr result (λ e. e.value ≡ word) }
-    {
-        self.held.push(word)
-    }
-
     pub fn words(&self) -> &[Bytes]
         ensures { result.now ≡ self.now }
     {
         &self.held
     }
 
-    /// Puts a copy of a word behind the others.
-    pub fn add(&mut self, alloc: Global, word: &[u8]) -> Result<(), OutOfMemory>
-        ensures ok { OnOk result (self.new ≡ self.old ++ word.now ∷ []) }
-        ensures err { OnErr result (self.new ≡ self.old) }
+    /// These words, and behind them this one.
+    pub fn and(mut self, word: Bytes) -> Result<Words, OutOfMemory>
+        ensures { IfOk result (λ words. words ≡ self ++ word ∷ []) }
     {
-        self.push(Bytes::from_slice(alloc, word)?)?;
-        Ok(())
+        self.held.push(word)?;
+        Ok(self)
     }
 
-    /// Puts a word behind the others that is a number behind other bytes, such as a register.
-    pub fn add_number(
-        &mut self,
-        alloc: Global,
-        front: &[u8],
-        number: u32,
-    ) -> Result<(), OutOfMemory>
-        ensures ok { OnOk result (self.new ≡ self.old ++ (front.now ++ decimal number) ∷ []) }
-        ensures err { OnErr result (self.new ≡ self.old) }
+    pub fn and_word(self, alloc: Global, word: &[u8]) -> Result<Words, OutOfMemory>
+        ensures { IfOk result (λ words. words ≡ self ++ word.now ∷ []) }
+    {
+        self.and(Bytes::from_slice(alloc, word)?)
+    }
+
+    /// A number behind other bytes, such as a register.
+    pub fn and_number(self, alloc: Global, front: &[u8], number: u32) -> Result<Words, OutOfMemory>
+        ensures { IfOk result (λ words. words ≡ self ++ (front.now ++ decimal number) ∷ []) }
     {
         let mut word = Bytes::from_slice(alloc, front)?;
         let digits = number.to_string(alloc)?;
         word.extend_from_slice(digits.as_bytes())?;
-        self.push(word)?;
-        Ok(())
+        self.and(word)
     }
 
-    /// Puts a word behind the others that is a number with its sign.
-    pub fn add_signed(&mut self, alloc: Global, number: i64) -> Result<(), OutOfMemory>
-        ensures ok { OnOk result (self.new ≡ self.old ++ signed_decimal number ∷ []) }
-        ensures err { OnErr result (self.new ≡ self.old) }
+    /// A number with its sign.
+    pub fn and_signed(self, alloc: Global, number: i64) -> Result<Words, OutOfMemory>
+        ensures { IfOk result (λ words. words ≡ self ++ signed_decimal number ∷ []) }
     {
-        let digits = number.to_string(alloc)?;
-        self.add(alloc, digits.as_bytes())
+        self.and_word(alloc, number.to_string(alloc)?.as_bytes())
+    }
+
+    /// A record that is read.
+    pub fn and_record(self, alloc: Global, from: Rec) -> Result<Words, OutOfMemory>
+        ensures { IfOk result (λ words. words ≡ self ++ record_word from ∷ []) }
+    {
+        match from {
+            Rec::Reg(number) => self.and_number(alloc, b"r", number),
+            Rec::Loop(name) => self.and_number(alloc, b"x", name),
+            Rec::Input => self.and_word(alloc, b"in"),
+            Rec::Left => self.and_word(alloc, b"left"),
+            Rec::Right => self.and_word(alloc, b"right"),
+            Rec::Join => self.and_word(alloc, b"join"),
+            Rec::First => self.and_word(alloc, b"first"),
+        }
     }
 }

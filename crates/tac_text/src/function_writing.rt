@@ -15,15 +15,14 @@ use tac_syntax::{Function, Kind};
 fn header_words(alloc: Global, function: &Function) -> Result<Words, OutOfMemory>
     ensures { IfOk result (λ words. words ≡ header_texts function.now.name function.now.kind function.now.keys) }
 {
-    let mut words = Words::new(alloc);
-    words.add(alloc, b"function")?;
-    words.add(alloc, function.name.bytes())?;
-    words.add(alloc, kind_name(function.kind))?;
+    let words = Words::new(alloc)
+        .and_word(alloc, b"function")?
+        .and_word(alloc, function.name.bytes())?
+        .and_word(alloc, kind_name(function.kind))?;
     match function.kind {
-        Kind::Reduce | Kind::CoGroup => words.add_number(alloc, b"", function.keys)?,
-        Kind::Map | Kind::Match | Kind::Cross => {}
+        Kind::Reduce | Kind::CoGroup => words.and_number(alloc, b"", function.keys),
+        Kind::Map | Kind::Match | Kind::Cross => Ok(words),
     }
-    Ok(words)
 }
 
 /// The text of a function.
