@@ -2,6 +2,7 @@
 use Rattle.std.proofs.Common.{◌≡◌, ◌≤◌, ◌+◌, ℕ, true, false, List, [], ◌∷◌, ◌++◌, map, length, refl, ap, sym, subst, ◌∙◌, append_assoc, append-nil, arith, length-append}
 use Rattle.std.specs.List.{AllByRecursion}
 use Rattle.std.proofs.lemmas.List.{map-append}
+use Rattle.std.proofs.lemmas.Simd.{map-map}
 use Rattle.pact_record.proofs.Lists.{AllByRecursion-last}
 use Rattle.tac_syntax.specs.declared.declarations.Decl.{Decl}
 use Rattle.tac_syntax.specs.declared.declarations.Decl.TheVariants.{Function as FunctionDecl}
@@ -54,14 +55,10 @@ function_leads : (d : DraftData) (f : Function) (lines : List Line) → SpellsBo
     → Leads (drafted d) (begins f.name f.kind f.keys ∷ (map inside lines ++ inside close ∷ [])) (drafted (with_function d f))
 function_leads d f lines h s n = ((s.name, s.keys), ended_leads d (begun f.name f.kind f.keys) f.body lines (body_steps f.body lines build_start h s.body (omega (arith, n))))
 
-map-inside : (lines : List Line) → map words_of_program_line (map inside lines) ≡ map words_of_line lines
-map-inside [] = refl
-map-inside (line ∷ lines) = ap (λ (x : List (List LineWord)). words_of_line line ∷ x) (map-inside lines)
-
 function_words : (f : Function) (lines : List Line) (first : List (List LineWord)) → first ≡ header_words f.name f.kind f.keys ∷ (map words_of_line lines ++ words_of_line close ∷ [])
     → first ≡ map words_of_program_line (begins f.name f.kind f.keys ∷ (map inside lines ++ inside close ∷ []))
 function_words f lines first e =
-    e ∙ ap (λ (x : List (List LineWord)). header_words f.name f.kind f.keys ∷ x) (ap (λ (x : List (List LineWord)). x ++ words_of_line close ∷ []) (sym (map-inside lines)) ∙ sym (map-append words_of_program_line (map inside lines) (inside close ∷ [])))
+    e ∙ ap (λ (x : List (List LineWord)). header_words f.name f.kind f.keys ∷ x) (ap (λ (x : List (List LineWord)). x ++ words_of_line close ∷ []) (sym (map-map words_of_program_line inside lines)) ∙ sym (map-append words_of_program_line (map inside lines) (inside close ∷ [])))
 
 abbrev appended : DraftData → List Function → List Decl → DraftData
 appended d functions decls = record { fields = d.fields; functions = d.functions ++ functions; decls = d.decls ++ decls }

@@ -1,5 +1,6 @@
 -- The lines of one body after another.
 use Rattle.std.proofs.Common.{◌≡◌, ◌+◌, ℕ, Bool, true, false, List, [], ◌∷◌, ◌++◌, map, refl, ap, sym, ◌∙◌, append_assoc}
+use Rattle.std.proofs.lemmas.List.{map-append}
 use Rattle.tac_syntax.specs.Code.{Code, stop, plain, branch, again, each, Line, joined, simple, test, turns, over, otherwise, close}
 use Rattle.tac_syntax.specs.Coding.{is_stop, other_lines, lines_of}
 use Rattle.std.specs.List.{AllByRecursion}
@@ -34,19 +35,14 @@ body_text-joined depth (each name list body next) d =
 -- ---- the words of a body's lines
 
 pub words_of-append : (a b : List TextLine) → words_of (a ++ b) ≡ words_of a ++ words_of b
-words_of-append [] b = refl
-words_of-append (l ∷ a) b = ap (λ (ws : List (List (List ℕ))). l.words ∷ ws) (words_of-append a b)
+words_of-append a b = map-append (λ (l : TextLine). l.words) a b
 
 abbrev words_in : List Line → List (List (List ℕ))
 words_in ls = map line_words ls
 
-words_in-append : (a b : List Line) → words_in (a ++ b) ≡ words_in a ++ words_in b
-words_in-append [] b = refl
-words_in-append (l ∷ a) b = ap (λ (ws : List (List (List ℕ))). line_words l ∷ ws) (words_in-append a b)
-
 -- two texts whose words are those of lines
 both : (x y : List TextLine) (a b : List Line) → words_of x ≡ words_in a → words_of y ≡ words_in b → words_of (x ++ y) ≡ words_in (a ++ b)
-both x y a b p q = words_of-append x y ∙ ap (λ (w : List (List (List ℕ))). w ++ words_of y) p ∙ ap (λ (w : List (List (List ℕ))). words_in a ++ w) q ∙ sym (words_in-append a b)
+both x y a b p q = words_of-append x y ∙ ap (λ (w : List (List (List ℕ))). w ++ words_of y) p ∙ ap (λ (w : List (List (List ℕ))). words_in a ++ w) q ∙ sym (map-append line_words a b)
 
 words_of-other_text : (depth : ℕ) (empty : Bool) (x y : List TextLine) (a b : List Line) → words_of x ≡ words_in a → words_of y ≡ words_in b
     → words_of (other_text depth empty x y) ≡ words_in (other_lines empty a b)

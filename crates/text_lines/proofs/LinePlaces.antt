@@ -9,12 +9,6 @@ abbrev bytes_in : List (List ℕ) → ℕ
 bytes_in [] = 0
 bytes_in (line ∷ lines) = length line + 1 + bytes_in lines
 
--- one where the last line goes without its line feed
-abbrev unended : List ℕ → ℕ
-unended [] = 0
-unended (b ∷ []) = if b == 10 then 0 else 1
-unended (b ∷ c ∷ bytes) = unended (c ∷ bytes)
-
 bytes_in-with_front : (b : ℕ) (lines : List (List ℕ)) → lines ≢ [] → bytes_in (with_front b lines) ≡ 1 + bytes_in lines
 bytes_in-with_front b [] some = absurd (some refl)
 bytes_in-with_front b (line ∷ lines) some = omega arith
@@ -27,29 +21,16 @@ lines_of-some : (b : ℕ) (bytes : List ℕ) (feed : Bool) → (b == 10) ≡ fee
 lines_of-some b bytes true p e = let f : ([] ∷ lines_of bytes) ≡ [] = rw p at e in cc
 lines_of-some b bytes false p e = some_lines b (lines_of bytes) (rw p at e)
 
-abbrev IsCounted : List ℕ → Type 0
-IsCounted bytes = bytes_in (lines_of bytes) ≡ length bytes + unended bytes
+one_more : (b c : ℕ) (bytes : List ℕ) (feed : Bool) → (b == 10) ≡ feed → bytes_in (lines_of (b ∷ c ∷ bytes)) ≡ 1 + bytes_in (lines_of (c ∷ bytes))
+one_more b c bytes true p = rw p (omega arith)
+one_more b c bytes false p = rw p (bytes_in-with_front b (lines_of (c ∷ bytes)) (lines_of-some c bytes (c == 10) refl))
 
-one_byte : (b : ℕ) (feed : Bool) → (b == 10) ≡ feed → IsCounted (b ∷ [])
-one_byte b true p = rw p refl
-one_byte b false p = rw p refl
-
-one_more : (b c : ℕ) (bytes : List ℕ) (feed : Bool) → (b == 10) ≡ feed → IsCounted (c ∷ bytes) → IsCounted (b ∷ c ∷ bytes)
-one_more b c bytes true p rest = rw p (omega (arith, rest))
-one_more b c bytes false p rest =
-    let more = bytes_in-with_front b (lines_of (c ∷ bytes)) (lines_of-some c bytes (c == 10) refl) in
-    rw p (omega (arith, more, rest))
-
-bytes_in-lines_of : (bytes : List ℕ) → IsCounted bytes
-bytes_in-lines_of [] = refl
-bytes_in-lines_of (b ∷ []) = one_byte b (b == 10) refl
-bytes_in-lines_of (b ∷ c ∷ bytes) = one_more b c bytes (b == 10) refl (bytes_in-lines_of (c ∷ bytes))
-
-unended-drop : (text : List ℕ) (at : ℕ) → at < length text → unended (drop at text) ≡ unended text
-unended-drop text zero h = refl
-unended-drop [] (suc at) h = absurd (omega (arith, h))
-unended-drop (b ∷ []) (suc at) h = absurd (omega (arith, h))
-unended-drop (b ∷ c ∷ bytes) (suc at) h = unended-drop (c ∷ bytes) at (omega (arith, h))
+-- each byte in front counts
+bytes_in-drop : (text : List ℕ) (at : ℕ) → at < length text → bytes_in (lines_of text) ≡ at + bytes_in (lines_of (drop at text))
+bytes_in-drop text zero h = omega arith
+bytes_in-drop [] (suc at) h = absurd (omega (arith, h))
+bytes_in-drop (b ∷ []) (suc at) h = absurd (omega (arith, h))
+bytes_in-drop (b ∷ c ∷ bytes) (suc at) h = omega (arith, one_more b c bytes (b == 10) refl, bytes_in-drop (c ∷ bytes) at (omega (arith, h)))
 
 no_bytes : (bytes : List ℕ) → lines_of bytes ≡ [] → length bytes ≡ 0
 no_bytes [] e = refl
@@ -61,11 +42,7 @@ at_end text a b h end e =
     omega (arith, none, length-drop b text)
 
 before_end : (text : List ℕ) (a b : ℕ) → a < length text → b < length text → lines_of (drop a text) ≡ lines_of (drop b text) → a ≡ b
-before_end text a b h k e =
-    let bytes = ap bytes_in e in
-    let one = bytes_in-lines_of (drop a text) in
-    let other = bytes_in-lines_of (drop b text) in
-    omega (arith, bytes, one, other, unended-drop text a h, unended-drop text b k, length-drop a text, length-drop b text)
+before_end text a b h k e = omega (arith, ap bytes_in e, bytes_in-drop text a h, bytes_in-drop text b k)
 
 -- the places of a text from which its lines are the same are one
 pub one_place : (text : List ℕ) (a b : ℕ) → a ≤ length text → b ≤ length text → lines_of (drop a text) ≡ lines_of (drop b text) → a ≡ b

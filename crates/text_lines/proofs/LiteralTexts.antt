@@ -1,6 +1,6 @@
 -- A literal is UTF-8 exactly where what it stands for is.
 use Rattle.std.proofs.Common.{◌≡◌, ◌<◌, ◌==◌, inl, inr, ℕ, Bool, true, false, List, [], ◌∷◌, ◌++◌, Some, None, IsUtf8, refl, ap, sym, subst, ◌∙◌, append_assoc, arith}
-use Rattle.std.proofs.lemmas.Bool.{eqb-true}
+use Rattle.std.proofs.lemmas.Bool.Decides.{nat_tests}
 use Rattle.std.proofs.lemmas.Str.{IsUtf8-nil}
 use Rattle.text_lines.specs.LineGrammar.{escaped_byte, SpellsByte, SpellsBytes}
 use Rattle.text_lines.proofs.Utf8Cuts.{IsUtf8-before_ascii, IsUtf8-behind_ascii, IsUtf8-around_ascii}
@@ -12,27 +12,14 @@ record AreAscii (e b : ℕ) : Type 0 where
   letter : e < 128
   meant : b < 128
 
-ascii_of : (e b letter meant : ℕ) → letter < 128 → meant < 128 → escaped_byte letter ≡ Some meant → (e == letter) ≡ true → escaped_byte e ≡ Some b → AreAscii e b
-ascii_of e b letter meant small low is h means =
-    let same = eqb-true e letter h in
-    let found : Some meant ≡ Some b = sym is ∙ sym (ap escaped_byte same) ∙ means in
-    let byte : meant ≡ b = cc in
-    record { letter = omega arith; meant = omega arith }
+letter_ascii : (e b : ℕ) → escaped_byte e ≡ Some b → e < 128
+letter_ascii e b h = grind (arith, nat_tests)
 
-escaped_byte-ascii : (e b : ℕ) (backslash quote feed return tab : Bool)
-    → (e == 92) ≡ backslash → (e == 34) ≡ quote → (e == 110) ≡ feed → (e == 114) ≡ return → (e == 116) ≡ tab → escaped_byte e ≡ Some b → AreAscii e b
-escaped_byte-ascii e b true quote feed return tab p q r s t h = ascii_of e b 92 92 (omega arith) (omega arith) refl p h
-escaped_byte-ascii e b false true feed return tab p q r s t h = ascii_of e b 34 34 (omega arith) (omega arith) refl q h
-escaped_byte-ascii e b false false true return tab p q r s t h = ascii_of e b 110 10 (omega arith) (omega arith) refl r h
-escaped_byte-ascii e b false false false true tab p q r s t h = ascii_of e b 114 13 (omega arith) (omega arith) refl s h
-escaped_byte-ascii e b false false false false true p q r s t h = ascii_of e b 116 9 (omega arith) (omega arith) refl t h
-escaped_byte-ascii e b false false false false false p q r s t h =
-    let nothing : escaped_byte e ≡ None = rw (p, q, r, s, t) refl in
-    let none : None ≡ Some b = sym nothing ∙ h in
-    absurd cc
+meant_ascii : (e b : ℕ) → escaped_byte e ≡ Some b → b < 128
+meant_ascii e b h = grind (arith, nat_tests)
 
 are_ascii : (e b : ℕ) → escaped_byte e ≡ Some b → AreAscii e b
-are_ascii e b h = escaped_byte-ascii e b (e == 92) (e == 34) (e == 110) (e == 114) (e == 116) refl refl refl refl refl h
+are_ascii e b h = record { letter = letter_ascii e b h; meant = meant_ascii e b h }
 
 -- ---- from the text to its meaning, and back
 

@@ -5,22 +5,15 @@ use Rattle.std.proofs.lemmas.Bool.Decides.{nat_tests}
 use Rattle.std.proofs.lemmas.Fmt.{decimal_is_IsNumeral}
 use Rattle.text_lines.specs.Digits.{is_in_range, is_signed_word, told_unless}
 use Rattle.text_lines.specs.Slots.{name_fault}
-use Rattle.text_lines.proofs.DigitWords.{are_digits-decimal, is_in_range-decimal, number_spelled}
+use Rattle.text_lines.proofs.DigitWords.{are_digits-decimal, is_in_range-decimal, number_in, number_in-decimal, number_spelled}
 use Rattle.text_lines.proofs.SlotWords.{name_fault-loop_name, signed_spelled}
 
--- what is read of a word in range is the number that it spells
-pub record Within (low high : ℕ) (word : List ℕ) (found : Option ℕ) : Type 0 where
-  pub number : ℕ
-  pub is : found ≡ Some number
-  pub spelled : word ≡ decimal number
-  pub above : low ≤ number
-  pub below : number ≤ high
-
-pub within : (low high : ℕ) (word : List ℕ) (found : Option ℕ) → high < 2 ^ 32 → is_in_range low high word ≡ true → ((n : ℕ) → n < 2 ^ 32 → word ≡ decimal n → found ≡ Some n)
-    → Within low high word found
-within low high word found small h read =
+-- the number that a word in range spells
+pub number_read : (low high n : ℕ) (word : List ℕ) → high < 2 ^ 32 → n ≡ number_in word → is_in_range low high word ≡ true → (word ≡ decimal n) × (low ≤ n) × (n ≤ high)
+number_read low high n word small e h =
     let s = number_spelled low high word (omega (arith, small)) h in
-    record { number = s.number; is = read s.number (omega (arith, small, s.below)) s.spelled; spelled = s.spelled; above = s.above; below = s.below }
+    let same : s.number ≡ n = sym (number_in-decimal s.number (omega (arith, small, s.below))) ∙ ap number_in (sym s.spelled) ∙ sym e in
+    (s.spelled ∙ ap decimal same, omega (arith, s.above, same), omega (arith, s.below, same))
 
 -- ---- numbers with a sign
 

@@ -1,6 +1,7 @@
 -- The words that are read of a line can be written again.
 use Rattle.std.proofs.Common.{◌≡◌, ◌<◌, ◌==◌, inl, inr, ℕ, true, false, List, [], ◌∷◌, ◌++◌, IsUtf8, refl, sym, subst, ◌∙◌, append-nil, arith}
-use Rattle.std.proofs.lemmas.Bool.{eqb-true, or_cases, or_parts}
+use Rattle.std.proofs.lemmas.Bool.{or_parts}
+use Rattle.std.proofs.lemmas.Bool.Decides.{nat_tests}
 use Rattle.std.proofs.lemmas.List.Folds.{list_any-append}
 use Rattle.std.proofs.lemmas.Str.{IsUtf8-nil}
 use Rattle.text_lines.specs.CanonicalLines.{IsLineWord, AreLineWords}
@@ -9,13 +10,7 @@ use Rattle.text_lines.proofs.LiteralTexts.{IsUtf8-meaning}
 use Rattle.text_lines.proofs.Utf8Cuts.{IsUtf8-before_ascii, IsUtf8-behind_ascii, IsUtf8-around_ascii}
 
 ends_word-ascii : (b : ℕ) → ends_word b ≡ true → b < 128
-ends_word-ascii b h = elim (or_cases (is_blank b) (b == 35) h) [
-  | inl blank ↦ elim (or_cases (b == 32) (b == 9) blank) [
-    | inl space ↦ let e = eqb-true b 32 space in omega arith
-    | inr tab ↦ let e = eqb-true b 9 tab in omega arith
-  ]
-  | inr hash ↦ let e = eqb-true b 35 hash in omega arith
-]
+ends_word-ascii b h = grind (arith, nat_tests)
 
 is_blank-ends_word : (b : ℕ) → is_blank b ≡ true → ends_word b ≡ true
 is_blank-ends_word b h = rw h refl

@@ -1,6 +1,6 @@
 -- A text cut at an ASCII byte, and joined there.
 use Rattle.std.proofs.Common.{◌≡◌, ◌<◌, ◌+◌, ℕ, zero, suc, List, [], ◌∷◌, ◌++◌, length, drop, get_or, IsUtf8, ap, sym, subst, ◌∙◌, append_assoc, arith, length-append}
-use Rattle.std.proofs.Math.Seq.{get_or-append_seam, take-append_seam, drop-append_seam}
+use Rattle.std.proofs.Math.Seq.{get_or-append_seam, take-append_seam, drop-append-add}
 use Rattle.std.proofs.lemmas.Str.{IsUtf8-append, IsUtf8-take, IsUtf8-drop, IsUtf8-from_ascii, IsCharBoundary-before_ascii, IsCharBoundary-after_ascii}
 
 pub IsUtf8-before_ascii : (x : List ℕ) (b : ℕ) (y : List ℕ) → b < 128 → IsUtf8 (x ++ b ∷ y) → IsUtf8 x
@@ -14,11 +14,7 @@ IsUtf8-behind_ascii x b y ascii h =
     let inside : length x < length (x ++ b ∷ y) = omega (arith, length-append x (b ∷ y)) in
     let small : get_or (x ++ b ∷ y) (length x) 0 < 128 = omega (arith, get_or-append_seam x b y 0) in
     let cut = IsUtf8-drop (x ++ b ∷ y) (length x + 1) h (IsCharBoundary-after_ascii (x ++ b ∷ y) (length x) h inside small) in
-    let rest : drop (length x + 1) (x ++ b ∷ y) ≡ y =
-    ap (λ (n : ℕ). drop n (x ++ b ∷ y)) (sym (length-append x (b ∷ [])))
-    ∙ ap (drop (length (x ++ b ∷ []))) (sym (append_assoc x (b ∷ []) y))
-    ∙ drop-append_seam (x ++ b ∷ []) y in
-    subst IsUtf8 rest cut
+    subst IsUtf8 (drop-append-add x (b ∷ y) 1) cut
 
 one_ascii : (b : ℕ) → b < 128 → (i : ℕ) → get_or (b ∷ []) i 0 < 128
 one_ascii b h zero = h

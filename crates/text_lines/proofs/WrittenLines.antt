@@ -1,6 +1,7 @@
 -- A canonical line is read as the words that it was made of.
 use Rattle.std.proofs.Common.{◌≡◌, ◌==◌, ◌*◌, inl, inr, ℕ, zero, suc, Bool, true, false, List, [], ◌∷◌, ◌++◌, map, flat_map, replicate, IsUtf8, refl, ap, sym, subst, ◌∙◌, arith}
 use Rattle.std.proofs.lemmas.Bool.{eqb-true, or_parts}
+use Rattle.std.proofs.lemmas.Bool.Decides.{nat_tests}
 use Rattle.std.proofs.lemmas.List.Folds.{list_any-append}
 use Rattle.std.proofs.lemmas.Str.{IsUtf8-nil, IsUtf8-append}
 use Rattle.text_lines.specs.CanonicalLines.{word_text, canonical_line, IsLineWord, AreLineWords}
@@ -48,21 +49,17 @@ pub has_feed-append : (x y : List ℕ) → has_feed x ≡ false → has_feed y �
 has_feed-append x y h k = list_any-append (λ (b : ℕ). b == 10) x y ∙ rw (h, k) refl
 
 -- neither byte that ends a line stands in an escape
-clean_escape : (b : ℕ) (backslash quote feed return tab : Bool)
-    → (b == 92) ≡ backslash → (b == 34) ≡ quote → (b == 10) ≡ feed → (b == 13) ≡ return → (b == 9) ≡ tab → (has_return (escaped b) ≡ false) × (has_feed (escaped b) ≡ false)
-clean_escape b true quote feed return tab p q r s t = rw p (refl, refl)
-clean_escape b false true feed return tab p q r s t = rw (p, q) (refl, refl)
-clean_escape b false false true return tab p q r s t = rw (p, q, r) (refl, refl)
-clean_escape b false false false true tab p q r s t = rw (p, q, r, s) (refl, refl)
-clean_escape b false false false false true p q r s t = rw (p, q, r, s, t) (refl, refl)
-clean_escape b false false false false false p q r s t = rw (p, q, r, s, t) (rw s refl, rw r refl)
+clean_return : (b : ℕ) → has_return (escaped b) ≡ false
+clean_return b = grind (arith, nat_tests)
+
+clean_feed : (b : ℕ) → has_feed (escaped b) ≡ false
+clean_feed b = grind (arith, nat_tests)
 
 clean_escapes : (bytes : List ℕ) → (has_return (flat_map escaped bytes) ≡ false) × (has_feed (flat_map escaped bytes) ≡ false)
 clean_escapes [] = (refl, refl)
 clean_escapes (b ∷ bytes) =
-    let own = clean_escape b (b == 92) (b == 34) (b == 10) (b == 13) (b == 9) refl refl refl refl refl in
     let others = clean_escapes bytes in
-    (has_return-append (escaped b) (flat_map escaped bytes) own.0 others.0, has_feed-append (escaped b) (flat_map escaped bytes) own.1 others.1)
+    (has_return-append (escaped b) (flat_map escaped bytes) (clean_return b) others.0, has_feed-append (escaped b) (flat_map escaped bytes) (clean_feed b) others.1)
 
 pub has_feed-escaped : (bytes : List ℕ) → has_feed (flat_map escaped bytes) ≡ false
 has_feed-escaped bytes = (clean_escapes bytes).1

@@ -1,6 +1,6 @@
 //! Numbers as words, whether a word is one.
 
-ghost use Rattle.std.specs.Prelude.{◌≡◌, ◌≤◌, ◌<◌, ◌^◌, true, Some, None};
+ghost use Rattle.std.specs.Prelude.{◌≡◌, ◌≤◌, ◌<◌, ◌^◌, false, true, IfNone, IfSome, Some, None};
 ghost use Rattle.std.specs.Str.Parse.{digits_value};
 ghost use Rattle.text_lines.specs.Digits.{are_digits, is_digit, is_in_form, is_in_range, is_number_word, is_signed_word};
 
@@ -41,16 +41,24 @@ fn number_of(word: &[u8]) -> Option<u64>
     }
 }
 
+/// The number that a word in a range spells.
+pub fn number_between(low: u64, high: u64, word: &[u8]) -> Option<u64>
+    ensures some { IfSome result (λ n. (n ≡ digits_value 10 word.now) × (is_in_range low high word.now ≡ true)) }
+    ensures none { IfNone result (is_in_range low high word.now ≡ false) }
+{
+    if !is_number_word(word) {
+        return None;
+    }
+    match number_of(word) {
+        Some(number) if low <= number && number <= high => Some(number),
+        _ => None,
+    }
+}
+
 pub fn is_in_range(low: u64, high: u64, word: &[u8]) -> bool
     ensures { result ≡ is_in_range low high word.now }
 {
-    if !is_number_word(word) {
-        return false;
-    }
-    match number_of(word) {
-        Some(number) => low <= number && number <= high,
-        None => false,
-    }
+    number_between(low, high, word).is_some()
 }
 
 // With or without a sign; there is no `-0`.

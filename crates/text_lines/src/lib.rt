@@ -21,5 +21,5 @@ pub use digits::{is_in_form, is_in_range};
 pub use faults::NotRead;
 pub use line_words::{LineWord, LineWords, is_word};
 pub use lines::{TextFault, first_line, line_at, trim_line};
-pub use operands::{number_in, number_within, record_in, value_in};
+pub use operands::{record_in, value_in};
 pub use word_reading::read_words;

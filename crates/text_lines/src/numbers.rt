@@ -1,25 +1,11 @@
 //! Numbers in words.
 
-ghost use Rattle.std.specs.Prelude.{◌≡◌, ◌<◌, ◌^◌, ℕ, ℤ, false, decimal, FitsSigned, None, Some};
+ghost use Rattle.std.specs.Prelude.{◌≡◌, ℤ, false, FitsSigned, None, Some};
 ghost use Rattle.std.specs.Fmt.{signed_decimal};
-ghost use Rattle.text_lines.specs.Digits.{is_in_range, is_signed_word};
+ghost use Rattle.text_lines.specs.Digits.{is_signed_word};
 ghost use mir.Syntax.{w64};
 
-use crate::digits::{is_in_range, is_signed_word};
-
-/// The number that a word spells in digits.
-pub fn read_number(word: &[u8]) -> Option<u32>
-    ensures number { (n : ℕ) → n < 2 ^ 32 → word.now ≡ decimal n → result ≡ Some n }
-    ensures other { is_in_range 0 4294967295 word.now ≡ false → result ≡ None }
-{
-    if !is_in_range(0, (1 << 32) - 1, word) {
-        return None;
-    }
-    match str::from_utf8(word) {
-        Ok(text) => text.parse::<u32>().ok(),
-        Err(_) => None,
-    }
-}
+use crate::digits::is_signed_word;
 
 /// The number that a word spells in digits, with a minus sign before those of a number below 0.
 pub fn read_signed(word: &[u8]) -> Option<i64>

@@ -1,6 +1,6 @@
 //! Operands, each read from its word.
 
-ghost use Rattle.std.specs.Prelude.{◌≡◌, ◌≤◌, ◌∷◌, FitsSigned, IfErr, IfSome, None, Some, decimal, false, if◌then◌else◌, true};
+ghost use Rattle.std.specs.Prelude.{◌≡◌, ◌≤◌, ◌∷◌, FitsSigned, IfErr, IfNone, IfSome, None, Some, decimal, false, if◌then◌else◌, true};
 ghost use Rattle.std.specs.Fmt.{signed_decimal};
 ghost use Rattle.tac_syntax.specs.Grammar.{IsLoopName, IsNumber, IsSpelledRecord};
 ghost use Rattle.text_lines.specs.Cursors.{ReadsPlain};
@@ -10,23 +10,22 @@ ghost use Rattle.text_lines.specs.OperandWords.{column_text, fixed_record, list_
 ghost use Rattle.text_lines.specs.Slots.{column_fault, is_list_word, name_fault, numbered_fault, operand_fault, register_fault};
 ghost use mir.Syntax.{w64};
 
-use crate::digits::{is_in_form, is_in_range};
+use crate::digits::{is_in_form, number_between};
 use crate::faults::NotRead;
 use crate::line_words::is_word;
-use crate::numbers::{read_number, read_signed};
+use crate::numbers::read_signed;
 use pact_record::Column;
 use tac_syntax::{LoopList, Rec};
 
-/// A number in a range, if the word is one.
-pub fn number_within(low: u32, high: u32, word: &[u8]) -> Option<u32>
-    ensures some { IfSome result (λ n. (word.now ≡ decimal n) × (low ≤ n) × (n ≤ high)) }
-    ensures fits { IfSome result (λ n. is_in_range low high word.now ≡ true) }
-    ensures none { result ≡ None → is_in_range low high word.now ≡ false }
+// A number in a range, if the word is one.
+fn number_within(low: u32, high: u32, word: &[u8]) -> Option<u32>
+    ensures some { IfSome result (λ n. (word.now ≡ decimal n) × (low ≤ n) × (n ≤ high) × (is_in_range low high word.now ≡ true)) }
+    ensures none { IfNone result (is_in_range low high word.now ≡ false) }
 {
-    if !is_in_range(u64::from(low), u64::from(high), word) {
-        return None;
+    match number_between(u64::from(low), u64::from(high), word) {
+        Some(number) => Some(number as u32),
+        None => None,
     }
-    read_number(word)
 }
 
 /// A number in a range.
