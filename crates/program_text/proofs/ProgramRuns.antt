@@ -1,8 +1,7 @@
 -- Each text of a program takes the reader to its draft, and what the reader has come to is what was read.
-use Rattle.std.proofs.Common.{◌≡◌, ◌≤◌, ◌+◌, ℕ, true, false, List, [], ◌∷◌, ◌++◌, map, length, refl, ap, sym, subst, ◌∙◌, append_assoc, append-nil, arith, length-append}
+use Rattle.std.proofs.Common.{◌≡◌, ◌≤◌, ◌+◌, ℕ, true, List, [], ◌∷◌, ◌++◌, map, length, refl, ap, sym, subst, ◌∙◌, append_assoc, append-nil, arith, length-append}
 use Rattle.std.specs.List.{AllByRecursion}
 use Rattle.std.proofs.lemmas.List.{map-append}
-use Rattle.std.proofs.lemmas.Simd.{map-map}
 use Rattle.pact_record.proofs.Lists.{AllByRecursion-last}
 use Rattle.tac_syntax.specs.declared.declarations.Decl.{Decl}
 use Rattle.tac_syntax.specs.declared.declarations.Decl.TheVariants.{Function as FunctionDecl}
@@ -10,24 +9,23 @@ use Rattle.tac_syntax.specs.Declarations.{IsSpelledDecl}
 use Rattle.tac_syntax.specs.Drafts.{AreDeclared, DraftData}
 use Rattle.tac_syntax.proofs.Declared.{IsSpelledDraft-decl, IsSpelledDraft-function}
 use Rattle.tac_syntax.specs.declared.functions.Function.{Function}
-use Rattle.tac_syntax.specs.Code.{Code, Line, close, nesting}
+use Rattle.tac_syntax.specs.Code.{Line, close, nesting}
 use Rattle.tac_syntax.specs.Functions.{IsSpelledFunction}
 use Rattle.tac_syntax.specs.Limits.{nesting_limit}
-use Rattle.tac_text.specs.declared.building.Block.{Block}
 use Rattle.tac_text.specs.Blocks.{SpellsBody}
-use Rattle.tac_text.specs.Building.{Build, build_start}
-use Rattle.tac_text.specs.FunctionAnswers.{OpenData, begun, function_of, with_build}
-use Rattle.tac_text.specs.FunctionLines.{SpellsFunction, IsHeader, header_words}
-use Rattle.tac_text.specs.Places.{FitsBuild, Front, IsInside, MayInside, built_on, place_of}
+use Rattle.tac_text.specs.FunctionAnswers.{OpenData, begun}
+use Rattle.tac_text.specs.FunctionLines.{FunctionLine, header, inside as function_inside, IsWritable, SpellsFunction, header_words, words_of_function_line}
+use Rattle.tac_text.specs.FunctionStates.{FunctionState, waiting, reading, whole, MayFollow, after}
+use Rattle.tac_text.specs.Places.{place_of}
 use Rattle.statement_lines.specs.StatementLines.{MayStand}
 use Rattle.statement_lines.specs.Spelling.{words_of_line}
-use Rattle.tac_text.proofs.BodySteps.{body_steps, closable, fits_start, front_start, front_step, front_whole}
+use Rattle.tac_text.proofs.FunctionRuns.{LedBy, finished, function_steps, led_step, lines_of_function, words_of_inside}
 use Rattle.text_lines.specs.declared.line_words.LineWord.{LineWord}
 use Rattle.text_lines.specs.Runs.{Steps}
 use Rattle.text_lines.proofs.LineRuns.{Steps-append}
 use Rattle.program_text.specs.DeclarationWords.{words_of_decl}
 use Rattle.program_text.specs.FirstLines.{field_count_words, version_words}
-use Rattle.program_text.specs.ProgramStates.{ProgramLine, version, field_count, declares, begins, inside, ProgramState, nothing_read, version_read, drafted, open_function, MaySay, ends_function, said_inside, said_on, with_decl, with_function, words_of_program_line}
+use Rattle.program_text.specs.ProgramStates.{ProgramLine, version, field_count, declares, begins, inside, ProgramState, nothing_read, version_read, drafted, open_function, MaySay, in_program, said_on, with_decl, with_function, words_of_program_line}
 use Rattle.program_text.specs.ProgramTexts.{IsWritableDraft, SpellsDecls, SpellsProgram}
 
 abbrev pub Leads : ProgramState → List ProgramLine → ProgramState → Type 0
@@ -35,30 +33,29 @@ Leads s lines t = Steps MaySay said_on s lines t
 
 -- ---- the words of a program take the reader to it
 
-pub inside_stays : (line : Line) (blocks : List Block) → IsInside line blocks → ends_function line blocks ≡ false
-inside_stays close [] h = absurd h
-inside_stays line blocks h = refl
+-- a function's line in a program
+abbrev line_in_program : FunctionLine → ProgramLine
+line_in_program (header name kind keys) = begins name kind keys
+line_in_program (function_inside line) = inside line
 
-inside_leads : (d : DraftData) (o : OpenData) (c : Build) (lines : List Line) → Steps MayInside built_on o.build lines c → Leads (open_function d o) (map inside lines) (open_function d (with_build o c))
-inside_leads d o c [] h = ap (λ (b : Build). open_function d (with_build o b)) h
-inside_leads d o c (line ∷ lines) h = (h.0.0, rw (inside_stays line o.build.blocks h.0.1) (inside_leads d (with_build o (built_on o.build line)) c lines h.1))
+function_leads : (d : DraftData) (s t : FunctionState) (lines : List FunctionLine) → Steps MayFollow after s lines t → Leads (in_program d s) (map line_in_program lines) (in_program d t)
+function_leads d s t [] h = ap (in_program d) h
+function_leads d waiting t (header name kind keys ∷ lines) h = (h.0, function_leads d (reading (begun name kind keys)) t lines h.1)
+function_leads d (reading o) t (function_inside line ∷ lines) h = (h.0, function_leads d (after (reading o) (function_inside line)) t lines h.1)
+function_leads d s t (line ∷ lines) h = absurd h.0
 
--- the lines of a body, and the function's `end`
-ended_leads : (d : DraftData) (o : OpenData) (body : Code) (lines : List Line) → Steps MayInside built_on o.build lines (record { blocks = []; body = body })
-    → Leads (open_function d o) (map inside lines ++ inside close ∷ []) (drafted (with_function d (record { name = o.name; kind = o.kind; keys = o.keys; body = body })))
-ended_leads d o body lines h =
-    let full : Build = record { blocks = []; body = body } in
-    let last = drafted (with_function d (record { name = o.name; kind = o.kind; keys = o.keys; body = body })) in
-    Steps-append MaySay said_on (open_function d o) (open_function d (with_build o full)) last (map inside lines) (inside close ∷ []) (inside_leads d o full lines h) (tt, refl)
+words_in_program : (lines : List FunctionLine) → map words_of_program_line (map line_in_program lines) ≡ map words_of_function_line lines
+words_in_program [] = refl
+words_in_program (header name kind keys ∷ lines) = ap (λ (x : List (List LineWord)). header_words name kind keys ∷ x) (words_in_program lines)
+words_in_program (function_inside line ∷ lines) = ap (λ (x : List (List LineWord)). words_of_line line ∷ x) (words_in_program lines)
 
-function_leads : (d : DraftData) (f : Function) (lines : List Line) → SpellsBody f.body lines → IsSpelledFunction f → nesting f.body ≤ nesting_limit
-    → Leads (drafted d) (begins f.name f.kind f.keys ∷ (map inside lines ++ inside close ∷ [])) (drafted (with_function d f))
-function_leads d f lines h s n = ((s.name, s.keys), ended_leads d (begun f.name f.kind f.keys) f.body lines (body_steps f.body lines build_start h s.body (omega (arith, n))))
+abbrev function_in_program : Function → List Line → List ProgramLine
+function_in_program f lines = map line_in_program (lines_of_function f.name f.kind f.keys lines)
 
 function_words : (f : Function) (lines : List Line) (first : List (List LineWord)) → first ≡ header_words f.name f.kind f.keys ∷ (map words_of_line lines ++ words_of_line close ∷ [])
-    → first ≡ map words_of_program_line (begins f.name f.kind f.keys ∷ (map inside lines ++ inside close ∷ []))
+    → first ≡ map words_of_program_line (function_in_program f lines)
 function_words f lines first e =
-    e ∙ ap (λ (x : List (List LineWord)). header_words f.name f.kind f.keys ∷ x) (ap (λ (x : List (List LineWord)). x ++ words_of_line close ∷ []) (sym (map-map words_of_program_line inside lines)) ∙ sym (map-append words_of_program_line (map inside lines) (inside close ∷ [])))
+    e ∙ ap (λ (x : List (List LineWord)). header_words f.name f.kind f.keys ∷ x) (sym (words_of_inside lines)) ∙ sym (words_in_program (lines_of_function f.name f.kind f.keys lines))
 
 abbrev appended : DraftData → List Function → List Decl → DraftData
 appended d functions decls = record { fields = d.fields; functions = d.functions ++ functions; decls = d.decls ++ decls }
@@ -99,9 +96,9 @@ decls_lead d n count functions [] said h w k a e =
 decls_lead d n count [] (FunctionDecl number ∷ decls) said h w k a e = absurd h
 decls_lead d n count (f ∷ functions) (FunctionDecl number ∷ decls) said h w k a e =
     let body = h.3 in
-    let first = function_leads d f body.0 body.1 w.0 k.0 in
+    let first = function_leads d waiting (whole f) (lines_of_function f.name f.kind f.keys body.0) (function_steps f body.0 body.1 (w.0, k.0)) in
     let more = decls_lead (with_function d f) (n + 1) count functions decls h.1 h.4 w.1 k.1 a.1 (omega (arith, e, length-append d.functions (f ∷ []))) in
-    let lines = begins f.name f.kind f.keys ∷ (map inside body.0 ++ inside close ∷ []) in
+    let lines = function_in_program f body.0 in
     let words = function_words f body.0 h.0 body.2 in
     record {
       lines = lines ++ more.lines;
@@ -132,12 +129,10 @@ pub record ReadSo (d : DraftData) (lines : List ProgramLine) : Type 0 where
 
 pub record OpenSo (d : DraftData) (o : OpenData) (lines : List ProgramLine) : Type 0 where
   pub outer : List ProgramLine
-  pub inner : List Line
-  pub all : lines ≡ outer ++ begins o.name o.kind o.keys ∷ map inside inner
+  pub own : List FunctionLine
+  pub all : lines ≡ outer ++ map line_in_program own
   pub read : ReadSo d outer
-  pub header : IsHeader o.name o.kind o.keys
-  pub front : Front o.build inner
-  pub fits : FitsBuild o.build
+  pub led : LedBy (reading o) own
 
 abbrev pub StateFront : ProgramState → List ProgramLine → Type 0
 StateFront nothing_read lines = lines ≡ []
@@ -166,10 +161,9 @@ decl_read d decl lines h s = record {
   writable = record { spelled = IsSpelledDraft-decl d decl true s h.writable.spelled; nested = h.writable.nested };
 }
 
-ended_read : (d : DraftData) (f : Function) (lines : List ProgramLine) (inner : List Line) → ReadSo d lines → IsHeader f.name f.kind f.keys → SpellsBody f.body inner → IsSpelledFunction f → nesting f.body ≤ nesting_limit
-    → ReadSo (with_function d f) (lines ++ begins f.name f.kind f.keys ∷ (map inside inner ++ inside close ∷ []))
-ended_read d f lines inner h k b s n =
-    let own = begins f.name f.kind f.keys ∷ (map inside inner ++ inside close ∷ []) in
+ended_read : (d : DraftData) (f : Function) (lines : List ProgramLine) (inner : List Line) → ReadSo d lines → SpellsBody f.body inner → IsWritable f → ReadSo (with_function d f) (lines ++ function_in_program f inner)
+ended_read d f lines inner h b w =
+    let own = function_in_program f inner in
     let spelled : SpellsFunction f (map words_of_program_line own) = (inner, b, sym (function_words f inner _ refl)) in
     let one : SpellsDecls (f ∷ []) (FunctionDecl (length d.functions) ∷ []) (map words_of_program_line own) = (map words_of_program_line own, [], sym (append-nil (map words_of_program_line own)), spelled, (refl, refl)) in
     record {
@@ -178,46 +172,28 @@ ended_read d f lines inner h k b s n =
       spelled = subst (λ (x : List (List LineWord)). SpellsDecls (d.functions ++ f ∷ []) (d.decls ++ FunctionDecl (length d.functions) ∷ []) x) (sym (map-append words_of_program_line h.decls own))
           (SpellsDecls-append d.functions (f ∷ []) d.decls (FunctionDecl (length d.functions) ∷ []) (map words_of_program_line h.decls) (map words_of_program_line own) h.spelled one);
       writable = record {
-        spelled = IsSpelledDraft-function d f s h.writable.spelled;
-        nested = AllByRecursion-last (λ (g : Function). nesting g.body ≤ nesting_limit) d.functions f h.writable.nested n;
+        spelled = IsSpelledDraft-function d f w.0 h.writable.spelled;
+        nested = AllByRecursion-last (λ (g : Function). nesting g.body ≤ nesting_limit) d.functions f h.writable.nested w.1;
       };
-    }
-
-inside_read : (d : DraftData) (o : OpenData) (lines : List ProgramLine) (line : Line) → OpenSo d o lines → MayInside o.build line
-    → OpenSo d (with_build o (built_on o.build line)) (lines ++ inside line ∷ [])
-inside_read d o lines line h may =
-    let next = front_step o.build line h.inner h.front h.fits may in
-    record {
-      outer = h.outer;
-      inner = h.inner ++ line ∷ [];
-      all = ap (λ (x : List ProgramLine). x ++ inside line ∷ []) h.all ∙ append_assoc h.outer (begins o.name o.kind o.keys ∷ map inside h.inner) (inside line ∷ [])
-          ∙ ap (λ (x : List ProgramLine). h.outer ++ begins o.name o.kind o.keys ∷ x) (sym (map-append inside h.inner (line ∷ [])));
-      read = h.read;
-      header = h.header;
-      front = next.0;
-      fits = next.1;
     }
 
 -- ---- a line more
 
-data EndsOrNot (line : Line) (blocks : List Block) : Type 0 where
-  ends : ends_function line blocks ≡ true → line ≡ close → blocks ≡ [] → EndsOrNot line blocks
-  goes_on : ends_function line blocks ≡ false → IsInside line blocks → EndsOrNot line blocks
+function_read : (d : DraftData) (s : FunctionState) (outer : List ProgramLine) (own : List FunctionLine) → ReadSo d outer → LedBy s own → StateFront (in_program d s) (outer ++ map line_in_program own)
+function_read d waiting outer own read led = subst (ReadSo d) (sym (append-nil outer) ∙ ap (λ (x : List FunctionLine). outer ++ map line_in_program x) (sym led)) read
+function_read d (reading o) outer own read led = record { outer = outer; own = own; all = refl; read = read; led = led }
+function_read d (whole f) outer own read led =
+    subst (λ (x : List FunctionLine). ReadSo (with_function d f) (outer ++ map line_in_program x)) (sym led.1) (ended_read d f outer led.0 read led.2 led.3)
 
-ends_or_not : (line : Line) (blocks : List Block) → EndsOrNot line blocks
-ends_or_not close [] = ends refl refl refl
-ends_or_not line blocks = goes_on refl tt
-
-line_inside : (d : DraftData) (o : OpenData) (lines : List ProgramLine) (line : Line) → OpenSo d o lines → MayStand (place_of o.build) line
-    → EndsOrNot line o.build.blocks → StateFront (said_inside d o line) (lines ++ inside line ∷ [])
-line_inside d o lines line h may (ends e is_close none) =
-    let whole = front_whole o.build h.inner none h.front h.fits in
-    let s : IsSpelledFunction (function_of o) = record { name = h.header.0; keys = h.header.1; body = whole.1 } in
-    let read = ended_read d (function_of o) h.outer h.inner h.read h.header whole.0 s whole.2 in
-    let lines_are : h.outer ++ begins o.name o.kind o.keys ∷ (map inside h.inner ++ inside close ∷ []) ≡ lines ++ inside line ∷ [] =
-    sym (append_assoc h.outer (begins o.name o.kind o.keys ∷ map inside h.inner) (inside close ∷ [])) ∙ ap (λ (x : List ProgramLine). x ++ inside close ∷ []) (sym h.all) ∙ ap (λ (l : Line). lines ++ inside l ∷ []) (sym is_close) in
-    rw e (subst (ReadSo (with_function d (function_of o))) lines_are read)
-line_inside d o lines line h may (goes_on e i) = rw e (inside_read d o lines line h (may, i))
+inside_read : (d : DraftData) (o : OpenData) (lines : List ProgramLine) (line : Line) → OpenSo d o lines → MayStand (place_of o.build) line
+    → StateFront (said_on (open_function d o) (inside line)) (lines ++ inside line ∷ [])
+inside_read d o lines line h may =
+    let next = function_inside line in
+    let all : h.outer ++ map line_in_program (h.own ++ next ∷ []) ≡ lines ++ inside line ∷ [] =
+    ap (λ (x : List ProgramLine). h.outer ++ x) (map-append line_in_program h.own (next ∷ []))
+    ∙ sym (append_assoc h.outer (map line_in_program h.own) (inside line ∷ []))
+    ∙ ap (λ (x : List ProgramLine). x ++ inside line ∷ []) (sym h.all) in
+    subst (StateFront (in_program d (after (reading o) next))) all (function_read d (after (reading o) next) h.outer (h.own ++ next ∷ []) h.read (led_step (reading o) next h.own h.led may))
 
 pub line_read : (s : ProgramState) (l : ProgramLine) (lines : List ProgramLine) → StateFront s lines → MaySay s l → StateFront (said_on s l) (lines ++ l ∷ [])
 line_read nothing_read version lines h m = ap (λ (x : List ProgramLine). x ++ version ∷ []) h
@@ -228,8 +204,8 @@ line_read version_read (field_count count) lines h m = record {
   writable = record { spelled = record { some_field = m.0; few_fields = m.1; functions = tt; declared = refl }; nested = tt };
 }
 line_read (drafted d) (declares decl) lines h m = decl_read d decl lines h m
-line_read (drafted d) (begins name kind keys) lines h m = record { outer = lines; inner = []; all = refl; read = h; header = m; front = front_start; fits = fits_start }
-line_read (open_function d o) (inside line) lines h m = line_inside d o lines line h m (ends_or_not line o.build.blocks)
+line_read (drafted d) (begins name kind keys) lines h m = function_read d (reading (begun name kind keys)) lines (header name kind keys ∷ []) h (led_step waiting (header name kind keys) [] refl m)
+line_read (open_function d o) (inside line) lines h m = inside_read d o lines line h m
 line_read s l lines h m = absurd m
 
 pub lines_read : (s t : ProgramState) (lines more : List ProgramLine) → StateFront s lines → Leads s more t → StateFront t (lines ++ more)
@@ -244,8 +220,5 @@ can_end nothing_read lines h = (version ∷ field_count 1 ∷ [], record { field
 can_end version_read lines h = (field_count 1 ∷ [], record { fields = 1; functions = []; decls = [] }, ((omega arith, omega arith), refl))
 can_end (drafted d) lines h = ([], d, refl)
 can_end (open_function d o) lines h =
-    let more = closable o.build h.inner h.front h.fits in (
-      map inside more.0 ++ inside close ∷ [],
-      with_function d (record { name = o.name; kind = o.kind; keys = o.keys; body = more.1 }),
-      ended_leads d o more.1 more.0 more.2,
-    )
+    let more = finished (reading o) h.own h.led in
+    (map line_in_program more.0, with_function d more.1, function_leads d (reading o) (whole more.1) more.0 more.2)

@@ -1,8 +1,7 @@
 -- One step of the reader of programs.
-use Rattle.std.proofs.Common.{◌≡◌, inl, ℕ, Bool, true, false, Result, Ok, Err, IfOk, List, [], refl, ap, sym, subst, ◌∙◌}
+use Rattle.std.proofs.Common.{◌≡◌, inl, ℕ, Bool, true, false, Result, Ok, Err, IfOk, List, ap, sym, subst, ◌∙◌}
 use Rattle.tac_syntax.specs.Drafts.{DraftData}
 use Rattle.tac_syntax.specs.Code.{close}
-use Rattle.tac_text.specs.declared.building.Block.{Block}
 use Rattle.tac_text.specs.FunctionAnswers.{OpenData, TakesWords, function_of}
 use Rattle.text_lines.specs.declared.line_words.LineWord.{LineWord}
 use Rattle.text_lines.specs.LineGrammar.{HasLineFault}
@@ -12,11 +11,8 @@ use Rattle.text_lines.specs.declared.faults.NotRead.TheVariants.{Fault, Memory}
 use Rattle.text_lines.specs.TextLines.{trimmed}
 use Rattle.program_text.specs.declared.program_reading.State.{State}
 use Rattle.program_text.specs.ProgramReading.{IsLineFault, LeadsOn, state_of}
-use Rattle.program_text.specs.ProgramStates.{inside, ProgramState, drafted, open_function, said_inside, with_function}
-use Rattle.program_text.proofs.ProgramRuns.{inside_stays}
-
-ends_so : (d : DraftData) (o : OpenData) (blocks : List Block) → o.build.blocks ≡ blocks → blocks ≡ [] → said_inside d o close ≡ drafted (with_function d (function_of o))
-ends_so d o blocks e none = rw (e, none) refl
+use Rattle.program_text.specs.ProgramStates.{inside, in_program, ProgramState, drafted, open_function, with_function}
+use Rattle.tac_text.proofs.FunctionRuns.{after_inside-inside, at_own_end}
 
 -- the function's own `end`
 pub ended_words : (d : DraftData) (old now : OpenData) (said : List LineWord) (ended : Bool) (r : Result State NotRead) → ended ≡ true → TakesWords ended said old now
@@ -27,14 +23,14 @@ ended_words d old now said ended (Ok t) is taken h =
       inside close,
       own.0,
       tt,
-      h ∙ ap (λ (o : OpenData). drafted (with_function d (function_of o))) own.2 ∙ sym (ends_so d old old.build.blocks refl own.1),
+      h ∙ ap (λ (o : OpenData). drafted (with_function d (function_of o))) own.2 ∙ sym (ap (in_program d) (at_own_end old.build.blocks old own.1)),
     )
 
 -- a line of its body
 pub inner_words : (d : DraftData) (old now : OpenData) (said : List LineWord) (ended : Bool) → ended ≡ false → TakesWords ended said old now → LeadsOn (open_function d old) said (open_function d now)
 inner_words d old now said ended is taken =
     let own : TakesWords false said old now = subst (λ (b : Bool). TakesWords b said old now) is taken in
-    (inside own.0, own.1, own.2.0, ap (open_function d) own.3 ∙ sym (rw (inside_stays own.0 old.build.blocks own.2.1) refl))
+    (inside own.0, own.1, own.2.0, ap (open_function d) own.3 ∙ sym (ap (in_program d) (after_inside-inside own.0 old.build.blocks old own.2.1)))
 
 -- ---- faults
 

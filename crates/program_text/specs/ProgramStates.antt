@@ -1,16 +1,16 @@
 -- Reading a program line by line.
-use Rattle.std.specs.Prelude.{ℕ, Bool, true, false, if◌then◌else◌, List, [], ◌∷◌, ◌++◌, length}
+use Rattle.std.specs.Prelude.{ℕ, List, [], ◌∷◌, ◌++◌, length}
 use Rattle.tac_syntax.specs.declared.declarations.Decl.{Decl}
 use Rattle.tac_syntax.specs.declared.declarations.Decl.TheVariants.{Function as FunctionDecl}
 use Rattle.tac_syntax.specs.Declarations.{IsSpelledDecl}
 use Rattle.tac_syntax.specs.Drafts.{DraftData}
 use Rattle.tac_syntax.specs.declared.functions.Function.{Function}
 use Rattle.tac_syntax.specs.declared.functions.Kind.{Kind}
-use Rattle.tac_syntax.specs.Code.{Line, close}
-use Rattle.tac_text.specs.declared.building.Block.{Block}
-use Rattle.tac_text.specs.FunctionAnswers.{OpenData, begun, function_of, with_build}
-use Rattle.tac_text.specs.FunctionLines.{header_words, IsHeader}
-use Rattle.tac_text.specs.Places.{place_of, built_on}
+use Rattle.tac_syntax.specs.Code.{Line}
+use Rattle.tac_text.specs.FunctionAnswers.{OpenData, begun}
+use Rattle.tac_text.specs.FunctionLines.{header_words, inside as function_inside, IsHeader}
+use Rattle.tac_text.specs.FunctionStates.{FunctionState, waiting, reading, whole, after}
+use Rattle.tac_text.specs.Places.{place_of}
 use Rattle.statement_lines.specs.StatementLines.{MayStand}
 use Rattle.statement_lines.specs.Spelling.{words_of_line}
 use Rattle.text_lines.specs.Runs.{Runs}
@@ -61,13 +61,11 @@ with_decl d decl = record { fields = d.fields; functions = d.functions; decls = 
 abbrev pub with_function : DraftData → Function → DraftData
 with_function d f = record { fields = d.fields; functions = d.functions ++ f ∷ []; decls = d.decls ++ FunctionDecl (length d.functions) ∷ [] }
 
--- an `end` where no block is open ends the function
-abbrev pub ends_function : Line → List Block → Bool
-ends_function close [] = true
-ends_function line blocks = false
-
-abbrev pub said_inside : DraftData → OpenData → Line → ProgramState
-said_inside d o line = if ends_function line o.build.blocks then drafted (with_function d (function_of o)) else open_function d (with_build o (built_on o.build line))
+-- where the lines of a function lead, behind a draft
+abbrev pub in_program : DraftData → FunctionState → ProgramState
+in_program d waiting = drafted d
+in_program d (reading o) = open_function d o
+in_program d (whole f) = drafted (with_function d f)
 
 -- behind a line; one that can't be said there leads nowhere
 abbrev pub said_on : ProgramState → ProgramLine → ProgramState
@@ -75,7 +73,7 @@ said_on nothing_read version = version_read
 said_on version_read (field_count count) = drafted (record { fields = count; functions = []; decls = [] })
 said_on (drafted d) (declares decl) = drafted (with_decl d decl)
 said_on (drafted d) (begins name kind keys) = open_function d (begun name kind keys)
-said_on (open_function d o) (inside line) = said_inside d o line
+said_on (open_function d o) (inside line) = in_program d (after (reading o) (function_inside line))
 said_on state line = state
 
 -- lines of a text take the reader from one state to another

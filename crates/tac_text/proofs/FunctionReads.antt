@@ -19,7 +19,7 @@ use Rattle.tac_text.specs.FunctionLines.{inside, words_of_function_line, Functio
 use Rattle.tac_text.specs.FunctionReading.{told_at, IsFunctionFault, GivesFunction}
 use Rattle.tac_text.specs.FunctionStates.{FunctionState, waiting, reading, whole, MayFollow, after_inside, after, place_at, Leads, state_of, LeadsLine, HasLineCause}
 use Rattle.statement_lines.specs.Spelling.{words_of_line}
-use Rattle.tac_text.proofs.FunctionRuns.{function_sayings, function_faults, Leads-FunctionText, FunctionText-Leads, reads_functions}
+use Rattle.tac_text.proofs.FunctionRuns.{function_sayings, function_faults, Leads-FunctionText, FunctionText-Leads, at_own_end, reads_functions}
 
 -- ---- one line
 
@@ -127,10 +127,6 @@ HasRead-line text start at next number line old now h lines further within leads
 }
 
 -- ---- the function's end
-
-at_own_end : (blocks : List Block) (o : OpenData) → blocks ≡ [] → after_inside close blocks o ≡ whole (function_of o)
-at_own_end [] o e = refl
-at_own_end (block ∷ blocks) o e = absurd cc
 
 pub FunctionAt-read : (text : List ℕ) (start at next number : ℕ) (line : List ℕ) (old now : Option OpenData) (f : Function) → HasRead text start old at number → lines_of (drop at text) ≡ line ∷ lines_of (drop next text) → at < next → next ≤ length text
     → LeadsLine true line old now → ((o : OpenData) → now ≡ Some o → f ≡ function_of o) → FunctionAt f text start next

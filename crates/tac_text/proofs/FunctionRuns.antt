@@ -74,9 +74,13 @@ function_faults = record { none = fault_none; sound = fault_sound; complete = fa
 
 -- ---- a function's lines may follow each other
 
-after_inside-inside : (l : Line) (blocks : List Block) (o : OpenData) → IsInside l blocks → after_inside l blocks o ≡ reading (with_build o (built_on o.build l))
+pub after_inside-inside : (l : Line) (blocks : List Block) (o : OpenData) → IsInside l blocks → after_inside l blocks o ≡ reading (with_build o (built_on o.build l))
 after_inside-inside close [] o h = absurd h
 after_inside-inside l blocks o h = refl
+
+pub at_own_end : (blocks : List Block) (o : OpenData) → blocks ≡ [] → after_inside close blocks o ≡ whole (function_of o)
+at_own_end [] o e = refl
+at_own_end (block ∷ blocks) o e = absurd cc
 
 -- what an open function takes leads on
 pub LeadsOn-TakesWords : (ended : Bool) (words : List LineWord) (old now : OpenData) → TakesWords ended words old now → LeadsOn ended words (Some old) (Some now)
@@ -95,7 +99,7 @@ inside_steps o (l ∷ lines) t p =
     let rest = inside_steps (with_build o (built_on o.build l)) lines t p.1 in
     (p.0.0, subst (λ (s : FunctionState). StepsTo s (map inside lines) (reading (with_build o t))) (sym (after_inside-inside l o.build.blocks o p.0.1)) rest)
 
-abbrev lines_of_function : List ℕ → Kind → ℕ → List Line → List FunctionLine
+abbrev pub lines_of_function : List ℕ → Kind → ℕ → List Line → List FunctionLine
 lines_of_function name kind keys lines = header name kind keys ∷ (map inside lines ++ inside close ∷ [])
 
 -- the lines of a body, and `end`
@@ -103,12 +107,12 @@ ended_steps : (o : OpenData) (lines : List Line) (c : Code) → Steps MayInside 
 ended_steps o lines c p =
     Steps-append MayFollow after (reading o) (reading (with_build o (build [] c))) (whole (function_of (with_build o (build [] c)))) (map inside lines) (inside close ∷ []) (inside_steps o lines (build [] c) p) (tt, refl)
 
-function_steps : (f : Function) (lines : List Line) → SpellsBody f.body lines → IsWritable f → StepsTo waiting (lines_of_function f.name f.kind f.keys lines) (whole f)
+pub function_steps : (f : Function) (lines : List Line) → SpellsBody f.body lines → IsWritable f → StepsTo waiting (lines_of_function f.name f.kind f.keys lines) (whole f)
 function_steps f lines spelled h =
     let body = body_steps f.body lines build_start spelled h.0.body (omega (arith, h.1)) in
     ((h.0.name, h.0.keys), ended_steps (begun f.name f.kind f.keys) lines f.body body)
 
-words_of_inside : (lines : List Line) → map words_of_function_line (map inside lines ++ inside close ∷ []) ≡ map words_of_line lines ++ words_of_line close ∷ []
+pub words_of_inside : (lines : List Line) → map words_of_function_line (map inside lines ++ inside close ∷ []) ≡ map words_of_line lines ++ words_of_line close ∷ []
 words_of_inside [] = refl
 words_of_inside (l ∷ lines) = ap (λ (x : List (List LineWord)). words_of_line l ∷ x) (words_of_inside lines)
 
@@ -121,7 +125,7 @@ Leads-FunctionText f text t =
 -- ---- lines that may follow each other are those of a function
 
 -- what the lines were that led to a state
-abbrev LedBy : FunctionState → List FunctionLine → Type 0
+abbrev pub LedBy : FunctionState → List FunctionLine → Type 0
 LedBy waiting ls = ls ≡ []
 LedBy (reading o) ls = (lines : List Line) × (ls ≡ header o.name o.kind o.keys ∷ map inside lines) × IsHeader o.name o.kind o.keys × Front o.build lines × FitsBuild o.build
 LedBy (whole f) ls = (lines : List Line) × (ls ≡ lines_of_function f.name f.kind f.keys lines) × SpellsBody f.body lines × IsWritable f
@@ -142,7 +146,7 @@ led_on : (l : Line) (blocks : List Block) (o : OpenData) (ls : List FunctionLine
 led_on close [] o ls e led may = led_whole o ls led e
 led_on l blocks o ls e led may = led_inside o l ls led (may, subst (IsInside l) (sym e) tt)
 
-led_step : (s : FunctionState) (l : FunctionLine) (ls : List FunctionLine) → LedBy s ls → MayFollow s l → LedBy (after s l) (ls ++ l ∷ [])
+pub led_step : (s : FunctionState) (l : FunctionLine) (ls : List FunctionLine) → LedBy s ls → MayFollow s l → LedBy (after s l) (ls ++ l ∷ [])
 led_step waiting (header name kind keys) ls led may = ([], ap (λ (x : List FunctionLine). x ++ header name kind keys ∷ []) led, may, front_start, fits_start)
 led_step (reading o) (inside l) ls led may = led_on l o.build.blocks o ls refl led may
 led_step s l ls led may = absurd may
@@ -165,7 +169,7 @@ FunctionText-Leads f text run =
 shortest : StepsTo waiting (header (97 ∷ []) Map 0 ∷ inside close ∷ []) (whole (function_of (begun (97 ∷ []) Map 0)))
 shortest = ((refl, refl), (tt, refl))
 
-finished : (s : FunctionState) (ls : List FunctionLine) → LedBy s ls → (more : List FunctionLine) × (f : Function) × StepsTo s more (whole f)
+pub finished : (s : FunctionState) (ls : List FunctionLine) → LedBy s ls → (more : List FunctionLine) × (f : Function) × StepsTo s more (whole f)
 finished waiting ls led = (header (97 ∷ []) Map 0 ∷ inside close ∷ [], function_of (begun (97 ∷ []) Map 0), shortest)
 finished (reading o) ls (lines, e, head, front, fits) =
     let rest = closable o.build lines front fits in
