@@ -1,6 +1,8 @@
 -- Words without a fault are the words of a line.
-use Rattle.std.proofs.Common.{◌≡◌, length, ◌<◌, ◌+◌, inl, inr, ℕ, Bool, true, false, nat_lt, if◌then◌else◌, List, [], ◌∷◌, Option, Some, None, codes, bytes_eq, decimal, refl, sym, ◌∙◌, arith}
+use Rattle.std.proofs.Common.{◌≡◌, length, ◌<◌, ◌+◌, ℕ, true, nat_lt, if◌then◌else◌, List, [], ◌∷◌, Option, Some, None, codes, bytes_eq, decimal, refl, sym, ◌∙◌, arith}
 use Rattle.std.proofs.lemmas.Bool.{ltb-true}
+use Rattle.std.specs.List.{AllByRecursion}
+use Rattle.pact_record.specs.declared.operations.Op2.{Op2}
 use Rattle.tac_syntax.specs.Code.{load_int, load_text, load_null, move_value, get_field, get_key, apply_one, apply_two, new_record, copy_record, set_field, emit_record, Line, simple, test, turns, over, otherwise, close}
 use Rattle.tac_syntax.specs.Limits.{nesting_limit}
 use Rattle.text_lines.specs.CanonicalLines.{AreLineWords}
@@ -9,8 +11,8 @@ use Rattle.text_lines.specs.declared.line_words.LineWord.TheVariants.{Plain as p
 use Rattle.text_lines.specs.LineGrammar.{is_plain}
 use Rattle.text_lines.specs.Slots.{Slot, fixed, register, operand, number, signed, text, loop, list, first_fault}
 use Rattle.text_lines.specs.Digits.{or_else}
-use Rattle.text_lines.proofs.Faultless.{by_cases, or_else-none, same_word, is_plain-same}
-use Rattle.text_lines.proofs.FilledSlots.{AllFit, AreUsual, Values, filled_line, named, words_then}
+use Rattle.text_lines.proofs.Faultless.{by_cases, by_cases_of, named, or_else-none, same_word, is_plain-same}
+use Rattle.text_lines.proofs.FilledSlots.{AllFit, AreUsual, Values, filled_line, words_then}
 use Rattle.statement_lines.specs.Spelling.{op1_word, op2_word}
 use Rattle.statement_lines.specs.StatementLines.{LinePlace, MayStand}
 use Rattle.statement_lines.specs.Spelling.{words_of_line}
@@ -91,38 +93,32 @@ line_of_form p target equals form name words letter slots usual line spelled may
 
 op1_line : (p : LinePlace) (target : List ℕ) (equals : LineWord) (form : List ℕ) (words : List LineWord) → AreLineWords (plain_word target ∷ words) → equals ≡ plain_word (codes "=") → is_op1 form ≡ true
     → first_fault (register 118 ∷ register 118 ∷ []) (plain_word target ∷ words) ≡ None → AssignmentFor p target equals form words
-op1_line p target equals form words good eq is h = elim (named op1_word form OPS1) [
-  | inl (op, e) ↦ line_of_form p target equals form (op1_word op) words 118 (register 118 ∷ []) (refl, (refl, tt)) (λ x. simple (apply_one x.0 op x.1.0)) (λ x. refl) (λ x fit. (fit.0, fit.1.0)) good eq e h
-  | inr none ↦ let no : is_op1 form ≡ false = rw (none.0, none.1.0, none.1.1.0) refl in absurd cc
-]
+op1_line p target equals form words good eq is h =
+    let n = named op1_word (λ _. Unit {0}) OPS1 form (tt, (tt, (tt, tt))) is in
+    line_of_form p target equals form (op1_word n.0) words 118 (register 118 ∷ []) (refl, (refl, tt)) (λ x. simple (apply_one x.0 n.0 x.1.0)) (λ x. refl) (λ x fit. (fit.0, fit.1.0)) good eq n.1 h
 
 op2_line : (p : LinePlace) (target : List ℕ) (equals : LineWord) (form : List ℕ) (words : List LineWord) → AreLineWords (plain_word target ∷ words) → equals ≡ plain_word (codes "=") → is_op2 form ≡ true
     → first_fault (register 118 ∷ register 118 ∷ register 118 ∷ []) (plain_word target ∷ words) ≡ None → AssignmentFor p target equals form words
-op2_line p target equals form words good eq is h = elim (named op2_word form OPS2) [
-  | inl (op, e) ↦
-      line_of_form p target equals form (op2_word op) words 118 (register 118 ∷ register 118 ∷ []) (refl, (refl, (refl, tt)))
-      (λ x. simple (apply_two x.0 op x.1.0 x.1.1.0)) (λ x. refl) (λ x fit. (fit.0, fit.1.0, fit.1.1.0)) good eq e h
-  | inr (a, (b, (c, (d, (e, (f, (g, (i, (j, (k, (l, (m, (n, (o, _)))))))))))))) ↦ let no : is_op2 form ≡ false = rw (a, b, c, d, e, f, g, i, j, k, l, m, n, o) refl in absurd cc
-]
-
-by_form : {C : Type 0} (f : Option Wanted → Option ℕ) (b : Bool) (x y : Option Wanted) → (b ≡ true → f x ≡ None → C) → (b ≡ false → f y ≡ None → C) → f (if b then x else y) ≡ None → C
-by_form f true x y g k h = g refl h
-by_form f false x y g k h = k refl h
+op2_line p target equals form words good eq is h =
+    let all : AllByRecursion (λ (op : Op2). Unit {0}) OPS2 = (tt, (tt, (tt, (tt, (tt, (tt, (tt, (tt, (tt, (tt, (tt, (tt, (tt, (tt, tt)))))))))))))) in
+    let n = named op2_word (λ _. Unit {0}) OPS2 form all is in
+    line_of_form p target equals form (op2_word n.0) words 118 (register 118 ∷ register 118 ∷ []) (refl, (refl, (refl, tt)))
+    (λ x. simple (apply_two x.0 n.0 x.1.0 x.1.1.0)) (λ x. refl) (λ x fit. (fit.0, fit.1.0, fit.1.1.0)) good eq n.1 h
 
 form_line : (p : LinePlace) (target : List ℕ) (equals : LineWord) (form : List ℕ) (words : List LineWord) → AreLineWords (plain_word target ∷ words) → equals ≡ plain_word (codes "=")
     → form_fault target (wanted_by form) words ≡ None → AssignmentFor p target equals form words
 form_line p target equals form words good eq h =
     let f : Option Wanted → Option ℕ = λ w. form_fault target w words in
-    by_form f (bytes_eq form (codes "int")) _ _ (λ e k. line_of_form p target equals form (codes "int") words 118 (signed ∷ []) (refl, (tt, tt)) (λ x. simple (load_int x.0 x.1.0)) (λ x. refl) (λ x fit. (fit.0, fit.1.0)) good eq (same_word form _ e) k) (λ _ h0.
-    by_form f (bytes_eq form (codes "text")) _ _ (λ e k. line_of_form p target equals form (codes "text") words 118 (text ∷ []) (refl, (tt, tt)) (λ x. simple (load_text x.0 x.1.0)) (λ x. refl) (λ x fit. (fit.0, fit.1.0)) good eq (same_word form _ e) k) (λ _ h1.
-    by_form f (bytes_eq form (codes "null")) _ _ (λ e k. line_of_form p target equals form (codes "null") words 118 [] (refl, tt) (λ x. simple (load_null x.0)) (λ x. refl) (λ x fit. fit.0) good eq (same_word form _ e) k) (λ _ h2.
-    by_form f (bytes_eq form (codes "mov")) _ _ (λ e k. line_of_form p target equals form (codes "mov") words 118 (register 118 ∷ []) (refl, (refl, tt)) (λ x. simple (move_value x.0 x.1.0)) (λ x. refl) (λ x fit. (fit.0, fit.1.0)) good eq (same_word form _ e) k) (λ _ h3.
-    by_form f (bytes_eq form (codes "get")) _ _ (λ e k. line_of_form p target equals form (codes "get") words 118 (operand ∷ number 0 255 ∷ []) (refl, (tt, (omega arith, tt))) (λ x. simple (get_field x.0 x.1.0 x.1.1.0)) (λ x. refl) (λ x fit. (fit.0, fit.1.0, fit.1.1.0.1)) good eq (same_word form _ e) k) (λ _ h4.
-    by_form f (bytes_eq form (codes "key")) _ _ (λ e k. line_of_form p target equals form (codes "key") words 118 (number 0 255 ∷ []) (refl, (omega arith, tt)) (λ x. simple (get_key x.0 x.1.0)) (λ x. refl) (λ x fit. (fit.0, fit.1.0.1)) good eq (same_word form _ e) k) (λ _ h5.
-    by_form f (bytes_eq form (codes "new")) _ _ (λ e k. line_of_form p target equals form (codes "new") words 114 [] (refl, tt) (λ x. simple (new_record x.0)) (λ x. refl) (λ x fit. fit.0) good eq (same_word form _ e) k) (λ _ h6.
-    by_form f (bytes_eq form (codes "copy")) _ _ (λ e k. line_of_form p target equals form (codes "copy") words 114 (operand ∷ []) (refl, (tt, tt)) (λ x. simple (copy_record x.0 x.1.0)) (λ x. refl) (λ x fit. (fit.0, fit.1.0)) good eq (same_word form _ e) k) (λ _ h7.
-    by_form f (is_op1 form) _ _ (λ e k. op1_line p target equals form words good eq e k) (λ _ h8.
-    by_form f (is_op2 form) _ _ (λ e k. op2_line p target equals form words good eq e k) (λ _ k. absurd (some_fault (target_alone target) 9 k)) h8) h7) h6) h5) h4) h3) h2) h1) h0) h
+    by_cases_of f (bytes_eq form (codes "int")) _ _ (λ e k. line_of_form p target equals form (codes "int") words 118 (signed ∷ []) (refl, (tt, tt)) (λ x. simple (load_int x.0 x.1.0)) (λ x. refl) (λ x fit. (fit.0, fit.1.0)) good eq (same_word form _ e) k) (λ _ h0.
+    by_cases_of f (bytes_eq form (codes "text")) _ _ (λ e k. line_of_form p target equals form (codes "text") words 118 (text ∷ []) (refl, (tt, tt)) (λ x. simple (load_text x.0 x.1.0)) (λ x. refl) (λ x fit. (fit.0, fit.1.0)) good eq (same_word form _ e) k) (λ _ h1.
+    by_cases_of f (bytes_eq form (codes "null")) _ _ (λ e k. line_of_form p target equals form (codes "null") words 118 [] (refl, tt) (λ x. simple (load_null x.0)) (λ x. refl) (λ x fit. fit.0) good eq (same_word form _ e) k) (λ _ h2.
+    by_cases_of f (bytes_eq form (codes "mov")) _ _ (λ e k. line_of_form p target equals form (codes "mov") words 118 (register 118 ∷ []) (refl, (refl, tt)) (λ x. simple (move_value x.0 x.1.0)) (λ x. refl) (λ x fit. (fit.0, fit.1.0)) good eq (same_word form _ e) k) (λ _ h3.
+    by_cases_of f (bytes_eq form (codes "get")) _ _ (λ e k. line_of_form p target equals form (codes "get") words 118 (operand ∷ number 0 255 ∷ []) (refl, (tt, (omega arith, tt))) (λ x. simple (get_field x.0 x.1.0 x.1.1.0)) (λ x. refl) (λ x fit. (fit.0, fit.1.0, fit.1.1.0.1)) good eq (same_word form _ e) k) (λ _ h4.
+    by_cases_of f (bytes_eq form (codes "key")) _ _ (λ e k. line_of_form p target equals form (codes "key") words 118 (number 0 255 ∷ []) (refl, (omega arith, tt)) (λ x. simple (get_key x.0 x.1.0)) (λ x. refl) (λ x fit. (fit.0, fit.1.0.1)) good eq (same_word form _ e) k) (λ _ h5.
+    by_cases_of f (bytes_eq form (codes "new")) _ _ (λ e k. line_of_form p target equals form (codes "new") words 114 [] (refl, tt) (λ x. simple (new_record x.0)) (λ x. refl) (λ x fit. fit.0) good eq (same_word form _ e) k) (λ _ h6.
+    by_cases_of f (bytes_eq form (codes "copy")) _ _ (λ e k. line_of_form p target equals form (codes "copy") words 114 (operand ∷ []) (refl, (tt, tt)) (λ x. simple (copy_record x.0 x.1.0)) (λ x. refl) (λ x fit. (fit.0, fit.1.0)) good eq (same_word form _ e) k) (λ _ h7.
+    by_cases_of f (is_op1 form) _ _ (λ e k. op1_line p target equals form words good eq e k) (λ _ h8.
+    by_cases_of f (is_op2 form) _ _ (λ e k. op2_line p target equals form words good eq e k) (λ _ k. absurd (some_fault (target_alone target) 9 k)) h8) h7) h6) h5) h4) h3) h2) h1) h0) h
 
 assignment_line : (p : LinePlace) (target : List ℕ) (words : List LineWord) → AreLineWords (plain_word target ∷ words) → assignment_fault target words ≡ None → LineFor p (plain_word target ∷ words)
 assignment_line p target [] good h = absurd (some_fault (target_alone target) 4 h)

@@ -15,7 +15,7 @@ use Rattle.tac_syntax.specs.Code.{load_int, load_text, load_null, move_value, ge
 use Rattle.tac_syntax.specs.Grammar.{IsSpelledRecord, IsSpelledLine}
 use Rattle.text_lines.specs.declared.line_words.LineWord.{LineWord}
 use Rattle.text_lines.specs.declared.line_words.LineWord.TheVariants.{Plain as plain_word, Literal as literal_word}
-use Rattle.text_lines.specs.OperandWords.{fixed_record, list_word, record_word, value_register}
+use Rattle.text_lines.specs.OperandWords.{fixed_record, list_word, named_in, record_word, value_register}
 use Rattle.text_lines.proofs.DigitWords.{number_back, number_in, number_in-decimal}
 use Rattle.text_lines.proofs.SlotWords.{bytes_eq-decimal, digit_other}
 use Rattle.statement_lines.proofs.Operations.{each_op1, each_op2}
@@ -53,11 +53,6 @@ record_in word = unwrap_or (fixed_record word) (numbered_record word)
 abbrev list_in : List ℕ → LoopList
 list_in word = if bytes_eq word (codes "left") then LeftGroup else (if bytes_eq word (codes "right") then RightGroup else Group)
 
--- the operation of a word, or the other one
-abbrev op_in : {X : Type 0} → (X → List ℕ) → X → List X → List ℕ → X
-op_in name other [] word = other
-op_in name other (x ∷ xs) word = if bytes_eq word (name x) then x else op_in name other xs word
-
 -- behind a target, `=` and the word that says what is assigned
 abbrev assigned_line : (target form : List ℕ) → List (List ℕ) → Line
 assigned_line target form words =
@@ -69,8 +64,8 @@ assigned_line target form words =
     else (if bytes_eq form (codes "key") then simple (get_key (register_in target) (number_in (word_in words 0)))
     else (if bytes_eq form (codes "new") then simple (new_record (register_in target))
     else (if bytes_eq form (codes "copy") then simple (copy_record (register_in target) (record_in (word_in words 0)))
-    else (if nat_lt 1 (length words) then simple (apply_two (register_in target) (op_in op2_word Add OPS2 form) (register_in (word_in words 0)) (register_in (word_in words 1)))
-    else simple (apply_one (register_in target) (op_in op1_word Not OPS1 form) (register_in (word_in words 0)))))))))))
+    else (if nat_lt 1 (length words) then simple (apply_two (register_in target) (unwrap_or (named_in op2_word OPS2 form) Add) (register_in (word_in words 0)) (register_in (word_in words 1)))
+    else simple (apply_one (register_in target) (unwrap_or (named_in op1_word OPS1 form) Not) (register_in (word_in words 0)))))))))))
 
 -- behind another first word
 abbrev other_line : List ℕ → List (List ℕ) → Line

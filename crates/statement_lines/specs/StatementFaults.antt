@@ -1,9 +1,13 @@
 -- What is wrong with a line that should be a statement's: the first fault from the left.
-use Rattle.std.specs.Prelude.{ℕ, ◌+◌, Bool, ◌||◌, if◌then◌else◌, nat_lt, Option, Some, None, List, [], ◌∷◌, codes, bytes_eq}
+use Rattle.std.specs.Prelude.{ℕ, ◌+◌, Bool, ◌||◌, if◌then◌else◌, is_some, nat_lt, Option, Some, None, List, [], ◌∷◌, codes, bytes_eq}
+use Rattle.pact_record.specs.declared.operations.Op1.TheVariants.{Not, IsNull, Len}
+use Rattle.tac_syntax.specs.Coding.{all_op2}
 use Rattle.tac_syntax.specs.Limits.{nesting_limit}
 use Rattle.text_lines.specs.declared.line_words.LineWord.{LineWord}
 use Rattle.text_lines.specs.declared.line_words.LineWord.TheVariants.{Plain as plain_word, Literal as literal_word}
 use Rattle.text_lines.specs.Digits.{is_in_form, or_else}
+use Rattle.text_lines.specs.OperandWords.{named_in}
+use Rattle.statement_lines.specs.Spelling.{op1_word, op2_word}
 use Rattle.statement_lines.specs.StatementLines.{LinePlace}
 use Rattle.text_lines.specs.LineGrammar.{is_plain}
 use Rattle.text_lines.specs.Slots.{Slot, fixed, register, operand, number, signed, text, loop, list, numbered_fault, register_fault, first_fault}
@@ -11,13 +15,10 @@ use Rattle.text_lines.specs.Slots.{Slot, fixed, register, operand, number, signe
 -- ---- assignments
 
 abbrev pub is_op1 : List ℕ → Bool
-is_op1 word = bytes_eq word (codes "not") || bytes_eq word (codes "isnull") || bytes_eq word (codes "len")
+is_op1 word = is_some (named_in op1_word (Not ∷ IsNull ∷ Len ∷ []) word)
 
 abbrev pub is_op2 : List ℕ → Bool
-is_op2 word =
-    bytes_eq word (codes "add") || bytes_eq word (codes "sub") || bytes_eq word (codes "mul") || bytes_eq word (codes "div") || bytes_eq word (codes "rem")
-    || bytes_eq word (codes "addw") || bytes_eq word (codes "min") || bytes_eq word (codes "max") || bytes_eq word (codes "lt") || bytes_eq word (codes "le")
-    || bytes_eq word (codes "eq") || bytes_eq word (codes "and") || bytes_eq word (codes "or") || bytes_eq word (codes "cat")
+is_op2 word = is_some (named_in op2_word all_op2 word)
 
 -- what the word behind `=` wants: the letter of the target, and the words behind it
 pub record Wanted : Type 0 where

@@ -1,5 +1,5 @@
 -- The lines of one body after another.
-use Rattle.std.proofs.Common.{◌≡◌, ◌+◌, ℕ, Bool, true, false, List, [], ◌∷◌, ◌++◌, map, refl, ap, sym, ◌∙◌, append_assoc}
+use Rattle.std.proofs.Common.{◌≡◌, ◌+◌, ℕ, Bool, true, false, List, ◌∷◌, ◌++◌, map, refl, ap, sym, ◌∙◌, append_assoc}
 use Rattle.std.proofs.lemmas.List.{map-append}
 use Rattle.tac_syntax.specs.Code.{Code, stop, plain, branch, again, each, Line, joined, simple, test, turns, over, otherwise, close}
 use Rattle.tac_syntax.specs.Coding.{is_stop, other_lines, lines_of}

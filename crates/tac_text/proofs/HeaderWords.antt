@@ -1,5 +1,5 @@
 -- The words of a header, which are those of no other, and words without a fault.
-use Rattle.std.proofs.Common.{◌≡◌, ◌≢◌, ◌≤◌, ℕ, Bool, true, false, if◌then◌else◌, List, [], ◌∷◌, map, Option, Some, None, Result, Ok, Err, codes, bytes_eq, decimal, refl, ap, sym, subst, ◌∙◌, arith}
+use Rattle.std.proofs.Common.{◌≡◌, ◌≢◌, ◌≤◌, ℕ, List, [], ◌∷◌, map, Option, Some, None, Result, Ok, Err, codes, bytes_eq, decimal, refl, ap, sym, subst, ◌∙◌, arith}
 use Rattle.std.specs.Prelude.{IfErr, IfOk}
 use Rattle.tac_syntax.specs.declared.functions.Kind.{Kind}
 use Rattle.tac_syntax.specs.declared.functions.Kind.TheVariants.{Map, Match, Cross, Reduce, CoGroup}
@@ -18,7 +18,7 @@ use Rattle.tac_text.specs.Spelling.{kind_word, key_words}
 use Rattle.text_lines.specs.CanonicalLines.{AreLineWords}
 use Rattle.text_lines.specs.Slots.{identifier, number, first_fault}
 use Rattle.text_lines.proofs.FilledSlots.{filled, filled_line, none_left}
-use Rattle.text_lines.proofs.Faultless.{by_cases, same_word}
+use Rattle.text_lines.proofs.Faultless.{by_cases, named_as, same_word}
 
 -- ---- a header's words have no fault
 
@@ -63,22 +63,13 @@ KindFor words = (kind : Kind) × (keys : ℕ) × (words ≡ plain_word (kind_wor
 kind_found : (word : List ℕ) (words : List LineWord) (kind : Kind) → AreLineWords words → word ≡ kind_word kind → first_fault (key_slots kind) words ≡ None → KindFor (plain_word word ∷ words)
 kind_found word words kind good e h = let keys = keys_of_words kind words good h in (kind, keys.0, (λ i. plain_word (e i) ∷ keys.1 i), keys.2)
 
-by_kind : {C : Type 0} (f : Option Kind → Option ℕ) (b : Bool) (x y : Option Kind) → (b ≡ true → f x ≡ None → C) → (f y ≡ None → C) → f (if b then x else y) ≡ None → C
-by_kind f true x y g k h = g refl h
-by_kind f false x y g k h = k h
-
-kind_of_words : (word : List ℕ) (words : List LineWord) → AreLineWords words → keys_fault (kind_named word) words ≡ None → KindFor (plain_word word ∷ words)
-kind_of_words word words good h =
-    let f : Option Kind → Option ℕ = λ k. keys_fault k words in
-    by_kind f (bytes_eq word (codes "map")) _ _ (λ e k. kind_found word words Map good (same_word word _ e) k) (
-    by_kind f (bytes_eq word (codes "match")) _ _ (λ e k. kind_found word words Match good (same_word word _ e) k) (
-    by_kind f (bytes_eq word (codes "cross")) _ _ (λ e k. kind_found word words Cross good (same_word word _ e) k) (
-    by_kind f (bytes_eq word (codes "reduce")) _ _ (λ e k. kind_found word words Reduce good (same_word word _ e) k) (
-    by_kind f (bytes_eq word (codes "cogroup")) _ _ (λ e k. kind_found word words CoGroup good (same_word word _ e) k) (λ k. absurd cc))))) h
+found_kind : (word : List ℕ) (words : List LineWord) (found : Option Kind) → AreLineWords words → kind_named word ≡ found → keys_fault found words ≡ None → KindFor (plain_word word ∷ words)
+found_kind word words None good is h = absurd cc
+found_kind word words (Some kind) good is h = kind_found word words kind good (named_as kind_word (Map ∷ Match ∷ Cross ∷ Reduce ∷ CoGroup ∷ []) word kind is) h
 
 behind_name : (words : List LineWord) → AreLineWords words → kind_fault words ≡ None → KindFor words
 behind_name [] good h = absurd cc
-behind_name (plain_word word ∷ words) good h = kind_of_words word words good.1 h
+behind_name (plain_word word ∷ words) good h = found_kind word words (kind_named word) good.1 refl h
 behind_name (literal_word bytes ∷ words) good h = absurd cc
 
 behind_function : (first : List ℕ) (words : List LineWord) → AreLineWords words → first ≡ codes "function" → named_fault words ≡ None → HeaderFor (plain_word first ∷ words)

@@ -6,6 +6,8 @@ use Rattle.tac_syntax.specs.Functions.{key_limit}
 use Rattle.text_lines.specs.declared.line_words.LineWord.{LineWord}
 use Rattle.text_lines.specs.declared.line_words.LineWord.TheVariants.{Plain as plain_word, Literal as literal_word}
 use Rattle.statement_lines.specs.StatementFaults.{statement_fault}
+use Rattle.text_lines.specs.OperandWords.{named_in}
+use Rattle.tac_text.specs.Spelling.{kind_word}
 use Rattle.text_lines.specs.Slots.{Slot, identifier, number, fault_then, first_fault}
 use Rattle.statement_lines.specs.StatementLines.{LinePlace}
 
@@ -18,12 +20,7 @@ pub data FunctionPlace : Type 0 where
 -- ---- headers
 
 abbrev pub kind_named : List ℕ → Option Kind
-kind_named word =
-    if bytes_eq word (codes "map") then Some Map
-    else (if bytes_eq word (codes "match") then Some Match
-    else (if bytes_eq word (codes "cross") then Some Cross
-    else (if bytes_eq word (codes "reduce") then Some Reduce
-    else (if bytes_eq word (codes "cogroup") then Some CoGroup else None))))
+kind_named word = named_in kind_word (Map ∷ Match ∷ Cross ∷ Reduce ∷ CoGroup ∷ []) word
 
 abbrev pub kind_of_word : LineWord → Option Kind
 kind_of_word (plain_word word) = kind_named word

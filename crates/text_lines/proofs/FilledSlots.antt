@@ -1,5 +1,5 @@
 -- The values that words without a fault stand for, slot by slot.
-use Rattle.std.proofs.Common.{◌≡◌, ◌≤◌, ◌<◌, ◌^◌, ◌⊎◌, inl, inr, ℕ, ℤ, FitsSigned, IsTrue, w64, Bool, true, false, List, [], ◌∷◌, None, Option, bytes_eq, codes, decimal, refl, ap, ◌∙◌, arith}
+use Rattle.std.proofs.Common.{◌≡◌, ◌≤◌, ◌<◌, ◌^◌, ℕ, ℤ, FitsSigned, IsTrue, w64, Bool, true, false, List, [], ◌∷◌, None, Option, codes, decimal, refl, ap, ◌∙◌, arith}
 use Rattle.std.specs.Fmt.{signed_decimal}
 use Rattle.std.specs.List.{AllByRecursion}
 use Rattle.std.proofs.lemmas.Bool.{eq-eqb}
@@ -88,7 +88,7 @@ fills (number low high) (plain_word w) usual good h = let s = number_spelled low
 fills signed (plain_word w) usual good h = let s = signed_spelled w (told_unless-none _ _ h) in (s.value, ap plain_word s.spelled, s.fits)
 fills text (literal_word w) usual good h = (w, refl, good)
 fills (loop name) (plain_word w) usual good h = let s = name_spelled name w h in (tt, ap plain_word s.1, s.0)
-fills list (plain_word w) usual good h = let s = list_spelled w (told_unless-none _ _ h) in (s.list, ap plain_word s.spelled, tt)
+fills list (plain_word w) usual good h = let s = list_spelled w (told_unless-none _ _ h) in (s.0, ap plain_word s.1, tt)
 fills identifier (plain_word w) usual good h = (w, refl, told_unless-none _ _ h)
 fills file_name (plain_word w) usual good h = (w, refl, told_unless-none _ _ h)
 fills column (plain_word w) usual good h = let s = column_spelled w h in (s.column, ap plain_word s.spelled, s.fits)
@@ -175,20 +175,3 @@ pub filled_line : (slots : List Slot) (words : List LineWord) → AreUsual slots
 filled_line slots words usual good h =
     let f = filled nothing_left slots words usual good h in
     (f.values, f.parts ∙ ap (words_then slots f.values) (none_left f.more f.faultless), f.fit)
-
--- ---- words by name
-
-either_named : (w v : List ℕ) (b : Bool) → bytes_eq w v ≡ b → (w ≡ v) ⊎ (bytes_eq w v ≡ false)
-either_named w v true h = inl (same_word w v h)
-either_named w v false h = inr h
-
--- a word is one of these, or the test of each fails
-pub named : {X : Type 0} (name : X → List ℕ) (word : List ℕ) (xs : List X) → ((x : X) × (word ≡ name x)) ⊎ AllByRecursion (λ x. bytes_eq word (name x) ≡ false) xs
-named name word [] = inr tt
-named name word (x ∷ xs) = elim (either_named word (name x) _ refl) [
-  | inl e ↦ inl (x, e)
-  | inr no_first ↦ elim (named name word xs) [
-    | inl found ↦ inl found
-    | inr none ↦ inr (no_first, none)
-  ]
-]

@@ -1,8 +1,8 @@
 -- The words that fill slots.
-use Rattle.std.proofs.Common.{◌≡◌, ◌≤◌, ◌<◌, ◌^◌, ◌==◌, ◌&&◌, ◌++◌, ◌⊎◌, inl, inr, Bool, false, ℕ, take, drop, zero, suc, nat_le, nat_lt, ◌-◌, ℤ, pos, negsuc, true, List, [], ◌∷◌, None, FitsSigned, w64, codes, bytes_eq, decimal, take-append-drop, refl, ap, sym, ◌∙◌, arith}
+use Rattle.std.proofs.Common.{◌≡◌, ◌≤◌, ◌<◌, ◌^◌, ◌==◌, ◌&&◌, ◌++◌, ◌⊎◌, inr, Bool, false, ℕ, take, drop, zero, suc, nat_le, nat_lt, ◌-◌, ℤ, pos, negsuc, true, List, [], ◌∷◌, None, FitsSigned, w64, codes, bytes_eq, decimal, take-append-drop, refl, ap, sym, ◌∙◌, arith}
 use Rattle.std.specs.Fmt.{signed_decimal}
 use Rattle.std.specs.Str.Parse.{AllDigits, digits_value}
-use Rattle.std.proofs.lemmas.Bool.{and_from, and_parts, eq-eqb, eqb-true, le-leb, ltb-true, or_cases}
+use Rattle.std.proofs.lemmas.Bool.{and_from, and_parts, eq-eqb, eqb-true, le-leb, ltb-true}
 use Rattle.std.proofs.lemmas.Bool.Decides.{nat_tests}
 use Rattle.std.proofs.lemmas.Fmt.{decimal_is_IsNumeral}
 use Rattle.std.proofs.lemmas.Str.Parse.{digit_from_value}
@@ -15,7 +15,7 @@ use Rattle.pact_record.specs.declared.columns.Column.{Column}
 use Rattle.text_lines.specs.OperandWords.{column_text, record_word, list_word}
 use Rattle.text_lines.specs.Slots.{begins_with, column_fault, numbered_fault, register_fault, is_fixed_record, operand_fault, name_fault, is_list_word}
 use Rattle.text_lines.specs.Digits.{is_in_form, is_in_range, is_number_word, is_signed_word}
-use Rattle.text_lines.proofs.Faultless.{by_cases, same_word, told_unless-none}
+use Rattle.text_lines.proofs.Faultless.{by_cases, named, same_word, told_unless-none}
 use Rattle.text_lines.proofs.DigitWords.{are_digits-decimal, is_in_range-decimal, number_spelled}
 
 -- ---- words that are no numbers
@@ -97,19 +97,9 @@ pub record RecordSpelled (word : List ℕ) : Type 0 where
   pub spelled : word ≡ record_word from
 
 fixed_spelled : (word : List ℕ) → is_fixed_record word ≡ true → RecordSpelled word
-fixed_spelled word h = elim (or_cases _ (bytes_eq word (codes "first")) h) [
-  | inr e ↦ record { from = First; fits = tt; spelled = same_word word _ e }
-  | inl h4 ↦ elim (or_cases _ (bytes_eq word (codes "join")) h4) [
-    | inr e ↦ record { from = Join; fits = tt; spelled = same_word word _ e }
-    | inl h3 ↦ elim (or_cases _ (bytes_eq word (codes "right")) h3) [
-      | inr e ↦ record { from = Right; fits = tt; spelled = same_word word _ e }
-      | inl h2 ↦ elim (or_cases (bytes_eq word (codes "in")) (bytes_eq word (codes "left")) h2) [
-        | inl e ↦ record { from = Input; fits = tt; spelled = same_word word _ e }
-        | inr e ↦ record { from = Left; fits = tt; spelled = same_word word _ e }
-      ]
-    ]
-  ]
-]
+fixed_spelled word h =
+    let n = named record_word IsSpelledRecord (Input ∷ Left ∷ Right ∷ Join ∷ First ∷ []) word (tt, (tt, (tt, (tt, (tt, tt))))) h in
+    record { from = n.0; fits = n.2; spelled = n.1 }
 
 pub operand_spelled : (word : List ℕ) → operand_fault word ≡ None → RecordSpelled word
 operand_spelled word h = by_cases (is_fixed_record word) _ _ (λ e _. fixed_spelled word e)
@@ -146,18 +136,8 @@ signed_spelled (b ∷ bytes) h = by_cases (b == 45) _ _
     minus_spelled (b ∷ bytes) n.number n.above n.below (λ i. sign i ∷ n.spelled i))
     (λ _ rest. bare_spelled (b ∷ bytes) rest) h
 
-pub record ListSpelled (word : List ℕ) : Type 0 where
-  pub list : LoopList
-  pub spelled : word ≡ list_word list
-
-pub list_spelled : (word : List ℕ) → is_list_word word ≡ true → ListSpelled word
-list_spelled word h = elim (or_cases _ (bytes_eq word (codes "right")) h) [
-  | inr e ↦ record { list = RightGroup; spelled = same_word word _ e }
-  | inl h1 ↦ elim (or_cases (bytes_eq word (codes "group")) (bytes_eq word (codes "left")) h1) [
-    | inl e ↦ record { list = Group; spelled = same_word word _ e }
-    | inr e ↦ record { list = LeftGroup; spelled = same_word word _ e }
-  ]
-]
+pub list_spelled : (word : List ℕ) → is_list_word word ≡ true → (list : LoopList) × (word ≡ list_word list) × Unit {0}
+list_spelled word h = named list_word (λ _. Unit {0}) (Group ∷ LeftGroup ∷ RightGroup ∷ []) word (tt, (tt, (tt, tt))) h
 
 pub name_spelled : (name : ℕ) (word : List ℕ) → name_fault name word ≡ None → IsLoopName name × (word ≡ 120 ∷ decimal name)
 name_spelled name [] h = absurd cc

@@ -1,11 +1,16 @@
 -- The words of operands.
-use Rattle.std.specs.Prelude.{ℕ, List, ◌++◌, Option, Some, None, if◌then◌else◌, codes, bytes_eq}
+use Rattle.std.specs.Prelude.{ℕ, List, [], ◌∷◌, ◌++◌, Option, Some, None, if◌then◌else◌, codes, bytes_eq}
 use Rattle.std.specs.Fmt.{decimal}
 use Rattle.pact_record.specs.declared.columns.Column.{Column}
 use Rattle.tac_syntax.specs.declared.statements.Rec.{Rec}
 use Rattle.tac_syntax.specs.declared.statements.Rec.TheVariants.{Reg, Loop, Input, Left, Right, Join, First}
 use Rattle.tac_syntax.specs.declared.statements.LoopList.{LoopList}
 use Rattle.tac_syntax.specs.declared.statements.LoopList.TheVariants.{Group, Left as LeftGroup, Right as RightGroup}
+
+-- the one of these that has this word
+abbrev pub named_in : {X : Type 0} → (X → List ℕ) → List X → List ℕ → Option X
+named_in name [] word = None
+named_in name (x ∷ xs) word = if bytes_eq word (name x) then Some x else named_in name xs word
 
 abbrev pub value_register : ℕ → List ℕ
 value_register n = codes "v" ++ decimal n
@@ -36,9 +41,4 @@ column_text c = (if c.text then codes "text:" else codes "int:") ++ decimal c.fi
 
 -- the record of a word that has no number
 abbrev pub fixed_record : List ℕ → Option Rec
-fixed_record word =
-    if bytes_eq word (codes "in") then Some Input
-    else (if bytes_eq word (codes "left") then Some Left
-    else (if bytes_eq word (codes "right") then Some Right
-    else (if bytes_eq word (codes "join") then Some Join
-    else (if bytes_eq word (codes "first") then Some First else None))))
+fixed_record word = named_in record_word (Input ∷ Left ∷ Right ∷ Join ∷ First ∷ []) word

@@ -1,7 +1,9 @@
 -- What is wanted at the places of a line, and what is wrong with the words that stand there: the first fault from the left.
-use Rattle.std.specs.Prelude.{ℕ, ◌-◌, ◌==◌, Bool, false, ◌||◌, if◌then◌else◌, Option, Some, None, List, [], ◌∷◌, length, take, drop, codes, bytes_eq}
+use Rattle.std.specs.Prelude.{ℕ, ◌-◌, ◌==◌, Bool, false, if◌then◌else◌, is_some, Option, Some, None, List, [], ◌∷◌, length, take, drop, codes, bytes_eq}
 use Rattle.std.specs.Str.Parse.{digits_value}
 use Rattle.tac_syntax.specs.Names.{is_name, is_file_name}
+use Rattle.tac_syntax.specs.declared.statements.LoopList.TheVariants.{Group, Left as LeftGroup, Right as RightGroup}
+use Rattle.text_lines.specs.OperandWords.{fixed_record, list_word, named_in}
 use Rattle.text_lines.specs.Digits.{is_in_form, is_in_range, is_signed_word, told_unless, or_else}
 use Rattle.text_lines.specs.LineGrammar.{LineWord, plain_word, literal_word, is_plain}
 
@@ -29,7 +31,7 @@ register_fault letter word = if is_in_form letter word then numbered_fault 0 255
 
 -- a record of the kind, a record register or the name of a loop
 abbrev pub is_fixed_record : List ℕ → Bool
-is_fixed_record word = bytes_eq word (codes "in") || bytes_eq word (codes "left") || bytes_eq word (codes "right") || bytes_eq word (codes "join") || bytes_eq word (codes "first")
+is_fixed_record word = is_some (fixed_record word)
 
 abbrev pub operand_fault : List ℕ → Option ℕ
 operand_fault word =
@@ -44,7 +46,7 @@ name_fault name (b ∷ bytes) =
     if is_in_form 120 (b ∷ bytes) then (if is_in_range 1 64 bytes then told_unless (digits_value 10 bytes == name) 11 else Some 7) else Some 8
 
 abbrev pub is_list_word : List ℕ → Bool
-is_list_word word = bytes_eq word (codes "group") || bytes_eq word (codes "left") || bytes_eq word (codes "right")
+is_list_word word = is_some (named_in list_word (Group ∷ LeftGroup ∷ RightGroup ∷ []) word)
 
 abbrev pub begins_with : List ℕ → List ℕ → Bool
 begins_with front word = bytes_eq (take (length front) word) front
