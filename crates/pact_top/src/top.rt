@@ -59,7 +59,7 @@ fn write_texts<O: Sink, E: Sink>(out: &mut O, err: &mut E, texts: &Texts) -> u8
 ///
 /// `words` are without the program's own name. Of `run PROGRAM`, the program's file and then those
 /// of its sources are opened and read, in text order, the plan that is expected to cost least is
-/// chosen and evaluated, and the sorted rows are written on `out`; with `--counts`, how many records
+/// chosen and run in parts, and the sorted rows are written on `out`; with `--counts`, how many records
 /// each operator had is told on `err` behind that. Of `plan PROGRAM` the chosen plan is written, and
 /// of `cert PROGRAM` its certificate. Of `sets PROGRAM`, its file alone is read, and what the
 /// analysis finds of each operator is written. Of `check PROGRAM CERT`, the program's file is read
