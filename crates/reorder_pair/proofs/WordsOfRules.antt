@@ -1,7 +1,6 @@
 -- Each rule stands at its place among all rules, so a word that is none of theirs is no rule's.
-use Rattle.std.proofs.Common.{◌≡◌, ◌<◌, ◌≤◌, ◌+◌, ◌⊎◌, inl, inr, ℕ, true, false, nat_eq, nat_lt, List, [], ◌∷◌, get_or, slice_get, Some, refl, sym, ap, subst, ◌∙◌, arith}
-use Rattle.std.proofs.lemmas.Bool.{cases_Bool}
-use Rattle.std.proofs.lemmas.Bool.Decides.{nat_tests}
+use Rattle.std.proofs.Common.{◌≡◌, ◌<◌, ◌≤◌, ◌+◌, ◌⊎◌, inl, inr, ℕ, true, false, nat_eq, List, [], ◌∷◌, get_or, slice_get, Some, refl, sym, ap, subst, ◌∙◌, arith}
+use Rattle.std.proofs.lemmas.Bool.{cases_lt}
 use Rattle.std.proofs.lemmas.Option.{slice_get-get_or}
 use Rattle.std.specs.Cmp.Lexicographic.{pointwise}
 use Rattle.reorder_pair.specs.declared.rules.Rule.{Rule}
@@ -72,16 +71,12 @@ abbrev pub AreOthers : List ℕ → ℕ → Type 0
 AreOthers word n = (rule : Rule) → place_of rule < n → word_of rule ≡ word → ⊥
 
 pub others_next : (word : List ℕ) (n : ℕ) (found d : Rule) → found ≡ get_or RULES n d → (word_of found ≡ word → ⊥) → AreOthers word n → AreOthers word (n + 1)
-others_next word n found d is other h rule below same = by (lt_or_is (place_of rule) n below) where
-  lt_or_is : (a b : ℕ) → a < b + 1 → (a < b) ⊎ (a ≡ b)
-  lt_or_is a b lt = elim (cases_Bool (nat_lt a b)) as (λ _. (a < b) ⊎ (a ≡ b)) [
-    | inl e ↦ inl (grind (arith, nat_tests))
-    | inr e ↦ inr (grind (arith, nat_tests))
-  ]
-
-  by : (place_of rule < n) ⊎ (place_of rule ≡ n) → ⊥
-  by (inl lt) = h rule lt same
-  by (inr e) = other (subst (λ (r : Rule). word_of r ≡ word) (sym (is ∙ subst (λ (m : ℕ). get_or RULES m d ≡ rule) e (at_place rule d))) same)
+others_next word n found d is other h rule below same = elim (cases_lt (place_of rule) n) as (λ _. ⊥) [
+  | inl lt ↦ h rule lt same
+  | inr above ↦
+    let e : place_of rule ≡ n = omega (arith, below, above) in
+    other (subst (λ (r : Rule). word_of r ≡ word) (sym (is ∙ subst (λ (m : ℕ). get_or RULES m d ≡ rule) e (at_place rule d))) same)
+]
 
 pub others_all : (word : List ℕ) (n : ℕ) → 13 ≤ n → AreOthers word n → (rule : Rule) → word_of rule ≡ word → ⊥
 others_all word n end h rule same = h rule (below n end) same where
