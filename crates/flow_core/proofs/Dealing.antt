@@ -55,6 +55,17 @@ share_from-after workers worker done row =
 pub share_is : (workers to : ℕ) (done share : Bag) (shares : List Bag) → to < workers → share ≡ get_or shares to share → AreDealt workers done shares → share ≡ share_from 0 workers to done
 share_is workers to done share shares less is dealt = is ∙ get_or_default shares to share [] (omega (arith, less, dealt.long)) ∙ dealt.each to less
 
+-- The share that is handed out next is the worker's own.
+pub record IsOwnShare (workers worker : ℕ) (rows share : Bag) : Type 0 where
+  pub below : worker < workers
+  pub is : share ≡ share_from 0 workers worker rows
+
+pub own_share : (workers worker : ℕ) (rows share : Bag) (shares handed : List Bag) → AreDealt workers rows shares → worker ≡ length handed → length handed < length shares → share ≡ get_or shares (length handed) share
+    → IsOwnShare workers worker rows share
+own_share workers worker rows share shares handed dealt here less is =
+    let below : worker < workers = omega (arith, less, here, dealt.long) in
+    record { below = below; is = share_is workers worker rows share shares below (subst (λ (n : ℕ). share ≡ get_or shares n share) (sym here) is) dealt }
+
 -- the share to which a row goes has its width
 pub share_width : (workers to : ℕ) (done rows share : Bag) (row : List Value) (shares : List Bag) → HaveOneWidth rows → IsNext done rows row → share ≡ share_from 0 workers to done
     → ((fields : ℕ) → AreWide fields rows → AreWide fields done) → AllByRecursion (λ held. length held ≡ length row) share
@@ -100,10 +111,18 @@ source_place-next ops n op less is =
     ∙ ap length (filter-append (λ (o : Op). is_source_kind o.kind) (take n ops) (op ∷ [])) ∙ length-append (sources_of (take n ops)) (sources_of (op ∷ []))
     ∙ ap (λ (k : ℕ). source_place ops n + k) (counted (is_source_kind op.kind) op)
 
+-- the operator that the program has at a place
+pub record IsOpAt (p : ProgramData) (n : ℕ) (op : Op) : Type 0 where
+  pub less : n < length p.ops
+  pub is : op ≡ get_or p.ops n op
+
+pub op_at : (p : ProgramData) (ops : List Op) (n : ℕ) (op : Op) → ops ≡ p.ops → n < length ops → op ≡ get_or ops n op → IsOpAt p n op
+op_at p ops n op same less is = record { less = subst (λ (l : List Op). n < length l) same less; is = is ∙ ap (λ (l : List Op). get_or l n op) same }
+
 -- where the next one is a source, there are rows left for it
-pub some_left : (p : ProgramData) (inputs left : List Bag) (n : ℕ) (op : Op) → AreInputsOf p inputs → n < length p.ops → op ≡ get_or p.ops n op → left ≡ drop (source_place p.ops n) inputs → is_source_kind op.kind ≡ true → 0 < length left
-some_left p inputs left n op are less is behind source =
-    let below = place_below p.fields p.ops inputs n are less (kind_is p.ops n op less is ∙ source_kind op.kind source) in
+pub some_left : (p : ProgramData) (inputs left : List Bag) (n : ℕ) (op : Op) → AreInputsOf p inputs → IsOpAt p n op → left ≡ drop (source_place p.ops n) inputs → is_source_kind op.kind ≡ true → 0 < length left
+some_left p inputs left n op are at behind source =
+    let below = place_below p.fields p.ops inputs n are at.less (kind_is p.ops n op at.less at.is ∙ source_kind op.kind source) in
     omega (arith, below, ap length behind, length-drop (source_place p.ops n) inputs)
 
 -- what was taken is its own, and the rows of the sources behind it are left
@@ -113,15 +132,15 @@ pub record HasTaken (p : ProgramData) (inputs : List Bag) (at : ℕ) (own : Bag)
   pub wide : AreWide p.fields own
   pub behind : left ≡ drop (source_place p.ops (at + 1)) inputs
 
-pub has_taken : (p : ProgramData) (inputs left : List Bag) (n : ℕ) (op : Op) (own : Bag) (rest : List Bag) → AreInputsOf p inputs → n < length p.ops → op ≡ get_or p.ops n op → left ≡ drop (source_place p.ops n) inputs
+pub has_taken : (p : ProgramData) (inputs left : List Bag) (n : ℕ) (op : Op) (own : Bag) (rest : List Bag) → AreInputsOf p inputs → IsOpAt p n op → left ≡ drop (source_place p.ops n) inputs
     → TakesOwn (is_source_kind op.kind) left own rest → HasTaken p inputs n own rest
-has_taken p inputs left n op own rest are less is behind taken = by_kind (is_source_kind op.kind) refl taken
+has_taken p inputs left n op own rest are at behind taken = by_kind (is_source_kind op.kind) refl taken
   where
     by_kind : (b : Bool) → is_source_kind op.kind ≡ b → TakesOwn b left own rest → HasTaken p inputs n own rest
     by_kind true source t =
         let place = source_place p.ops n in
-        let kind = kind_is p.ops n op less is in
-        let within = place_below p.fields p.ops inputs n are less (kind ∙ source_kind op.kind source) in
+        let kind = kind_is p.ops n op at.less at.is in
+        let within = place_below p.fields p.ops inputs n are at.less (kind ∙ source_kind op.kind source) in
         let parts = sym t ∙ behind ∙ drop_more inputs place [] within in
         let first : own ≡ get_or inputs place [] = cc parts in
         let others : rest ≡ drop (place + 1) inputs = cc parts in
@@ -129,17 +148,17 @@ has_taken p inputs left n op own rest are less is behind taken = by_kind (is_sou
           own_are = λ _. first;
           none = λ other. absurd (let clash : true ≡ false = sym source ∙ ap is_source_kind (sym kind) ∙ other in cc);
           wide = subst (AreWide p.fields) (sym first) (AllByRecursion-get_or (AreWide p.fields) inputs place [] within (input_widths p.fields (sources_of p.ops) inputs are));
-          behind = others ∙ ap (λ (k : ℕ). drop k inputs) (sym (source_place-next p.ops n op less is ∙ ap (λ (b : Bool). place + cond b 1 0) source));
+          behind = others ∙ ap (λ (k : ℕ). drop k inputs) (sym (source_place-next p.ops n op at.less at.is ∙ ap (λ (b : Bool). place + cond b 1 0) source));
         }
     by_kind false other t =
         let place = source_place p.ops n in
-        let kind = kind_is p.ops n op less is in
+        let kind = kind_is p.ops n op at.less at.is in
         let same : place + 0 ≡ place = omega arith in
         record {
           own_are = λ source. absurd (let clash : true ≡ false = ap is_source_kind (sym source ∙ kind) ∙ other in cc);
           none = λ _. t.0;
           wide = subst (AreWide p.fields) (sym t.0) tt;
-          behind = t.1 ∙ behind ∙ ap (λ (k : ℕ). drop k inputs) (sym (source_place-next p.ops n op less is ∙ ap (λ (b : Bool). place + cond b 1 0) other ∙ same));
+          behind = t.1 ∙ behind ∙ ap (λ (k : ℕ). drop k inputs) (sym (source_place-next p.ops n op at.less at.is ∙ ap (λ (b : Bool). place + cond b 1 0) other ∙ same));
         }
 
 -- ---- one item more
