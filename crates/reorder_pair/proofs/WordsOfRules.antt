@@ -74,8 +74,8 @@ pub others_next : (word : List ℕ) (n : ℕ) (found d : Rule) → found ≡ get
 others_next word n found d is other h rule below same = elim (cases_lt (place_of rule) n) as (λ _. ⊥) [
   | inl lt ↦ h rule lt same
   | inr above ↦
-    let e : place_of rule ≡ n = omega (arith, below, above) in
-    other (subst (λ (r : Rule). word_of r ≡ word) (sym (is ∙ subst (λ (m : ℕ). get_or RULES m d ≡ rule) e (at_place rule d))) same)
+      let e : place_of rule ≡ n = omega (arith, below, above) in
+      other (subst (λ (r : Rule). word_of r ≡ word) (sym (is ∙ subst (λ (m : ℕ). get_or RULES m d ≡ rule) e (at_place rule d))) same)
 ]
 
 pub others_all : (word : List ℕ) (n : ℕ) → 13 ≤ n → AreOthers word n → (rule : Rule) → word_of rule ≡ word → ⊥
