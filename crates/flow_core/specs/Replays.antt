@@ -7,6 +7,7 @@ use Rattle.flow_model.specs.Spots.{Setting}
 use Rattle.flow_model.specs.Worlds.{History, enabled}
 use Rattle.flow_core.specs.declared.stops.Replay.{Replay}
 use Rattle.flow_core.specs.declared.stops.Replay.TheVariants.{Memory, NotEnabled}
+use Rattle.flow_core.specs.Laws.{ObeysLaws}
 use Rattle.flow_core.specs.Worlds.{IsStanding, StandsForSome, WorldData, seen}
 
 -- Over each history, the events lead from the world to the other one, which stands for the history with their notes.
@@ -21,6 +22,11 @@ abbrev pub IsStopped : {L : Type 0} → WorldData → List Event → Replay L �
 IsStopped w events (NotEnabled index v) =
     (index < length events) × IsReplayed w (take index events) v × ((e : Event) → slice_get events index ≡ Some e → enabled v.physical v.depth (seen v) e ≡ false)
 IsStopped w events Memory = Unit {0}
+
+-- The world that is handed back obeys the laws too.
+abbrev pub HandsBackLawful : {L : Type 0} → Replay L → Type 0
+HandsBackLawful (NotEnabled index v) = ObeysLaws v
+HandsBackLawful Memory = Unit {0}
 
 -- Whatever the world stands for, the other one stands for what came of it in so many events.
 pub record IsReached (w : WorldData) (n : ℕ) (v : WorldData) : Type 0 where

@@ -6,7 +6,8 @@ ghost use Rattle.pact_operators.specs.Programs.{ProgramData};
 ghost use Rattle.flow_model.specs.Most.{most, program_turns};
 ghost use Rattle.flow_model.specs.Spots.{setting};
 ghost use Rattle.flow_model.specs.Worlds.{History};
-ghost use Rattle.flow_core.specs.Replays.{IsReplayed, IsStopped};
+ghost use Rattle.flow_core.specs.Laws.{ObeysLaws};
+ghost use Rattle.flow_core.specs.Replays.{HandsBackLawful, IsReplayed, IsStopped};
 ghost use Rattle.flow_core.specs.Worlds.{IsStanding, StandsForSome};
 
 use crate::stops::Replay;
@@ -20,6 +21,8 @@ pub fn replay<L: Local>(world: World<L>, events: &[Event]) -> Result<World<L>, R
     ensures done { IfOk result (IsReplayed world events.now) }
     ensures short { IfOk result (λ v. (p : ProgramData) (inputs : List Bag) (h : History) → IsStanding (setting p inputs world.physical) world h → length events.now ≤ most (setting p inputs world.physical) (program_turns p)) }
     ensures stopped { IfErr result (IsStopped world events.now) }
+    ensures laws { IfOk result ObeysLaws }
+    ensures laws_stopped { IfErr result HandsBackLawful }
 {
     let mut world = world;
     for (index, &event) in events.iter().enumerate() {

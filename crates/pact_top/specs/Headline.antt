@@ -1,12 +1,14 @@
--- What the program promises of a call: the clauses of `pact_main`, by their names. Statuses.antt has what they speak of. `before` and `now` are
--- what the feed shows, `old` and `new` what a sink took, `first` and `last` its faults: the output's, and with `told_` those of the other sink.
+-- What the program promises of a call: the clauses of `pact_main`, by their names; what four more say is told in brackets. Statuses.antt has what
+-- they speak of. `before` and `now` are what the feed shows, `old` and `new` what a sink took, `first` and `last` its faults: the output's, and with
+-- `told_` those of the other sink.
 use Rattle.std.specs.Prelude.{◌≡◌, ◌≢◌, ◌≤◌, ◌⊎◌, ℕ, List, Option}
 use Rattle.pact_outside.specs.Outside.{Feeding, Rose}
 use Rattle.pact_words.specs.Words.{AreRefused, AreUnnamed}
 use Rattle.pact_top.specs.Refusal.{AskForCounts, IsNamed}
 use Rattle.pact_top.specs.Statuses.{AreCut, AreWritten, CannotRead, IsStopped, IsStatusTold, WhereMissing, WhereReady, WhereStopped}
 
--- Status 0: the texts that the work comes to were written whole: the rows of a bag that the program as written allows, or what else was asked for.
+-- Status 0: the texts that the work comes to were written whole. Of `run` that is the sorted rows of a bag that the program as written allows, which is
+-- the only such bag where each function that a Reduce or a CoGroup calls passes the order test; with `--counts` this evaluation's counts too.
 abbrev pub Answered : List (List ℕ) → Feeding → Feeding → (old new told_old told_new : Option (List ℕ)) → ℕ → Type 0
 Answered words before now old new told_old told_new status = status ≡ 0 → AreWritten words before now old new told_old told_new
 
@@ -23,7 +25,7 @@ Complete words before now first last told_first told_last status =
 abbrev pub Usage : List (List ℕ) → ℕ → Type 0
 Usage words status = status ≡ 2 → AreRefused words
 
--- It comes always there, unless memory is wanting.
+-- It comes always there, unless memory is wanting. (`usage_untouched`: the feed is then as it was.)
 abbrev pub UsageAlways : List (List ℕ) → ℕ → Type 0
 UsageAlways words status = AreRefused words → (status ≡ 1) ⊎ (status ≡ 2)
 
@@ -31,7 +33,8 @@ UsageAlways words status = AreRefused words → (status ≡ 1) ⊎ (status ≡ 2
 abbrev pub UsageUnnamed : List (List ℕ) → ℕ → Type 0
 UsageUnnamed words status = AreUnnamed words → status ≡ 2
 
--- Status 3: only where a fault of the feed rose, at the file opened last, which the work opens there.
+-- Status 3: only where a fault of the feed rose, at the file opened last, which the work opens there. (`unread`, `unread_closed`: it rose in this call,
+-- and no file is open then.)
 abbrev pub UnreadOpened : List (List ℕ) → Feeding → Feeding → ℕ → Type 0
 UnreadOpened words before now status = status ≡ 3 → CannotRead words before now
 
@@ -60,7 +63,7 @@ Refused words before now old new first last status = 5 ≤ status → IsStopped 
 abbrev pub RefusedAlways : List (List ℕ) → Feeding → ℕ → Type 0
 RefusedAlways words before status = WhereStopped words before (λ stop. (status ≡ 1) ⊎ (status ≡ 3) ⊎ (status ≡ stop))
 
--- With every status but 0 and 4 the output took nothing.
+-- With every status but 0 and 4 the output took nothing. (`output_untouched`: and no fault of it rose.)
 abbrev pub NothingWritten : Option (List ℕ) → Option (List ℕ) → ℕ → Type 0
 NothingWritten old new status = status ≢ 0 → status ≢ 4 → new ≡ old
 

@@ -164,12 +164,9 @@ IsTold words before now (Err refusal) = IsRefused words before now refusal
 
 -- That no command is asked for is told, or that memory is wanting to read the words. It never is where the words name none.
 abbrev pub IsUsageTold : List (List ℕ) → Result Texts Refusal → Type 0
-IsUsageTold words (Ok texts) = ⊥
 IsUsageTold words (Err OutOfMemory) = ¬ (AreUnnamed words)
 IsUsageTold words (Err Usage) = Unit {0}
-IsUsageTold words (Err (CannotRead name)) = ⊥
-IsUsageTold words (Err CannotWrite) = ⊥
-IsUsageTold words (Err (Decided status line)) = ⊥
+IsUsageTold words result = ⊥
 
 -- what is answered to the words; words that ask for no command leave the feed untouched
 pub record IsAnswered (words : List (List ℕ)) (Untouched : Type 0) (before now : Feeding) (result : Result Texts Refusal) : Type 0 where

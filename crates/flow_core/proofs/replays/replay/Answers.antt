@@ -3,6 +3,7 @@ use Rattle.std.proofs.lemmas.List.{take_all}
 use Rattle.flow_model.specs.declared.notes.Event.{Event}
 use Rattle.flow_core.specs.Replays.{IsReplayed}
 use Rattle.flow_core.proofs.Replaying.{replayed-next, replayed_short}
+use Rattle.flow_core.proofs.WorldLaws.{laws_hold}
 use Rattle.flow_core.proofs.replays.replay.Goals as goal
 
 pub loop-index-preserved : goal.loop-index-preserved
@@ -18,3 +19,9 @@ returns-clause-short g c =
     let whole : take c.loop-index.index events ≡ events = take_all c.loop-index.index events (omega (arith, c.loop-index-test.false)) in
     let all = subst (λ (es : List Event). IsReplayed c.args.world es c.loop-index.world) whole c.loop-index.invariant in
     replayed_short c.args.world c.loop-index.world c.args.events.now c.requires all
+
+pub returns-clause-laws : goal.returns-clause-laws
+returns-clause-laws g c = laws_hold c.loop-index.world c.loop-index.invariant.stands
+
+pub returns-then-not-enabled-clause-laws_stopped : goal.returns-then-not-enabled-clause-laws_stopped
+returns-then-not-enabled-clause-laws_stopped g c = laws_hold c.loop-index.world c.loop-index.invariant.stands
