@@ -1,7 +1,9 @@
 //! Worlds of instances and pipes, stepped by hand and run alone.
 
 ghost use Rattle.std.specs.Prelude.{◌≡◌, ◌≤◌, ◌<◌, IfOk, OnOk};
+ghost use Rattle.pact_operators.specs.Inputs.{AreInputsOf};
 ghost use Rattle.plan_trees.specs.Physicals.{worker_limit};
+ghost use Rattle.ship_strategy.specs.Layouts.{layout_count};
 ghost use Rattle.flow_core.specs.Worlds.{StandsForSome};
 
 use crate::evaluation_tests::PAIRS;
@@ -9,7 +11,8 @@ use crate::listing_tests::PUSH;
 use crate::programs::{inputs, program};
 use flow_core::{Event, PipeId, Replay, World, replay, run_alone};
 use local_strategy::ListLocal;
-use pact_bag::sort_rows;
+use pact_bag::{Counts, Inputs, Outcome, Rows, sort_rows};
+use pact_operators::Program;
 use ship_strategy::{layout, layouts};
 use slow_eval::evaluate;
 use std::alloc::Global;
@@ -246,6 +249,48 @@ fn instances_count_together(rt: HostRuntime) -> Result<(), Fail> {
     Ok(())
 }
 
+// What a run on the layout with this number gives.
+fn ran(
+    alloc: Global,
+    program: &Program,
+    inputs: &Inputs,
+    number: u32,
+    workers: u32,
+    depth: u32,
+) -> Result<Outcome, Fail>
+    requires inputs { AreInputsOf program.now inputs.now }
+    requires layout { number < layout_count program.now.ops }
+    requires workers { (1 ≤ workers) × (workers ≤ worker_limit) }
+    requires depth { (1 ≤ depth) × (depth ≤ 64) }
+{
+    let physical = layout(program, program.plan(), number, workers);
+    let world = World::<ListLocal>::start(alloc, program, &physical, inputs, 2, depth)?;
+    Ok(run_alone(world)?)
+}
+
+fn are_equal(found: &Counts, wanted: &Counts) -> bool {
+    for at in 0..wanted.len().min(found.len()) {
+        if found.at(at) != wanted.at(at) {
+            return false;
+        }
+    }
+    found.len() == wanted.len()
+}
+
+// Whether these are the same rows, in some order.
+fn are_same(found: Rows, wanted: Rows) -> Result<bool, Fail> {
+    let found = sort_rows(found)?;
+    let wanted = sort_rows(wanted)?;
+    Ok(found.rows() == wanted.rows())
+}
+
+fn same_outcomes(found: Outcome, wanted: Outcome) -> Result<bool, Fail> {
+    if !are_equal(&found.counts, &wanted.counts) {
+        return Ok(false);
+    }
+    are_same(found.rows, wanted.rows)
+}
+
 // Whether a run on the layout with this number gives the rows and the counts of the plain evaluation, where there is such a layout.
 fn agrees(
     alloc: Global,
@@ -263,18 +308,9 @@ fn agrees(
     if number >= layouts(&program, program.plan()) {
         return Ok(true);
     }
-    let physical = layout(&program, program.plan(), number, workers);
-    let world = World::<ListLocal>::start(alloc, &program, &physical, &inputs, 2, depth)?;
-    let found = run_alone(world)?;
+    let found = ran(alloc, &program, &inputs, number, workers, depth)?;
     let wanted = evaluate(alloc, &program, program.plan(), &inputs)?;
-    for at in 0..wanted.counts.len() {
-        if found.counts.at(at) != wanted.counts.at(at) {
-            return Ok(false);
-        }
-    }
-    let found = sort_rows(found.rows)?;
-    let wanted = sort_rows(wanted.rows)?;
-    Ok(found.rows() == wanted.rows())
+    same_outcomes(found, wanted)
 }
 
 #[test]
