@@ -11,6 +11,39 @@ for program in faulty wrong_key no_sink bad_row missing; do
         count writes "$(cat "expected/$program.status")" /dev/null "expected/$program.stderr" "$command" "$program.pact"
     done
 done
+# As many plans are listed as there is room for, and it is told whether one is left out: of Maps that stand in any order six.
+cat >"$scratch/maps.pact" <<'END'
+pact 1
+fields 4
+source s s.csv int:0
+function one map
+  r0 = copy in
+  set r0 1 v0
+  emit r0
+end
+function two map
+  r0 = copy in
+  set r0 2 v0
+  emit r0
+end
+function three map
+  r0 = copy in
+  set r0 3 v0
+  emit r0
+end
+map a one s
+map b two a
+map c three b
+sink c 0
+END
+cp s.csv "$scratch"
+listed() { # how many, and whether all; the words
+    [ "$(cd "$scratch" && "$pact" plan "${@:2}" | head -n 1)" = "plans $1" ]
+}
+count listed '6 complete' maps.pact
+count listed '6 complete' maps.pact --plans 6
+count listed '5 limit' maps.pact --plans 5
+count listed '1 limit' maps.pact --plans 1
 # The certificate of a choice is accepted, for every program and several numbers of workers.
 certified() {
     "$pact" cert "$@" >"$scratch/chosen.json" 2>"$scratch/err" && ! [ -s "$scratch/err" ] &&
@@ -58,6 +91,43 @@ shop.pact|c out 2\no out 4\nj in 1 4 out 3\nd in 2 out 1\nr in 3 out 1\n
 shop.pact --plans 1|c out 2\no out 4\nj in 2 4 out 4\nd in 4 out 3\nr in 3 out 1\n
 cogroup.pact|s out 3\nt out 3\ng in 3 3 out 3\n
 END
+# What all instances of an operator gave is counted together. The Cross gives each pair of equal numbers twice, the CoGroup the records of both groups.
+cat >"$scratch/pairs.pact" <<'END'
+pact 1
+fields 6
+source l l.csv int:0 int:1
+source r r.csv int:2 int:3
+source t t.csv int:4 int:5
+function equal cross
+  v0 = get left 0
+  v1 = get right 2
+  v2 = eq v0 v1
+  if v2
+    r0 = copy join
+    emit r0
+    emit r0
+  end
+end
+function all cogroup 1
+  each x1 of left
+    r0 = copy x1
+    emit r0
+  end
+  each x1 of right
+    r0 = copy x1
+    emit r0
+  end
+end
+cross x equal l r
+cogroup g all x t by 0 = 4
+sink g 0
+END
+printf '1,10\n2,20\n1,10\n' >"$scratch/l.csv"
+printf '1,5\n4,5\n1,6\n9,9\n' >"$scratch/r.csv"
+printf '1,0\n7,0\n' >"$scratch/t.csv"
+for workers in 1 2 3 4 5 6 7 8 9 10 11 12 13 14 15 16; do
+    count gives 0 '""\n""\n1\n1\n1\n1\n1\n1\n1\n1\n' 'l out 3\nr out 4\nt out 2\nx in 3 4 out 8\ng in 8 2 out 10\n' run pairs.pact --workers "$workers" --batch 1 --depth 1 --counts
+done
 # The counts come behind the rows, and where they can't be told the rows stand.
 "$pact" run push.pact --counts >"$scratch/out" 2>/dev/full
 count test $? = 4

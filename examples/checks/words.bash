@@ -58,3 +58,29 @@ run sum.pact --counts --counts
 cert sum.pact --plans=1 --plans=1
 run sum.pact --counts=true
 END
+# Words that are taken: numbers as clap reads them, options in any order and before the program, `--` before a program that begins like one.
+while IFS= read -r words; do
+    # shellcheck disable=SC2086
+    count writes 0 expected/sum.stdout /dev/null $words
+done <<'END'
+run sum.pact
+run --workers 2 sum.pact --plans 7
+run sum.pact --workers=16 --plans=1000
+run sum.pact --workers +3 --plans=007
+run sum.pact --workers 1 --plans 1 --batch 1 --depth=64
+run --depth 1 --batch=1024 sum.pact
+run -- sum.pact
+END
+while IFS= read -r words; do
+    # shellcheck disable=SC2086
+    count writes 0 expected/shop.plan /dev/null $words
+done <<'END'
+plan shop.pact
+plan --workers=4 --plans 256 shop.pact
+plan shop.pact --plans=0256 --workers +4
+END
+cp sum.pact "$scratch/--workers"
+cp s.csv "$scratch"
+count gives 0 '1,12\n2,-3\n' '' run -- --workers
+count gives 3 '' 'cannot read help\n' sets help
+count gives 3 '' 'cannot read -\n' sets -

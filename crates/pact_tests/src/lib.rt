@@ -1,4 +1,4 @@
-//! Tests of calls over files in memory: how files are read, and what is left where a read or a write fails. What a user of the program can see is for
+//! Tests of calls over files in memory, of streams and of records: how files are read, and what is left where a read or a write fails. What a user of the program can see is for
 //! `examples/check`.
 //!
 //! A crate with tests is proved twice, with them and without, so the tests stand apart.
@@ -7,4 +7,8 @@
 #[cfg(test)]
 mod calls;
 #[cfg(test)]
+mod record_tests;
+#[cfg(test)]
 mod run_tests;
+#[cfg(test)]
+mod stream_tests;

@@ -1,17 +1,19 @@
-//! Tests of programs and their plans, over what the libraries make public: what a program has, how it is written, what its plans put out, which operators may change
-//! places, which plans are listed, what they cost, how they run in parts, and their certificates.
+//! Tests of functions, programs and their plans that no command shows, over what the libraries make public: how texts are written, what a call emits in which order, what a program has, what its
+//! plans put out, exchanges there and back, how plans were listed, what they cost, and how they run in parts.
 //!
 //! A crate with tests is proved twice, with them and without, so the tests stand apart.
 #![tactic(auto)]
 
 #[cfg(test)]
-mod certificate_tests;
+mod call_tests;
 #[cfg(test)]
 mod cost_tests;
 #[cfg(test)]
 mod evaluation_tests;
 #[cfg(test)]
 mod exchange_tests;
+#[cfg(test)]
+mod function_text_tests;
 #[cfg(test)]
 mod listing_tests;
 #[cfg(test)]

@@ -1,43 +1,9 @@
-ghost use Rattle.std.specs.Prelude.{◌≤◌};
-ghost use Rattle.plan_enumerate.specs.Listing.{entry_limit};
+//! How listed plans came about: the exchanges that lead to an entry, and the entry that it comes from. No command shows that of a plan that isn't chosen.
 
 use crate::programs::program;
-use pact_operators::Program;
 use plan_enumerate::{enumerate, steps_of};
-use reorder_group::legal;
-use reorder_pair::{NotLegal, Rule};
 use std::alloc::Global;
 use std::test::Fail;
-
-// The group is told by its records, each with their number; the Map behind it asks for another field.
-const COUNT: &str = "pact 1
-fields 4
-source s e.csv int:0 int:1
-function pos map
-  r0 = copy in
-  v0 = get in 1
-  v1 = int 0
-  v2 = lt v1 v0
-  if v2
-    emit r0
-  end
-end
-function cnt reduce 1
-  v0 = int 0
-  v1 = int 1
-  each x1 of group
-    v0 = addw v0 v1
-  end
-  each x1 of group
-    r0 = copy x1
-    set r0 3 v0
-    emit r0
-  end
-end
-reduce r cnt s by 0
-map m pos r
-sink m 0 1 3
-";
 
 pub const PUSH: &str = "pact 1
 fields 4
@@ -88,22 +54,8 @@ map m five g
 sink m 0 1 5
 ";
 
-pub const THREE: &str = "pact 1
-fields 6
-source s s1.csv int:0 int:1
-source t t.csv int:2 int:3
-source u u.csv int:4 int:5
-function jn match
-  r0 = copy join
-  emit r0
-end
-match g jn s t by 0 = 2
-match h jn g u by 3 = 4
-sink h 0 1 2 3 4 5
-";
-
 // Three Maps that stand in any order, each over what the last one gives.
-pub const MAPS: &str = "pact 1
+const MAPS: &str = "pact 1
 fields 4
 source s s.csv int:0
 function one map
@@ -127,30 +79,6 @@ map c three b
 sink c 0
 ";
 
-// How many plans are listed, and whether none is left out.
-fn listed(alloc: Global, text: &str, limit: u32) -> Result<(usize, bool), Fail>
-    requires some { 1 ≤ limit }
-    requires few { limit ≤ entry_limit }
-{
-    let program = program(alloc, text.as_bytes())?;
-    let listed = enumerate(alloc, &program, limit)?;
-    Ok((listed.entries().len(), listed.complete()))
-}
-
-#[test]
-fn plans_are_listed(rt: HostRuntime) -> Result<(), Fail> {
-    let alloc = rt.alloc();
-    assert!(rt; listed(alloc, COUNT, 1000)? == (1, true));
-    assert!(rt; listed(alloc, PUSH, 256)? == (2, true));
-    assert!(rt; listed(alloc, PUSH, 1)? == (1, false));
-    assert!(rt; listed(alloc, FIVE, 1000)? == (2, true));
-    assert!(rt; listed(alloc, THREE, 1000)? == (2, true));
-    assert!(rt; listed(alloc, MAPS, 1000)? == (6, true));
-    assert!(rt; listed(alloc, MAPS, 6)? == (6, true));
-    assert!(rt; listed(alloc, MAPS, 5)? == (5, false));
-    Ok(())
-}
-
 // The rules of the exchanges that lead to an entry.
 fn steps(alloc: Global, text: &str, entry: u32) -> Result<String, Fail> {
     let program = program(alloc, text.as_bytes())?;
@@ -172,7 +100,6 @@ fn steps_lead_to_entries(rt: HostRuntime) -> Result<(), Fail> {
     assert_eq!(rt; steps(alloc, PUSH, 0)?.as_str(), "");
     assert_eq!(rt; steps(alloc, PUSH, 1)?.as_str(), "map-reduce ");
     assert_eq!(rt; steps(alloc, FIVE, 1)?.as_str(), "map-left ");
-    assert_eq!(rt; steps(alloc, THREE, 1)?.as_str(), "rotate ");
     assert_eq!(rt; steps(alloc, MAPS, 1)?.as_str(), "map-map ");
     assert_eq!(rt; steps(alloc, MAPS, 5)?.as_str(), "map-map map-map map-map ");
     Ok(())
@@ -199,18 +126,5 @@ fn entries_come_from_others(rt: HostRuntime) -> Result<(), Fail> {
     assert!(rt; origin(alloc, MAPS, 3)? == (1, 1));
     assert!(rt; origin(alloc, MAPS, 4)? == (2, 2));
     assert!(rt; origin(alloc, MAPS, 5)? == (1, 3));
-    Ok(())
-}
-
-fn refusal(program: &Program, at: u32, rule: Rule) -> Option<NotLegal> {
-    legal(program, program.plan(), at, rule).err()
-}
-
-// The Map decides by a field that is no key, so what it drops would be counted no more.
-#[test]
-fn a_count_keeps_its_groups(rt: HostRuntime) -> Result<(), Fail> {
-    let alloc = rt.alloc();
-    let program = program(alloc, COUNT.as_bytes())?;
-    assert!(rt; refusal(&program, 2, Rule::MapReduce) == Some(NotLegal::KeyGroup));
     Ok(())
 }

@@ -1,6 +1,5 @@
 //! Programs, read and written.
 
-use crate::certificate_tests::SHOP;
 use crate::listing_tests::FIVE;
 use program_text::{read_program, write_program};
 use std::alloc::Global;
@@ -77,7 +76,6 @@ fn is_kept(alloc: Global, text: &str) -> Result<bool, TextFault> {
 fn canonical_texts_are_kept(rt: HostRuntime) -> Result<(), Fail> {
     assert!(rt; is_kept(rt.alloc(), FIVE)?);
     assert!(rt; is_kept(rt.alloc(), COGROUP)?);
-    assert!(rt; is_kept(rt.alloc(), SHOP)?);
     assert!(rt; is_kept(rt.alloc(), LOOSE_WRITTEN)?);
     Ok(())
 }

@@ -225,30 +225,6 @@ fn batches_have_at_most_so_many_records(rt: HostRuntime) -> Result<(), Fail> {
     Ok(())
 }
 
-// What all instances of each source and operator gave together, and how many rows the root gave.
-fn counts(world: World<ListLocal>, alloc: Global) -> Result<(Vec<u64>, usize), Fail>
-    requires { StandsForSome world }
-{
-    let outcome = run_alone(world)?;
-    let mut counts = Vec::new(alloc);
-    for at in 0..outcome.counts.len() {
-        counts.push(outcome.counts.at(at))?;
-    }
-    Ok((counts, outcome.rows.len()))
-}
-
-#[test]
-fn instances_count_together(rt: HostRuntime) -> Result<(), Fail> {
-    let rows = ["1,10\n2,20\n1,10\n", "1,5\n4,5\n1,6\n9,9\n", "1,0\n7,0\n"];
-    for workers in 1..17u32 {
-        let world = world(rt.alloc(), PAIRS, &rows, workers, 1, 1)?;
-        let (counts, root) = counts(world, rt.alloc())?;
-        assert_eq!(rt; counts.as_slice(), [3, 4, 2, 8, 10].as_slice());
-        assert_eq!(rt; root, 10);
-    }
-    Ok(())
-}
-
 // What a run on the layout with this number gives.
 fn ran(
     alloc: Global,

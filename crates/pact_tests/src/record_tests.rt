@@ -1,3 +1,5 @@
+//! The worker to which key values send a record, and records that agree on some fields.
+
 ghost use Rattle.std.specs.Prelude.{◌≡◌, ◌<◌, ◌∷◌, [], length, IfOk};
 
 use pact_record::{Fields, Keys, OutOfMemory, Record, Text, Value};
@@ -32,17 +34,6 @@ fn two_keys(first: u32, second: u32) -> Keys
     keys.push(first);
     keys.push(second);
     keys
-}
-
-#[test]
-fn records_are_joined(rt: HostRuntime) -> Result<(), Fail> {
-    let left = pair(rt.alloc(), Value::Null, Value::Int(1))?;
-    let right = pair(rt.alloc(), Value::Int(2), Value::Int(3))?;
-    let joined = Record::join(rt.alloc(), &left, &right)?;
-    assert!(rt; matches!(joined.values(), [Value::Int(2), Value::Int(1)]));
-    let other = Record::join(rt.alloc(), &right, &left)?;
-    assert!(rt; matches!(other.values(), [Value::Int(2), Value::Int(3)]));
-    Ok(())
 }
 
 // The worker, of four, that a record with these two values goes to by both, by the first, and by the second.
