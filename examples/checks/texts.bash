@@ -85,6 +85,18 @@ repeated() {
     done
 }
 
+# 64 blocks stand inside each other, and no more.
+for blocks in 64 65; do
+    {
+        printf 'pact 1\nfields 1\nsource s s.csv int:0\nfunction f map\nv0 = int 1\n'
+        repeated "$blocks" $'if v0\n'
+        repeated "$blocks" $'end\n'
+        printf 'end\nmap m f s\nsink m 0\n'
+    } >"$scratch/nested$blocks.pact"
+done
+count gives 0 'm map reads {} writes {} control {} touched {} emit 0..0 anchor none order yes\n' '' sets nested64.pact
+count gives 5 '' 'nested65.pact:70: text fault 10\n' sets nested65.pact
+
 # Each row has the kind of a function of records with four fields, what follows its statements 0 to 3, the rule that is broken, and the statement that breaks it.
 while IFS='|' read -r kind statements rule statement; do
     printf 'pact 1\nfields 4\nfunction f %s\nr7 = new\nif v0\nv30 = null\nelse\nv31 = null\nend\n%b\nend\n' "$kind" "$statements" >"$scratch/text.pact"
