@@ -66,6 +66,16 @@ impl<L: Local> Station<L> {
         Ok(())
     }
 
+    /// How many notes are on the pipe to a receiver.
+    pub(crate) fn queued(&self, to: u32) -> usize
+        ensures { result ≡ length (get_or self.now.queues to []) }
+    {
+        let Some(queue) = self.queues.get(to as usize) else {
+            return 0;
+        };
+        queue.notes.len()
+    }
+
     /// The first note leaves a pipe.
     pub(crate) fn give(&mut self, to: u32) -> Note
         requires { 0 < length (get_or self.old.queues to []) }

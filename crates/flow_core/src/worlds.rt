@@ -1,6 +1,6 @@
 //! Worlds.
 
-ghost use Rattle.std.specs.Prelude.{◌≡◌, ◌<◌, ◌≤◌, ℕ, true, List, length, map, IfOk, OnOk};
+ghost use Rattle.std.specs.Prelude.{◌≡◌, ◌<◌, ◌≤◌, ℕ, true, List, length, map, IfNone, IfOk, IfSome, OnOk};
 ghost use Rattle.pact_operators.specs.Inputs.{AreInputsOf};
 ghost use Rattle.pact_operators.specs.Programs.{IsPlanOf};
 ghost use Rattle.plan_trees.specs.Plans.{has};
@@ -19,10 +19,10 @@ ghost use Rattle.flow_core.specs.Stations.{IsReadyFor, total_given};
 ghost use Rattle.flow_model.specs.Worlds.{AreDone, History, does_want, enabled, reader_of};
 ghost use Rattle.flow_core.specs.Wired.{input_in};
 ghost use Rattle.flow_core.specs.Laws.{ObeysLaws};
-ghost use Rattle.flow_core.specs.Worlds.{HasBatchSize, IsStanding, IsWhole, StandsForSome, depth_limit, instance_in, queue_in, seen};
+ghost use Rattle.flow_core.specs.Worlds.{HasBatchSize, IsStanding, IsWhole, StandsForSome, depth_limit, instance_in, no_station, queue_in, seen, station_in};
 
 use crate::starting::start_all;
-use crate::stations::Row;
+use crate::stations::{Row, Station};
 use crate::wirings::Wiring;
 use flow_model::{Event, Note, PipeId, Want};
 use local_strategy::Local;
@@ -156,33 +156,33 @@ impl<L: Local> World<L> {
         self.wiring.input(at, port)
     }
 
+    // The station of an operator on a worker, where there is one.
+    fn station(&self, at: u32, worker: u32) -> Option<&Station<L>>
+        ensures some { IfSome result (λ station. station.now ≡ station_in self.now.stations at worker) }
+        ensures none { IfNone result (station_in self.now.stations at worker ≡ no_station) }
+    {
+        let row = self.stations.get(at as usize)?;
+        row.held.get(worker as usize)
+    }
+
     // What an instance wants. Where there is none, nothing is wanted.
     pub(crate) fn want(&self, at: u32, worker: u32) -> Want
         ensures { result ≡ want (instance_in self.now.stations at worker) }
     {
-        let Some(row) = self.stations.get(at as usize) else {
-            return Want::Done;
-        };
-        let Some(station) = row.held.get(worker as usize) else {
-            return Want::Done;
-        };
-        station.instance.want()
+        match self.station(at, worker) {
+            Some(station) => station.instance.want(),
+            None => Want::Done,
+        }
     }
 
     // How many notes are on a pipe.
     pub(crate) fn queued(&self, pipe: PipeId) -> usize
         ensures { result ≡ length (queue_in self.now.stations pipe.edge pipe.from pipe.to) }
     {
-        let Some(row) = self.stations.get(pipe.edge as usize) else {
-            return 0;
-        };
-        let Some(station) = row.held.get(pipe.from as usize) else {
-            return 0;
-        };
-        let Some(queue) = station.queues.get(pipe.to as usize) else {
-            return 0;
-        };
-        queue.notes.len()
+        match self.station(pipe.edge, pipe.from) {
+            Some(station) => station.queued(pipe.to),
+            None => 0,
+        }
     }
 
     fn can_put(&self, pipe: PipeId) -> bool
