@@ -44,6 +44,27 @@ count listed '6 complete' maps.pact
 count listed '6 complete' maps.pact --plans 6
 count listed '5 limit' maps.pact --plans 5
 count listed '1 limit' maps.pact --plans 1
+# A record that is broadcast costs one for each worker.
+sed 's/cost 12/cost 36/' expected/cross.plan >"$scratch/cross.plan"
+count writes 0 "$scratch/cross.plan" /dev/null plan cross.pact --workers 16
+# Of six Maps that stand in any order there are 720 plans, of which 256 are listed where nothing else is asked for.
+{
+    printf 'pact 1\nfields 7\nsource s s.csv int:0\n'
+    for field in 1 2 3 4 5 6; do
+        printf 'function f%d map\n  r0 = copy in\n  set r0 %d v0\n  emit r0\nend\n' "$field" "$field"
+    done
+    below=s
+    for field in 1 2 3 4 5 6; do
+        printf 'map m%d f%d %s\n' "$field" "$field" "$below"
+        below=m$field
+    done
+    printf 'sink m6 0\n'
+} >"$scratch/six.pact"
+count listed '256 limit' six.pact
+count listed '720 complete' six.pact --plans 1000
+# The certificate of the plan as written has no step.
+echo '{"plan":"m(r(s))","steps":[],"version":1}' >"$scratch/no_step.json"
+count writes 0 "$scratch/no_step.json" /dev/null cert push.pact --plans 1
 # The certificate of a choice is accepted, for every program and several numbers of workers.
 certified() {
     "$pact" cert "$@" >"$scratch/chosen.json" 2>"$scratch/err" && ! [ -s "$scratch/err" ] &&
@@ -56,24 +77,27 @@ for told in expected/*.plan; do
 done
 count writes 0 certificates/push.good.json /dev/null cert push.pact --workers 2
 
-# Whichever plan is chosen, the rows are those of the program as written, wherever it has one answer.
+# Whichever plan is chosen, the rows are those of the program as written. `first` has two answers.
+echo 1,7 >"$scratch/last"
+answers() { # the program's name, and options
+    writes 0 "$(or_none "expected/$1.stdout")" /dev/null run "$1.pact" "${@:2}" >/dev/null || { [ "$1" = first ] && cmp "$scratch/out" "$scratch/last"; }
+}
 for told in expected/*.plan; do
     name=$(basename "$told" .plan)
-    [ "$name" != first ] || continue
     for workers in 1 2 16; do
         for plans in 1 2 1000; do
-            count writes 0 "$(or_none "expected/$name.stdout")" /dev/null run "$name.pact" --workers "$workers" --plans "$plans"
+            count answers "$name" --workers "$workers" --plans "$plans"
         done
     done
 done
 # In whatever parts the plan runs, the rows are the same.
 for program in *.pact; do
     name=${program%.pact}
-    [ "$name" != first ] && ! [ -f "expected/$name.status" ] || continue
+    ! [ -f "expected/$name.status" ] || continue
     for workers in 1 2 3 16; do
         for batch in 1 64; do
             for depth in 1 64; do
-                count writes 0 "$(or_none "expected/$name.stdout")" /dev/null run "$program" --workers "$workers" --batch "$batch" --depth "$depth"
+                count answers "$name" --workers "$workers" --batch "$batch" --depth "$depth"
             done
         done
     done

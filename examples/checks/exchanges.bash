@@ -265,3 +265,22 @@ believes_nothing() { # declarations, upper, rule
 count believes_nothing "$two_matches" h rotate
 count believes_nothing "$left_kept" m map-left
 count believes_nothing "${two}cogroup c both s t by 1 = 2\nmap m low c\nsink m 1\n" m map-cogroup-left
+
+# ---- what an exchange leads to, written as a program of its own, gives the same rows
+printf '1,5\n1,7\n' >"$scratch/s.csv"
+printf '1,9\n1,8\n' >"$scratch/t.csv"
+printf '9,3\n' >"$scratch/u.csv"
+both_give() { # the rows, the declarations before and after
+    local declarations
+    for declarations in "${@:2}"; do
+        { cat "$scratch/functions"; printf '%b' "$declarations"; } >"$scratch/exchanged.pact"
+        gives 0 "$1" '' run exchanged.pact --plans 1 || return 1
+    done
+}
+count both_give '1,5,1,9,9,3\n1,7,1,9,9,3\n' "$two_matches" "${three}match h jn t u by 3 = 4\nmatch g jn s h by 0 = 2\nsink g 0 1 2 3 4 5\n"
+count both_give '1,5,1,8\n1,5,1,9\n' "${two}match g jn s t by 0 = 2\nmap l low g\nsink l 0 1 2 3\n" "${two}map l low s\nmatch g jn l t by 0 = 2\nsink g 0 1 2 3\n"
+count both_give '1,5,1,9\n1,7,1,9\n' "${two}match g jn s t by 0 = 2\nmap h high g\nsink h 0 1 2 3\n" "${two}map h high t\nmatch g jn s h by 0 = 2\nsink g 0 1 2 3\n"
+count both_give '1,5,7\n' "${one}map a mark s\nmap b low a\nsink b 0 1 6\n" "${one}map b low s\nmap a mark b\nsink a 0 1 6\n"
+count both_give '1,5\n' "${one}reduce r sum s by 1\nmap l low r\nsink l 0 1\n" "${one}map l low s\nreduce r sum l by 1\nsink r 0 1\n"
+count both_give '1,5\n' "${two}cogroup c both s t by 1 = 2\nmap m low c\nsink m 0 1\n" "${two}map m low s\ncogroup c both m t by 1 = 2\nsink c 0 1\n"
+count both_give '1,9\n' "${two}cogroup c other s t by 0 = 3\nmap m high c\nsink m 2 3\n" "${two}map m high t\ncogroup c other s m by 0 = 3\nsink c 2 3\n"

@@ -7,10 +7,11 @@ use Rattle.flow_model.specs.Spots.{setting}
 use Rattle.flow_model.specs.Worlds.{enabled}
 use Rattle.flow_model.proofs.Bound.{bound}
 use Rattle.flow_model.proofs.CallTurns.{bounded_program}
-use Rattle.flow_model.proofs.Ended.{put_is_taken}
+use Rattle.flow_model.proofs.Ended.{put_is_taken, spread}
 use Rattle.flow_model.proofs.Runs.{some_event}
 use Rattle.flow_core.specs.Laws.{ObeysLaws}
 use Rattle.flow_core.specs.Worlds.{StandsForSome, WorldData, seen}
+use Rattle.flow_core.proofs.RunAlone.{spread_counted}
 
 pub laws_hold : (w : WorldData) → StandsForSome w → ObeysLaws w
 laws_hold w some = record {
@@ -22,4 +23,6 @@ laws_hold w some = record {
   all_taken = λ g h s done edge from to there.
       let k = subst IsPhysical s.physical some.is_physical in
       put_is_taken g (seen w) h k.plan.different s.stands done edge from to (subst (λ (q : PhysicalData). has edge q.tree ≡ true) s.physical there);
+  none_lost = λ p inputs h is are plan legal s done rows counts placed given.
+      spread_counted w.physical rows counts p inputs some.is_physical is are plan legal (spread (setting p inputs w.physical) (seen w) h rows counts some.is_physical.plan.different s.stands done placed given);
 }

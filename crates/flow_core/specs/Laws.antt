@@ -1,20 +1,30 @@
 -- What holds of a world, whatever events have led to it.
-use Rattle.std.specs.Prelude.{◌≡◌, ◌≢◌, ◌<◌, ◌≤◌, ℕ, true, List}
-use Rattle.pact_operators.specs.Allowed.{Bag}
-use Rattle.pact_operators.specs.Programs.{ProgramData}
+use Rattle.std.specs.Prelude.{◌≡◌, ◌≢◌, ◌<◌, ◌≤◌, ℕ, true, List, Some, slice_get}
+use Rattle.std.specs.List.Sorted.{IsPermutation}
+use Rattle.pact_operators.specs.Allowed.{Bag, Counted}
+use Rattle.pact_operators.specs.Inputs.{AreInputsOf}
+use Rattle.pact_operators.specs.PlanOps.{plan_ops}
+use Rattle.pact_operators.specs.Programs.{IsPlanOf, IsProgram, ProgramData}
 use Rattle.plan_trees.specs.Plans.{has}
+use Rattle.ship_strategy.specs.PlanFacts.{facts_of}
+use Rattle.ship_strategy.specs.Ships.{LegalShip}
 use Rattle.flow_model.specs.declared.notes.Event.{Event}
 use Rattle.flow_model.specs.declared.notes.Want.TheVariants.{Done}
 use Rattle.flow_model.specs.Instances.{want}
 use Rattle.flow_model.specs.Most.{events, most, program_turns}
 use Rattle.flow_model.specs.Spots.{Setting, setting}
+use Rattle.flow_model.specs.Spread.{given_in, placed_in}
 use Rattle.flow_model.specs.Worlds.{AreDone, History, enabled}
 use Rattle.flow_core.specs.Worlds.{IsStanding, WorldData, instance_in, seen}
 
 -- For each setting and history for which it stands: it isn't stuck, so that while some instance isn't done, an event is enabled; the notes put, the
--- notes taken and the instances that are done are together at most so many; and where every instance is done, all that was put was taken.
+-- notes taken and the instances that are done are together at most so many; and where every instance is done, all that was put was taken, and, if
+-- shipping is legal, what the root's instances placed is a bag that the plan allows, and what all instances gave its counts.
 pub record ObeysLaws (w : WorldData) : Type 0 where
   pub goes_on : (g : Setting) (h : History) → IsStanding g w h → (at worker : ℕ) → has at w.physical.tree ≡ true → worker < w.physical.workers → want (instance_in w.stations at worker) ≢ Done
       → (e : Event) × (enabled w.physical w.depth (seen w) e ≡ true)
   pub bounded : (p : ProgramData) (inputs : List Bag) (h : History) → IsStanding (setting p inputs w.physical) w h → events (setting p inputs w.physical) (seen w) h ≤ most (setting p inputs w.physical) (program_turns p)
   pub all_taken : (g : Setting) (h : History) → IsStanding g w h → AreDone g.physical (seen w) → (edge from to : ℕ) → has edge w.physical.tree ≡ true → h.put edge from to ≡ h.taken edge from to
+  pub none_lost : (p : ProgramData) (inputs : List Bag) (h : History) → IsProgram p → AreInputsOf p inputs → IsPlanOf p.functions p.ops w.physical.tree → LegalShip (facts_of p w.physical.tree) w.physical
+      → IsStanding (setting p inputs w.physical) w h → AreDone w.physical (seen w) → (rows : Bag) (counts : List ℕ) → IsPermutation rows (placed_in (setting p inputs w.physical) (seen w))
+      → ((at : ℕ) → has at w.physical.tree ≡ true → slice_get counts at ≡ Some (given_in (setting p inputs w.physical) (seen w) at)) → Counted (plan_ops p inputs) w.physical.tree rows counts

@@ -1,8 +1,30 @@
-//! What writers take through a sink over them, and that each write is flushed.
+//! What a feed reads of a real file, what writers take through a sink over them, and that each write is flushed.
 
-use pact_outside::{Failed, Sink, StreamSink};
-use std::io;
+use pact_outside::{Failed, Feed, FileFeed, Sink, StreamSink};
+use pact_record::Bytes;
 use std::test::Fail;
+use std::{env, fs, io, process};
+
+#[test]
+fn real_files_are_read(rt: HostRuntime) -> Result<(), Fail> {
+    let name = format!(in rt.alloc(); "pact_outside-{}", process::id(rt.process()))?;
+    let path = env::temp_dir(&rt)?.join(rt.alloc(), &name)?;
+    fs::write(&rt, &path, "real")?;
+    let mut feed = FileFeed::new(&rt);
+    let opened = feed.open(Bytes::from_slice(rt.alloc(), path.as_str().as_bytes())?);
+    fs::remove_file(&rt, &path)?;
+    opened?;
+    let mut buf = [0; 8];
+    let count = feed.read(&mut buf)?;
+    assert_eq!(rt; buf.get(..count), Some(b"real".as_slice()));
+    assert_eq!(rt; feed.read(&mut buf)?, 0);
+    for missing in [path.as_str().as_bytes(), b"\xff"] {
+        let answer = feed.open(Bytes::from_slice(rt.alloc(), missing)?);
+        assert_eq!(rt; answer, Err(Failed));
+    }
+    assert_eq!(rt; feed.faults(), 2);
+    Ok(())
+}
 
 #[test]
 fn writers_take_what_is_written(rt: HostRuntime) -> Result<(), Fail> {
