@@ -79,52 +79,30 @@ map c three b
 sink c 0
 ";
 
-// The rules of the exchanges that lead to an entry.
-fn steps(alloc: Global, text: &str, entry: u32) -> Result<String, Fail> {
+// The root of an entry's plan, the entry that it comes from, and how many exchanges lead to it.
+fn entry(alloc: Global, text: &str, number: u32) -> Result<(u32, u32, usize), Fail> {
     let program = program(alloc, text.as_bytes())?;
     let listed = enumerate(alloc, &program, 1000)?;
-    if entry as usize >= listed.entries().len() {
+    if number as usize >= listed.entries().len() {
         return Err(Fail::new("no entry"));
     }
-    let mut words = String::new(alloc);
-    for condition in steps_of(alloc, &listed, entry)?.conditions() {
-        words.push_str(condition.rule.word())?;
-        words.push_str(" ")?;
-    }
-    Ok(words)
-}
-
-#[test]
-fn steps_lead_to_entries(rt: HostRuntime) -> Result<(), Fail> {
-    let alloc = rt.alloc();
-    assert_eq!(rt; steps(alloc, PUSH, 0)?.as_str(), "");
-    assert_eq!(rt; steps(alloc, PUSH, 1)?.as_str(), "map-reduce ");
-    assert_eq!(rt; steps(alloc, FIVE, 1)?.as_str(), "map-left ");
-    assert_eq!(rt; steps(alloc, MAPS, 1)?.as_str(), "map-map ");
-    assert_eq!(rt; steps(alloc, MAPS, 5)?.as_str(), "map-map map-map map-map ");
-    Ok(())
-}
-
-// The root of an entry's plan, and the entry that it comes from.
-fn origin(alloc: Global, text: &str, entry: usize) -> Result<(u32, u32), Fail> {
-    let program = program(alloc, text.as_bytes())?;
-    let listed = enumerate(alloc, &program, 1000)?;
-    if entry >= listed.entries().len() {
-        return Err(Fail::new("no entry"));
-    }
-    let found = listed.entries().at(entry);
-    Ok((found.plan.root(), found.from))
+    let steps = steps_of(alloc, &listed, number)?;
+    let found = listed.entries().at(number as usize);
+    Ok((found.plan.root(), found.from, steps.conditions().len()))
 }
 
 // Of the Maps the source is number 0.
 #[test]
 fn entries_come_from_others(rt: HostRuntime) -> Result<(), Fail> {
     let alloc = rt.alloc();
-    assert!(rt; origin(alloc, MAPS, 0)? == (3, 0));
-    assert!(rt; origin(alloc, MAPS, 1)? == (3, 0));
-    assert!(rt; origin(alloc, MAPS, 2)? == (2, 0));
-    assert!(rt; origin(alloc, MAPS, 3)? == (1, 1));
-    assert!(rt; origin(alloc, MAPS, 4)? == (2, 2));
-    assert!(rt; origin(alloc, MAPS, 5)? == (1, 3));
+    assert!(rt; entry(alloc, PUSH, 0)? == (2, 0, 0));
+    assert!(rt; entry(alloc, PUSH, 1)? == (1, 0, 1));
+    assert!(rt; entry(alloc, FIVE, 1)? == (2, 0, 1));
+    assert!(rt; entry(alloc, MAPS, 0)? == (3, 0, 0));
+    assert!(rt; entry(alloc, MAPS, 1)? == (3, 0, 1));
+    assert!(rt; entry(alloc, MAPS, 2)? == (2, 0, 1));
+    assert!(rt; entry(alloc, MAPS, 3)? == (1, 1, 2));
+    assert!(rt; entry(alloc, MAPS, 4)? == (2, 2, 2));
+    assert!(rt; entry(alloc, MAPS, 5)? == (1, 3, 3));
     Ok(())
 }
