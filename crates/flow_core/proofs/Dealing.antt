@@ -2,8 +2,8 @@
 use Rattle.std.proofs.Common.{◌≡◌, ◌<◌, ◌+◌, ◌%◌, ◌==◌, inl, inr, ℕ, suc, Bool, true, false, cond, List, [], ◌∷◌, ◌++◌, drop, get_or, length, set, take, refl, ap, subst, sym, ◌∙◌, append-nil, arith, length-append, length-drop}
 use Rattle.std.specs.List.{AllByRecursion}
 use Rattle.std.proofs.lemmas.Bool.{cases_eq, eq-eqb, ne_eqb}
-use Rattle.std.proofs.lemmas.List.{drop_more, get_or_append_left, get_or_default, get_or-set_other, get_or-set_same, length-set, take_more}
-use Rattle.std.proofs.lemmas.List.Elements.{filter-append, recursion_from_All}
+use Rattle.std.proofs.lemmas.List.{drop_more, get_or_append_left, get_or_default, get_or-set_other, get_or-set_same, length-set}
+use Rattle.std.proofs.lemmas.List.Elements.{recursion_from_All}
 use Rattle.std.proofs.lemmas.Option.{slice_get-get_or}
 use Rattle.std.proofs.Math.Seq.{get_or-append_seam}
 use Rattle.pact_bag.specs.Rows.{HaveOneWidth}
@@ -12,14 +12,13 @@ use Rattle.pact_operators.specs.Inputs.{AreInputsOf}
 use Rattle.pact_operators.specs.PlanOps.{is_source_kind, kind_at, kind_in, source_place, sources_of}
 use Rattle.pact_operators.specs.Programs.{ProgramData}
 use Rattle.pact_operators.specs.declared.operators.Op.{Op}
-use Rattle.pact_operators.proofs.SourceRows.{input_widths, place_below}
+use Rattle.pact_operators.proofs.SourceKinds.{source_kind}
+use Rattle.pact_operators.proofs.SourceRows.{input_widths, place_below, sources_of-next}
 use Rattle.pact_record.specs.Widths.{AreWide}
 use Rattle.pact_record.specs.declared.values.Value.{Value}
 use Rattle.pact_record.proofs.Lists.{AllByRecursion-cond, AllByRecursion-get_or}
 use Rattle.plan_trees.specs.Sending.{share_from}
-use Rattle.tac_syntax.specs.declared.declarations.OpKind.{OpKind}
-use Rattle.tac_syntax.specs.declared.declarations.OpKind.TheVariants.{Source, Map, Reduce, Match, Cross, CoGroup}
-use Rattle.flow_instance.proofs.Carried.{IsNext, next_width}
+use Rattle.flow_instance.proofs.CarriedBatches.{IsNext, next_width}
 use Rattle.flow_core.specs.Starting.{AreDealt, AreOwn, TakesOwn}
 
 -- ---- shares
@@ -90,14 +89,6 @@ dealt-more workers to done share more row shares less is here m dealt = record {
 
 -- ---- what a source or operator has of its own
 
-source_kind : (kind : OpKind) → is_source_kind kind ≡ true → kind ≡ Source
-source_kind Source h = refl
-source_kind Map h = absurd cc
-source_kind Reduce h = absurd cc
-source_kind Match h = absurd cc
-source_kind Cross h = absurd cc
-source_kind CoGroup h = absurd cc
-
 kind_is : (ops : List Op) (n : ℕ) (op : Op) → n < length ops → op ≡ get_or ops n op → kind_at ops n ≡ op.kind
 kind_is ops n op less is = ap kind_in (slice_get-get_or ops n op less) ∙ ap (λ (o : Op). o.kind) (sym is)
 
@@ -107,8 +98,7 @@ counted false op = refl
 
 source_place-next : (ops : List Op) (n : ℕ) (op : Op) → n < length ops → op ≡ get_or ops n op → source_place ops (n + 1) ≡ source_place ops n + cond (is_source_kind op.kind) 1 0
 source_place-next ops n op less is =
-    ap (λ (l : List Op). length (sources_of l)) (take_more ops n op less ∙ ap (λ (o : Op). take n ops ++ o ∷ []) (sym is))
-    ∙ ap length (filter-append (λ (o : Op). is_source_kind o.kind) (take n ops) (op ∷ [])) ∙ length-append (sources_of (take n ops)) (sources_of (op ∷ []))
+    ap length (sources_of-next ops n op less is) ∙ length-append (sources_of (take n ops)) (cond (is_source_kind op.kind) (op ∷ []) [])
     ∙ ap (λ (k : ℕ). source_place ops n + k) (counted (is_source_kind op.kind) op)
 
 -- the operator that the program has at a place

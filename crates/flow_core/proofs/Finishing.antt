@@ -1,17 +1,18 @@
 -- What a world leaves.
 use Rattle.std.proofs.Common.{◌≡◌, ◌<◌, ◌≤◌, ℕ, zero, suc, true, Some, List, [], get_or, length, map, slice_get, refl, ap, subst, sym, ◌∙◌, arith}
 use Rattle.std.specs.Option.{option_map}
+use Rattle.std.proofs.lemmas.List.{get_or_default}
 use Rattle.std.proofs.lemmas.Option.{slice_get-get_or, slice_get-map}
 use Rattle.pact_bag.specs.Rows.{HaveOneWidth}
 use Rattle.pact_bag.proofs.Widths.{All-from_recursion}
 use Rattle.pact_operators.specs.Allowed.{Bag, count_of}
 use Rattle.pact_operators.specs.Programs.{IsPlanOf, ProgramData}
-use Rattle.pact_record.proofs.Lists.{AllByRecursion-append}
 use Rattle.pact_record.specs.Widths.{AreWide}
 use Rattle.pact_record.specs.declared.values.Value.{Value}
 use Rattle.plan_trees.specs.Physicals.{IsPhysical, PhysicalData}
 use Rattle.plan_trees.specs.Plans.{has, root_of, subtree_of}
 use Rattle.plan_trees.specs.Sending.{all_of}
+use Rattle.plan_trees.proofs.EachWorker.{all_each}
 use Rattle.plan_trees.proofs.SubtreesOfPlans.{has-root, root_of-subtree}
 use Rattle.flow_model.specs.Spots.{Setting}
 use Rattle.flow_model.specs.Spread.{Spread, placed_in, sum_below}
@@ -30,18 +31,20 @@ root_row w = get_or w.stations (root_of w.physical.tree) []
 pub root_below : (w : WorldData) → StandsForSome w → root_of w.physical.tree < length w.stations
 root_below w s = s.standing.whole.each (root_of w.physical.tree) (has-root w.physical.tree)
 
--- ---- widths
+-- what is taken out at the root's number
+pub taken_row : (w held : WorldData) (root : ℕ) (row : List StationData) → held ≡ w → root ≡ root_of held.physical.tree → row ≡ get_or held.stations root row → StandsForSome w → row ≡ root_row w
+taken_row w held root row same at is stands =
+    let here : root ≡ root_of w.physical.tree = at ∙ ap (λ (x : WorldData). root_of x.physical.tree) same in
+    is ∙ (λ i. get_or (same i).stations (here i) row) ∙ get_or_default w.stations (root_of w.physical.tree) row [] (root_below w stands)
 
-all_wide : (fields n : ℕ) (f : ℕ → Bag) → ((k : ℕ) → k < n → AreWide fields (f k)) → AreWide fields (all_of n f)
-all_wide fields zero f h = tt
-all_wide fields (suc n) f h = AllByRecursion-append (λ (row : List Value). length row ≡ fields) (f n) (all_of n f) (h n (omega arith)) (all_wide fields n f (λ k less. h k (omega (arith, less))))
+-- ---- widths
 
 pub placed_widths : (g : Setting) (w : WorldData) (h : History) → IsStanding g w h → AreWide g.fields (all_of (length (root_row w)) (placed_by (root_row w)))
 placed_widths g w h s =
     let root = root_of w.physical.tree in
     let there = has-root w.physical.tree in
     let at = s.whole.each root there in
-    all_wide g.fields (length (root_row w)) (placed_by (root_row w)) (λ k less.
+    all_each (λ (row : List Value). length row ≡ g.fields) (placed_by (root_row w)) (length (root_row w)) (λ k less.
     let below : k < w.physical.workers = subst (λ (n : ℕ). k < n) (s.whole.workers root at) less in
     (s.stands.instances root k (subst (λ (q : PhysicalData). has root q.tree ≡ true) s.physical there) (subst (λ (q : PhysicalData). k < q.workers) s.physical below)).placed_wide)
 

@@ -1,5 +1,6 @@
 -- The keys of two bags are those of the first, and those of the second that the first lacks.
 use Rattle.std.proofs.Common.{◌≡◌, ◌++◌, ◌∷◌, [], ◌||◌, ℕ, Bool, true, false, not, cond, List, map, refl, ap, sym, ◌∙◌}
+use Rattle.std.proofs.Math.Bool.{not-not}
 use Rattle.std.specs.Prelude.{filter}
 use Rattle.std.proofs.lemmas.List.Elements.{filter-append}
 use Rattle.pact_bag.proofs.KeyGroups.{occurs, other_than}
@@ -19,16 +20,12 @@ once_more false true k test ks ls e h = ap (λ (t : Bool). cond t (k ∷ filter 
 once_more true false k test ks ls e h = h
 once_more false false k test ks ls e h = h
 
-not_not : (b : Bool) → not (not b) ≡ b
-not_not true = refl
-not_not false = refl
-
 -- other than j, and none of the others
 filter-both : (j : List Value) (o : List Value → Bool) (ks : List (List Value)) → filter (other_than j) (filter (λ k. not (o k)) ks) ≡ filter (λ k. not (is_same_key j k || o k)) ks
 filter-both j o [] = refl
 filter-both j o (k ∷ ks) =
     once_more (other_than j k) (not (o k)) k (other_than j) (filter (λ x. not (o x)) ks) (filter (λ x. not (is_same_key j x || o x)) ks) refl (filter-both j o ks)
-    ∙ (λ i. cond (not (not_not (is_same_key j k) i || not_not (o k) i)) (k ∷ filter (λ x. not (is_same_key j x || o x)) ks) (filter (λ x. not (is_same_key j x || o x)) ks))
+    ∙ (λ i. cond (not (not-not (is_same_key j k) i || not-not (o k) i)) (k ∷ filter (λ x. not (is_same_key j x || o x)) ks) (filter (λ x. not (is_same_key j x || o x)) ks))
 
 distinct_keys-append : (xs ys : List (List Value)) → distinct_keys (xs ++ ys) ≡ distinct_keys xs ++ filter (λ k. not (occurs k xs)) (distinct_keys ys)
 distinct_keys-append [] ys = sym (filter-all (distinct_keys ys))

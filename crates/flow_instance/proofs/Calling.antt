@@ -1,5 +1,6 @@
 -- The calls of a Reduce, by the numbers of the keys.
-use Rattle.std.proofs.Common.{◌≡◌, ◌<◌, ◌≤◌, ℕ, zero, suc, Bool, true, false, cond, Option, Some, List, [], ◌∷◌, ◌++◌, length, map, take, refl, ap, sym, ◌∙◌, subst, arith, append-nil, append_assoc}
+use Rattle.std.proofs.Common.{◌≡◌, ◌<◌, ◌≤◌, ◌+◌, ℕ, zero, suc, Bool, true, false, cond, Option, Some, List, [], ◌∷◌, ◌++◌, length, map, take, refl, ap, sym, ◌∙◌, subst, arith, add-one, append-nil, append_assoc}
+use Rattle.std.proofs.lemmas.List.{take_all}
 use Rattle.std.specs.Prelude.{IfSome, filter, slice_get}
 use Rattle.std.specs.List.{AllByRecursion}
 use Rattle.std.specs.List.Sorted.{IsPermutation}
@@ -8,7 +9,7 @@ use Rattle.flow_model.proofs.Bags.{beside, is_same, joined}
 use Rattle.pact_bag.proofs.KeyGroups.{all-distinct, group_keys, keys_have_groups}
 use Rattle.pact_bag.specs.Groups.{group_of_key}
 use Rattle.pact_operators.specs.Allowed.{Bag, CoGrouped, Grouped, keys_in, keys_in_either}
-use Rattle.pact_record.proofs.Lists.{AllByRecursion-slice_get}
+use Rattle.pact_record.proofs.Lists.{AllByRecursion-append, AllByRecursion-slice_get}
 use Rattle.pact_record.proofs.Permutations.{Perm, nothing, keeps, swaps, chains, each_perm, filter_perm, from_permutation, to_permutation}
 use Rattle.pact_record.specs.Record.{key_of}
 use Rattle.pact_record.specs.Widths.{AreWide}
@@ -52,6 +53,19 @@ each_more Gives [] n out given less g c = absurd (omega (arith, less))
 each_more Gives (k ∷ order) zero out given less g c = (given, [], c, ap (λ (l : Bag). l ++ given) g ∙ sym (append-nil given), refl)
 each_more Gives (k ∷ order) (suc n) out given less g c =
     (g.0, g.1 ++ given, g.2, ap (λ (l : Bag). l ++ given) g.3 ∙ append_assoc g.0 g.1 given, each_more Gives order n g.1 given (omega (arith, less)) g.4 c)
+
+-- what the calls for a front of the keys have given, with the next one's
+pub given_on : (fields : ℕ) (Gives : List Value → Bag → Type 0) (order : List (List Value)) (n : ℕ) (out given whole : Bag) → n < length order → EachGives Gives (take n order) out × AreWide fields out
+    → IfSome (slice_get order n) (λ k. Gives k given) → AreWide fields given → whole ≡ out ++ given → EachGives Gives (take (n + 1) order) whole × AreWide fields whole
+given_on fields Gives order n out given whole less h g wide is =
+    subst (λ (rows : Bag). EachGives Gives (take (n + 1) order) rows × AreWide fields rows) (sym is) (
+      subst (λ (m : ℕ). EachGives Gives (take m order) (out ++ given)) (sym (add-one n)) (each_more Gives order n out given less h.0 g),
+      AllByRecursion-append (λ (row : List Value). length row ≡ fields) out given h.1 wide,
+    )
+
+-- and those for all keys
+pub all_given : (Gives : List Value → Bag → Type 0) (order : List (List Value)) (n : ℕ) (out : Bag) → length order ≤ n → EachGives Gives (take n order) out → EachGives Gives order out
+all_given Gives order n out past g = subst (λ (ks : List (List Value)). EachGives Gives ks out) (take_all n order past) g
 
 -- ---- keys in another order
 

@@ -5,7 +5,7 @@ use Rattle.std.proofs.Math.Nat.{add-zero}
 use Rattle.std.proofs.lemmas.List.{length-map}
 use Rattle.std.proofs.lemmas.List.Sorted.{IsPermutation-refl}
 use Rattle.flow_model.proofs.Bags.{is_same, joined}
-use Rattle.flow_model.proofs.Given.{none_at_end}
+use Rattle.flow_model.proofs.GivenForNotes.{none_at_end}
 use Rattle.flow_model.specs.Instances.{Instance, Part as PartData, all_ended, ended_at, kept_at}
 use Rattle.flow_model.specs.Local.{Calls, Gave, IsGiven, KeepsRows, MayGive, works_at_once}
 use Rattle.flow_model.specs.Notes.{all_below}
@@ -14,7 +14,7 @@ use Rattle.flow_model.specs.Steps.{Carry, GivesNow, Mark, Took, kept_with}
 use Rattle.flow_model.specs.declared.notes.Note.TheVariants.{End}
 use Rattle.pact_operators.specs.Allowed.{Bag, CoGrouped, Grouped, count_of, keys_in, keys_in_either}
 use Rattle.pact_operators.specs.PlanOps.{PlanOps}
-use Rattle.pact_operators.specs.Programs.{takes}
+use Rattle.pact_operators.specs.Programs.{takes, is_pair_kind}
 use Rattle.pact_record.specs.Widths.{AreWide}
 use Rattle.pact_record.specs.declared.values.Value.{Value}
 use Rattle.tac_syntax.specs.Call.{Out, of_group, of_groups}
@@ -23,19 +23,19 @@ use Rattle.tac_syntax.specs.declared.declarations.OpKind.{OpKind}
 use Rattle.tac_syntax.specs.declared.declarations.OpKind.TheVariants.{Source, Map, Reduce, Match, Cross, CoGroup}
 use Rattle.flow_instance.specs.Grouping.{AreCoGroupsGiven, AreGroupsGiven}
 use Rattle.flow_instance.specs.Sending.{batches_in, batch_parcel, mark_parcel, marks_in}
-use Rattle.flow_instance.specs.States.{AreGivenLast, AreOpsOf, AreOrderly, GivesLast, HasEnded, HasFlags, HasTaken, IsOperator, IsReady, IsSound, IsSoundIfTaking, body_in, is_pairing, is_reduce, part_of, port_of, seen, spot_of}
+use Rattle.flow_instance.specs.States.{AreGivenLast, AreOpsOf, AreOrderly, GivesLast, HasEnded, HasFlags, HasTaken, IsOperator, IsReady, IsSound, IsSoundIfTaking, body_in, is_reduce, part_of, port_of, seen, spot_of}
 use Rattle.flow_instance.specs.Steps.{HasGiven, HasMarked}
 use Rattle.flow_instance.specs.declared.parcels.Parcel.{Parcel}
 use Rattle.flow_instance.specs.declared.parts.Part.{Part}
 use Rattle.flow_instance.specs.declared.states.State.{State}
 use Rattle.flow_instance.proofs.Giving.{batches_in-queue, marks_in-queue, orderly_marked}
-use Rattle.flow_instance.proofs.Kept.{wide_permuted}
+use Rattle.flow_instance.proofs.KeptRecords.{wide_permuted}
 use Rattle.flow_instance.proofs.TakenNotes.{each_wide, its_fields, no_marks, nothing_sent, stays, took_of}
 
 -- ---- a side that is sealed
 
 pub sound_built : {L : Type 0} (rows : L → Bag) (keys : L → List ℕ) (is_sealed : L → Bool) (s t : State L) → IsSound rows keys is_sealed s → t ≡ record s { left_ended = t.left_ended; left = t.left } → length t.left_ended.items ≡ s.part.workers
-    → IsPermutation (rows s.left) (rows t.left) → keys t.left ≡ keys s.left → is_sealed t.left ≡ true → is_pairing s.part.kind ≡ true → all_below s.part.workers (ended_at (seen rows t) 0) ≡ true → IsSound rows keys is_sealed t
+    → IsPermutation (rows s.left) (rows t.left) → keys t.left ≡ keys s.left → is_sealed t.left ≡ true → is_pair_kind s.part.kind ≡ true → all_below s.part.workers (ended_at (seen rows t) 0) ≡ true → IsSound rows keys is_sealed t
 sound_built rows keys is_sealed s t h frame long p k sealed pairs ended = subst (IsSound rows keys is_sealed) (sym frame) (record {
   batch = h.batch;
   worker = h.worker;
@@ -57,15 +57,11 @@ sound_built rows keys is_sealed s t h frame long p k sealed pairs ended = subst 
 
 may_reduce : (s : Spot) (kind : OpKind) (ports : List PortData) (worker : ℕ) (left right out : Bag) → is_reduce kind ≡ true → takes kind ≡ length ports → Grouped (s.ops.of_group s.at) (s.ops.left_keys s.at) left (keys_in (s.ops.left_keys s.at) left) out
     → MayGive s kind ports worker left right out
-may_reduce s Source ports worker left right out k e g = absurd (cc)
-may_reduce s Map ports worker left right out k e g = absurd (cc)
 may_reduce s Reduce [] worker left right out k e g = absurd (omega (arith, e))
 may_reduce s Reduce (p ∷ []) worker left right out k e g = g
 may_reduce s Reduce (p ∷ q ∷ []) worker left right out k e g = absurd (omega (arith, e))
 may_reduce s Reduce (p ∷ q ∷ r ∷ ports) worker left right out k e g = absurd (omega (arith, e))
-may_reduce s Match ports worker left right out k e g = absurd (cc)
-may_reduce s Cross ports worker left right out k e g = absurd (cc)
-may_reduce s CoGroup ports worker left right out k e g = absurd (cc)
+may_reduce s kind ports worker left right out k e g = absurd (cc)
 
 calls_of_group : (p : Part) (ops : PlanOps) (f : WithFields) → is_reduce p.kind ≡ true → IsOperator p → p.called ≡ Some f → AreOpsOf ops (part_of p) → (key : List Value) (group : Bag) → ops.of_group p.at key group ≡ Out f.fields f.function.body (of_group key group)
 calls_of_group p ops f k h e a key group = by p.kind k a.calls ∙ (λ i. Out (sym (its_fields p f h e) i) (body_in (e i)) (of_group key group)) where
@@ -78,12 +74,8 @@ calls_of_group p ops f k h e a key group = by p.kind k a.calls ∙ (λ i. Out (s
   by CoGroup k c = absurd (cc)
 
 reduce_waits : (kind : OpKind) → is_reduce kind ≡ true → works_at_once kind ≡ false
-reduce_waits Source k = absurd (cc)
-reduce_waits Map k = absurd (cc)
 reduce_waits Reduce k = refl
-reduce_waits Match k = absurd (cc)
-reduce_waits Cross k = absurd (cc)
-reduce_waits CoGroup k = absurd (cc)
+reduce_waits kind k = absurd (cc)
 
 pub reduce_given : {L : Type 0} (rows : L → Bag) (keys : L → List ℕ) (is_sealed : L → Bool) (s : State L) (f : WithFields) (kept out : Bag) → IsSound rows keys is_sealed s → is_reduce s.part.kind ≡ true → s.part.called ≡ Some f → IsPermutation (rows s.left) kept
     → AreGroupsGiven (λ k group. Out f.fields f.function.body (of_group k group)) s.part.left_keys kept out → AreGivenLast rows s out
@@ -107,15 +99,11 @@ reduce_given rows keys is_sealed s f kept out h k e p g = λ ops a.
 
 may_cogroup : (s : Spot) (kind : OpKind) (ports : List PortData) (worker : ℕ) (left right out : Bag) → works_at_once kind ≡ false → is_reduce kind ≡ false → takes kind ≡ length ports
     → CoGrouped (s.ops.of_groups s.at) (s.ops.left_keys s.at) (s.ops.right_keys s.at) left right (keys_in_either (s.ops.left_keys s.at) (s.ops.right_keys s.at) left right) out → MayGive s kind ports worker left right out
-may_cogroup s Source ports worker left right out w k e g = absurd (cc)
-may_cogroup s Map ports worker left right out w k e g = absurd (cc)
-may_cogroup s Reduce ports worker left right out w k e g = absurd (cc)
-may_cogroup s Match ports worker left right out w k e g = absurd (cc)
-may_cogroup s Cross ports worker left right out w k e g = absurd (cc)
 may_cogroup s CoGroup [] worker left right out w k e g = absurd (omega (arith, e))
 may_cogroup s CoGroup (p ∷ []) worker left right out w k e g = absurd (omega (arith, e))
 may_cogroup s CoGroup (p ∷ q ∷ []) worker left right out w k e g = g
 may_cogroup s CoGroup (p ∷ q ∷ r ∷ ports) worker left right out w k e g = absurd (omega (arith, e))
+may_cogroup s kind ports worker left right out w k e g = absurd (cc)
 
 calls_of_groups : (p : Part) (ops : PlanOps) (f : WithFields) → works_at_once p.kind ≡ false → is_reduce p.kind ≡ false → IsOperator p → p.called ≡ Some f → AreOpsOf ops (part_of p) → (key : List Value) (left right : Bag)
     → ops.of_groups p.at key left right ≡ Out f.fields f.function.body (of_groups key left right)

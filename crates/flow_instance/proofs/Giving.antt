@@ -1,5 +1,6 @@
 -- Records that are sent on or placed.
-use Rattle.std.proofs.Common.{◌≡◌, ◌<◌, ◌&&◌, ℕ, Bool, true, false, List, [], ◌∷◌, ◌++◌, Option, Some, None, map, length, refl, ap, sym, ◌∙◌, subst, append-nil}
+use Rattle.std.proofs.Common.{◌≡◌, ◌<◌, ◌&&◌, ℕ, true, List, [], ◌∷◌, ◌++◌, Option, Some, None, map, length, refl, ap, sym, ◌∙◌, subst, append-nil}
+use Rattle.std.proofs.Math.Bool.{and-true}
 use Rattle.std.specs.List.{AllByRecursion}
 use Rattle.flow_model.proofs.Bags.{is_same}
 use Rattle.flow_model.specs.Instances.{Part}
@@ -53,17 +54,13 @@ marked_none p queue root = record {
   marks = λ ops. record { receivers = tt; each = λ to less. sym (ap (λ (x : Option Ship). one_if (has_out x p.worker to && true)) root) };
 }
 
-with_true : (b : Bool) → (b && true) ≡ b
-with_true true = refl
-with_true false = refl
-
 pub marked_all : (p : Part) (ship : Ship) (old new : List Parcel) → p.out ≡ Some ship → AreMarked p.workers ship p.worker p.workers old new → HasMarked p old new
 marked_all p ship old new o a = record {
   list = a.list;
   behind = a.behind;
   marks = λ ops. record {
     receivers = AllByRecursion-weaker (HasPipe p.workers ship p.worker) (IsReceiver (spot_of p ops) p.worker) a.list (λ to h. (h.0, ap (λ (x : Option Ship). has_out x p.worker to) o ∙ h.1)) a.receivers;
-    each = λ to less. a.each to less ∙ ap one_if (sym (with_true (has_out p.out p.worker to) ∙ ap (λ (x : Option Ship). has_out x p.worker to) o));
+    each = λ to less. a.each to less ∙ ap one_if (sym (and-true (has_out p.out p.worker to) ∙ ap (λ (x : Option Ship). has_out x p.worker to) o));
   };
 }
 

@@ -11,7 +11,7 @@ use Rattle.pact_record.proofs.Permutations.{flat_map-append, flat_map_perm, from
 use Rattle.pact_record.specs.Record.{key_of}
 use Rattle.pact_record.specs.Widths.{AreWide}
 use Rattle.pact_record.specs.declared.values.Value.{Value}
-use Rattle.flow_instance.proofs.Kept.{wide_permuted}
+use Rattle.flow_instance.proofs.KeptRecords.{wide_permuted}
 
 pub group_wide : (fields : ℕ) (keys : List ℕ) (rows group : Bag) (k : List Value) → AreWide fields rows → IsPermutation (group_of_key keys rows k) group → AreWide fields group
 group_wide fields keys rows group k wide p =

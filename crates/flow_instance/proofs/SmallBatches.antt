@@ -11,7 +11,7 @@ use Rattle.flow_instance.specs.States.{HasBegun, HasEnded, part_of, seen}
 use Rattle.flow_instance.specs.Steps.{HasMarked}
 use Rattle.flow_instance.specs.declared.parcels.Parcel.{Parcel}
 use Rattle.flow_instance.specs.declared.states.State.{State}
-use Rattle.flow_instance.proofs.Sent.{none_few}
+use Rattle.flow_instance.proofs.NotesForReceivers.{none_few}
 
 -- ---- end marks
 

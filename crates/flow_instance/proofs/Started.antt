@@ -11,10 +11,10 @@ use Rattle.flow_model.specs.Local.{Calls, Gave, IsGiven, IsPartOf, KeepsRows, Pl
 use Rattle.flow_model.specs.Spots.{Port as PortData, Spot, is_edge, ports_of, setting, spot}
 use Rattle.flow_model.specs.Steps.{Carry, Mark, Started}
 use Rattle.pact_operators.specs.Allowed.{Bag, count_of}
-use Rattle.pact_operators.specs.PlanOps.{PlanOps, body_at, is_source_kind, kind_at, kind_in, left_keys_in, plan_ops, right_keys_in}
-use Rattle.pact_operators.specs.Programs.{HasArity, HasKeyLists, IsKindFor, ProgramData, takes}
+use Rattle.pact_operators.specs.PlanOps.{PlanOps, body_at, is_source_kind, kind_at, left_keys_in, plan_ops, right_keys_in}
+use Rattle.pact_operators.specs.Programs.{HasArity, HasKeyLists, IsKindFor, ProgramData, takes, is_pair_kind}
 use Rattle.pact_operators.specs.declared.operators.Op.{Op}
-use Rattle.pact_operators.proofs.SourceRows.{takes_none}
+use Rattle.pact_operators.proofs.SourceKinds.{takes_at}
 use Rattle.pact_record.specs.Widths.{AreBelow, AreWide}
 use Rattle.plan_trees.proofs.SubtreesOfPlans.{root_of-subtree}
 use Rattle.plan_trees.specs.Physicals.{PhysicalData, ship_at}
@@ -27,12 +27,12 @@ use Rattle.tac_syntax.specs.Valid.{WithFields}
 use Rattle.tac_syntax.specs.declared.declarations.OpKind.{OpKind}
 use Rattle.tac_syntax.specs.declared.declarations.OpKind.TheVariants.{Source, Map, Reduce, Match, Cross, CoGroup}
 use Rattle.flow_instance.specs.Starting.{IsCalledAt, IsPartAt, IsShareOf}
-use Rattle.flow_instance.specs.States.{AreOrderly, HasBegun, IsFresh, IsOperator, IsSound, IsWhole, body_in, is_pairing, part_of, port_of, seen, spot_of}
+use Rattle.flow_instance.specs.States.{AreOrderly, HasBegun, IsFresh, IsOperator, IsSound, IsWhole, body_in, part_of, port_of, seen, spot_of}
 use Rattle.flow_instance.specs.Sending.{batches_in, marks_in}
 use Rattle.flow_instance.specs.declared.parts.Part.{Part}
 use Rattle.flow_instance.specs.declared.states.State.{State}
 use Rattle.flow_instance.proofs.PartsOfPlans.{arity_at}
-use Rattle.flow_instance.proofs.Sound.{at_root, count_twice}
+use Rattle.flow_instance.proofs.SoundInstances.{at_root, count_twice}
 use Rattle.flow_instance.proofs.Spotted.{same_spot}
 use Rattle.flow_instance.proofs.TakenNotes.{each_wide}
 
@@ -86,9 +86,9 @@ module _ (p : ProgramData) (physical : PhysicalData) (at worker batch : ℕ) (pa
 -- ---- the kind and the ports
 
 arity_of : (ops : List Op) (physical : PhysicalData) (u : PlanTree) → HasArity ops u → takes (kind_at ops (root_of u)) ≡ length (ports_of physical u)
-arity_of ops physical (leaf n) h = ap (λ (o : Option Op). takes (kind_in o)) h.1 ∙ h.2
-arity_of ops physical (over n t) h = ap (λ (o : Option Op). takes (kind_in o)) h.0.1 ∙ h.0.2
-arity_of ops physical (both n t u) h = ap (λ (o : Option Op). takes (kind_in o)) h.0.1 ∙ h.0.2
+arity_of ops physical (leaf n) h = takes_at ops n 0 h
+arity_of ops physical (over n t) h = takes_at ops n 1 h.0
+arity_of ops physical (both n t u) h = takes_at ops n 2 h.0
 
 no_third : (physical : PhysicalData) (u : PlanTree) (port : ℕ) → slice_get (ports_of physical u) (suc (suc port)) ≡ None
 no_third physical (leaf n) port = refl
@@ -105,20 +105,12 @@ own_pipe Broadcast worker = refl
 gives_by : (s : Spot) (kind : OpKind) (ports : List PortData) (worker : ℕ) (all : Bool) (out : Bag) → takes kind ≡ length ports → (kind ≡ Source → out ≡ share_from 0 s.workers worker (s.ops.rows s.at)) → (is_source_kind kind ≡ false → out ≡ [])
     → (is_source_kind kind ≡ false → all ≡ false) → Gave (works_at_once kind || all) (IsGiven s kind ports worker (λ port. [])) out
 gives_by s Source [] worker all out a share none some = record { left = []; right = []; out = out; of_left = IsPermutation-refl []; of_right = IsPermutation-refl []; may = share refl; permuted = IsPermutation-refl out }
-gives_by s Source (p ∷ ports) worker all out a share none some = absurd (omega (arith, a))
-gives_by s Map [] worker all out a share none some = absurd (omega (arith, a))
 gives_by s Map (p ∷ []) worker all out a share none some = record { left = []; right = []; out = []; of_left = IsPermutation-refl []; of_right = IsPermutation-refl []; may = refl; permuted = is_same (sym (none refl)) }
-gives_by s Map (p ∷ q ∷ ports) worker all out a share none some = absurd (omega (arith, a))
 gives_by s Reduce ports worker all out a share none some = subst (λ (b : Bool). Gave b (IsGiven s Reduce ports worker (λ port. [])) out) (sym (some refl)) (none refl)
-gives_by s Match [] worker all out a share none some = absurd (omega (arith, a))
-gives_by s Match (p ∷ []) worker all out a share none some = absurd (omega (arith, a))
 gives_by s Match (p ∷ q ∷ []) worker all out a share none some = record { left = []; right = []; out = []; of_left = IsPermutation-refl []; of_right = IsPermutation-refl []; may = refl; permuted = is_same (sym (none refl)) }
-gives_by s Match (p ∷ q ∷ r ∷ ports) worker all out a share none some = absurd (omega (arith, a))
-gives_by s Cross [] worker all out a share none some = absurd (omega (arith, a))
-gives_by s Cross (p ∷ []) worker all out a share none some = absurd (omega (arith, a))
 gives_by s Cross (p ∷ q ∷ []) worker all out a share none some = record { left = []; right = []; out = []; of_left = IsPermutation-refl []; of_right = IsPermutation-refl []; may = refl; permuted = is_same (sym (none refl)) }
-gives_by s Cross (p ∷ q ∷ r ∷ ports) worker all out a share none some = absurd (omega (arith, a))
 gives_by s CoGroup ports worker all out a share none some = subst (λ (b : Bool). Gave b (IsGiven s CoGroup ports worker (λ port. [])) out) (sym (some refl)) (none refl)
+gives_by s kind ports worker all out a share none some = absurd (omega (arith, a))
 
 none_kept : (kind : OpKind) (kept : ℕ → Bag) → kept 0 ≡ [] → kept 1 ≡ [] → KeepsRows kind (λ port. []) kept
 none_kept Source kept e f = tt
@@ -128,17 +120,6 @@ none_kept Match kept e f = is_same (sym e)
 none_kept Cross kept e f = is_same (sym e)
 none_kept CoGroup kept e f = (is_same (sym e), is_same (sym f))
 
-no_source : (kind : OpKind) → takes kind ≡ 0 → is_source_kind kind ≡ false → ⊥
-no_source kind t e = let clash : true ≡ false = ap is_source_kind (sym (takes_none kind t)) ∙ e in cc
-
-is_no_source : (kind : OpKind) → (kind ≡ Source → ⊥) → is_source_kind kind ≡ false
-is_no_source Source h = absurd (h refl)
-is_no_source Map h = refl
-is_no_source Reduce h = refl
-is_no_source Match h = refl
-is_no_source Cross h = refl
-is_no_source CoGroup h = refl
-
 -- a port that there is waits for the worker's own sender
 first_port : (ports : List PortData) (worker : ℕ) → 0 < length ports → is_edge (slice_get ports 0) worker worker ≡ true
 first_port [] worker h = absurd (omega (arith, h))
@@ -146,11 +127,7 @@ first_port (p ∷ ports) worker h = own_pipe p.ship worker
 
 some_port : (kind : OpKind) (n : ℕ) → takes kind ≡ n → is_source_kind kind ≡ false → 0 < n
 some_port Source n t e = absurd (cc)
-some_port Map n t e = omega (arith, t)
-some_port Reduce n t e = omega (arith, t)
-some_port Match n t e = omega (arith, t)
-some_port Cross n t e = omega (arith, t)
-some_port CoGroup n t e = omega (arith, t)
+some_port kind n t e = omega (arith, t)
 
 -- ---- an instance at its start
 
@@ -205,7 +182,7 @@ module _ {L : Type 0} (rows : L → Bag) (keys : L → List ℕ) (is_sealed : L 
         right_wide = subst (AreWide s.part.fields) (sym f.right_none) tt;
         left_keys = f.left_keys ∙ ap (λ (q : Part). q.left_keys) (sym f.part);
         right_keys = f.right_keys ∙ ap (λ (q : Part). q.right_keys) (sym f.part);
-        left_sealed = f.left_sealed ∙ sym (and_right (is_pairing s.part.kind) (port_ended (seen rows s) 0) (first_waits operator));
+        left_sealed = f.left_sealed ∙ sym (and_right (is_pair_kind s.part.kind) (port_ended (seen rows s) 0) (first_waits operator));
         right_sealed = f.right_sealed;
         placed_wide = b.wide;
         placed_at_root = at_root s.part.out out t.placed b.places;

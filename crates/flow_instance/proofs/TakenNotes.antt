@@ -15,7 +15,7 @@ use Rattle.flow_model.specs.declared.notes.Note.{Note}
 use Rattle.flow_model.specs.declared.notes.Note.TheVariants.{Batch}
 use Rattle.pact_operators.specs.Allowed.{Bag, count_of, crossed, matched}
 use Rattle.pact_operators.specs.PlanOps.{PlanOps}
-use Rattle.pact_operators.specs.Programs.{HasKeyLists}
+use Rattle.pact_operators.specs.Programs.{HasKeyLists, is_pair_kind}
 use Rattle.pact_record.proofs.Permutations.{filter_perm, from_permutation, to_permutation}
 use Rattle.pact_record.specs.Widths.{AreWide}
 use Rattle.pact_record.specs.declared.values.Value.{Value}
@@ -27,7 +27,7 @@ use Rattle.tac_syntax.specs.Call.{Out, of_pair, of_record}
 use Rattle.tac_syntax.specs.Valid.{WithFields}
 use Rattle.tac_syntax.specs.declared.declarations.OpKind.{OpKind}
 use Rattle.flow_instance.specs.Sending.{batch_parcel, batches_in, marks_in}
-use Rattle.flow_instance.specs.States.{AreOpsOf, ArePairsGiven, IsSound, IsOperator, IsReady, PlacesAtRoot, body_in, is_cross, is_map, is_pairing, part_of, seen, spot_of}
+use Rattle.flow_instance.specs.States.{AreOpsOf, ArePairsGiven, IsSound, IsOperator, IsReady, PlacesAtRoot, body_in, is_cross, is_map, part_of, seen, spot_of}
 use Rattle.flow_instance.specs.Steps.{HasGiven}
 use Rattle.flow_instance.specs.declared.parts.Part.{Part}
 use Rattle.flow_instance.specs.declared.states.State.{State}
@@ -90,27 +90,20 @@ pub its_fields : (p : Part) (f : WithFields) → IsOperator p → p.called ≡ S
 its_fields p f h e = ap (λ (g : WithFields). g.fields) (sym (its_function p f h e)) ∙ h.fields
 
 kind_of_map : (kind : OpKind) → is_map kind ≡ true → kind ≡ Map
-kind_of_map Source e = absurd (cc)
 kind_of_map Map e = refl
-kind_of_map Reduce e = absurd (cc)
-kind_of_map Match e = absurd (cc)
-kind_of_map Cross e = absurd (cc)
-kind_of_map CoGroup e = absurd (cc)
+kind_of_map kind e = absurd (cc)
 
 pub calls_of_map : (p : Part) (ops : PlanOps) (f : WithFields) → is_map p.kind ≡ true → IsOperator p → p.called ≡ Some f → AreOpsOf ops (part_of p) → (row : List Value) → ops.of_record p.at row ≡ Out f.fields f.function.body (of_record row)
 calls_of_map p ops f k h e a row =
     let calls = subst (λ (kind : OpKind). Calls (spot_of (part_of p) ops) kind p.fields (body_in p.called)) (kind_of_map p.kind k) a.calls in
     calls row ∙ (λ i. Out (sym (its_fields p f h e) i) (body_in (e i)) (of_record row))
 
-pub calls_of_pair : (p : Part) (ops : PlanOps) (f : WithFields) → is_pairing p.kind ≡ true → IsOperator p → p.called ≡ Some f → AreOpsOf ops (part_of p) → (l r : List Value) → ops.of_pair p.at l r ≡ Out f.fields f.function.body (of_pair l r)
+pub calls_of_pair : (p : Part) (ops : PlanOps) (f : WithFields) → is_pair_kind p.kind ≡ true → IsOperator p → p.called ≡ Some f → AreOpsOf ops (part_of p) → (l r : List Value) → ops.of_pair p.at l r ≡ Out f.fields f.function.body (of_pair l r)
 calls_of_pair p ops f k h e a l r = by p.kind k a.calls ∙ (λ i. Out (sym (its_fields p f h e) i) (body_in (e i)) (of_pair l r)) where
-  by : (kind : OpKind) → is_pairing kind ≡ true → Calls (spot_of (part_of p) ops) kind p.fields (body_in p.called) → ops.of_pair p.at l r ≡ Out p.fields (body_in p.called) (of_pair l r)
-  by Source k c = absurd (cc)
-  by Map k c = absurd (cc)
-  by Reduce k c = absurd (cc)
+  by : (kind : OpKind) → is_pair_kind kind ≡ true → Calls (spot_of (part_of p) ops) kind p.fields (body_in p.called) → ops.of_pair p.at l r ≡ Out p.fields (body_in p.called) (of_pair l r)
   by Match k c = c l r
   by Cross k c = c l r
-  by CoGroup k c = absurd (cc)
+  by kind k c = absurd (cc)
 
 -- ---- batches
 
@@ -168,20 +161,13 @@ module _ {L : Type 0} (rows : L → Bag) (keys : L → List ℕ) (is_sealed : L 
 -- ---- a Map
 
 gives_map : (p : Part) (ops : PlanOps) (kept : Bag) (kind : OpKind) (batch out : Bag) → is_map kind ≡ true → out ≡ flat_map (ops.of_record p.at) batch → GivesAtOnce (spot_of (part_of p) ops) kind 0 kept (Batch batch) out
-gives_map p ops kept Source batch out k e = absurd (cc)
 gives_map p ops kept Map batch out k e = e
-gives_map p ops kept Reduce batch out k e = absurd (cc)
-gives_map p ops kept Match batch out k e = absurd (cc)
-gives_map p ops kept Cross batch out k e = absurd (cc)
-gives_map p ops kept CoGroup batch out k e = absurd (cc)
+gives_map p ops kept kind batch out k e = absurd (cc)
 
 map_keeps : (kind : OpKind) (taken kept : ℕ → Bag) → is_map kind ≡ true → KeepsRows kind taken kept
 map_keeps Source taken kept k = tt
 map_keeps Map taken kept k = tt
-map_keeps Reduce taken kept k = absurd (cc)
-map_keeps Match taken kept k = absurd (cc)
-map_keeps Cross taken kept k = absurd (cc)
-map_keeps CoGroup taken kept k = absurd (cc)
+map_keeps kind taken kept k = absurd (cc)
 
 map_at_once : (kind : OpKind) → is_map kind ≡ true → works_at_once kind ≡ true
 map_at_once Source k = refl
@@ -204,16 +190,13 @@ took_map rows keys is_sealed s t f batch out ready k e o frame counted given fro
 key_none : (kind : OpKind) (keys : ℕ) (left right : List ℕ) → kind ≡ Cross → HasKeyLists kind keys left right → (left ≡ []) × (right ≡ [])
 key_none kind keys left right e h = subst (λ (k : OpKind). HasKeyLists k keys left right) e h
 
-gives_pair : (p : Part) (ops : PlanOps) (kept : Bag) (kind : OpKind) (keys : ℕ) (batch out : Bag) → is_pairing kind ≡ true → HasKeyLists kind keys p.left_keys p.right_keys → ops.left_keys p.at ≡ p.left_keys → ops.right_keys p.at ≡ p.right_keys
+gives_pair : (p : Part) (ops : PlanOps) (kept : Bag) (kind : OpKind) (keys : ℕ) (batch out : Bag) → is_pair_kind kind ≡ true → HasKeyLists kind keys p.left_keys p.right_keys → ops.left_keys p.at ≡ p.left_keys → ops.right_keys p.at ≡ p.right_keys
     → out ≡ crossed (matched (ops.of_pair p.at) p.left_keys p.right_keys) kept batch → GivesAtOnce (spot_of (part_of p) ops) kind 1 kept (Batch batch) out
-gives_pair p ops kept Source keys batch out k h l r e = absurd (cc)
-gives_pair p ops kept Map keys batch out k h l r e = absurd (cc)
-gives_pair p ops kept Reduce keys batch out k h l r e = absurd (cc)
 gives_pair p ops kept Match keys batch out k h l r e = e ∙ (λ i. crossed (matched (ops.of_pair p.at) (sym l i) (sym r i)) kept batch)
 gives_pair p ops kept Cross keys batch out k h l r e = e ∙ (λ i. crossed (matched (ops.of_pair p.at) (h.0 i) (h.1 i)) kept batch)
-gives_pair p ops kept CoGroup keys batch out k h l r e = absurd (cc)
+gives_pair p ops kept kind keys batch out k h l r e = absurd (cc)
 
-pair_keeps : (kind : OpKind) (i : Instance) (batch : Bag) → is_pairing kind ≡ true → KeepsRows kind (kept_with (kept_at i) 1 (Batch batch)) (kept_at i)
+pair_keeps : (kind : OpKind) (i : Instance) (batch : Bag) → is_pair_kind kind ≡ true → KeepsRows kind (kept_with (kept_at i) 1 (Batch batch)) (kept_at i)
 pair_keeps Source i batch k = tt
 pair_keeps Map i batch k = tt
 pair_keeps Reduce i batch k = absurd (cc)
@@ -221,7 +204,7 @@ pair_keeps Match i batch k = is_same (append-nil i.left_kept)
 pair_keeps Cross i batch k = is_same (append-nil i.left_kept)
 pair_keeps CoGroup i batch k = absurd (cc)
 
-pair_at_once : (kind : OpKind) → is_pairing kind ≡ true → works_at_once kind ≡ true
+pair_at_once : (kind : OpKind) → is_pair_kind kind ≡ true → works_at_once kind ≡ true
 pair_at_once Source k = refl
 pair_at_once Map k = refl
 pair_at_once Reduce k = absurd (cc)
@@ -229,7 +212,7 @@ pair_at_once Match k = refl
 pair_at_once Cross k = refl
 pair_at_once CoGroup k = absurd (cc)
 
-pub took_pair : {L : Type 0} (rows : L → Bag) (keys : L → List ℕ) (is_sealed : L → Bool) (s t : State L) (batch real : Bag) → IsReady rows keys is_sealed s 1 → is_pairing s.part.kind ≡ true → ArePairsGiven rows keys s batch real
+pub took_pair : {L : Type 0} (rows : L → Bag) (keys : L → List ℕ) (is_sealed : L → Bool) (s t : State L) (batch real : Bag) → IsReady rows keys is_sealed s 1 → is_pair_kind s.part.kind ≡ true → ArePairsGiven rows keys s batch real
     → t ≡ record s { queue = t.queue; placed = t.placed; given = t.given } → t.given ≡ count_of (s.given + length real) → HasGiven (part_of s.part) real s.placed t.placed t.queue.items → (from : ℕ) (ops : PlanOps) → AreOpsOf ops (part_of s.part)
     → Took (spot_of (part_of s.part) ops) s.part.worker (seen rows s) 1 from (Batch batch) (seen rows t)
 took_pair rows keys is_sealed s t batch real ready k pairs frame counted given from ops a =
@@ -242,12 +225,8 @@ took_pair rows keys is_sealed s t batch real ready k pairs frame counted given f
     (gives_pair s.part ops (rows s.left) s.part.kind ready.sound.operator.function.function.keys batch out k ready.sound.operator.keys (sym a.left_keys) (sym a.right_keys) own) (pairs f e) (pair_keeps s.part.kind (seen rows s) batch k) frame counted given
 
 kind_of_cross : (kind : OpKind) → is_cross kind ≡ true → kind ≡ Cross
-kind_of_cross Source e = absurd (cc)
-kind_of_cross Map e = absurd (cc)
-kind_of_cross Reduce e = absurd (cc)
-kind_of_cross Match e = absurd (cc)
 kind_of_cross Cross e = refl
-kind_of_cross CoGroup e = absurd (cc)
+kind_of_cross kind e = absurd (cc)
 
 -- a Cross has no keys
 pub no_keys : {L : Type 0} (rows : L → Bag) (keys : L → List ℕ) (is_sealed : L → Bool) (s : State L) → IsSound rows keys is_sealed s → is_cross s.part.kind ≡ true → (keys s.left ≡ []) × (s.part.right_keys ≡ [])

@@ -7,14 +7,14 @@ use Rattle.flow_model.specs.Steps.{Carry, Mark, Took}
 use Rattle.flow_model.specs.declared.notes.Note.{Note}
 use Rattle.pact_operators.specs.Allowed.{Bag, count_of, crossed, matched}
 use Rattle.pact_operators.specs.PlanOps.{PlanOps}
-use Rattle.pact_operators.specs.Programs.{HasKeyLists, IsKindFor, takes}
+use Rattle.pact_operators.specs.Programs.{HasKeyLists, IsKindFor, is_pair_kind, takes}
 use Rattle.pact_record.specs.Widths.{AreBelow, AreWide}
 use Rattle.plan_trees.specs.declared.physicals.Ship.{Ship}
 use Rattle.tac_syntax.specs.Call.{Out, of_pair}
 use Rattle.tac_syntax.specs.Code.{Code, stop}
 use Rattle.tac_syntax.specs.Valid.{WithFields}
 use Rattle.tac_syntax.specs.declared.declarations.OpKind.{OpKind}
-use Rattle.tac_syntax.specs.declared.declarations.OpKind.TheVariants.{Map, Reduce, Match, Cross}
+use Rattle.tac_syntax.specs.declared.declarations.OpKind.TheVariants.{Map, Reduce, Cross}
 use Rattle.std.specs.List.{AllByRecursion}
 use Rattle.std.specs.VecDeque.{deque_capacity, deque_len}
 use Rattle.std.specs.List.Sorted.{IsPermutation}
@@ -158,12 +158,6 @@ abbrev pub is_map : OpKind → Bool
 is_map Map = true
 is_map kind = false
 
--- a Match or a Cross
-abbrev pub is_pairing : OpKind → Bool
-is_pairing Match = true
-is_pairing Cross = true
-is_pairing kind = false
-
 abbrev pub is_cross : OpKind → Bool
 is_cross Cross = true
 is_cross kind = false
@@ -174,7 +168,7 @@ is_reduce kind = false
 
 -- what is kept of port 0 is sealed once port 0 has ended, where each row of port 1 asks for it
 abbrev pub is_built : OpKind → (left_ended : Bool) → Bool
-is_built kind left_ended = is_pairing kind && left_ended
+is_built kind left_ended = is_pair_kind kind && left_ended
 
 -- what isn't the root places nothing
 abbrev pub PlacesAtRoot : Option Ship → Bag → Type 0

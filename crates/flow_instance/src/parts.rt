@@ -2,7 +2,8 @@
 
 ghost use Rattle.std.specs.Prelude.{◌≡◌, Some, IsSome};
 ghost use Rattle.flow_model.specs.Local.{works_at_once};
-ghost use Rattle.flow_instance.specs.States.{is_cross, is_map, is_pairing, is_reduce};
+ghost use Rattle.pact_operators.specs.Programs.{is_pair_kind};
+ghost use Rattle.flow_instance.specs.States.{is_cross, is_map, is_reduce};
 
 use pact_record::Keys;
 use plan_trees::Ship;
@@ -52,7 +53,7 @@ impl Part {
     }
 
     pub(crate) fn pairs(&self) -> bool
-        ensures { result ≡ is_pairing self.now.kind }
+        ensures { result ≡ is_pair_kind self.now.kind }
     {
         matches!(self.kind, OpKind::Match | OpKind::Cross)
     }

@@ -5,7 +5,8 @@ ghost use Rattle.flow_model.specs.Instances.{all_ended};
 ghost use Rattle.flow_model.specs.declared.notes.Note.TheVariants.{Batch};
 ghost use Rattle.pact_record.specs.Widths.{AreWide};
 ghost use Rattle.flow_instance.specs.Sending.{AreFew};
-ghost use Rattle.flow_instance.specs.States.{AreOrderly, ArePairsGiven, HasFlags, HasTaken, IsReady, IsSound, is_map, is_pairing};
+ghost use Rattle.pact_operators.specs.Programs.{is_pair_kind};
+ghost use Rattle.flow_instance.specs.States.{AreOrderly, ArePairsGiven, HasFlags, HasTaken, IsReady, IsSound, is_map};
 
 use crate::keeping::keep;
 use crate::matching::{cross_kept, match_kept};
@@ -34,7 +35,7 @@ impl<L: Local> State<L> {
     // What a Match or a Cross gives for right records.
     fn pairs(&self, rows: &Rows) -> Result<Rows, OutOfMemory>
         requires ready { IsReady L.rows L.key_fields L.is_sealed self.now 1 }
-        requires kind { is_pairing self.now.part.kind ≡ true }
+        requires kind { is_pair_kind self.now.part.kind ≡ true }
         requires wide { AreWide self.now.part.fields rows.now }
         ensures given { IfOk result (ArePairsGiven L.rows L.key_fields self.now rows.now) }
         ensures widths { IfOk result (AreWide self.now.part.fields) }
@@ -55,7 +56,7 @@ impl<L: Local> State<L> {
     // They are given at once.
     fn match_batch(&mut self, rows: &Rows) -> Result<(), OutOfMemory>
         requires ready { IsReady L.rows L.key_fields L.is_sealed self.old 1 }
-        requires kind { is_pairing self.old.part.kind ≡ true }
+        requires kind { is_pair_kind self.old.part.kind ≡ true }
         requires wide { AreWide self.old.part.fields rows.now }
         ensures took { OnOk result ((from : ℕ) → HasTaken L.rows self.old 1 from (Batch rows.now) self.new) }
         ensures sound { OnOk result (IsSound L.rows L.key_fields L.is_sealed self.new) }
@@ -82,7 +83,7 @@ impl<L: Local> State<L> {
 
     fn keep_right(&mut self, rows: Rows) -> Result<(), OutOfMemory>
         requires ready { IsReady L.rows L.key_fields L.is_sealed self.old 1 }
-        requires kind { is_pairing self.old.part.kind ≡ false }
+        requires kind { is_pair_kind self.old.part.kind ≡ false }
         requires wide { AreWide self.old.part.fields rows }
         ensures took { OnOk result ((from : ℕ) → HasTaken L.rows self.old 1 from (Batch rows) self.new) }
         ensures sound { OnOk result (IsSound L.rows L.key_fields L.is_sealed self.new) }

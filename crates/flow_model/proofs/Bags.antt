@@ -10,6 +10,7 @@ use Rattle.pact_record.specs.declared.values.Value.{Value}
 use Rattle.flow_model.specs.declared.notes.Note.{Note}
 use Rattle.flow_model.specs.declared.notes.Note.TheVariants.{Batch, End}
 use Rattle.plan_trees.specs.Sending.{all_of}
+use Rattle.plan_trees.proofs.EachWorker.{same_each}
 use Rattle.flow_model.specs.Notes.{AreNotes, IsNote, has_end, rows_of}
 use Rattle.flow_model.specs.Steps.{is_end, note_rows}
 use Rattle.pact_record.proofs.Permutations.{from_permutation, to_permutation, flat_map_perm}
@@ -63,10 +64,6 @@ are_notes-last fields (End ∷ xs) note h e n = absurd (cc)
 
 -- ---- the records of all senders
 
-pub all_of-same : (n : ℕ) (f h : ℕ → Bag) → ((k : ℕ) → k < n → h k ≡ f k) → all_of n h ≡ all_of n f
-all_of-same zero f h e = refl
-all_of-same (suc n) f h e = λ i. e n (omega arith) i ++ all_of-same n f h (λ k less. e k (omega arith)) i
-
 pub all_of-grown : (n k : ℕ) (f h : ℕ → Bag) (rows : Bag) → k < n → h k ≡ f k ++ rows → ((j : ℕ) → j ≢ k → h j ≡ f j) → IsPermutation (all_of n f ++ rows) (all_of n h)
 all_of-grown zero k f h rows less here there = absurd (omega arith)
 all_of-grown (suc n) k f h rows less here there = elim (cases_eq n k) as (λ _. IsPermutation ((f n ++ all_of n f) ++ rows) (h n ++ all_of n h)) [
@@ -75,7 +72,7 @@ all_of-grown (suc n) k f h rows less here there = elim (cases_eq n k) as (λ _. 
       joined (is_same (append_assoc (f n) (all_of n f) rows))
       (joined (beside (IsPermutation-refl (f n)) (IsPermutation-append_comm (all_of n f) rows))
       (joined (is_same (sym (append_assoc (f n) rows (all_of n f))))
-      (is_same (λ i. sym last i ++ sym (all_of-same n f h (λ j below. there j (λ q. omega arith))) i))))
+      (is_same (λ i. sym last i ++ same_each f h n (λ j below. sym (there j (λ q. omega arith))) i))))
   | inr other ↦
       joined (is_same (append_assoc (f n) (all_of n f) rows))
       (beside (is_same (sym (there n other))) (all_of-grown n k f h rows (omega arith) here there))

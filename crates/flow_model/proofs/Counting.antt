@@ -1,7 +1,7 @@
 -- Each event is counted once.
 use Rattle.std.proofs.Common.{◌≡◌, ◌≢◌, ◌<◌, inl, inr, ◌&&◌, ◌||◌, ◌+◌, ◌==◌, ℕ, zero, suc, Bool, true, false, Option, Some, None, List, [], ◌∷◌, ◌++◌, length, refl, ap, sym, ◌∙◌, subst, arith, length-append}
 use Rattle.std.specs.Prelude.{nat_lt}
-use Rattle.std.proofs.lemmas.Bool.{and_parts, cases_eq, eqb-true, ltb-true, or_cases}
+use Rattle.std.proofs.lemmas.Bool.{and_parts, cases_eq, eqb-true, ltb-true, or_cases, false_from_ne_true}
 use Rattle.pact_operators.specs.Allowed.{Bag}
 use Rattle.plan_trees.specs.Distinct.{AreDifferent}
 use Rattle.plan_trees.specs.Plans.{PlanTree, leaf, over, both, has, nodes}
@@ -124,10 +124,6 @@ done_same g w v at k n old new others =
       ]
     ]))
 
-not_true : (b : Bool) → (b ≡ true → ⊥) → b ≡ false
-not_true true h = absurd (h refl)
-not_true false h = refl
-
 -- ---- events
 
 count_put : (g : Setting) (w v : World) (h : History) (p : PipeId) → AreDifferent (nodes g.physical.tree) → has p.edge g.physical.tree ≡ true → p.from < g.physical.workers → p.to < g.physical.workers
@@ -179,7 +175,7 @@ take_counted g w v h p (Some x) d st r from to can step =
     let l = st.instances x.0 p.to f.has_reader to in
     let t = taking_by i.waiting i.marks (port_ended i 0) (port_ended i 1) i.finished x.1 (wants_take (want i) x.1 parts.0) in
     count_take g w v h p x.0 x.1 d f.has_edge from to
-    (not_true i.finished (λ e. let clash : true ≡ false = sym (l.finished e).2 ∙ not_all i.waiting i.marks (port_ended i 0) (port_ended i 1) x.1 t in cc)) step
+    (false_from_ne_true i.finished (λ e. let clash : true ≡ false = sym (l.finished e).2 ∙ not_all i.waiting i.marks (port_ended i 0) (port_ended i 1) x.1 t in cc)) step
 
 -- an enabled event adds one
 pub step_counted : (g : Setting) (depth : ℕ) (w v : World) (h : History) (e : Event) → AreDifferent (nodes g.physical.tree) → Stands g w h → enabled g.physical depth w e ≡ true → Steps g w e v
@@ -194,7 +190,7 @@ step_counted g depth w v h (events.Put p) d st e step =
     let wanted = wants_put (want i) p.to can.0 in
     let putting = putting_by i.waiting i.marks (port_ended i 0) (port_ended i 1) i.finished p.to wanted in
     count_put g w v h p d place.0 from_below (receiver_below g w h p st place.0 from_below wanted)
-    (not_true i.finished (λ f. not_finished i.waiting i.marks p.to putting (l.finished f).0 (l.finished f).1)) step
+    (false_from_ne_true i.finished (λ f. not_finished i.waiting i.marks p.to putting (l.finished f).0 (l.finished f).1)) step
 step_counted g depth w v h (events.Take p) d st e step =
     let parts = and_parts (nat_lt p.from g.physical.workers && nat_lt p.to g.physical.workers) _ e in
     let below = and_parts (nat_lt p.from g.physical.workers) (nat_lt p.to g.physical.workers) parts.0 in

@@ -1,7 +1,6 @@
 -- What a finished run gives is divided among its instances.
 use Rattle.std.proofs.Common.{◌≡◌, ◌<◌, ◌+◌, ◌||◌, inl, inr, ℕ, zero, suc, Bool, true, false, Option, Some, None, List, [], ◌++◌, fold, length, map, slice_get, sum, refl, ap, sym, ◌∙◌, subst, append-nil, arith}
-use Rattle.std.proofs.lemmas.Bool.{and_from, and_parts, and_right, cases_Bool, cases_lt, or_right}
-use Rattle.std.proofs.lemmas.List.Sorted.{IsPermutation-refl}
+use Rattle.std.proofs.lemmas.Bool.{and_from, and_parts, and_right, cases_Bool, cases_lt, or_right, eq-eqb}
 use Rattle.std.specs.List.Sorted.{IsPermutation}
 use Rattle.tac_syntax.specs.declared.declarations.OpKind.TheVariants.{Source}
 use Rattle.plan_trees.specs.declared.physicals.Ship.{Ship}
@@ -9,12 +8,14 @@ use Rattle.plan_trees.specs.Distinct.{AreDifferent}
 use Rattle.plan_trees.specs.Physicals.{IsPhysical, PhysicalData, has_edge, ship_at, ship_of}
 use Rattle.plan_trees.specs.Plans.{PlanTree, leaf, over, both, has, nodes, root_of, subtree_of}
 use Rattle.plan_trees.specs.Sending.{all_of, workers_below}
-use Rattle.plan_trees.proofs.SubtreesOfPlans.{has-root, root_of-subtree, same_number, subtree_of-root}
+use Rattle.pact_record.proofs.Permutations.{from_permutation, to_permutation}
+use Rattle.plan_trees.proofs.EachWorker.{perm_each}
+use Rattle.plan_trees.proofs.SubtreesOfPlans.{has-root, root_of-subtree, subtree_of-root}
 use Rattle.pact_operators.specs.Allowed.{Bag, count_of}
 use Rattle.pact_operators.specs.Divided.{GaveShare, IsDivided, IsReceived, Shares, count_given}
-use Rattle.pact_operators.specs.PlanOps.{PlanOps, kind_in, plan_ops}
+use Rattle.pact_operators.specs.PlanOps.{PlanOps, plan_ops}
 use Rattle.pact_operators.specs.Programs.{HasArity, IsPlanOf, ProgramData}
-use Rattle.pact_operators.proofs.SourceRows.{takes_none}
+use Rattle.pact_operators.proofs.SourceKinds.{is_source}
 use Rattle.flow_model.specs.declared.notes.Note.{Note}
 use Rattle.flow_model.specs.declared.notes.Want.TheVariants.{Done}
 use Rattle.flow_model.specs.Instances.{Instance, all_ended, port_ended, want}
@@ -23,7 +24,7 @@ use Rattle.flow_model.specs.Notes.{rows_of}
 use Rattle.flow_model.specs.Spots.{Setting, Spot, ports_of, sent, setting, spot}
 use Rattle.flow_model.specs.Spread.{Spread, given_in, sum_below}
 use Rattle.flow_model.specs.Worlds.{lists_at}
-use Rattle.flow_model.proofs.Bags.{beside, is_same, joined, turned}
+use Rattle.flow_model.proofs.Bags.{is_same, joined, turned}
 use Rattle.flow_model.proofs.Marks.{finished_by}
 use Rattle.plan_trees.proofs.EverySubtree.{AllBelow, all_below-at, all_below-root}
 use Rattle.flow_model.proofs.Trees.{HasEdge, Inside, edges, inside_of}
@@ -41,8 +42,7 @@ same_counts n f h e = omega (arith, counted_from 0 n f h e)
 -- ---- the bags of all workers
 
 moved_each : (f h : ℕ → Bag) (n : ℕ) → ((k : ℕ) → k < n → IsPermutation (f k) (h k)) → IsPermutation (all_of n f) (all_of n h)
-moved_each f h zero e = IsPermutation-refl []
-moved_each f h (suc n) e = beside (e n (omega arith)) (moved_each f h n (λ k less. e k (omega arith)))
+moved_each f h n e = to_permutation (perm_each f h n (λ k below. from_permutation (f k) (h k) (e k below)))
 
 -- ---- the inputs of each subtree
 
@@ -154,7 +154,7 @@ module _ (g : Setting) (rows : Bag) (counts : List ℕ) (run : Spread g rows cou
   placed_at_root : (worker : ℕ) → worker < g.physical.workers → IsPermutation (gave (root_of g.physical.tree) worker) (run.world.instance (root_of g.physical.tree) worker).placed
   placed_at_root worker below =
       let tree = g.physical.tree in
-      let none : has_edge (root_of tree) tree ≡ false = rw (same_number (root_of tree)) (and_right (has (root_of tree) tree) false refl) in
+      let none : has_edge (root_of tree) tree ≡ false = rw (eq-eqb (root_of tree) (root_of tree) refl) (and_right (has (root_of tree) tree) false refl) in
       let out : (spot g (subtree_of (root_of tree) tree)).out ≡ None = ap (λ (t : PlanTree). ship_at g.physical (root_of t)) (subtree_of-root tree) ∙ rw none refl in
       subst (λ (o : Option Ship). Placed o (gave (root_of tree) worker) (run.world.instance (root_of tree) worker).placed) out (told_at (root_of tree) worker (has-root tree) below).placed
 
@@ -178,7 +178,7 @@ module _ (g : Setting) (rows : Bag) (counts : List ℕ) (run : Spread g rows cou
 -- ---- of a program
 
 source_leaves : (p : ProgramData) (inputs : List Bag) (t : PlanTree) → HasArity p.ops t → AllBelow (LeafIsSource (plan_ops p inputs)) t
-source_leaves p inputs (leaf n) h = ap kind_in h.1 ∙ takes_none h.0.kind h.2
+source_leaves p inputs (leaf n) h = is_source p.ops n h
 source_leaves p inputs (over n t) h = (tt, source_leaves p inputs t h.1)
 source_leaves p inputs (both n t u) h = (tt, source_leaves p inputs t h.1, source_leaves p inputs u h.2)
 

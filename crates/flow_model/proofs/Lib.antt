@@ -1,6 +1,6 @@
 pub mod Marks
 pub mod Bags
-pub mod Given
+pub mod GivenForNotes
 pub mod Locals
 pub mod Offers
 pub mod Trees

@@ -1,5 +1,6 @@
 -- An instance stays `IsLocal` when it takes a note.
-use Rattle.std.proofs.Common.{◌≡◌, ◌≢◌, ◌<◌, ◌⊎◌, inl, inr, ◌&&◌, ◌||◌, cond, ◌+◌, ◌==◌, ℕ, zero, suc, Bool, true, false, Option, Some, None, List, [], ◌∷◌, ◌++◌, length, slice_get, refl, ap, sym, ◌∙◌, subst, arith, append-nil, length-append}
+use Rattle.std.proofs.Common.{◌≡◌, ◌≢◌, ◌<◌, ◌⊎◌, inl, inr, ◌&&◌, ◌||◌, cond, ◌+◌, ◌==◌, ℕ, Bool, true, false, Option, Some, None, List, [], ◌∷◌, ◌++◌, length, slice_get, refl, ap, sym, ◌∙◌, subst, arith, append-nil, length-append}
+use Rattle.std.proofs.Math.Bool.{or_comm}
 use Rattle.std.specs.List.Sorted.{IsPermutation}
 use Rattle.std.proofs.Math.Nat.{zero-add}
 use Rattle.std.proofs.lemmas.Bool.{cases_eq, eq-eqb, ne_eqb, and_left, and_right, or_right}
@@ -11,13 +12,14 @@ use Rattle.flow_model.specs.declared.notes.Note.{Note}
 use Rattle.flow_model.specs.declared.notes.Want.TheVariants.{Take}
 use Rattle.flow_model.specs.Instances.{Instance, Part, all_ended, ended_at, kept_at, port_ended, want, want_by}
 use Rattle.flow_model.specs.Local.{IsLocal, IsGiven, IsPartOf, Gave, KeepsRows, Placed, sender_ended, one_if, marks_for, rows_for, taken_rows, works_at_once}
-use Rattle.plan_trees.specs.Sending.{all_of, goes}
+use Rattle.plan_trees.specs.Sending.{goes}
 use Rattle.flow_model.specs.Notes.{AreNotes, IsNote, has_end, rows_of}
 use Rattle.flow_model.specs.Spots.{Spot, Port, has_out, is_edge, sent}
 use Rattle.flow_model.specs.Steps.{Added, Took, GivesNow, is_end, kept_with, note_rows}
 use Rattle.flow_model.proofs.Marks.{all_below_from, all_below_at}
-use Rattle.flow_model.proofs.Bags.{are_notes-last, beside, all_of-grown, all_of-same, has_end-last, is_same, joined, rows_of-last}
-use Rattle.flow_model.proofs.Given.{Grown, given_last, given_more, kept_more}
+use Rattle.plan_trees.proofs.EachWorker.{none_each, same_each}
+use Rattle.flow_model.proofs.Bags.{are_notes-last, beside, all_of-grown, has_end-last, is_same, joined, rows_of-last}
+use Rattle.flow_model.proofs.GivenForNotes.{Grown, given_last, given_more, kept_more}
 
 -- an instance that wants to take
 pub record IsTaking (ws : List (ℕ × Bag)) (ms : List ℕ) (a b : Bool) (port : ℕ) : Type 0 where
@@ -55,7 +57,7 @@ grown_rows s taken new port from note less a p = elim (cases_eq p port) as (λ _
       (ap rows_of here ∙ rows_of-last (taken p from) note) (λ j other. ap rows_of (a.elsewhere p j (inr other))))
   | inr e ↦
       joined (is_same (ap (λ (b : Bool). taken_rows s.workers taken p ++ cond b (note_rows note) []) (ne_eqb p port e) ∙ append-nil (taken_rows s.workers taken p)))
-      (is_same (sym (all_of-same s.workers (λ k. rows_of (taken p k)) (λ k. rows_of (new p k)) (λ j below. ap rows_of (a.elsewhere p j (inl e))))))
+      (is_same (same_each (λ k. rows_of (taken p k)) (λ k. rows_of (new p k)) s.workers (λ j below. sym (ap rows_of (a.elsewhere p j (inl e))))))
 ]
 
 -- at each place of the lists, either the new note is there or nothing has changed
@@ -68,15 +70,9 @@ each_list P a b here there c d = elim (cases_eq c a) as (λ _. P c d) [
   | inr e ↦ there c d (inl e)
 ]
 
-swap_or : (a b : Bool) → (a || b) ≡ (b || a)
-swap_or true true = refl
-swap_or true false = refl
-swap_or false true = refl
-swap_or false false = refl
-
 sender_ended-last : (o : Option Port) (from worker : ℕ) (xs : List Note) (note : Note) → is_edge o from worker ≡ true
     → sender_ended o from worker (xs ++ note ∷ []) ≡ (is_end note || sender_ended o from worker xs)
-sender_ended-last o from worker xs note e = rw (e, has_end-last xs note) (swap_or (has_end xs) (is_end note))
+sender_ended-last o from worker xs note e = rw (e, has_end-last xs note) (or_comm (has_end xs) (is_end note))
 
 not_both : (p k port from : ℕ) → (p ≢ port) ⊎ (k ≢ from) → ((p == port) && (k == from)) ≡ false
 not_both p k port from h = elim h as (λ _. ((p == port) && (k == from)) ≡ false) [
@@ -112,10 +108,6 @@ sent-append : (o : Option Ship) (workers from to : ℕ) (given out : Bag) → se
 sent-append None workers from to given out = refl
 sent-append (Some ship) workers from to given out = filter-append (goes ship workers from to) given out
 
-no_rows : (n : ℕ) (notes : ℕ → List Note) → ((k : ℕ) → notes k ≡ []) → all_of n (λ k. rows_of (notes k)) ≡ []
-no_rows zero notes h = refl
-no_rows (suc n) notes h = λ i. rows_of (h n i) ++ no_rows n notes h i
-
 here_end : (b : Bool) (p k : ℕ) → (b && ((p == p) && (k == k))) ≡ b
 here_end true p k = rw (eq-eqb p p refl, eq-eqb k k refl) refl
 here_end false p k = refl
@@ -138,7 +130,7 @@ took_local s worker i j taken new put port from note l wanted below edge unended
     all_below_from j.part.workers (ended_at j p) (λ k less.
     t.ended p k ∙ or_right (is_end note && ((p == port) && (k == from))) (ended_at i p k) (all_below_at i.part.workers k (ended_at i p) (subst (λ (p : Part). k < p.workers) t.part less) h)) in
     let one_port : (port ≡ 0 → taken_rows s.workers taken 1 ≡ []) = λ e. elim taking.which as (λ _. taken_rows s.workers taken 1 ≡ []) [
-      | inl x ↦ no_rows s.workers (taken 1) (l.in_order x.1)
+      | inl x ↦ none_each (λ k. rows_of (taken 1 k)) s.workers (λ k below. ap rows_of (l.in_order x.1 k))
       | inr x ↦ absurd (omega (arith, e, x.0))
     ] in
     record {

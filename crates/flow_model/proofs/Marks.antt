@@ -68,12 +68,8 @@ pub record IsFinished (ws : List (ℕ × Bag)) (ms : List ℕ) (a b f : Bool) : 
   pub finished : f ≡ true
 
 pub finished_by : (ws : List (ℕ × Bag)) (ms : List ℕ) (a b f : Bool) → want_by ws ms a b f ≡ Done → IsFinished ws ms a b f
-finished_by (w ∷ ws) ms a b f e = absurd (cc)
-finished_by [] (m ∷ ms) a b f e = absurd (cc)
-finished_by [] [] false b f e = absurd (cc)
-finished_by [] [] true false f e = absurd (cc)
-finished_by [] [] true true false e = absurd (cc)
 finished_by [] [] true true true e = record { waiting = refl; marks = refl; first = refl; second = refl; finished = refl }
+finished_by ws ms a b f e = absurd (cc)
 
 -- a receiver to which a note is wanted to go is that of the first that waits
 pub put_to : (P : ℕ → Type 0) (Q : ℕ × Bag → Type 0) (ws : List (ℕ × Bag)) (ms : List ℕ) (a b f : Bool) (to : ℕ) → ((w : ℕ × Bag) → Q w → P w.0) → AllByRecursion Q ws → AllByRecursion P ms

@@ -1,6 +1,6 @@
 -- The events of a run are at most `most`.
 use Rattle.std.proofs.Common.{◌≡◌, ◌<◌, ◌≤◌, inl, inr, ◌||◌, ◌+◌, ◌*◌, ℕ, Bool, true, false, Option, Some, None, [], ◌∷◌, ◌++◌, length, slice_get, refl, ap, sym, ◌∙◌, subst, arith, length-append}
-use Rattle.std.proofs.Math.Nat.{mul-le-mul}
+use Rattle.std.proofs.Math.Nat.{mul-le-mul, le_refl, mul-zero}
 use Rattle.std.proofs.lemmas.Bool.{cases_lt}
 use Rattle.std.proofs.lemmas.List.Sorted.{length_permutation}
 use Rattle.tac_syntax.specs.declared.declarations.OpKind.{OpKind}
@@ -20,14 +20,14 @@ use Rattle.flow_model.specs.Worlds.{History, World, does_want, lists_at}
 use Rattle.flow_model.proofs.Bags.{rows_of-append}
 use Rattle.flow_model.proofs.Preserved.{nothing_put}
 use Rattle.flow_model.proofs.Stuck.{StandsAt}
-use Rattle.flow_model.proofs.Sums.{at_most, cogroup_length, crossed_length, distributes, few_notes, flat_length, kept-le, length-all_of, matched_length, reduce_length, same_le, shares, sum-const, sum-le, sum-plus, sum-times, times_zero}
+use Rattle.flow_model.proofs.Sums.{at_most, cogroup_length, crossed_length, distributes, few_notes, flat_length, kept-le, length-all_of, matched_length, reduce_length, shares, sum-const, sum-le, sum-plus, sum-times}
 use Rattle.plan_trees.proofs.EverySubtree.{AllBelow, all_below-root}
 
 -- ---- what one instance gives
 
 three : (a b x y c : ℕ) → a ≤ x → b ≤ y → a * (b * c) ≤ (x * y) * c
 three a b x y c h k =
-    let inner : b * c ≤ y * c = mul-le-mul k (same_le c) in
+    let inner : b * c ≤ y * c = mul-le-mul k (le_refl c) in
     let outer : a * (b * c) ≤ x * (y * c) = mul-le-mul h inner in
     let same : x * (y * c) ≡ (x * y) * c = grind arith in
     subst (λ (n : ℕ). a * (b * c) ≤ n) same outer
@@ -74,14 +74,14 @@ one_gives : (turns : ℕ → ℕ → ℕ) (s : Spot) (kind : OpKind) (p : Port) 
 one_gives turns s kind p worker rows false given x bounded small e = omega (arith, ap length e)
 one_gives turns s Map p worker rows true given x bounded small e =
     let left : length e.left ≤ x = omega (arith, length_permutation (rows 0) e.left e.of_left) in
-    omega (arith, length_permutation e.out given e.permuted, ap length e.may, flat_length (s.ops.of_record s.at) (turns s.at 0) e.left (bounded.of_record s.at), mul-le-mul left (same_le (turns s.at 0)))
+    omega (arith, length_permutation e.out given e.permuted, ap length e.may, flat_length (s.ops.of_record s.at) (turns s.at 0) e.left (bounded.of_record s.at), mul-le-mul left (le_refl (turns s.at 0)))
 one_gives turns s Reduce p worker rows true given x bounded small e =
     let left : length e.left ≤ x = omega (arith, length_permutation (rows 0) e.left e.of_left) in
     omega (
       arith,
       length_permutation e.out given e.permuted,
       reduce_length (s.ops.of_group s.at) (s.ops.left_keys s.at) (turns s.at x) e.left e.out (λ key group h. bounded.of_group s.at x key group (omega arith)) e.may,
-      mul-le-mul left (same_le (turns s.at x)),
+      mul-le-mul left (le_refl (turns s.at x)),
     )
 one_gives turns s Source p worker rows true given x bounded small e = absurd e.may
 one_gives turns s Match p worker rows true given x bounded small e = absurd e.may
@@ -120,7 +120,7 @@ two_give turns s CoGroup p q worker rows true given x y bounded small few e =
       length_permutation e.out given e.permuted,
       cogroup_length (s.ops.of_groups s.at) (s.ops.left_keys s.at) (s.ops.right_keys s.at) (turns s.at (x + y)) e.left e.right e.out
           (λ key l t h k. bounded.of_groups s.at (x + y) key l t (omega arith) (omega arith)) e.may,
-      mul-le-mul all (same_le (turns s.at (x + y))),
+      mul-le-mul all (le_refl (turns s.at (x + y))),
     )
 two_give turns s Source p q worker rows true given x y bounded small few e = absurd e.may
 two_give turns s Map p q worker rows true given x y bounded small few e = absurd e.may
@@ -230,7 +230,7 @@ module _ (g : Setting) (turns : ℕ → ℕ → ℕ) (w : World) (h : History) (
       let ones : sum_below n (λ f. 1) ≤ n * 1 = sum-const n 1 (λ f. 1) (λ f less. omega arith) in
       let all : sum_below n (λ f. n * (given t top f + 1)) ≤ n * (most_given g turns t + n) =
       subst (λ (x : ℕ). x ≤ n * (most_given g turns t + n)) (sym (sum-times n n (λ f. given t top f + 1)))
-      (mul-le-mul (same_le n) (omega (arith, sum-plus n (given t top) (λ f. 1), ones, sound t at))) in
+      (mul-le-mul (le_refl n) (omega (arith, sum-plus n (given t top) (λ f. 1), ones, sound t at))) in
       omega (arith, each, all, distributes n (most_given g turns t) n)
 
   few_taken : (n : ℕ) → notes_on g h.taken n ≤ notes_on g h.put n
@@ -253,8 +253,8 @@ module _ (g : Setting) (turns : ℕ → ℕ → ℕ) (w : World) (h : History) (
       let empty : notes_on g h.put (root_of t) ≤ n * 0 = sum-const n 0 (λ f. sum_below n (λ to. length (h.put (root_of t) f to))) (λ f less.
       let inner : sum_below n (λ to. length (h.put (root_of t) f to)) ≤ n * 0 = sum-const n 0 (λ to. length (h.put (root_of t) f to)) (λ to below.
       omega (arith, ap length (nothing_put (spot g t) f (w.instance (root_of t) f) (λ port from. lists_at h.taken (slice_get (ports_of g.physical t) port) from f) (λ x. h.put (root_of t) f x) to (at f less) below (none f to)))) in
-      omega (arith, inner, times_zero n)) in
-      omega (arith, few_done (root_of t), few_taken (root_of t), empty, times_zero n)
+      omega (arith, inner, mul-zero n)) in
+      omega (arith, few_done (root_of t), few_taken (root_of t), empty, mul-zero n)
 
   pub all_few : (t : PlanTree) (at : AllBelow (StandsAt g w h) t) → ((k to : ℕ) → has_out (spot g t).out k to ≡ false) → tree_sum (events_at g w h) t ≤ most_of g turns t
   all_few (leaf n) at none = root_few (leaf n) at none

@@ -1,5 +1,5 @@
 -- An instance stays `IsLocal` when it puts a note and when it ends, and is `IsLocal` at its start.
-use Rattle.std.proofs.Common.{◌≡◌, ◌≢◌, ◌<◌, inl, inr, ◌&&◌, ◌||◌, cond, ◌+◌, ℕ, zero, suc, Bool, true, false, List, [], ◌∷◌, ◌++◌, refl, ap, sym, ◌∙◌, subst, arith, append_assoc}
+use Rattle.std.proofs.Common.{◌≡◌, ◌≢◌, ◌<◌, inl, inr, ◌&&◌, ◌||◌, cond, ◌+◌, ℕ, Bool, true, false, List, [], ◌∷◌, ◌++◌, refl, ap, sym, ◌∙◌, subst, arith, append_assoc}
 use Rattle.std.specs.List.{AllByRecursion}
 use Rattle.std.specs.List.Sorted.{IsPermutation}
 use Rattle.std.proofs.Math.Nat.{zero-add}
@@ -9,7 +9,7 @@ use Rattle.flow_model.specs.declared.notes.Note.{Note}
 use Rattle.flow_model.specs.declared.notes.Want.TheVariants.{Put, End}
 use Rattle.flow_model.specs.Instances.{Instance, all_ended, kept_at, port_ended, want, want_by}
 use Rattle.flow_model.specs.Local.{IsLocal, IsReceiver, IsWaiting, IsGiven, Gave, KeepsRows, one_if, marks_for, rows_for, taken_rows, works_at_once}
-use Rattle.plan_trees.specs.Sending.{all_of}
+use Rattle.plan_trees.proofs.EachWorker.{none_each}
 use Rattle.flow_model.specs.Notes.{AreNotes, IsNote, has_end, rows_of}
 use Rattle.flow_model.specs.Spots.{Spot, has_out, sent}
 use Rattle.flow_model.specs.Steps.{AddedTo, Started, finish, is_end, later, later_marks, next_note, next_receiver, note_rows, offered, returned}
@@ -169,12 +169,8 @@ pub record IsEnding (ws : List (ℕ × Bag)) (ms : List ℕ) (a b : Bool) : Type
   pub all : (a && b) ≡ true
 
 pub ending_by : (ws : List (ℕ × Bag)) (ms : List ℕ) (a b f : Bool) → want_by ws ms a b f ≡ End → IsEnding ws ms a b
-ending_by (w ∷ ws) ms a b f e = absurd (cc)
-ending_by [] (m ∷ ms) a b f e = absurd (cc)
-ending_by [] [] false b f e = absurd (cc)
-ending_by [] [] true false f e = absurd (cc)
 ending_by [] [] true true false e = record { waiting = refl; marks = refl; all = refl }
-ending_by [] [] true true true e = absurd (cc)
+ending_by ws ms a b f e = absurd (cc)
 
 pub finish_local : (s : Spot) (worker : ℕ) (i : Instance) (taken : ℕ → ℕ → List Note) (put : ℕ → List Note) → IsLocal s worker i taken put → want i ≡ End → IsLocal s worker (finish i) taken put
 finish_local s worker i taken put l wanted =
@@ -203,13 +199,9 @@ finish_local s worker i taken put l wanted =
 
 -- ---- the start
 
-none_taken : (n : ℕ) → ◌≡◌ {A = Bag} (all_of n (λ k. [])) []
-none_taken zero = refl
-none_taken (suc n) = none_taken n
-
 pub started_local : (s : Spot) (worker : ℕ) (i : Instance) → Started s worker i → IsLocal s worker i (λ port from. []) (λ to. [])
 started_local s worker i t =
-    let rows : (λ (port : ℕ). []) ≡ taken_rows s.workers (λ port from. []) = λ x port. sym (none_taken s.workers) x in
+    let rows : (λ (port : ℕ). []) ≡ taken_rows s.workers (λ port from. []) = λ x port. sym (none_each (λ from. []) s.workers (λ from below. refl)) x in
     record {
       given = t.out;
       part = t.part;

@@ -22,7 +22,7 @@ use Rattle.flow_model.specs.Spots.{Port, Setting, Spot, has_out, is_edge, ports_
 use Rattle.flow_model.specs.Steps.{Added, later, next_note}
 use Rattle.flow_model.specs.Events.{Ends, Puts, Takes, added, first_note, noted, is_pipe}
 use Rattle.flow_model.specs.Worlds.{World, History, LocalAt, Stands, reader_of, lists_at}
-use Rattle.flow_model.proofs.Given.{nil_only}
+use Rattle.flow_model.proofs.GivenForNotes.{nil_only}
 use Rattle.flow_model.proofs.Locals.{each_list, took_local, unmarked}
 use Rattle.flow_model.proofs.Marks.{nothing_behind}
 use Rattle.flow_model.proofs.Offers.{finish_local, offered_local}

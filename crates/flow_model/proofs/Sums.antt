@@ -2,7 +2,7 @@
 use Rattle.std.proofs.Common.{◌≡◌, ◌<◌, ◌≤◌, inl, inr, ◌+◌, ◌*◌, ◌%◌, ◌==◌, ℕ, zero, suc, Bool, true, false, cond, not, List, [], ◌∷◌, ◌++◌, length, map, filter, refl, ap, sym, ◌∙◌, arith, length-append}
 use Rattle.std.proofs.lemmas.List.{length-map}
 use Rattle.std.specs.Prelude.{flat_map}
-use Rattle.std.proofs.Math.Nat.{mul-le-mul, suc-mul}
+use Rattle.std.proofs.Math.Nat.{mul-le-mul, suc-mul, le_refl, mul-zero}
 use Rattle.std.proofs.lemmas.Bool.{cases_eq, ne_eqb}
 use Rattle.std.proofs.lemmas.List.Sorted.{length_permutation}
 use Rattle.pact_bag.specs.Groups.{distinct_keys, do_match, group_of_key, is_same_key}
@@ -65,9 +65,6 @@ few_notes fields (End ∷ ns) h = omega (arith, ap length h)
 
 -- ---- shares
 
-pub times_zero : (n : ℕ) → n * 0 ≡ 0
-times_zero n = omega arith
-
 pub at_most : (b : Bool) → one_if b ≤ 1
 at_most true = omega arith
 at_most false = omega arith
@@ -82,7 +79,7 @@ one_place m (suc n) = elim (cases_eq m n) as (λ _. sum_below (suc n) (λ k. one
   | inl e ↦
       let rest : sum_below n (λ k. one_if (m == k)) ≤ n * 0 = sum-const n 0 (λ k. one_if (m == k)) (λ k less. zero_if (m == k) (ne_eqb m k (λ x. omega (arith, e, x)))) in
       let last : one_if (m == n) ≤ 1 = at_most (m == n) in
-      omega (arith, times_zero n)
+      omega (arith, mul-zero n)
   | inr other ↦
       let last : one_if (m == n) ≤ 0 = zero_if (m == n) (ne_eqb m n other) in
       omega (arith, one_place m n)
@@ -93,7 +90,7 @@ length_if true row rows = omega arith
 length_if false row rows = omega arith
 
 pub shares : (start n workers : ℕ) (rows : Bag) → sum_below n (λ k. length (share_from start workers k rows)) ≤ length rows
-shares start n workers [] = omega (arith, times_zero n, sum-const n 0 (λ k. 0) (λ k less. omega arith))
+shares start n workers [] = omega (arith, mul-zero n, sum-const n 0 (λ k. 0) (λ k less. omega arith))
 shares start n workers (row ∷ rows) =
     let split : sum_below n (λ k. length (share_from start workers k (row ∷ rows))) ≤ sum_below n (λ k. one_if (start % workers == k) + length (share_from (suc start) workers k rows)) =
     sum-le n (λ k. length (share_from start workers k (row ∷ rows))) (λ k. one_if (start % workers == k) + length (share_from (suc start) workers k rows))
@@ -116,9 +113,6 @@ if_less false xs c h = omega arith
 pub matched_length : (f : List Value → List Value → Bag) (left_keys right_keys : List ℕ) (c : ℕ) (l r : List Value) → length (f l r) ≤ c → length (matched f left_keys right_keys l r) ≤ c
 matched_length f left_keys right_keys c l r h = if_less (do_match left_keys right_keys l r) (f l r) c h
 
-pub same_le : (c : ℕ) → c ≤ c
-same_le c = omega arith
-
 few_keys : (ks : List (List Value)) → length (distinct_keys ks) ≤ length ks
 few_keys [] = omega arith
 few_keys (k ∷ ks) = omega (arith, kept-le (λ j. not (is_same_key k j)) (distinct_keys ks), few_keys ks)
@@ -134,7 +128,7 @@ pub reduce_length : (f : List Value → Bag → Bag) (keys : List ℕ) (c : ℕ)
     → ((key : List Value) (group : Bag) → length group ≤ length rows → length (f key group) ≤ c) → Grouped f keys rows (keys_in keys rows) out → length out ≤ length rows * c
 reduce_length f keys c rows out h e =
     let few : length (keys_in keys rows) ≤ length rows = omega (arith, few_keys (map (key_of keys) rows), length-map rows (key_of keys)) in
-    omega (arith, grouped_length f keys c rows (keys_in keys rows) out h e, mul-le-mul few (same_le c))
+    omega (arith, grouped_length f keys c rows (keys_in keys rows) out h e, mul-le-mul few (le_refl c))
 
 cogrouped_length : (f : List Value → Bag → Bag → Bag) (left_keys right_keys : List ℕ) (c : ℕ) (ls rs : Bag) (ks : List (List Value)) (out : Bag)
     → ((key : List Value) (left right : Bag) → length left ≤ length ls → length right ≤ length rs → length (f key left right) ≤ c) → CoGrouped f left_keys right_keys ls rs ks out → length out ≤ length ks * c
@@ -150,4 +144,4 @@ pub cogroup_length : (f : List Value → Bag → Bag → Bag) (left_keys right_k
 cogroup_length f left_keys right_keys c ls rs out h e =
     let few : length (keys_in_either left_keys right_keys ls rs) ≤ length ls + length rs =
     omega (arith, few_keys (map (key_of left_keys) ls ++ map (key_of right_keys) rs), length-append (map (key_of left_keys) ls) (map (key_of right_keys) rs), length-map ls (key_of left_keys), length-map rs (key_of right_keys)) in
-    omega (arith, cogrouped_length f left_keys right_keys c ls rs (keys_in_either left_keys right_keys ls rs) out h e, mul-le-mul few (same_le c))
+    omega (arith, cogrouped_length f left_keys right_keys c ls rs (keys_in_either left_keys right_keys ls rs) out h e, mul-le-mul few (le_refl c))

@@ -23,12 +23,9 @@ live_before a set = live (plain a stop) set
 pub live_before-operand : (a : Simple) (set : RegisterSet) (r : Register) → has_operand a r ≡ true → live_before a set r ≡ true
 live_before-operand a set r h = or_left (has_operand a r) (set r && not (assigns a r)) h
 
-itself : (k : ℕ) → (k == k) ≡ true
-itself k = eq-eqb k k refl
-
 pub named_record-agree : (kind : Kind) (n : ℕ) (set : RegisterSet) (s t : Store) (from : Rec) → CanRead kind n from → is_first from ≡ false → ((r : Register) → is_register_of from r ≡ true → set r ≡ true) → Agree n set s t
     → named_record s from ≡ named_record t from
-named_record-agree kind n set s t (Reg k) can f has h = h.records k (has (record_at k) (itself k))
+named_record-agree kind n set s t (Reg k) can f has h = h.records k (has (record_at k) (eq-eqb k k refl))
 named_record-agree kind n set s t (Loop name) can f has h =
     let lt : name - 1 < n = omega (arith, can) in
     sym (get_or-take n s.loops (name - 1) [] lt) ∙ ap (λ (l : List (List Value)). get_or l (name - 1) []) h.loops ∙ get_or-take n t.loops (name - 1) [] lt
@@ -51,7 +48,7 @@ module _ (kind : Kind) (F n : ℕ) (set : RegisterSet) (s t : Store) where
   after-agree (load_text to bytes) w f h = Agree-put_value set to (Text bytes) (Text bytes) w (unassigned (load_text to bytes) h) refl
   after-agree (load_null to) w f h = Agree-put_value set to Null Null w (unassigned (load_null to) h) refl
   after-agree (move_value to from) w f h =
-      let a = move_value to from in Agree-put_value set to (value_in s from) (value_in t from) w.0 (unassigned a h) (h.values from (operand a (value_at from) (itself from)))
+      let a = move_value to from in Agree-put_value set to (value_in s from) (value_in t from) w.0 (unassigned a h) (h.values from (operand a (value_at from) (eq-eqb from from refl)))
   after-agree (get_field to from field) w f h =
       let a = get_field to from field in
       Agree-put_value set to (at_field (named_record s from) field) (at_field (named_record t from) field) w.0 (unassigned a h)
@@ -60,11 +57,11 @@ module _ (kind : Kind) (F n : ℕ) (set : RegisterSet) (s t : Store) where
       Agree-put_value set to (get_or (key_values s.input) at Null) (get_or (key_values t.input) at Null) w.0 (unassigned (get_key to at) h) (ap (λ (k : List Value). get_or k at Null) h.inputs.key)
   after-agree (apply_one to op b) w f h =
       let a = apply_one to op b in
-      Agree-put_value set to (applied1 op (value_in s b)) (applied1 op (value_in t b)) w.0 (unassigned a h) (ap (applied1 op) (h.values b (operand a (value_at b) (itself b))))
+      Agree-put_value set to (applied1 op (value_in s b)) (applied1 op (value_in t b)) w.0 (unassigned a h) (ap (applied1 op) (h.values b (operand a (value_at b) (eq-eqb b b refl))))
   after-agree (apply_two to op b c) w f h =
       let a = apply_two to op b c in
-      let p = h.values b (operand a (value_at b) (or_left (b == b) (b == c) (itself b))) in
-      let q = h.values c (operand a (value_at c) (or_right (c == b) (c == c) (itself c))) in
+      let p = h.values b (operand a (value_at b) (or_left (b == b) (b == c) (eq-eqb b b refl))) in
+      let q = h.values c (operand a (value_at c) (or_right (c == b) (c == c) (eq-eqb c c refl))) in
       Agree-put_value set to (applied2 op (value_in s b) (value_in s c)) (applied2 op (value_in t b) (value_in t c)) w.0 (unassigned a h) (λ i. applied2 op (p i) (q i))
   after-agree (new_record to) w f h = Agree-put_record set to (empty_record s.fields) (empty_record t.fields) w (unassigned (new_record to) h) (ap empty_record h.fields)
   after-agree (copy_record to from) w f h =
@@ -72,8 +69,8 @@ module _ (kind : Kind) (F n : ℕ) (set : RegisterSet) (s t : Store) where
       Agree-put_record set to (named_record s from) (named_record t from) w.0 (unassigned a h) (named_record-agree kind n (live_before a set) s t from w.1 f (operand a) h)
   after-agree (set_field to field v) w f h =
       let a = set_field to field v in
-      let p = h.records to (operand a (record_at to) (or_left (to == to) false (itself to))) in
-      let q = h.values v (operand a (value_at v) (or_right false (v == v) (itself v))) in
+      let p = h.records to (operand a (record_at to) (or_left (to == to) false (eq-eqb to to refl))) in
+      let q = h.values v (operand a (value_at v) (or_right false (v == v) (eq-eqb v v refl))) in
       Agree-put_record set to (slice_set (record_in s to) field (value_in s v)) (slice_set (record_in t to) field (value_in t v)) w.0 (unassigned a h) (λ i. slice_set (p i) field (q i))
   after-agree (emit_record from) w f h =
       let kept = unassigned (emit_record from) h in
@@ -99,5 +96,5 @@ emitted-after a s = sym (append-nil s.emitted)
 
 pub emitted_by-agree : (a : Simple) (n : ℕ) (set : RegisterSet) (s t : Store) → Agree n (live_before a set) s t → emitted_by a s ≡ emitted_by a t
 emitted_by-agree (emit_record from) n set s t h =
-    ap (λ (r : List Value). r ∷ []) (h.records from (live_before-operand (emit_record from) set (record_at from) (itself from)))
+    ap (λ (r : List Value). r ∷ []) (h.records from (live_before-operand (emit_record from) set (record_at from) (eq-eqb from from refl)))
 emitted_by-agree a n set s t h = refl

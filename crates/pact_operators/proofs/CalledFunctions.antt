@@ -1,5 +1,5 @@
 -- The function that an operator of a program calls: it is valid, of the operator's kind, with the program's fields and the operator's keys.
-use Rattle.std.proofs.Common.{◌≡◌, ◌<◌, ℕ, zero, suc, List, [], ◌∷◌, inl, inr, Option, Some, length, get_or, slice_get, refl, ap, sym, ◌∙◌, subst, arith}
+use Rattle.std.proofs.Common.{◌≡◌, ◌<◌, ℕ, zero, suc, List, [], ◌∷◌, inl, inr, Option, Some, None, length, get_or, slice_get, refl, ap, sym, ◌∙◌, subst, arith}
 use Rattle.std.proofs.lemmas.Option.{same_Some, slice_get_read, slice_get_within}
 use Rattle.pact_record.specs.Widths.{AreBelow}
 use Rattle.pact_record.proofs.Lists.{AllByRecursion-slice_get}
@@ -8,7 +8,9 @@ use Rattle.tac_syntax.specs.declared.declarations.OpKind.TheVariants.{Source}
 use Rattle.pact_operators.specs.declared.operators.Op.{Op}
 use Rattle.pact_operators.specs.PlanOps.{body_at, function_in, kind_at, kind_in}
 use Rattle.pact_operators.specs.Programs.{HasKeyLists, IsKindFor, IsOpOf, IsOperatorOf, IsProgram, ProgramData, body_of}
+use Rattle.pact_operators.specs.SoundOps.{function_kind}
 use Rattle.pact_operators.proofs.OwnFields.{body_at as body_of_function}
+use Rattle.pact_operators.proofs.SoundPrograms.{function_kind-for}
 
 pub record IsCalled (p : ProgramData) (at : ℕ) (op : Op) (v : WithFields) : Type 0 where
   pub found : slice_get p.ops at ≡ Some op
@@ -20,6 +22,10 @@ pub record IsCalled (p : ProgramData) (at : ℕ) (op : Op) (v : WithFields) : Ty
   pub keys : HasKeyLists op.kind v.function.keys op.left_keys op.right_keys
   pub left_below : AreBelow v.fields op.left_keys
   pub right_below : AreBelow v.fields op.right_keys
+
+-- the function is of the operator's kind
+pub called_kind : (p : ProgramData) (at : ℕ) (op : Op) (v : WithFields) → IsCalled p at op v → v.function.kind ≡ function_kind (kind_at p.ops at)
+called_kind p at op v c = sym (function_kind-for op.kind v.function.kind c.kind) ∙ ap (λ (g : Option Op). function_kind (kind_in g)) (sym c.found)
 
 -- a number past the last operator has a source's kind
 pub operator-below : (ops : List Op) (n : ℕ) → (kind_at ops n ≡ Source → ⊥) → n < length ops
@@ -62,3 +68,12 @@ module _ (p : ProgramData) (program : IsProgram p) (at : ℕ) (op : Op) (operato
     -- from what indexing gives
     pub is_called : (v : WithFields) → v ≡ get_or p.functions op.function v → IsCalled p at op v
     is_called v found = called_at v operator_read (slice_get_read p.functions (length p.functions) op.function v refl function_below found)
+
+-- an operator is told by its number alone
+module _ (p : ProgramData) (program : IsProgram p) (at : ℕ) (v : WithFields) (operator : kind_at p.ops at ≡ Source → ⊥) where
+  by_op : (g : Option Op) → slice_get p.ops at ≡ g → (kind_in g ≡ Source → ⊥) → slice_get p.functions (function_in g) ≡ Some v → (op : Op) × IsCalled p at op v
+  by_op None e o function = absurd (o refl)
+  by_op (Some op) e o function = (op, called_at p program at op operator v e function)
+
+  pub called_function : slice_get p.functions (function_in (slice_get p.ops at)) ≡ Some v → (op : Op) × IsCalled p at op v
+  called_function function = by_op (slice_get p.ops at) refl operator function

@@ -39,27 +39,19 @@ few_so test limit d v front (decl ∷ decls) only h le =
     subst (λ (ds : List Decl). times_so test ds ≤ limit) (append_assoc front (decl ∷ []) decls)
     (few_so test limit d v (front ++ decl ∷ []) decls only h.1 (one_more test limit front decl (only front decl (false_from_ne_true _ h.0)) le))
 
--- each of the three tests of a declaration that isn't one too many
-no_function : (before : List Decl) (decl : Decl) → is_one_too_many before decl ≡ false → (is_function decl && nat_le function_limit (times_so is_function before)) ≡ false
-no_function before decl h =
+-- the three tests of a declaration that isn't one too many
+not_too_many : (before : List Decl) (decl : Decl) → is_one_too_many before decl ≡ false
+    → ((is_function decl && nat_le function_limit (times_so is_function before)) ≡ false) × ((is_operator decl && nat_le operator_limit (times_so is_operator before)) ≡ false)
+    × ((is_pair decl && nat_le pair_limit (times_so is_pair before)) ≡ false)
+not_too_many before decl h =
     let function = is_function decl && nat_le function_limit (times_so is_function before) in
     let operator = is_operator decl && nat_le operator_limit (times_so is_operator before) in
     let pair = is_pair decl && nat_le pair_limit (times_so is_pair before) in
-    (or_parts function operator (or_parts (function || operator) pair h).0).0
+    let parts = or_parts (function || operator) pair h in
+    let first = or_parts function operator parts.0 in (first.0, first.1, parts.1)
 
-no_operator : (before : List Decl) (decl : Decl) → is_one_too_many before decl ≡ false → (is_operator decl && nat_le operator_limit (times_so is_operator before)) ≡ false
-no_operator before decl h =
-    let function = is_function decl && nat_le function_limit (times_so is_function before) in
-    let operator = is_operator decl && nat_le operator_limit (times_so is_operator before) in
-    let pair = is_pair decl && nat_le pair_limit (times_so is_pair before) in
-    (or_parts function operator (or_parts (function || operator) pair h).0).1
-
-no_pair : (before : List Decl) (decl : Decl) → is_one_too_many before decl ≡ false → (is_pair decl && nat_le pair_limit (times_so is_pair before)) ≡ false
-no_pair before decl h =
-    let function = is_function decl && nat_le function_limit (times_so is_function before) in
-    let operator = is_operator decl && nat_le operator_limit (times_so is_operator before) in
-    let pair = is_pair decl && nat_le pair_limit (times_so is_pair before) in
-    (or_parts (function || operator) pair h).1
+pub declared-operators : (d : DraftData) (v : List WithFields) → NoneBreaks TooMany d v [] d.decls → times_so is_operator d.decls ≤ operator_limit
+declared-operators d v h = few_so is_operator operator_limit d v [] d.decls (λ before decl one. (not_too_many before decl one).1) h (omega arith)
 
 functions_in : (n count : ℕ) (decls : List Decl) → AreDeclared n count decls → n + times_so is_function decls ≡ count
 functions_in n count [] h = omega (arith, h)
@@ -70,7 +62,7 @@ functions_in n count (Sink input fields ∷ decls) h = functions_in n count decl
 
 pub few-functions : (d : DraftData) (v : List WithFields) → AreDeclared 0 (length d.functions) d.decls → NoneBreaks TooMany d v [] d.decls → length d.functions ≤ function_limit
 few-functions d v declared h =
-    omega (arith, functions_in 0 (length d.functions) d.decls declared, few_so is_function function_limit d v [] d.decls no_function h (omega arith))
+    omega (arith, functions_in 0 (length d.functions) d.decls declared, few_so is_function function_limit d v [] d.decls (λ before decl one. (not_too_many before decl one).0) h (omega arith))
 
 -- ---- sources and operators
 
@@ -102,10 +94,10 @@ pairs_in functions (OpDecl name CoGroup function left right left_keys right_keys
 pairs_in functions (Sink input fields ∷ decls) = pairs_in functions decls
 
 pub few-operators : (d : DraftData) (v : List WithFields) (functions : List (List ℕ)) → NoneBreaks TooMany d v [] d.decls → times_of_kind is_operator_kind (ops_of functions d.decls) ≤ operator_limit
-few-operators d v functions h = omega (arith, operators_in functions d.decls, few_so is_operator operator_limit d v [] d.decls no_operator h (omega arith))
+few-operators d v functions h = omega (arith, operators_in functions d.decls, declared-operators d v h)
 
 pub few-pairs : (d : DraftData) (v : List WithFields) (functions : List (List ℕ)) → NoneBreaks TooMany d v [] d.decls → times_of_kind is_pair_kind (ops_of functions d.decls) ≤ pair_limit
-few-pairs d v functions h = omega (arith, pairs_in functions d.decls, few_so is_pair pair_limit d v [] d.decls no_pair h (omega arith))
+few-pairs d v functions h = omega (arith, pairs_in functions d.decls, few_so is_pair pair_limit d v [] d.decls (λ before decl one. (not_too_many before decl one).2) h (omega arith))
 
 pub length-ops_of : (functions : List (List ℕ)) (decls : List Decl) → length (ops_of functions decls) ≡ length (node_names decls)
 length-ops_of functions [] = refl

@@ -4,6 +4,7 @@ use Rattle.plan_trees.proofs.DifferentNumbers.{AreDifferent-append, AreDifferent
 use Rattle.plan_trees.proofs.NodesOfTrees.{has-nodes, root-nodes}
 use Rattle.plan_trees.specs.Distinct.{IsAbsent, AreDifferent}
 use Rattle.plan_trees.specs.Plans.{PlanTree, leaf, over, both, root_of, nodes, has}
+use Rattle.plan_trees.specs.Sending.{workers_below as numbers_below}
 use Rattle.pact_operators.specs.Programs.{Follows}
 use Rattle.pact_operators.specs.Resolved.{Inputs, no_input, one_input, two_inputs}
 
@@ -208,10 +209,6 @@ at-IsIn inputs root zero m t e f p = subst (λ (x : ℕ). IsIn x (nodes t)) (e �
 at-IsIn inputs root (suc j) m t e f p = input-IsIn inputs p.0 m t f (at-IsIn inputs root j p.0 t e f p.2) p.1
 
 -- ---- how many they are
-
-abbrev numbers_below : ℕ → List ℕ
-numbers_below zero = []
-numbers_below (suc n) = n ∷ numbers_below n
 
 numbers_below-lt : (n m : ℕ) → IsIn m (numbers_below n) → m < n
 numbers_below-lt zero m i = absurd i

@@ -1,7 +1,6 @@
 -- The records of a bag that a plan allows are Null outside the plan's attributes.
-use Rattle.std.proofs.Common.{◌≡◌, ◌<◌, ◌+◌, ◌⊎◌, inl, inr, ℕ, false, List, [], ◌∷◌, length, refl, sym, ap, subst}
+use Rattle.std.proofs.Common.{◌≡◌, ◌<◌, ◌+◌, ◌⊎◌, inl, inr, ℕ, List, [], ◌∷◌, length, refl, sym, subst}
 use Rattle.std.specs.List.{AllByRecursion}
-use Rattle.std.proofs.lemmas.Bool.{both_ways}
 use Rattle.pact_bag.specs.Groups.{is_same_key}
 use Rattle.pact_record.specs.Widths.{AreWide}
 use Rattle.pact_record.specs.declared.values.Value.{Value}
@@ -17,9 +16,10 @@ use Rattle.tac_syntax.specs.declared.declarations.OpKind.TheVariants.{Source, Ma
 use Rattle.plan_trees.specs.Plans.{PlanTree, leaf, over, both}
 use Rattle.pact_operators.specs.declared.operators.Op.{Op}
 use Rattle.pact_operators.specs.Allowed.{Bag, Allows, Gives, GivesBoth, matched}
-use Rattle.pact_operators.specs.PlanOps.{PlanOps, is_source_kind}
+use Rattle.pact_operators.specs.PlanOps.{PlanOps}
 use Rattle.pact_operators.specs.Programs.{HasAttribute, Owns}
 use Rattle.pact_operators.specs.SoundOps.{AreOpsOf, IsCallOf, called}
+use Rattle.pact_operators.proofs.SourceKinds.{no_source}
 use Rattle.pact_operators.proofs.EachOfGroups.{cogrouped_each, crossed_each, grouped_each}
 use Rattle.pact_operators.proofs.WithinFields.{all_within_larger}
 
@@ -38,9 +38,6 @@ input_has_none fields s t k out off (of_group key group) h j v = none_has fields
 input_has_none fields s t k out off (of_groups key l r) h j v = elim v as (λ _. ⊥) [ inl a ↦ none_has fields s k out l h a | inr b ↦ none_has fields t k off r j b ]
 
 -- ---- what each kind of operator is called for
-
-no_source : (kind : OpKind) → is_source_kind kind ≡ false → kind ≡ Source → ⊥
-no_source kind f e = both_ways (is_source_kind kind) f (ap is_source_kind e)
 
 pub IsCallOf-record : (kind : OpKind) (ks js : List ℕ) (row : List Value) → kind ≡ Map → IsCallOf kind ks js (of_record row)
 IsCallOf-record kind ks js row e = subst (λ (q : OpKind). IsCallOf q ks js (of_record row)) (sym e) (record { operator = no_source Map refl; called = tt; some = tt; keyed = tt })
@@ -97,15 +94,12 @@ module _ (fields : ℕ) (v : List WithFields) (ops : List Op) (o : PlanOps) (goo
   -- ---- what an operator gives
 
   gives_fits : (n : ℕ) (s : ℕ → Type 0) (kind : OpKind) → o.kind n ≡ kind → (ls out : Bag) → AllByRecursion (IsWithin fields s) ls → Gives o kind n ls out → AllByRecursion (IsWithin fields (Over n s)) out
-  gives_fits n s Source e ls out h p = absurd p
   gives_fits n s Map e ls out h p =
       subst (AllByRecursion (IsWithin fields (Over n s))) (sym p) (AllByRecursion-flat_map (IsWithin fields s) (IsWithin fields (Over n s)) (o.of_record n) ls h (λ r fr. map_fits n s e r fr))
   gives_fits n s Reduce e ls out h p =
       grouped_each (IsWithin fields s) (IsWithin fields (Over n s)) (o.left_keys n) (o.of_group n) ls h
       (λ k group fg kg some. call_fits_one n s (of_group k group) (IsCallOf-group (o.kind n) (o.left_keys n) (o.right_keys n) k group e some kg) fg tt) out p
-  gives_fits n s Match e ls out h p = absurd p
-  gives_fits n s Cross e ls out h p = absurd p
-  gives_fits n s CoGroup e ls out h p = absurd p
+  gives_fits n s kind e ls out h p = absurd p
 
   both_fits : (n : ℕ) (s t : ℕ → Type 0) (kind : OpKind) → o.kind n ≡ kind → (ls rs out : Bag) → AllByRecursion (IsWithin fields s) ls → AllByRecursion (IsWithin fields t) rs → GivesBoth o kind n ls rs out
       → AllByRecursion (IsWithin fields (OverBoth n s t)) out

@@ -35,4 +35,7 @@ pub mod LawfulBags
 pub mod ChosenForKeys
 pub mod PermutedEvaluations
 pub mod DifferentNames
+pub mod SourceKinds
 pub mod SourceRows
+pub mod CallsForKeys
+pub mod PermutedPairs

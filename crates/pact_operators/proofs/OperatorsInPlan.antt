@@ -6,7 +6,7 @@ use Rattle.tac_syntax.specs.declared.declarations.OpKind.{OpKind}
 use Rattle.tac_syntax.specs.declared.declarations.Decl.{Decl}
 use Rattle.tac_syntax.specs.declared.declarations.Decl.TheVariants.{Source, Function as FunctionDecl, Op as OpDecl, Sink}
 use Rattle.pact_operators.specs.declared.program_rules.ProgramRule.{ProgramRule}
-use Rattle.pact_operators.specs.declared.program_rules.ProgramRule.TheVariants.{Undeclared, DeclaredTwice, NoSingleSink, TooMany, NotATree, OtherKind, OtherKeyCount, WrongField, NoAttribute, SharedAttribute}
+use Rattle.pact_operators.specs.declared.program_rules.ProgramRule.TheVariants.{NoAttribute, SharedAttribute}
 use Rattle.pact_operators.specs.AttributeTests.{BreaksIn, HasPlace}
 use Rattle.pact_operators.specs.Candidates.{CandidateData}
 use Rattle.tac_syntax.specs.Drafts.{DraftData}
@@ -53,26 +53,12 @@ has_place d tree decls n decl h lt e same =
 -- ---- the rules that are told of it
 
 pub broken-in : (rule : ProgramRule) (c : CandidateData) (tree : PlanTree) (front : List Decl) (decl : Decl) → IsWrittenPlan c.draft tree → BreaksIn rule c tree decl → Breaks rule c.draft c.valids front decl
-broken-in Undeclared c tree front decl h b = absurd b
-broken-in DeclaredTwice c tree front decl h b = absurd b
-broken-in NoSingleSink c tree front decl h b = absurd b
-broken-in TooMany c tree front decl h b = absurd b
-broken-in NotATree c tree front decl h b = absurd b
-broken-in OtherKind c tree front decl h b = absurd b
-broken-in OtherKeyCount c tree front decl h b = absurd b
-broken-in WrongField c tree front decl h b = absurd b
 broken-in NoAttribute c tree front decl h b = (tree, h, b)
 broken-in SharedAttribute c tree front decl h b = (tree, h, b)
+broken-in rule c tree front decl h b = absurd b
 
 pub kept-in : (rule : ProgramRule) (c : CandidateData) (tree : PlanTree) (front : List Decl) (decl : Decl) → order_of NoAttribute ≤ order_of rule → IsWrittenPlan c.draft tree → ¬ BreaksIn rule c tree decl
     → ¬ Breaks rule c.draft c.valids front decl
-kept-in Undeclared c tree front decl late h k b = omega (arith, late)
-kept-in DeclaredTwice c tree front decl late h k b = omega (arith, late)
-kept-in NoSingleSink c tree front decl late h k b = omega (arith, late)
-kept-in TooMany c tree front decl late h k b = omega (arith, late)
-kept-in NotATree c tree front decl late h k b = omega (arith, late)
-kept-in OtherKind c tree front decl late h k b = omega (arith, late)
-kept-in OtherKeyCount c tree front decl late h k b = omega (arith, late)
-kept-in WrongField c tree front decl late h k b = omega (arith, late)
 kept-in NoAttribute c tree front decl late h k b = k (subst (λ (t : PlanTree). LacksAttribute c.draft c.valids t decl) (same_plan c.draft b.0 tree b.1 h) b.2)
 kept-in SharedAttribute c tree front decl late h k b = k (subst (λ (t : PlanTree). SharesAttribute c.draft c.valids t decl) (same_plan c.draft b.0 tree b.1 h) b.2)
+kept-in rule c tree front decl late h k b = omega (arith, late)

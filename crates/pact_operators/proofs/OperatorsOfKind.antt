@@ -45,32 +45,12 @@ valid_at (w ∷ v) zero f e = let same : w.function ≡ f = cc in (w, refl, same
 valid_at (w ∷ v) (suc n) f e = valid_at v n f e
 
 kind_is : (kind : OpKind) (k : Kind) → is_of_kind kind k ≡ true → IsKindFor kind k
-kind_is SourceKind k h = both_ways false refl h
 kind_is Map kinds.Map h = refl
-kind_is Map kinds.Match h = absurd (both_ways false refl h)
-kind_is Map kinds.Cross h = absurd (both_ways false refl h)
-kind_is Map kinds.Reduce h = absurd (both_ways false refl h)
-kind_is Map kinds.CoGroup h = absurd (both_ways false refl h)
-kind_is Reduce kinds.Map h = absurd (both_ways false refl h)
-kind_is Reduce kinds.Match h = absurd (both_ways false refl h)
-kind_is Reduce kinds.Cross h = absurd (both_ways false refl h)
 kind_is Reduce kinds.Reduce h = refl
-kind_is Reduce kinds.CoGroup h = absurd (both_ways false refl h)
-kind_is Match kinds.Map h = absurd (both_ways false refl h)
 kind_is Match kinds.Match h = refl
-kind_is Match kinds.Cross h = absurd (both_ways false refl h)
-kind_is Match kinds.Reduce h = absurd (both_ways false refl h)
-kind_is Match kinds.CoGroup h = absurd (both_ways false refl h)
-kind_is Cross kinds.Map h = absurd (both_ways false refl h)
-kind_is Cross kinds.Match h = absurd (both_ways false refl h)
 kind_is Cross kinds.Cross h = refl
-kind_is Cross kinds.Reduce h = absurd (both_ways false refl h)
-kind_is Cross kinds.CoGroup h = absurd (both_ways false refl h)
-kind_is CoGroup kinds.Map h = absurd (both_ways false refl h)
-kind_is CoGroup kinds.Match h = absurd (both_ways false refl h)
-kind_is CoGroup kinds.Cross h = absurd (both_ways false refl h)
-kind_is CoGroup kinds.Reduce h = absurd (both_ways false refl h)
 kind_is CoGroup kinds.CoGroup h = refl
+kind_is kind k h = absurd (both_ways false refl h)
 
 -- ---- its lists of keys
 

@@ -1,5 +1,6 @@
 -- What is reached over one operator more.
-use Rattle.std.proofs.Common.{◌≡◌, ◌||◌, ◌&&◌, ℕ, zero, suc, Bool, true, false, List, [], ◌∷◌, map, refl, ap, sym, ◌∙◌}
+use Rattle.std.proofs.Common.{◌≡◌, ◌||◌, ◌&&◌, ℕ, zero, suc, Bool, false, List, [], ◌∷◌, map, refl, ap, sym, ◌∙◌}
+use Rattle.std.proofs.Math.Bool.{and-false}
 use Rattle.std.specs.List.{list_any}
 use Rattle.tac_syntax.specs.declared.declarations.Decl.{Decl}
 use Rattle.tac_syntax.specs.declared.declarations.Decl.TheVariants.{Source, Function as FunctionDecl, Op as OpDecl, Sink}
@@ -20,10 +21,6 @@ marked n d name [] = refl
 marked n d name (decl ∷ decls) =
     ap (λ (b : Bool). b || is_reached_reader name decls (map (reached_within n d) decls)) (reader_marked name decl (is_reached_within n d (name_at d.functions decl)))
     ∙ ap (λ (b : Bool). (is_reader name decl && is_reached_within n d (name_at d.functions decl)) || b) (marked n d name decls)
-
-and-false : (b : Bool) → (b && false) ≡ false
-and-false true = refl
-and-false false = refl
 
 none : (name : List ℕ) (decls : List Decl) → list_any (λ decl. is_reader name decl && false) decls ≡ false
 none name [] = refl

@@ -105,18 +105,9 @@ width_is fields (of_groups key l r) s h j = (h, j)
 keys_are : (keys : ℕ) (kind : OpKind) (ks js : List ℕ) (x : CallInput) → HasKeyLists kind keys ks js → IsInputOf (function_kind kind) x → HasSome x → AreKeyed (keyed_by ks js) x → HasKeys keys x
 keys_are keys kind ks js (of_record row) e i s h = tt
 keys_are keys kind ks js (of_pair l r) e i s h = tt
-keys_are keys Source ks js (of_group key group) e i s h = absurd i
-keys_are keys Map ks js (of_group key group) e i s h = absurd i
 keys_are keys Reduce ks js (of_group key group) e i s h = omega (arith, e.0, key_long ks key group s h)
-keys_are keys Match ks js (of_group key group) e i s h = absurd i
-keys_are keys Cross ks js (of_group key group) e i s h = absurd i
-keys_are keys CoGroup ks js (of_group key group) e i s h = absurd i
-keys_are keys Source ks js (of_groups key l r) e i s h = absurd i
-keys_are keys Map ks js (of_groups key l r) e i s h = absurd i
-keys_are keys Reduce ks js (of_groups key l r) e i s h = absurd i
-keys_are keys Match ks js (of_groups key l r) e i s h = absurd i
-keys_are keys Cross ks js (of_groups key l r) e i s h = absurd i
 keys_are keys CoGroup ks js (of_groups key l r) e i s h = key_longs ks js key l r keys e.0 e.1 s h.0 h.1
+keys_are keys kind ks js x e i s h = absurd i
 
 module _ (p : ProgramData) (inputs : List Bag) (program : IsProgram p) where
   -- the fields of the input, and those of the operator

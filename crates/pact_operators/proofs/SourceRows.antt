@@ -1,24 +1,17 @@
 -- The rows of a source, by its number.
-use Rattle.std.proofs.Common.{◌≡◌, ◌<◌, ℕ, zero, suc, Bool, true, false, cond, List, [], ◌∷◌, length, take, refl, ap, ◌∙◌, arith}
+use Rattle.std.proofs.Common.{◌≡◌, ◌<◌, ◌+◌, ℕ, zero, suc, Bool, true, false, cond, List, [], ◌∷◌, ◌++◌, get_or, length, take, refl, ap, sym, ◌∙◌, arith}
 use Rattle.std.specs.List.{AllByRecursion}
+use Rattle.std.proofs.lemmas.List.{take_more}
+use Rattle.std.proofs.lemmas.List.Elements.{filter-append}
 use Rattle.pact_bag.specs.SourceRows.{AreSourceRows, IsSourceRow}
 use Rattle.pact_record.specs.declared.columns.Column.{Column}
-use Rattle.tac_syntax.specs.declared.declarations.OpKind.{OpKind}
 use Rattle.tac_syntax.specs.declared.declarations.OpKind.TheVariants.{Source}
 use Rattle.pact_operators.specs.declared.operators.Op.{Op}
 use Rattle.pact_operators.specs.Inputs.{HaveRows}
-use Rattle.pact_operators.specs.PlanOps.{is_source_kind, kind_at, kind_in, source_place, sources_of}
-use Rattle.pact_operators.specs.Programs.{Takes, takes}
+use Rattle.pact_operators.specs.PlanOps.{is_source_kind, kind_at, source_place, sources_of}
 use Rattle.pact_record.specs.declared.values.Value.{Value}
 use Rattle.pact_record.specs.Widths.{AreWide}
 use Rattle.pact_record.proofs.Lists.{AllByRecursion-weaker}
-
-pub takes_none : (kind : OpKind) → takes kind ≡ 0 → kind ≡ Source
-takes_none Source h = refl
-takes_none kind h = absurd (omega (arith, h))
-
-pub is_source : (ops : List Op) (n : ℕ) → Takes ops n 0 → kind_at ops n ≡ Source
-is_source ops n t = ap kind_in t.1 ∙ takes_none t.0.kind t.2
 
 -- ---- the place of a source
 
@@ -34,6 +27,11 @@ place_among_sources : (ops : List Op) (n : ℕ) → n < length ops → kind_at o
 place_among_sources [] n h k = absurd (omega arith)
 place_among_sources (op ∷ ops) zero h k = first_kept (is_source_kind op.kind) op (sources_of ops) (ap is_source_kind k)
 place_among_sources (op ∷ ops) (suc n) h k = fewer (is_source_kind op.kind) op (sources_of (take n ops)) (sources_of ops) (place_among_sources ops n (omega arith) k)
+
+-- the sources among one operator more
+pub sources_of-next : (ops : List Op) (n : ℕ) (op : Op) → n < length ops → op ≡ get_or ops n op → sources_of (take (n + 1) ops) ≡ sources_of (take n ops) ++ cond (is_source_kind op.kind) (op ∷ []) []
+sources_of-next ops n op less is =
+    ap sources_of (take_more ops n op less ∙ ap (λ (o : Op). take n ops ++ o ∷ []) (sym is)) ∙ filter-append (λ (o : Op). is_source_kind o.kind) (take n ops) (op ∷ [])
 
 length-inputs : (fields : ℕ) (sources : List Op) (inputs : List (List (List Value))) → HaveRows fields sources inputs → length inputs ≡ length sources
 length-inputs fields [] [] h = refl

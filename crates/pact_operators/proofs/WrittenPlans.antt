@@ -1,8 +1,7 @@
 -- A draft that keeps the rules on names, numbers and the tree has a plan as written.
-use Rattle.std.proofs.Common.{◌≡◌, ◌≤◌, ◌<◌, ◌+◌, ◌&&◌, ◌==◌, not, nat_le, inl, inr, ℕ, zero, suc, Bool, true, false, Some, None, List, [], ◌∷◌, ◌++◌, length, filter, map, slice_get, bytes_eq, refl, ap, sym, subst, ◌∙◌, append_assoc, append-nil, arith, length-append}
+use Rattle.std.proofs.Common.{◌≡◌, ◌≤◌, ◌<◌, ◌+◌, ◌&&◌, ◌==◌, not, nat_le, inl, inr, ℕ, zero, suc, Bool, true, false, Some, None, List, [], ◌∷◌, ◌++◌, length, map, slice_get, bytes_eq, refl, ap, sym, subst, ◌∙◌, arith}
 use Rattle.std.specs.List.{AllByRecursion, list_any}
 use Rattle.std.proofs.lemmas.Bool.{and_parts, both_ways, eqb-true, false_from_ne_true, leb-false, not-false, or_cases, or_parts}
-use Rattle.std.proofs.lemmas.List.Elements.{filter-append}
 use Rattle.std.proofs.lemmas.Option.{slice_get_within}
 use Rattle.tac_syntax.specs.Valid.{WithFields}
 use Rattle.tac_syntax.specs.declared.declarations.OpKind.{OpKind}
@@ -12,10 +11,11 @@ use Rattle.tac_syntax.specs.declared.declarations.Decl.TheVariants.{Source, Func
 use Rattle.pact_operators.specs.declared.program_rules.ProgramRule.TheVariants.{Undeclared, DeclaredTwice, NoSingleSink, TooMany, NotATree}
 use Rattle.tac_syntax.specs.Drafts.{DraftData}
 use Rattle.plan_trees.specs.Plans.{PlanTree, IsPlan, nodes, node_limit}
-use Rattle.pact_operators.specs.ProgramRules.{Keeps, NoneBreaks, all_inputs, is_one_too_many, is_operator, is_out_of_tree, is_reached, is_reader, name_at, some_missing, times_so}
-use Rattle.pact_operators.specs.Programs.{IsWrittenPlan, operator_limit}
+use Rattle.pact_operators.specs.ProgramRules.{Keeps, NoneBreaks, all_inputs, is_operator, is_out_of_tree, is_reached, is_reader, name_at, some_missing, times_so}
+use Rattle.pact_operators.specs.Programs.{IsWrittenPlan}
 use Rattle.pact_operators.specs.Resolved.{Inputs, two_inputs, function_names, inputs_of, inputs_read, is_among, names_read, node_names, place_among, sink_inputs, times_among}
 use Rattle.plan_trees.proofs.DifferentNumbers.{IsIn}
+use Rattle.pact_operators.proofs.FewDeclarations.{declared-operators}
 use Rattle.pact_operators.proofs.FlowsMakeTrees.{At, IsFlow, Reads, readers_from, whole_tree}
 use Rattle.pact_operators.proofs.NamedInputs.{AllDeclared, ReadsName, eq_names, length-inputs_of, named, numbered, one_reader, only_place, placed, same_name, sink_and_reader, some_place, twice_read}
 
@@ -136,24 +136,6 @@ few_readers n names (OpDecl own kind function left right left_keys right_keys �
     omega (arith, few_readers (suc n) names decls, reads_no_more n names kind left right (inputs_of names decls))
 few_readers n names (Sink input fields ∷ decls) = few_readers n names decls
 
-operators-more : (front : List Decl) (decl : Decl) → times_so is_operator (front ++ decl ∷ []) ≡ times_so is_operator front + times_so is_operator (decl ∷ [])
-operators-more front decl = ap length (filter-append is_operator front (decl ∷ [])) ∙ length-append (filter is_operator front) (filter is_operator (decl ∷ []))
-
-room_for : (front : List Decl) (decl : Decl) → is_one_too_many front decl ≡ false → times_so is_operator front ≤ operator_limit → times_so is_operator (front ++ decl ∷ []) ≤ operator_limit
-room_for front (Source own file columns) h le = omega (arith, le, operators-more front (Source own file columns))
-room_for front (FunctionDecl number) h le = omega (arith, le, operators-more front (FunctionDecl number))
-room_for front (OpDecl own kind function left right left_keys right_keys) h le =
-    let decl = OpDecl own kind function left right left_keys right_keys in
-    let some = or_parts (nat_le operator_limit (times_so is_operator front)) _ h in
-    omega (arith, leb-false operator_limit (times_so is_operator front) some.0, operators-more front decl)
-room_for front (Sink input fields) h le = omega (arith, le, operators-more front (Sink input fields))
-
-few_operators : (d : DraftData) (v : List WithFields) (front decls : List Decl) → NoneBreaks TooMany d v front decls → times_so is_operator front ≤ operator_limit → times_so is_operator (front ++ decls) ≤ operator_limit
-few_operators d v front [] h le = subst (λ (x : List Decl). times_so is_operator x ≤ operator_limit) (sym (append-nil front)) le
-few_operators d v front (decl ∷ decls) h le =
-    subst (λ (x : List Decl). times_so is_operator x ≤ operator_limit) (append_assoc front (decl ∷ []) decls)
-    (few_operators d v (front ++ decl ∷ []) decls h.1 (room_for front decl (false_from_ne_true _ h.0) le))
-
 -- ---- the plan
 
 one_sink : (names : List (List ℕ)) → (length names == 1) ≡ true → (input : List ℕ) × (names ≡ input ∷ [])
@@ -219,7 +201,7 @@ written_plan d v declared once single few tree =
     let one = one_sink (sink_inputs d.decls) (not-false _ (single.1 refl)) in
     let flow = is_flow d v one.0 one.1 declared once tree in
     let whole = whole_tree (inputs_of names d.decls) (place_among one.0 names) (times_so is_operator d.decls) flow in
-    let operators = few_operators d v [] d.decls few.0 (omega arith) in
+    let operators = declared-operators d v few.0 in
     let readers = few_readers 0 names d.decls in (
       whole.0,
       record {

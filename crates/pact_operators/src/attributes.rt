@@ -85,24 +85,20 @@ pub fn attrs(program: &Program, plan: &Plan, at: u32) -> Fields
     attributes_of(program.functions(), program.ops(), &plan.subtree(at))
 }
 
-fn left_fields(functions: &[Valid], ops: &[Op], plan: &Plan) -> Fields
+// What the left input of the root may hold, and what the right one.
+fn input_fields(functions: &[Valid], ops: &[Op], plan: &Plan) -> (Fields, Fields)
     requires { AllByRecursion (λ k. k < MAX_FIELDS) (source_fields ops.now) }
-    ensures { (k : ℕ) → IsTrue (has_field result k) ↔ HasLeftAttribute functions.now ops.now plan.now k }
+    ensures left { (k : ℕ) → IsTrue (has_field result.0 k) ↔ HasLeftAttribute functions.now ops.now plan.now k }
+    ensures right { (k : ℕ) → IsTrue (has_field result.1 k) ↔ HasRightAttribute functions.now ops.now plan.now k }
 {
     match plan.parts() {
-        Parts::Alone { .. } => Fields::empty(),
-        Parts::OverOne { input, .. } => attributes_of(functions, ops, &input),
-        Parts::OverTwo { left, .. } => attributes_of(functions, ops, &left),
-    }
-}
-
-fn right_fields(functions: &[Valid], ops: &[Op], plan: &Plan) -> Fields
-    requires { AllByRecursion (λ k. k < MAX_FIELDS) (source_fields ops.now) }
-    ensures { (k : ℕ) → IsTrue (has_field result k) ↔ HasRightAttribute functions.now ops.now plan.now k }
-{
-    match plan.parts() {
-        Parts::Alone { .. } | Parts::OverOne { .. } => Fields::empty(),
-        Parts::OverTwo { right, .. } => attributes_of(functions, ops, &right),
+        Parts::Alone { .. } => (Fields::empty(), Fields::empty()),
+        Parts::OverOne { input, .. } => (attributes_of(functions, ops, &input), Fields::empty()),
+        Parts::OverTwo { left, right, .. } => {
+            let left = attributes_of(functions, ops, &left);
+            let right = attributes_of(functions, ops, &right);
+            (left, right)
+        }
     }
 }
 
@@ -129,10 +125,11 @@ pub fn context(program: &Program, plan: &Plan, at: u32) -> Context
     let functions = program.functions();
     let ops = program.ops();
     let subtree = plan.subtree(at);
+    let (left, right) = input_fields(functions, ops, &subtree);
     let (left_keys, right_keys) = keys_of(ops, at);
     Context {
-        left: left_fields(functions, ops, &subtree),
-        right: right_fields(functions, ops, &subtree),
+        left,
+        right,
         left_keys,
         right_keys,
     }

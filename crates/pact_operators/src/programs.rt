@@ -1,6 +1,8 @@
 //! Programs whose names are resolved.
 
-ghost use Rattle.std.specs.Prelude.{◌≡◌};
+ghost use Rattle.std.specs.Prelude.{◌≡◌, Some, slice_get};
+ghost use Rattle.tac_syntax.specs.declared.declarations.OpKind.TheVariants.{Source};
+ghost use Rattle.pact_operators.specs.PlanOps.{function_in, kind_at};
 ghost use Rattle.pact_operators.specs.Programs.{IsProgram};
 
 use crate::operators::Op;
@@ -74,6 +76,16 @@ impl Program {
         ensures keeps { IsProgram self.now }
     {
         &self.ops
+    }
+
+    /// The function that an operator calls.
+    pub fn function_at(&self, at: u32) -> &Valid
+        requires operator { kind_at self.now.ops at ≡ Source → ⊥ }
+        ensures function { slice_get self.now.functions (function_in (slice_get self.now.ops at)) ≡ Some result.now }
+        ensures fields { result.now.fields ≡ self.now.fields }
+    {
+        let op = &self.ops()[at as usize];
+        &self.functions()[op.function as usize]
     }
 
     /// The plan as written.

@@ -31,6 +31,7 @@ use Rattle.pact_words.proofs.OneAsked.{never_both, not_both, one_asked, one_of}
 use Rattle.pact_operators.proofs.DifferentNames.{kept-NamesDiffer, spelled-AreNames}
 use Rattle.pact_operators.proofs.OneProgram.{one_program}
 use Rattle.pact_operators.proofs.RefusedOrKept.{refused_not_kept}
+use Rattle.pact_top.proofs.MadePrograms.{program_made}
 use Rattle.pact_top.proofs.StageLaws.{AreAlike, Agree, GivesOne, IsDecided, StopsSo, agree_then, decided_then, each_decided, each_one, gave_cons, give_agrees, give_alike, one_then, plain_decided, stops_each, stops_give, stops_then}
 
 -- ---- words
@@ -163,37 +164,13 @@ accepted_or_refused p names c plan fault h g = let same = checks-one p names c (
 rechecked_decided : (p : ProgramData) → NamesDiffer p.ops → (c : Certificate) → IsDecided (rechecked p c)
 rechecked_decided p names c = plain_decided _ _ (λ plan s l h g. accepted_or_refused p names c plan g.0 h g.1) (λ s t l m h g. h.2 ∙ sym g.2)
 
--- the program that a text spells has no name twice
-program-NamesDiffer : (name text : List ℕ) (p : ProgramData) (r : List Reading) → (program_of name text).Ends r (gives p) → NamesDiffer p.ops
-program-NamesDiffer name text p r (gives d, r1, r2, e, h, (gives vs, r3, r4, e2, v, k)) = kept-NamesDiffer d vs p k.1.program (k.1.kept DeclaredTwice)
-program-NamesDiffer name text p r (gives d, r1, r2, e, h, (stops s l, r3, r4, e2, v, k)) = absurd cc
-program-NamesDiffer name text p r (gives d, r1, r2, e, h, (misses n, r3, r4, e2, v, k)) = absurd cc
-program-NamesDiffer name text p r (gives d, r1, r2, e, h, (fails n, r3, r4, e2, v, k)) = absurd cc
-program-NamesDiffer name text p r (stops s l, r1, r2, e, h, k) = absurd cc
-program-NamesDiffer name text p r (misses n, r1, r2, e, h, k) = absurd cc
-program-NamesDiffer name text p r (fails n, r1, r2, e, h, k) = absurd cc
-
+-- the program of a file has no name twice
 pub file-NamesDiffer : (files : Option (List NamedFile)) (name : List ℕ) (p : ProgramData) (r : List Reading) → (program_file files name).Ends r (gives p) → NamesDiffer p.ops
-file-NamesDiffer files name p r (gives text, r1, r2, e, f, h) = program-NamesDiffer name text p r2 h
-file-NamesDiffer files name p r (stops s l, r1, r2, e, f, h) = absurd cc
-file-NamesDiffer files name p r (misses n, r1, r2, e, f, h) = absurd cc
-file-NamesDiffer files name p r (fails n, r1, r2, e, f, h) = absurd cc
+file-NamesDiffer files name p r h = let m = program_made files name p r h in kept-NamesDiffer m.drafted m.functions p m.from.program (m.from.kept DeclaredTwice)
 
 -- and each is named as a text names it
-program-AreNames : (name text : List ℕ) (p : ProgramData) (r : List Reading) → (program_of name text).Ends r (gives p) → AreNames p.ops
-program-AreNames name text p r (gives d, r1, r2, e, h, (gives vs, r3, r4, e2, v, k)) = spelled-AreNames d vs p k.1.program h.1.writable.spelled
-program-AreNames name text p r (gives d, r1, r2, e, h, (stops s l, r3, r4, e2, v, k)) = absurd cc
-program-AreNames name text p r (gives d, r1, r2, e, h, (misses n, r3, r4, e2, v, k)) = absurd cc
-program-AreNames name text p r (gives d, r1, r2, e, h, (fails n, r3, r4, e2, v, k)) = absurd cc
-program-AreNames name text p r (stops s l, r1, r2, e, h, k) = absurd cc
-program-AreNames name text p r (misses n, r1, r2, e, h, k) = absurd cc
-program-AreNames name text p r (fails n, r1, r2, e, h, k) = absurd cc
-
 pub file-AreNames : (files : Option (List NamedFile)) (name : List ℕ) (p : ProgramData) (r : List Reading) → (program_file files name).Ends r (gives p) → AreNames p.ops
-file-AreNames files name p r (gives text, r1, r2, e, f, h) = program-AreNames name text p r2 h
-file-AreNames files name p r (stops s l, r1, r2, e, f, h) = absurd cc
-file-AreNames files name p r (misses n, r1, r2, e, f, h) = absurd cc
-file-AreNames files name p r (fails n, r1, r2, e, f, h) = absurd cc
+file-AreNames files name p r h = let m = program_made files name p r h in spelled-AreNames m.drafted m.functions p m.from.program m.spelled.writable.spelled
 
 -- ---- the commands
 

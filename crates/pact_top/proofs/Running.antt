@@ -15,9 +15,9 @@ use Rattle.pact_top.specs.declared.refusals.Refusal.{Refusal}
 use Rattle.pact_top.specs.declared.refusals.Refusal.TheVariants.{OutOfMemory, Usage, CannotRead, CannotWrite, Decided}
 use Rattle.pact_top.specs.declared.texts.Texts.{Texts}
 use Rattle.pact_top.specs.Refusal.{Answers, AskForCounts, Comes, ComesTo, Decides, IsAnswered, IsRefused, IsTold, IsUsageTold}
-use Rattle.pact_top.specs.Stages.{Reading, Stage, and_then, fails, give, gives, misses, stops}
+use Rattle.pact_top.specs.Stages.{Reading, Stage, and_then, give, gives, stops}
 use Rattle.pact_top.specs.RefusalLines.{usage_line}
-use Rattle.pact_top.specs.Work.{accepted, certificate_file, loaded, program_file, ready_for, rechecked, sources, texts_for, work}
+use Rattle.pact_top.specs.Work.{accepted, certificate_file, command, loaded, program_file, ready_for, rechecked, sources, texts_for, work}
 use Rattle.pact_words.specs.declared.commands.Options.{Options}
 use Rattle.pact_words.specs.Words.{AreRefused, Asked, IsAsked, to_certify, to_check, to_plan, to_run, to_tell_sets}
 use Rattle.pact_top.proofs.Comings.{comes_decided, comes_err, comes_then, decides_err, decides_then}
@@ -25,6 +25,7 @@ use Rattle.pact_top.proofs.Decided.{IsKnown, file-AreNames, work_known}
 use Rattle.pact_top.proofs.OnlyBag.{one_text, only_bag}
 use Rattle.pact_top.proofs.SourceNames.{work_fails}
 use Rattle.pact_top.proofs.Sources.{are_inputs}
+use Rattle.pact_top.proofs.StageLaws.{gave_then}
 
 -- ---- a program and its rows
 
@@ -49,14 +50,11 @@ pub record IsLoaded (l : Loaded) : Type 0 where
   pub names : AreNames l.program.ops
 
 loaded_is : (files : Option (List NamedFile)) (name : List ℕ) (l : Loaded) (r : List Reading) → (loaded files name).Ends r (gives l) → IsLoaded l
-loaded_is files name l r (gives p, r1, r2, e, f, (gives inputs, r3, r4, e2, g, h)) =
-    subst IsLoaded (sym h.1) (record { inputs = are_inputs p files inputs r3 g; names = file-AreNames files name p r1 f })
-loaded_is files name l r (gives p, r1, r2, e, f, (stops s m, r3, r4, e2, g, h)) = absurd cc
-loaded_is files name l r (gives p, r1, r2, e, f, (misses n, r3, r4, e2, g, h)) = absurd cc
-loaded_is files name l r (gives p, r1, r2, e, f, (fails n, r3, r4, e2, g, h)) = absurd cc
-loaded_is files name l r (stops s m, r1, r2, e, f, h) = absurd cc
-loaded_is files name l r (misses n, r1, r2, e, f, h) = absurd cc
-loaded_is files name l r (fails n, r1, r2, e, f, h) = absurd cc
+loaded_is files name l r h =
+    let made = gave_then (program_file files name) (λ p. and_then (sources p files) (λ inputs. give (λ all. all ≡ record { program = p; inputs = inputs }))) r l h in
+    let p = made.value in
+    let read = gave_then (sources p files) (λ inputs. give (λ all. all ≡ record { program = p; inputs = inputs })) made.later l made.next in
+    subst IsLoaded (sym read.next.1) (record { inputs = are_inputs p files read.value read.front read.first; names = file-AreNames files name p made.front made.first })
 
 pub is_loaded : {before now : Feeding} (name : List ℕ) (l : Loaded) → Comes (λ f. loaded f name) before now (Ok l) → IsLoaded l
 is_loaded {before} name l h = loaded_is before.files name l h.told.readings h.told.ends
@@ -176,10 +174,7 @@ counted_texts (to_accept a) texts text are told = let none = are.1 in absurd cc
 
 -- what a command has read is what it makes of what it came to
 gave_made : {A : Type 0} (s : Stage A) (make : A → Ready) (p : List Reading) (y : Ready) → (and_then s (λ x. give (λ r. r ≡ make x))).Ends p (gives y) → (x : A) × (y ≡ make x)
-gave_made s make p y (gives x, q, r, e, h, g) = (x, g.1)
-gave_made s make p y (stops status line, q, r, e, h, g) = absurd cc
-gave_made s make p y (misses name, q, r, e, h, g) = absurd cc
-gave_made s make p y (fails name, q, r, e, h, g) = absurd cc
+gave_made s make p y h = let made = gave_then s (λ x. give (λ r. r ≡ make x)) p y h in (made.value, made.next.1)
 
 -- and for counts only where it asks for them
 asks : (files : Option (List NamedFile)) (c : Asked) (p : List Reading) (l : Loaded) (workers plans : ℕ) → (ready_for files c).Ends p (gives (to_evaluate l workers plans true))
@@ -192,19 +187,16 @@ asks files (to_check name other) p l workers plans h = let e = (gave_made (accep
 
 counts_for : (words : List (List ℕ)) (files : Option (List NamedFile)) (c : Asked) (p : List Reading) (texts : Texts) (text : List ℕ) → IsAsked words c → (texts_for files c).Ends p (gives texts) → texts.counts ≡ Some text
     → AskForCounts words
-counts_for words files c p texts text asked (gives y, q, r, e, h, g) told =
-    let made_so = counted_texts y texts text g.1 told in
-    let a = asks files c q made_so.0 made_so.1 made_so.2 (subst (λ (z : Ready). (ready_for files c).Ends q (gives z)) made_so.3 h) in
+counts_for words files c p texts text asked h told =
+    let made = gave_then (ready_for files c) (λ r. give (AreTextsOf r)) p texts h in
+    let made_so = counted_texts made.value texts text made.next.1 told in
+    let a = asks files c made.front made_so.0 made_so.1 made_so.2 (subst (λ (z : Ready). (ready_for files c).Ends made.front (gives z)) made_so.3 made.first) in
     (a.0, a.1, subst (IsAsked words) a.2 asked)
-counts_for words files c p texts text asked (stops status line, q, r, e, h, g) told = absurd cc
-counts_for words files c p texts text asked (misses name, q, r, e, h, g) told = absurd cc
-counts_for words files c p texts text asked (fails name, q, r, e, h, g) told = absurd cc
 
 counts_in : (words : List (List ℕ)) (files : Option (List NamedFile)) (p : List Reading) (texts : Texts) (text : List ℕ) → (work words files).Ends p (gives texts) → texts.counts ≡ Some text → AskForCounts words
-counts_in words files p texts text (gives c, q, r, e, h, g) told = counts_for words files c r texts text h.1 g told
-counts_in words files p texts text (stops status line, q, r, e, h, g) told = absurd cc
-counts_in words files p texts text (misses name, q, r, e, h, g) told = absurd cc
-counts_in words files p texts text (fails name, q, r, e, h, g) told = absurd cc
+counts_in words files p texts text h told =
+    let asked = gave_then (command words) (texts_for files) p texts h in
+    counts_for words files asked.value asked.later texts text asked.first.1 asked.next told
 
 -- ---- answers
 

@@ -4,20 +4,22 @@ use Rattle.std.specs.List.{AllByRecursion}
 use Rattle.tac_syntax.specs.declared.declarations.Decl.{Decl}
 use Rattle.tac_syntax.specs.declared.declarations.Decl.TheVariants.{Source, Function, Op as OpDecl, Sink}
 use Rattle.tac_syntax.specs.declared.declarations.OpKind.{OpKind}
-use Rattle.tac_syntax.specs.declared.declarations.OpKind.TheVariants.{Source as SourceKind, Map, Reduce, Match, Cross, CoGroup}
+use Rattle.tac_syntax.specs.declared.declarations.OpKind.TheVariants.{Source as SourceKind}
 use Rattle.pact_operators.specs.declared.operators.Op.{Op}
 use Rattle.tac_syntax.specs.Declarations.{HasInputs}
 use Rattle.tac_syntax.specs.Drafts.{AreDeclared}
 use Rattle.pact_operators.specs.PlanOps.{is_source_kind, sources_of}
 use Rattle.pact_operators.specs.Programs.{ProgramData}
 use Rattle.pact_operators.specs.Resolved.{function_names, ops_of}
+use Rattle.pact_operators.proofs.SourceKinds.{source_kind}
 use Rattle.pact_outside.specs.declared.files.NamedFile.{NamedFile}
 use Rattle.pact_words.specs.Words.{Asked, to_run, to_plan, to_certify, to_tell_sets, to_check, IsAsked}
 use Rattle.tac_syntax.specs.declared.functions.Function.{Function as FunctionValue}
 use Rattle.tac_syntax.specs.Names.{is_file_name}
 use Rattle.pact_top.specs.Refusal.{IsNamed, Names}
-use Rattle.pact_top.specs.Stages.{each, fails, gives, misses, stops, Reading}
-use Rattle.pact_top.specs.Work.{certificate_limit, file, loaded, program_file, program_limit, program_of, ready_for, source_file, source_limit, valid, work}
+use Rattle.pact_top.specs.Stages.{each, gives, Reading}
+use Rattle.pact_top.specs.Work.{certificate_limit, file, loaded, program_file, program_limit, ready_for, source_file, source_limit, valid, work}
+use Rattle.pact_top.proofs.MadePrograms.{program_made}
 use Rattle.pact_top.proofs.StageLaws.{FailsSo, fails_plain, fails_then}
 
 -- a source's file has a name that a program may give it
@@ -35,14 +37,6 @@ names_in functions n count (OpDecl name kind function left right left_keys right
     ((λ e. absurd (no_source kind right left_keys right_keys h.0.3 e)), names_in functions n count decls h.1)
 names_in functions n count (Sink input fields ∷ decls) h = names_in functions n count decls h.1
 
-source_kind : (kind : OpKind) → is_source_kind kind ≡ true → kind ≡ SourceKind
-source_kind SourceKind h = refl
-source_kind Map h = cc
-source_kind Reduce h = cc
-source_kind Match h = cc
-source_kind Cross h = cc
-source_kind CoGroup h = cc
-
 sources_named : (ops : List Op) → AllByRecursion HasFileName ops → AllByRecursion (λ s. IsTrue (is_file_name s.file)) (sources_of ops)
 sources_named [] h = tt
 sources_named (op ∷ ops) h = one (is_source_kind op.kind) op (sources_of ops) (λ e. h.0 (source_kind op.kind e)) (sources_named ops h.1)
@@ -51,21 +45,11 @@ sources_named (op ∷ ops) h = one (is_source_kind op.kind) op (sources_of ops) 
     one true op rest h g = (h refl, g)
     one false op rest h g = g
 
-program_named : (name text : List ℕ) (p : ProgramData) (r : List Reading) → (program_of name text).Ends r (gives p) → AllByRecursion HasFileName p.ops
-program_named name text p r (gives d, r1, r2, e, h, (gives vs, r3, r4, e2, v, k)) =
-    subst (λ (ops : List Op). AllByRecursion HasFileName ops) (sym k.1.program.ops) (names_in (function_names d.functions) 0 (length d.functions) d.decls h.1.writable.spelled.declared)
-program_named name text p r (gives d, r1, r2, e, h, (stops s l, r3, r4, e2, v, k)) = absurd cc
-program_named name text p r (gives d, r1, r2, e, h, (misses n, r3, r4, e2, v, k)) = absurd cc
-program_named name text p r (gives d, r1, r2, e, h, (fails n, r3, r4, e2, v, k)) = absurd cc
-program_named name text p r (stops s l, r1, r2, e, h, k) = absurd cc
-program_named name text p r (misses n, r1, r2, e, h, k) = absurd cc
-program_named name text p r (fails n, r1, r2, e, h, k) = absurd cc
-
 file_sources_named : (files : Option (List NamedFile)) (name : List ℕ) (p : ProgramData) (r : List Reading) → (program_file files name).Ends r (gives p) → AllByRecursion HasFileName p.ops
-file_sources_named files name p r (gives text, r1, r2, e, f, h) = program_named name text p r2 h
-file_sources_named files name p r (stops s l, r1, r2, e, f, h) = absurd cc
-file_sources_named files name p r (misses n, r1, r2, e, f, h) = absurd cc
-file_sources_named files name p r (fails n, r1, r2, e, f, h) = absurd cc
+file_sources_named files name p r h =
+    let m = program_made files name p r h in
+    let d = m.drafted in
+    subst (AllByRecursion HasFileName) (sym m.from.program.ops) (names_in (function_names d.functions) 0 (length d.functions) d.decls m.spelled.writable.spelled.declared)
 
 -- ---- the names of the files that may not be read
 

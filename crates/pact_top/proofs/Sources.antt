@@ -1,7 +1,6 @@
 -- The sources among the operators of a program.
-use Rattle.std.proofs.Common.{◌≡◌, ◌<◌, ◌+◌, ℕ, zero, suc, Bool, true, false, cond, List, [], ◌∷◌, ◌++◌, Option, Result, Ok, Err, get_or, length, take, refl, ap, sym, ◌∙◌, subst, arith, append-nil}
-use Rattle.std.proofs.lemmas.List.{take_more}
-use Rattle.std.proofs.lemmas.List.Elements.{filter-append}
+use Rattle.std.proofs.Common.{◌≡◌, ◌<◌, ◌+◌, ℕ, zero, suc, Bool, true, false, cond, List, [], ◌∷◌, ◌++◌, Option, Result, Ok, Err, get_or, length, take, ap, sym, ◌∙◌, subst, arith, append-nil}
+use Rattle.std.proofs.lemmas.Bool.{cond-true}
 use Rattle.std.specs.List.{AllByRecursion}
 use Rattle.csv_source.specs.CsvRows.{records_of}
 use Rattle.csv_source.proofs.RowParts.{source_rows}
@@ -12,15 +11,16 @@ use Rattle.pact_operators.specs.Allowed.{Bag}
 use Rattle.pact_operators.specs.Inputs.{HaveRows}
 use Rattle.pact_operators.specs.PlanOps.{is_source_kind, sources_of}
 use Rattle.pact_operators.specs.Programs.{ProgramData, fields_of, source_fields}
+use Rattle.pact_operators.proofs.SourceRows.{sources_of-next}
 use Rattle.pact_outside.specs.declared.files.NamedFile.{NamedFile}
 use Rattle.pact_outside.specs.Outside.{Feeding}
 use Rattle.pact_record.specs.declared.values.Value.{Value}
 use Rattle.pact_top.specs.declared.refusals.Refusal.{Refusal}
 use Rattle.pact_top.specs.Refusal.{Comes}
-use Rattle.pact_top.specs.Stages.{Reading, Stage, each, fails, gives, misses, stops}
-use Rattle.pact_top.specs.Work.{source_file, sources}
+use Rattle.pact_top.specs.Stages.{Reading, Stage, each, gives}
+use Rattle.pact_top.specs.Work.{file, rows, source_file, source_limit, sources}
 use Rattle.pact_top.proofs.Comings.{comes_more, comes_stop}
-use Rattle.pact_top.proofs.StageLaws.{gave_cons}
+use Rattle.pact_top.proofs.StageLaws.{gave_cons, gave_then}
 
 -- ---- a source among others
 
@@ -28,31 +28,21 @@ one_more : (b : Bool) (op : Op) (front later rest : List Op) → rest ≡ front 
 one_more true op front later rest e = ap (λ (l : List Op). op ∷ l) e
 one_more false op front later rest e = e
 
-kept : (b : Bool) (op : Op) (rest : List Op) → b ≡ true → cond b (op ∷ rest) rest ≡ op ∷ rest
-kept true op rest e = refl
-kept false op rest e = cc
-
-passed : (b : Bool) (op : Op) (rest : List Op) → b ≡ false → cond b (op ∷ rest) rest ≡ rest
-passed true op rest e = cc
-passed false op rest e = refl
-
 -- what follows a source among the sources
 pub sources-split : (ops : List Op) (n : ℕ) (op : Op) → n < length ops → op ≡ get_or ops n op → is_source_kind op.kind ≡ true → (later : List Op) × (sources_of ops ≡ sources_of (take n ops) ++ op ∷ later)
 sources-split [] n op h e k = absurd (omega arith)
-sources-split (o ∷ ops) zero op h e k = (sources_of ops, kept (is_source_kind o.kind) o (sources_of ops) (ap (λ (x : Op). is_source_kind x.kind) (sym e) ∙ k) ∙ ap (λ (x : Op). x ∷ sources_of ops) (sym e))
+sources-split (o ∷ ops) zero op h e k = (sources_of ops, cond-true (is_source_kind o.kind) (o ∷ sources_of ops) (sources_of ops) (ap (λ (x : Op). is_source_kind x.kind) (sym e) ∙ k) ∙ ap (λ (x : Op). x ∷ sources_of ops) (sym e))
 sources-split (o ∷ ops) (suc n) op h e k =
     let rest = sources-split ops n op (omega arith) e k in
     (rest.0, one_more (is_source_kind o.kind) o (sources_of (take n ops)) (op ∷ rest.0) (sources_of ops) rest.1)
 
 pub sources-taken : (ops : List Op) (n : ℕ) (op : Op) → n < length ops → op ≡ get_or ops n op → is_source_kind op.kind ≡ true → sources_of (take (n + 1) ops) ≡ sources_of (take n ops) ++ op ∷ []
 sources-taken ops n op h e k =
-    ap sources_of (take_more ops n op h ∙ ap (λ (x : Op). take n ops ++ x ∷ []) (sym e)) ∙ filter-append (λ (x : Op). is_source_kind x.kind) (take n ops) (op ∷ [])
-    ∙ ap (λ (l : List Op). sources_of (take n ops) ++ l) (kept (is_source_kind op.kind) op [] k)
+    sources_of-next ops n op h e ∙ ap (λ (source : Bool). sources_of (take n ops) ++ cond source (op ∷ []) []) k
 
 pub sources-passed : (ops : List Op) (n : ℕ) (op : Op) → n < length ops → op ≡ get_or ops n op → is_source_kind op.kind ≡ false → sources_of (take (n + 1) ops) ≡ sources_of (take n ops)
 sources-passed ops n op h e k =
-    ap sources_of (take_more ops n op h ∙ ap (λ (x : Op). take n ops ++ x ∷ []) (sym e)) ∙ filter-append (λ (x : Op). is_source_kind x.kind) (take n ops) (op ∷ [])
-    ∙ ap (λ (l : List Op). sources_of (take n ops) ++ l) (passed (is_source_kind op.kind) op [] k) ∙ append-nil (sources_of (take n ops))
+    sources_of-next ops n op h e ∙ ap (λ (source : Bool). sources_of (take n ops) ++ cond source (op ∷ []) []) k ∙ append-nil (sources_of (take n ops))
 
 -- ---- columns and the fields of a sink
 
@@ -82,11 +72,10 @@ sink_within width fields (row ∷ bag) h k = (fields_within width (length row) f
 pub are_inputs : (p : ProgramData) (files : Option (List NamedFile)) (inputs : List Bag) (r : List Reading) → (sources p files).Ends r (gives inputs) → HaveRows p.fields (sources_of p.ops) inputs
 are_inputs p files inputs r h = have_rows p.fields files (sources_of p.ops) inputs r h
   where
-    source_wide : (fields : ℕ) (files : Option (List NamedFile)) (s : Op) (rows : Bag) (r : List Reading) → (source_file fields files s).Ends r (gives rows) → AreSourceRows fields s.columns rows
-    source_wide fields files s rows r (gives bytes, r1, r2, e, f, h) = source_rows fields s.columns (records_of bytes) rows h.1
-    source_wide fields files s rows r (stops status line, r1, r2, e, f, h) = absurd cc
-    source_wide fields files s rows r (misses name, r1, r2, e, f, h) = absurd cc
-    source_wide fields files s rows r (fails name, r1, r2, e, f, h) = absurd cc
+    source_wide : (fields : ℕ) (files : Option (List NamedFile)) (s : Op) (given : Bag) (r : List Reading) → (source_file fields files s).Ends r (gives given) → AreSourceRows fields s.columns given
+    source_wide fields files s given r h =
+        let read = gave_then (file files s.file source_limit) (rows fields s) r given h in
+        source_rows fields s.columns (records_of read.value) given read.next.1
 
     have_rows : (fields : ℕ) (files : Option (List NamedFile)) (ops : List Op) (inputs : List Bag) (r : List Reading) → (each (source_file fields files) ops).Ends r (gives inputs) → HaveRows fields ops inputs
     have_rows fields files [] inputs r h = rw h.1 tt

@@ -63,12 +63,7 @@ decided_then k o d e = agree_then k k d (λ a b ha hb. subst (λ x. Agree (k a) 
 then_one : {A B : Type 0} {s : Stage A} (k : A → Stage B) → GivesOne s → ((a : A) → CanEnd s (gives a) → GivesOne (k a))
     → (x y : End A) (u v : B) (p q p2 q2 : List Reading) → s.Ends p x → s.Ends q y → Follows k x p2 (gives u) → Follows k y q2 (gives v) → u ≡ v
 then_one k o e (gives a) (gives b) u v p q p2 q2 hx hy f g = (e b (record { readings = q; ends = hy })).one u v p2 q2 (subst (λ c. (k c).Ends p2 (gives u)) (o.one a b p q hx hy) f) g
-then_one k o e (gives a) (stops t m) u v p q p2 q2 hx hy f g = absurd cc
-then_one k o e (gives a) (misses m) u v p q p2 q2 hx hy f g = absurd cc
-then_one k o e (gives a) (fails m) u v p q p2 q2 hx hy f g = absurd cc
-then_one k o e (stops s l) y u v p q p2 q2 hx hy f g = absurd cc
-then_one k o e (misses n) y u v p q p2 q2 hx hy f g = absurd cc
-then_one k o e (fails n) y u v p q p2 q2 hx hy f g = absurd cc
+then_one k o e x y u v p q p2 q2 hx hy f g = absurd cc
 
 pub one_then : {A B : Type 0} {s : Stage A} (k : A → Stage B) → GivesOne s → ((a : A) → CanEnd s (gives a) → GivesOne (k a)) → GivesOne (and_then s k)
 one_then k o e = record { one = λ u v p q h g. then_one k o e h.0 g.0 u v h.1 g.1 h.2 g.2 h.4 g.4 h.5 g.5 }
@@ -149,6 +144,23 @@ ends_at_first s k x y p stop h = (x, p, [], sym (append-nil p), h, carried k x y
 pub ends_behind : {A B : Type 0} (s : Stage A) (k : A → Stage B) (a : A) (y : End B) (p q : List Reading) → s.Ends p (gives a) → (k a).Ends q y → (and_then s k).Ends (p ++ q) y
 ends_behind s k a y p q h g = (gives a, p, q, refl, h, g)
 
+-- ---- what a stage behind another gave
+
+-- what the first one gave, and how the next one came from it to what both give
+pub record GaveThen {A B : Type 0} (stage : Stage A) (k : A → Stage B) (p : List Reading) (b : B) : Type 0 where
+  pub value : A
+  pub front : List Reading
+  pub later : List Reading
+  pub read : p ≡ front ++ later
+  pub first : stage.Ends front (gives value)
+  pub next : (k value).Ends later (gives b)
+
+pub gave_then : {A B : Type 0} (stage : Stage A) (k : A → Stage B) (p : List Reading) (b : B) → (and_then stage k).Ends p (gives b) → GaveThen stage k p b
+gave_then stage k p b (gives a, front, later, e, h, g) = record { value = a; front = front; later = later; read = e; first = h; next = g }
+gave_then stage k p b (stops s l, front, later, e, h, g) = absurd cc
+gave_then stage k p b (misses n, front, later, e, h, g) = absurd cc
+gave_then stage k p b (fails n, front, later, e, h, g) = absurd cc
+
 -- ---- one item more
 
 -- what the first item and the others give
@@ -163,14 +175,19 @@ pub record GaveCons {A B : Type 0} (k : A → Stage B) (item : A) (items : List 
   pub together : all ≡ value ∷ values
 
 pub gave_cons : {A B : Type 0} (k : A → Stage B) (item : A) (items : List A) (p : List Reading) (all : List B) → (each k (item ∷ items)).Ends p (gives all) → GaveCons k item items p all
-gave_cons k item items p all (gives b, front, later, e, h, (gives bs, front2, later2, e2, g, t)) =
-    record { value = b; values = bs; front = front; later = front2; read = e ∙ ap (λ x. front ++ x) (e2 ∙ ap (λ x. front2 ++ x) t.0 ∙ append-nil front2); first = h; others = g; together = t.1 }
-gave_cons k item items p all (gives b, front, later, e, h, (stops s l, front2, later2, e2, g, t)) = absurd cc
-gave_cons k item items p all (gives b, front, later, e, h, (misses n, front2, later2, e2, g, t)) = absurd cc
-gave_cons k item items p all (gives b, front, later, e, h, (fails n, front2, later2, e2, g, t)) = absurd cc
-gave_cons k item items p all (stops s l, front, later, e, h, t) = absurd cc
-gave_cons k item items p all (misses n, front, later, e, h, t) = absurd cc
-gave_cons k item items p all (fails n, front, later, e, h, t) = absurd cc
+gave_cons k item items p all h =
+    let one = gave_then (k item) (λ value. and_then (each k items) (λ values. give (λ together. together ≡ value ∷ values))) p all h in
+    let rest = gave_then (each k items) (λ values. give (λ together. together ≡ one.value ∷ values)) one.later all one.next in
+    record {
+      value = one.value;
+      values = rest.value;
+      front = one.front;
+      later = rest.front;
+      read = one.read ∙ ap (λ x. one.front ++ x) (rest.read ∙ ap (λ x. rest.front ++ x) rest.next.0 ∙ append-nil rest.front);
+      first = one.first;
+      others = rest.first;
+      together = rest.next.1;
+    }
 
 give_cons : {A B : Type 0} (k : A → Stage B) (item : A) (items : List A) (p q : List Reading) (b : B) (bs all : List B) → all ≡ b ∷ bs → (k item).Ends p (gives b) → (each k items).Ends q (gives bs) → (each k (item ∷ items)).Ends (p ++ q) (gives all)
 give_cons k item items p q b bs all e h g = (gives b, p, q, refl, h, (gives bs, q, [], sym (append-nil q), g, (refl, e)))

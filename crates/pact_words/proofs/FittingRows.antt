@@ -1,7 +1,8 @@
 -- In words that clap takes, what it finds fits: each row is of an argument, and its first value passes that argument's parser.
 --
 -- The functions are those of clap's walk over the words, in its order. `c` are the arguments of a command, of which clap knows each by its name.
-use Rattle.std.proofs.Common.{◌≡◌, ◌⊎◌, ◌∙◌, inl, inr, refl, sym, ap, subst, ℕ, Bool, zero, suc, cond, List, [], ◌∷◌, ◌++◌, length, drop, Option, Some, None, fold, find, is_some, true, false, ◌&&◌, ◌||◌, if◌then◌else◌, true≢false}
+use Rattle.std.proofs.Common.{◌≡◌, ◌⊎◌, ◌∙◌, inl, inr, refl, sym, ap, subst, ℕ, Bool, zero, suc, cond, List, [], ◌∷◌, ◌++◌, length, drop, Option, Some, None, fold, find, is_some, true, false, ◌&&◌, if◌then◌else◌}
+use Rattle.std.proofs.lemmas.Bool.{or_parts}
 use Rattle.std.specs.Prelude.{encode_utf8, slice_get}
 use Rattle.std.specs.List.{AllByRecursion}
 use Rattle.std.specs.Option.{option_map_or}
@@ -24,10 +25,6 @@ use Rattle.clap.specs.declared.parser.matches.ValueSource.TheVariants.{CommandLi
 pub or_both : (a b : Kinds) → or_else a b ≡ [] → (a ≡ []) × (b ≡ [])
 or_both [] b e = (refl, e)
 or_both (k ∷ ks) b e = cc
-
-pub or_false : (a b : Bool) → (a || b) ≡ false → (a ≡ false) × (b ≡ false)
-or_false true b e = absurd (true≢false e)
-or_false false b e = (refl, e)
 
 -- what holds after either branch, where it has no fault
 chosen : {A : Type 0} (b : Bool) (k l : Kinds) (x y : A) (P : A → Type 0) → (k ≡ [] → P x) → (l ≡ [] → P y)
@@ -61,7 +58,7 @@ fit_more c (x ∷ rows) r h f = (h.0, fit_more c rows r h.1 f)
 at_absent : (id : Text) (change : Row → List Row) (missing rows : List Row) → has_row id rows ≡ false → at_row id change missing rows ≡ rows ++ missing
 at_absent id change missing [] e = refl
 at_absent id change missing (r ∷ rows) e =
-    let two = or_false (bytes_eq r.id id) (has_row id rows) e in
+    let two = or_parts (bytes_eq r.id id) (has_row id rows) e in
     rw two.0 (ap (λ xs. r ∷ xs) (at_absent id change missing rows two.1))
 
 without_absent : (id : Text) (rows : List Row) → has_row id rows ≡ false → without id rows ≡ rows

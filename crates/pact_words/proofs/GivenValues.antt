@@ -1,5 +1,6 @@
 -- In words that clap takes, each argument that is required or has a default has a value, which its parser takes.
 use Rattle.std.proofs.Common.{◌≡◌, ◌⊎◌, ◌∙◌, inl, inr, refl, sym, ap, ap₂, subst, Bool, cond, List, [], ◌∷◌, ◌++◌, not, Some, option_map, fold, find, true, false, ◌&&◌, ◌||◌, if◌then◌else◌, true≢false}
+use Rattle.std.proofs.lemmas.Bool.{or_parts}
 use Rattle.std.specs.Prelude.{slice_get, length}
 use Rattle.std.proofs.Math.Dec.{eqb-suc-zero}
 use Rattle.std.specs.List.{list_any}
@@ -14,7 +15,7 @@ use Rattle.clap.specs.Simple.{Shape}
 use Rattle.clap.specs.Takes.{is_given}
 use Rattle.clap.specs.Faults.{check_fault, default_fault, defaults_fault, level_fault, settle_fault, values_fault, walk_fault}
 use Rattle.clap.specs.declared.parser.matches.ValueSource.TheVariants.{DefaultValue}
-use Rattle.pact_words.proofs.FittingRows.{AllFit, AllKnown, Fits, HasSome, Keeps, fit_more, fitting, folded_fits, new_row, or_both, or_false, settled_fits, values_absent}
+use Rattle.pact_words.proofs.FittingRows.{AllFit, AllKnown, Fits, HasSome, Keeps, fit_more, fitting, folded_fits, new_row, or_both, settled_fits, values_absent}
 
 -- ---- rows
 
@@ -119,7 +120,7 @@ required : (d : List Rule) (rows : List Row) (id : Text) (a : Rule) → arg_by_i
     → list_any (is_wanting rows) d ≡ false → is_given id rows ≡ true
 required [] rows id a e is none = cc
 required (b ∷ d) rows id a e is none =
-    let two = or_false (is_wanting rows b) (list_any (is_wanting rows) d) none in
+    let two = or_parts (is_wanting rows b) (list_any (is_wanting rows) d) none in
     go two.0 (bytes_eq b.id id) refl (λ k. required d rows id a k is two.1) e
   where
     given : (x y : Bool) → (x && not y) ≡ false → x ≡ true → y ≡ true

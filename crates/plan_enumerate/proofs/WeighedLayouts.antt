@@ -7,27 +7,25 @@ use Rattle.plan_trees.specs.Plans.{PlanTree, leaf, over, both, IsPlan}
 use Rattle.pact_operators.specs.Programs.{ProgramData}
 use Rattle.ship_strategy.specs.Facts.{Facts}
 use Rattle.ship_strategy.specs.PlanFacts.{facts_of}
-use Rattle.ship_strategy.specs.Layouts.{IsLaidOut, layout_of, left_ship, only_ship, right_ship, ways_of}
-use Rattle.ship_strategy.specs.Ships.{placed_both, placed_over, placement}
+use Rattle.ship_strategy.specs.Layouts.{IsLaidOut, layout_of, left_ship, only_ship, planned, right_ship, ways_of}
+use Rattle.ship_strategy.specs.Ships.{Placement, placed_both, placed_over, placement}
 use Rattle.ship_strategy.specs.declared.ways.Way.{Way}
 use Rattle.ship_strategy.proofs.LaidSteps.{laid_tree, laid_workers}
-use Rattle.ship_strategy.proofs.LaidShips.{layout_out}
+use Rattle.ship_strategy.proofs.LaidShips.{layout_out, placement-planned}
 use Rattle.plan_enumerate.specs.Choices.{layout_cost}
 use Rattle.plan_enumerate.specs.Weights.{weighed}
 
 module _ (p : ProgramData) (counts : List ℕ) (workers : ℕ) (f : Facts) (w : ℕ → Way) (physical : PhysicalData) where
+  planned-weighed : (t : PlanTree) → planned f w t ≡ (weighed p counts workers f w t).placement
+  planned-weighed (leaf n) = refl
+  planned-weighed (over n t) = ap (λ (below : Placement). placed_over (f n) (only_ship (f n).kind (f n).left_keys below) below) (planned-weighed t)
+  planned-weighed (both n t u) =
+      let left = planned-weighed t in
+      let right = planned-weighed u in
+      λ i. placed_both (f n) (left_ship (w n) (f n).left_keys (left i)) (right_ship (w n) (f n).right_keys (right i)) (left i) (right i)
+
   placed : (t : PlanTree) → IsLaidOut f w physical t → placement f physical t ≡ (weighed p counts workers f w t).placement
-  placed (leaf n) h = refl
-  placed (over n t) h =
-      let below = placed t h.1 in
-      let ship = h.0 ∙ ap (only_ship (f n).kind (f n).left_keys) below in
-      λ i. placed_over (f n) (ship i) (below i)
-  placed (both n t u) h =
-      let left = placed t h.2 in
-      let right = placed u h.3 in
-      let on_left = h.0 ∙ ap (left_ship (w n) (f n).left_keys) left in
-      let on_right = h.1 ∙ ap (right_ship (w n) (f n).right_keys) right in
-      λ i. placed_both (f n) (on_left i) (on_right i) (left i) (right i)
+  placed t h = placement-planned f w physical t h ∙ planned-weighed t
 
   module _ (same : physical.workers ≡ workers) where
     spends : (t : PlanTree) → IsLaidOut f w physical t → spent p counts physical t ≡ (weighed p counts workers f w t).cost

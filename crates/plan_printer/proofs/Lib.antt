@@ -1,2 +1,3 @@
+pub mod RisingFields
 pub mod ListedFields
 pub mod LinesSoFar

@@ -1,5 +1,5 @@
 -- Fields with commas between them, one more at the end.
-use Rattle.std.proofs.Common.{◌≡◌, ◌≤◌, ◌<◌, ◌+◌, ◌++◌, ℕ, zero, suc, Bool, true, false, cond, List, [], ◌∷◌, length, refl, ap, subst, sym, ◌∙◌, append_assoc, append-nil, length-append, ne_eqb, arith}
+use Rattle.std.proofs.Common.{◌≡◌, ◌≤◌, ◌<◌, ◌+◌, ◌++◌, ℕ, zero, suc, Bool, true, false, cond, List, [], ◌∷◌, length, ap, subst, sym, ◌∙◌, append_assoc, append-nil, length-append, ne_eqb, arith}
 use Rattle.std.specs.List.{AllByRecursion}
 use Rattle.std.specs.Prelude.{◌==◌, if◌then◌else◌, codes, decimal}
 use Rattle.std.proofs.lemmas.Fmt.{decimal_nonempty}
@@ -7,6 +7,7 @@ use Rattle.pact_record.specs.declared.records.TheConstants.{MAX_FIELDS}
 use Rattle.pact_record.specs.FieldSets.{has_field}
 use Rattle.pact_record.proofs.Lists.{AllByRecursion-last}
 use Rattle.plan_printer.specs.FoundText.{behind_commas, rising_fields, with_commas}
+use Rattle.plan_printer.proofs.RisingFields.{rising_fields-with, rising_fields-without}
 
 -- ---- one number more
 
@@ -44,31 +45,12 @@ unfolding rising_fields
 rising_fields-within set zero le = tt
 rising_fields-within set (suc n) le = maybe_last (has_field set n) (rising_fields set n) n (rising_fields-within set n (omega (arith, le))) (omega (arith, le))
 
--- before the first
-pub rising_fields-zero : (set : ℕ) → with_commas (rising_fields set 0) ≡ []
-unfolding rising_fields
-rising_fields-zero set = refl
-
-rising_fields-without : (set n m : ℕ) → m ≡ suc n → has_field set n ≡ false → with_commas (rising_fields set m) ≡ with_commas (rising_fields set n)
-unfolding rising_fields
-rising_fields-without set n m e h =
-    ap (λ (k : ℕ). with_commas (rising_fields set k)) e
-    ∙ ap (λ (has : Bool). with_commas (rising_fields set n ++ cond has (n ∷ []) [])) h
-    ∙ ap with_commas (append-nil (rising_fields set n))
-
-rising_fields-with : (set n m : ℕ) → n < MAX_FIELDS → m ≡ suc n → has_field set n ≡ true
-    → with_commas (rising_fields set m) ≡ with_commas (rising_fields set n) ++ (comma_behind (with_commas (rising_fields set n)) ++ decimal n)
-unfolding rising_fields
-rising_fields-with set n m lt e h =
-    ap (λ (k : ℕ). with_commas (rising_fields set k)) e
-    ∙ ap (λ (has : Bool). with_commas (rising_fields set n ++ cond has (n ∷ []) [])) h
-    ∙ with_commas-last (rising_fields set n) n (rising_fields-within set n (omega (arith, lt)))
-
 -- the text behind a field that the set doesn't have, and behind one that it has
 pub passed_over : (set n : ℕ) (text next : List ℕ) → has_field set n ≡ false → text ≡ with_commas (rising_fields set n) → next ≡ text → next ≡ with_commas (rising_fields set (n + 1))
-passed_over set n text next h e same = same ∙ e ∙ sym (rising_fields-without set n (n + 1) (omega arith) h)
+passed_over set n text next h e same = same ∙ e ∙ sym (ap with_commas (rising_fields-without set n h))
 
 pub listed : (set n : ℕ) (text next : List ℕ) → n < MAX_FIELDS → has_field set n ≡ true → text ≡ with_commas (rising_fields set n) → next ≡ text ++ (comma_behind text ++ decimal n)
     → next ≡ with_commas (rising_fields set (n + 1))
 listed set n text next lt h e more =
-    more ∙ ap (λ (t : List ℕ). t ++ (comma_behind t ++ decimal n)) e ∙ sym (rising_fields-with set n (n + 1) lt (omega arith) h)
+    more ∙ ap (λ (t : List ℕ). t ++ (comma_behind t ++ decimal n)) e
+    ∙ sym (ap with_commas (rising_fields-with set n h) ∙ with_commas-last (rising_fields set n) n (rising_fields-within set n (omega (arith, lt))))

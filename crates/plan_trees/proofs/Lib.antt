@@ -14,3 +14,4 @@ pub mod PermutedNodes
 pub mod SubtreesOfPlans
 pub mod ExchangedTrees
 pub mod NeighbourTrees
+pub mod EachWorker

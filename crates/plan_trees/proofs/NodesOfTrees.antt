@@ -1,6 +1,6 @@
 -- A tree has a number where it is one of the numbers of its nodes.
 use Rattle.std.proofs.Common.{◌≡◌, ◌==◌, ◌||◌, inl, inr, ℕ, true, refl, arith}
-use Rattle.std.proofs.lemmas.Bool.{eqb-true, or_cases, or_left, or_right}
+use Rattle.std.proofs.lemmas.Bool.{eqb-true, or_cases, or_left, or_right, eq-eqb}
 use Rattle.plan_trees.specs.Plans.{PlanTree, leaf, over, both, root_of, nodes, has}
 use Rattle.plan_trees.proofs.DifferentNumbers.{IsIn, IsIn-left, IsIn-parts, IsIn-right}
 
@@ -24,10 +24,7 @@ nodes-has n (both m t u) h = elim (or_cases (n == m) (has n t || has n u) h) as 
 ]
 
 pub has-nodes : (m : ℕ) (t : PlanTree) → IsIn m (nodes t) → has m t ≡ true
-has-nodes m (leaf n) (inl e) = rw e (same n)
-  where
-    same : (n : ℕ) → (n == n) ≡ true
-    same n = grind arith
+has-nodes m (leaf n) (inl e) = rw e (eq-eqb n n refl)
 has-nodes m (leaf n) (inr i) = absurd i
 has-nodes m (over n t) (inl e) = rw e (grind arith)
 has-nodes m (over n t) (inr i) = or_right (m == n) (has m t) (has-nodes m t i)

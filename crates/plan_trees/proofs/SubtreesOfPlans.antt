@@ -1,19 +1,16 @@
 -- The subtree at a number of a tree has it as its root, and numbers that differ in a tree differ in its subtrees.
-use Rattle.std.proofs.Common.{◌≡◌, ◌==◌, inl, inr, ℕ, true, refl, sym, arith}
-use Rattle.std.proofs.lemmas.Bool.{cases_Bool, eqb-true}
+use Rattle.std.proofs.Common.{◌≡◌, ◌==◌, inl, inr, ℕ, true, refl, sym}
+use Rattle.std.proofs.lemmas.Bool.{cases_Bool, eqb-true, eq-eqb}
 use Rattle.plan_trees.specs.Distinct.{AreDifferent}
 use Rattle.plan_trees.specs.Plans.{PlanTree, leaf, over, both, has, nodes, root_of, subtree_of}
 use Rattle.plan_trees.proofs.DifferentNumbers.{AreDifferent-parts}
 use Rattle.plan_trees.proofs.InPlace.{GoesDown, down}
 use Rattle.plan_trees.proofs.NodesOfTrees.{has-nodes, root-nodes}
 
-pub same_number : (n : ℕ) → (n == n) ≡ true
-same_number n = grind arith
-
 pub subtree_of-root : (t : PlanTree) → subtree_of (root_of t) t ≡ t
 subtree_of-root (leaf n) = refl
-subtree_of-root (over n t) = rw (same_number n) refl
-subtree_of-root (both n t u) = rw (same_number n) refl
+subtree_of-root (over n t) = rw (eq-eqb n n refl) refl
+subtree_of-root (both n t u) = rw (eq-eqb n n refl) refl
 
 pub has-root : (t : PlanTree) → has (root_of t) t ≡ true
 has-root t = has-nodes (root_of t) t (root-nodes t)

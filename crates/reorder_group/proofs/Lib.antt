@@ -1,6 +1,6 @@
 pub mod KeptGroups
 pub mod SideGroups
-pub mod Chosen
+pub mod FunctionsOverChosen
 pub mod SideLaws
 pub mod GroupBags
 pub mod PermittedGroups

@@ -11,12 +11,12 @@ use Rattle.tac_syntax.specs.declared.declarations.OpKind.TheVariants.{Map, Reduc
 use Rattle.plan_trees.specs.Plans.{PlanTree, leaf, over, both}
 use Rattle.pact_operators.specs.Allowed.{Allows, Bag, Gives, GivesBoth, keys_in, keys_in_either}
 use Rattle.pact_operators.specs.PlanOps.{PlanOps}
-use Rattle.reorder_pair.proofs.CrossedBags.{crossed_left, crossed_right}
 use Rattle.reorder_pair.proofs.FunctionForms.{Row}
 use Rattle.reorder_pair.proofs.Maps.{map_bag}
 use Rattle.reorder_pair.proofs.Pairs.{pair_bag, pair_of}
 use Rattle.reorder_pair.proofs.PermittedExchanges.{IsPair}
 use Rattle.pact_operators.proofs.ChosenForKeys.{AreChosen, AreChosen-permuted, IsGivenFor, of_one_side}
+use Rattle.pact_operators.proofs.PermutedPairs.{pairs_perm}
 use Rattle.reorder_group.proofs.GroupBags.{cogroup_bag, reduce_bag}
 
 -- for groups in another order an operator that groups gives permuted outputs
@@ -88,8 +88,7 @@ module _ (o : PlanOps) where
       let y = pair_bag o n t u other pair b in
       let f = pair_of o (o.kind n) n in
       chains (turned x.perm)
-      (chains (crossed_left f x.left_rows y.left_rows x.right_rows (lefts x.left_rows y.left_rows x.left_below y.left_below))
-      (chains (crossed_right f y.left_rows x.right_rows y.right_rows (rights x.right_rows y.right_rows x.right_below y.right_below)) y.perm))
+      (chains (pairs_perm f (lefts x.left_rows y.left_rows x.left_below y.left_below) (rights x.right_rows y.right_rows x.right_below y.right_below)) y.perm)
 
   both_same : (n : ℕ) (t u : PlanTree) (kind : OpKind) → o.kind n ≡ kind → PermutesAt o kind n → AreSame t → AreSame u → AreSame (both n t u)
   both_same n t u Match e h lefts rights bag other a b = pair_same n t u (inl e) lefts rights bag other a b

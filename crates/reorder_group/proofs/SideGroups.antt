@@ -1,5 +1,6 @@
 -- A Map over what a grouping function gives for one key, and under it.
 use Rattle.std.proofs.Common.{◌≡◌, ◌<◌, ◌≤◌, ◌+◌, ◌⊎◌, inl, inr, ℕ, zero, suc, false, List, [], ◌∷◌, ◌++◌, length, get_or, refl, sym, ap, subst, ◌∙◌, arith}
+use Rattle.std.proofs.lemmas.List.{nil_from_length}
 use Rattle.std.specs.Prelude.{flat_map}
 use Rattle.std.specs.List.{AllByRecursion, AllZip}
 use Rattle.std.proofs.lemmas.Bool.{both_ways, cases_Bool, false_from_ne_true}
@@ -61,10 +62,6 @@ one_record [] e = absurd (omega (arith, e))
 one_record (w ∷ []) e = (w, refl)
 one_record (w ∷ v ∷ l) e = absurd (omega (arith, e))
 
-pub no_record : (l : Bag) → length l ≡ 0 → l ≡ []
-no_record [] e = refl
-no_record (w ∷ l) e = absurd (omega (arith, e))
-
 beside_one : (P : Row → Row → Type 0) (s : Row) (l : Bag) → AllZip P (s ∷ []) l → (w : Row) × (l ≡ w ∷ []) × P s w
 beside_one P s [] h = absurd h
 beside_one P s (w ∷ []) h = (w, refl, h.0)
@@ -77,11 +74,8 @@ beside_none P (w ∷ l) h = absurd h
 -- where there is no record to begin as there is no output
 none_anchored : (W : FieldSet) (ps : List ℕ) (rs qs : Bag) → AreAnchoredAt W [] [] ps rs qs → rs ≡ []
 none_anchored W [] [] [] h = refl
-none_anchored W [] [] (q ∷ qs) h = absurd h
-none_anchored W [] (r ∷ rs) qs h = absurd h
-none_anchored W (p ∷ ps) [] qs h = absurd h
-none_anchored W (p ∷ ps) (r ∷ rs) [] h = absurd h
 none_anchored W (p ∷ ps) (r ∷ rs) (q ∷ qs) h = absurd (omega (arith, h.0))
+none_anchored W ps rs qs h = absurd h
 
 module _ (fields : ℕ) (m : Move) (x : IsMove fields m) where
   -- the Map gives one record
@@ -122,22 +116,15 @@ module _ (fields : ℕ) (m : Move) (x : IsMove fields m) where
   each_of_outputs : (xs ys : Bag) → AllByRecursion (IsWithin fields m.for_each) xs → AllZip GivesOne xs ys → (ps : List ℕ) (os qs : Bag) → AllByRecursion (IsWithin fields m.for_each) os
       → AllByRecursion (λ q. length q ≡ fields) qs → AreAnchoredAt m.lower.writes xs ys ps os qs → flat_map m.each os ≡ qs
   each_of_outputs xs ys fit ones [] [] [] fit_os wide on = refl
-  each_of_outputs xs ys fit ones [] [] (q ∷ qs) fit_os wide on = absurd on
-  each_of_outputs xs ys fit ones [] (o ∷ os) qs fit_os wide on = absurd on
-  each_of_outputs xs ys fit ones (p ∷ ps) [] qs fit_os wide on = absurd on
-  each_of_outputs xs ys fit ones (p ∷ ps) (o ∷ os) [] fit_os wide on = absurd on
   each_of_outputs xs ys fit ones (p ∷ ps) (o ∷ os) (q ∷ qs) fit_os wide on =
       let one = one_of_output (get_or xs p []) (get_or ys p []) o q (AllByRecursion-get_or (IsWithin fields m.for_each) xs p [] on.0 fit) fit_os.0 wide.0 (AllZip-get_or GivesOne xs ys p [] [] ones on.0) on.1 in
       λ i. one i ++ each_of_outputs xs ys fit ones ps os qs fit_os.1 wide.1 on.2 i
+  each_of_outputs xs ys fit ones ps os qs fit_os wide on = absurd on
 
   -- where it gives none of each record it gives none of an output
   none_of_outputs : (xs : Bag) → AllByRecursion (IsWithin fields m.for_each) xs → AllByRecursion GivesNone xs → (ps : List ℕ) (os qs : Bag) → AllByRecursion (IsWithin fields m.for_each) os
       → AreAnchoredAt m.lower.writes xs xs ps os qs → flat_map m.each os ≡ []
   none_of_outputs xs fit nones [] [] [] fit_os on = refl
-  none_of_outputs xs fit nones [] [] (q ∷ qs) fit_os on = absurd on
-  none_of_outputs xs fit nones [] (o ∷ os) qs fit_os on = absurd on
-  none_of_outputs xs fit nones (p ∷ ps) [] qs fit_os on = absurd on
-  none_of_outputs xs fit nones (p ∷ ps) (o ∷ os) [] fit_os on = absurd on
   none_of_outputs xs fit nones (p ∷ ps) (o ∷ os) (q ∷ qs) fit_os on =
       let r = get_or xs p [] in
       let W = m.upper.writes in
@@ -145,6 +132,7 @@ module _ (fields : ℕ) (m : Move) (x : IsMove fields m) where
       let none = beside_none (AreAnchored W r o) (m.each o) (subst (λ (l : Bag). AllZip (AreAnchored W r o) l (m.each o)) (AllByRecursion-get_or GivesNone xs p [] on.0 nones)
       (x.form_each.outputs r o (AllByRecursion-get_or (IsWithin fields m.for_each) xs p [] on.0 fit) fit_os.0 agree)) in
       λ i. none i ++ none_of_outputs xs fit nones ps os qs fit_os.1 on.2 i
+  none_of_outputs xs fit nones ps os qs fit_os on = absurd on
 
   -- ---- a group
 
@@ -234,7 +222,7 @@ module _ (fields : ℕ) (m : Move) (x : IsMove fields m) where
       (here.0 ∷ rest.0, (here.1, rest.1))
 
   settled_by : (n : ℕ) (xs : Bag) → n ≤ 1 → AllByRecursion (GivesMany n) xs → IsSettled xs
-  settled_by zero xs few h = inr (AllByRecursion-weaker (GivesMany 0) GivesNone xs (λ r e. no_record (m.each r) e) h)
+  settled_by zero xs few h = inr (AllByRecursion-weaker (GivesMany 0) GivesNone xs (λ r e. nil_from_length (m.each r) e) h)
   settled_by (suc n) xs few h = inl (all_ones xs (AllByRecursion-weaker (GivesMany (suc n)) (GivesMany 1) xs (λ r e. omega (arith, e, few)) h))
 
   as_many : (k : Row) (xs : Bag) → AllByRecursion (IsWithin fields m.for_each) xs → HaveKey m.keys k xs → (n : ℕ) → ((r : Row) → IsWithin fields m.for_each r → key_of m.keys r ≡ k → GivesMany n r) → AllByRecursion (GivesMany n) xs

@@ -1,5 +1,6 @@
 -- A Map over what a grouping function gives for all keys, and under it.
 use Rattle.std.proofs.Common.{◌≡◌, ◌<◌, ◌≤◌, ◌+◌, ◌⊎◌, inl, inr, ℕ, zero, suc, Bool, true, false, cond, List, [], ◌∷◌, ◌++◌, length, refl, sym, ap, subst, ◌∙◌, arith}
+use Rattle.std.proofs.lemmas.List.{nil_from_length}
 use Rattle.std.specs.Prelude.{flat_map}
 use Rattle.std.specs.List.{AllByRecursion}
 use Rattle.std.proofs.lemmas.Bool.{both_ways}
@@ -17,8 +18,8 @@ use Rattle.tac_syntax.specs.Forms.{IsWithin}
 use Rattle.pact_operators.specs.Allowed.{Bag}
 use Rattle.pact_operators.proofs.ChosenForKeys.{AreChosen, IsGivenFor}
 use Rattle.reorder_pair.proofs.FunctionForms.{Row}
-use Rattle.reorder_group.proofs.Chosen.{Carries, carried, carried_back}
-use Rattle.reorder_group.proofs.SideGroups.{IsCall, IsMove, Move, flat_map-nones, flat_map-ones, group_of_nones, group_of_ones, group_of_others, no_record, one_keyed, one_record, settled}
+use Rattle.reorder_group.proofs.FunctionsOverChosen.{Carries, carried, carried_back}
+use Rattle.reorder_group.proofs.SideGroups.{IsCall, IsMove, Move, flat_map-nones, flat_map-ones, group_of_nones, group_of_ones, group_of_others, one_keyed, one_record, settled}
 
 -- what is given above the Map, and what below it, up to order
 pub given_above : (f : Row → Bag) (out rows now bag : Bag) → Perm (flat_map f out) now → Perm out rows → Perm (flat_map f rows) bag → Perm now bag
@@ -46,7 +47,7 @@ module _ (fields : ℕ) (m : Move) (x : IsMove fields m) where
   group_of_each k r fit =
       let b = is_same_key (key_of m.keys r) k in
       elim (at_most_one (length (m.each r)) (x.keeps.few r (x.below_each r fit))) as (λ _. group_of_key m.keys (m.each r) k ≡ cond b (m.each r) []) [
-        | inl e ↦ group_of_none k (m.each r) b (no_record (m.each r) e)
+        | inl e ↦ group_of_none k (m.each r) b (nil_from_length (m.each r) e)
         | inr e ↦
             let one = one_record (m.each r) e in
             group_of_one k one.0 (m.each r) b one.1 (ap (λ (j : Key). is_same_key j k) (sym (one_keyed fields m x r one.0 (x.below_each r fit) one.1)))
@@ -63,7 +64,7 @@ module _ (fields : ℕ) (m : Move) (x : IsMove fields m) where
       ∙ flat_map-kept (is_same_key (key_of m.keys r) k) r (group_of_key m.keys ls k)
 
   no_rows : {rows : Bag} → Perm [] rows → rows ≡ []
-  no_rows {rows} p = no_record rows (sym (length-perm p))
+  no_rows {rows} p = nil_from_length rows (sym (length-perm p))
 
   more_before : (xs zs : Bag) → 0 < length (flat_map m.each xs) + length zs → 0 < length xs + length zs
   more_before [] zs h = h

@@ -5,22 +5,12 @@ use Rattle.std.specs.Prelude.{flat_map}
 use Rattle.std.specs.List.{AllByRecursion}
 use Rattle.pact_record.specs.declared.values.Value.TheVariants.{Null}
 use Rattle.pact_record.proofs.JoinedRecords.{at_field-nulls}
-use Rattle.pact_record.proofs.Lists.{AllByRecursion-any}
 use Rattle.pact_record.proofs.Permutations.{Perm, chains, each_moved, flat_map_flat_map, flat_map_perm, is_same, turn}
 use Rattle.tac_syntax.specs.Forms.{IsWithin}
 use Rattle.pact_operators.specs.Allowed.{Bag, crossed}
-use Rattle.reorder_pair.proofs.Cells.{AreExchangeable, for_three}
+use Rattle.reorder_pair.proofs.CallsInEitherOrder.{AreExchangeable, for_three}
 use Rattle.reorder_pair.proofs.FunctionForms.{Row, none, on_left_alone, on_right_alone, turned_pair}
 use Rattle.reorder_pair.proofs.PermittedExchanges.{UsedFields}
-
--- ---- bags in another order
-
-pub crossed_left : (f : Row → Row → Bag) (ls ms rs : Bag) → Perm ls ms → Perm (crossed f ls rs) (crossed f ms rs)
-crossed_left f ls ms rs p = flat_map_perm (λ l. flat_map (f l) rs) p
-
-pub crossed_right : (f : Row → Row → Bag) (ls rs ss : Bag) → Perm rs ss → Perm (crossed f ls rs) (crossed f ls ss)
-crossed_right f ls rs ss p =
-    each_moved (λ l. Unit {0}) (λ l. flat_map (f l) rs) (λ l. flat_map (f l) ss) ls (AllByRecursion-any (λ l. Unit {0}) (λ l. tt) ls) (λ l any. flat_map_perm (f l) p)
 
 -- ---- two functions of pairs
 

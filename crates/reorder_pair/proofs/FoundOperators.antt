@@ -1,5 +1,5 @@
 -- What is found of an operator is true of its calls, in all that its inputs may hold in either of two trees.
-use Rattle.std.proofs.Common.{◌≡◌, ◌<◌, ◌↔◌, ◌⊎◌, inl, inr, ℕ, zero, suc, List, [], ◌∷◌, Option, Some, None, slice_get, refl, sym, ap, subst, ◌∙◌}
+use Rattle.std.proofs.Common.{◌≡◌, ◌<◌, ◌↔◌, ◌⊎◌, inl, inr, ℕ, zero, suc, List, [], ◌∷◌, Some, slice_get, refl, sym, subst}
 use Rattle.std.specs.List.{AllByRecursion}
 use Rattle.pact_record.specs.FieldSets.{has_field}
 use Rattle.tac_syntax.specs.declared.contexts.Context.{Context}
@@ -20,31 +20,16 @@ use Rattle.tac_syntax.specs.declared.declarations.OpKind.TheVariants.{Source, Ma
 use Rattle.plan_trees.specs.Plans.{PlanTree, subtree_of}
 use Rattle.pact_operators.specs.declared.operators.Op.{Op}
 use Rattle.pact_operators.specs.Allowed.{Bag}
-use Rattle.pact_operators.specs.PlanOps.{function_in, kind_at, kind_in, left_keys_in, plan_ops, right_keys_in}
+use Rattle.pact_operators.specs.PlanOps.{function_in, kind_at, left_keys_in, plan_ops, right_keys_in}
 use Rattle.pact_operators.specs.Programs.{HasLeftAttribute, HasRightAttribute, IsProgram, Owns, OwnsBy, ProgramData, body_of}
 use Rattle.pact_operators.specs.SoundOps.{called, function_kind}
 use Rattle.pact_operators.proofs.BelowFields.{AreOf}
 use Rattle.pact_operators.proofs.PlanContexts.{keys-below, left-below, right-below, set-below}
 use Rattle.pact_operators.proofs.SmallerContexts.{IsSmaller, form_in_smaller, form_of_ops}
-use Rattle.pact_operators.proofs.CalledFunctions.{IsCalled, called_at}
-use Rattle.pact_operators.proofs.SoundPrograms.{function_kind-for}
+use Rattle.pact_operators.proofs.CalledFunctions.{called_function, called_kind}
 use Rattle.reorder_pair.specs.declared.finding.Found.{Found}
 use Rattle.reorder_pair.specs.Places.{IsFound}
 use Rattle.reorder_pair.proofs.PermittedExchanges.{AreSetsOf, UsedFields, joint}
-
--- ---- the function that an operator calls
-
-module _ (p : ProgramData) (program : IsProgram p) (n : ℕ) (f : WithFields) (operator : kind_at p.ops n ≡ Source → ⊥) where
-  by_op : (g : Option Op) → slice_get p.ops n ≡ g → (kind_in g ≡ Source → ⊥) → slice_get p.functions (function_in g) ≡ Some f → (op : Op) × IsCalled p n op f
-  by_op None e o function = absurd (o refl)
-  by_op (Some op) e o function = (op, called_at p program n op operator f e function)
-
-  pub called_function : slice_get p.functions (function_in (slice_get p.ops n)) ≡ Some f → (op : Op) × IsCalled p n op f
-  called_function function = by_op (slice_get p.ops n) refl operator function
-
--- the function is of the operator's kind
-pub kind_of : (p : ProgramData) (n : ℕ) (op : Op) (f : WithFields) → IsCalled p n op f → f.function.kind ≡ function_kind (kind_at p.ops n)
-kind_of p n op f c = sym (function_kind-for op.kind f.function.kind c.kind) ∙ ap (λ (g : Option Op). function_kind (kind_in g)) (sym c.found)
 
 -- what an operator owns its function names
 owned_is_named : (v : List WithFields) (ops : List Op) (n k : ℕ) → (kind_at ops n ≡ Source → ⊥) → Owns v ops n k → Names k (body_of v (function_in (slice_get ops n)))
@@ -154,7 +139,7 @@ module _ (p : ProgramData) (program : IsProgram p) (n : ℕ) (one other : PlanTr
       let f = h.function in
       let found = called_function p program n f operator h.function_is in
       let c = found.1 in
-      let is_kind = kind_of p n found.0 f c in
+      let is_kind = called_kind p n found.0 f c in
       let kind = function_kind (kind_at p.ops n) in
       let D = ports_of h.context in
       let reads = has_field s.sets.reads in

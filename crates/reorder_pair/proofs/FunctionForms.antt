@@ -30,13 +30,10 @@ pub record PairForm (fields : ℕ) (a b : ℕ → Type 0) (R W : FieldSet) (f : 
 -- the only record serves each output
 pub one_anchor : (W : FieldSet) (u w : Row) (places : List ℕ) (rs qs : Bag) → AreAnchoredAt W (u ∷ []) (w ∷ []) places rs qs → AllZip (AreAnchored W u w) rs qs
 one_anchor W u w [] [] [] h = tt
-one_anchor W u w [] [] (q ∷ qs) h = absurd h
-one_anchor W u w [] (r ∷ rs) qs h = absurd h
-one_anchor W u w (p ∷ places) [] qs h = absurd h
-one_anchor W u w (p ∷ places) (r ∷ rs) [] h = absurd h
 one_anchor W u w (p ∷ places) (r ∷ rs) (q ∷ qs) h =
     let first : p ≡ 0 = omega (arith, h.0) in
     (subst (λ (n : ℕ). AreAnchored W (get_or (u ∷ []) n []) (get_or (w ∷ []) n []) r q) first h.1, one_anchor W u w places rs qs h.2)
+one_anchor W u w places rs qs h = absurd h
 
 -- ---- a function of one record, as one of pairs
 

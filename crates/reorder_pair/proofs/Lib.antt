@@ -1,7 +1,7 @@
 pub mod PermittedExchanges
 pub mod FunctionForms
 pub mod MixedRecords
-pub mod Cells
+pub mod CallsInEitherOrder
 pub mod CrossedBags
 pub mod Maps
 pub mod Pairs

@@ -12,7 +12,7 @@ use Rattle.pact_operators.specs.Programs.{HasAttribute, Owns}
 use Rattle.pact_operators.specs.SoundOps.{AreOpsOf}
 use Rattle.pact_operators.proofs.LawfulBags.{lawful_bags, map_fits}
 use Rattle.pact_operators.proofs.WithinFields.{all_within_larger}
-use Rattle.reorder_pair.proofs.Cells.{AreExchangeable}
+use Rattle.reorder_pair.proofs.CallsInEitherOrder.{AreExchangeable}
 use Rattle.reorder_pair.proofs.CrossedBags.{map_map_bags}
 use Rattle.reorder_pair.proofs.FunctionForms.{left_form, none, on_left_alone, on_right_alone, right_form}
 use Rattle.reorder_pair.proofs.Maps.{bag_of_map, map_bag, map_form_in}

@@ -13,8 +13,9 @@ use Rattle.pact_operators.specs.Programs.{HasAttribute, Owns}
 use Rattle.pact_operators.specs.SoundOps.{AreOpsOf}
 use Rattle.pact_operators.proofs.LawfulBags.{lawful_bags, map_fits}
 use Rattle.pact_operators.proofs.WithinFields.{all_within_larger}
-use Rattle.reorder_pair.proofs.Cells.{AreExchangeable}
-use Rattle.reorder_pair.proofs.CrossedBags.{crossed_left, crossed_right, map_left_bags, map_right_bags}
+use Rattle.pact_operators.proofs.PermutedPairs.{pairs_perm}
+use Rattle.reorder_pair.proofs.CallsInEitherOrder.{AreExchangeable}
+use Rattle.reorder_pair.proofs.CrossedBags.{map_left_bags, map_right_bags}
 use Rattle.reorder_pair.proofs.FunctionForms.{Row, flip_form, left_form, none, on_left_alone, turned_pair}
 use Rattle.reorder_pair.proofs.Maps.{bag_of_map, map_bag, map_form_in}
 use Rattle.reorder_pair.proofs.Pairs.{bag_of_pair, pair_bag, pair_fits, pair_form, pair_of}
@@ -76,7 +77,7 @@ module _ (fields : ℕ) (v : List WithFields) (ops : List Op) (o : PlanOps) (goo
         let m = map_bag o f t n.left_rows x.upper_kind n.left_below in
         let now = crossed gs m.rows n.right_rows in
         bag_of_map o f (both g t u) now bag x.upper_kind (bag_of_pair o g t u m.rows n.right_rows now x.lower_kind m.below n.right_below (same now))
-        (chains (left_bags m.rows n.right_rows m.below n.right_below) (chains (crossed_left gs (flat_map (o.of_record f) m.rows) n.left_rows n.right_rows m.perm) n.perm))
+        (chains (left_bags m.rows n.right_rows m.below n.right_below) (chains (pairs_perm gs m.perm (same n.right_rows)) n.perm))
 
   -- ---- the right side
 
@@ -135,4 +136,4 @@ module _ (fields : ℕ) (v : List WithFields) (ops : List Op) (o : PlanOps) (goo
         let m = map_bag o f u n.right_rows x.upper_kind n.right_below in
         let now = crossed hs n.left_rows m.rows in
         bag_of_map o f (both g t u) now bag x.upper_kind (bag_of_pair o g t u n.left_rows m.rows now x.lower_kind n.left_below m.below (same now))
-        (chains (right_bags n.left_rows m.rows n.left_below m.below) (chains (crossed_right hs n.left_rows (flat_map (o.of_record f) m.rows) n.right_rows m.perm) n.perm))
+        (chains (right_bags n.left_rows m.rows n.left_below m.below) (chains (pairs_perm hs (same n.left_rows) m.perm) n.perm))

@@ -12,8 +12,9 @@ use Rattle.pact_operators.specs.Programs.{HasAttribute, Owns}
 use Rattle.pact_operators.specs.SoundOps.{AreOpsOf}
 use Rattle.pact_operators.proofs.LawfulBags.{lawful_bags}
 use Rattle.pact_operators.proofs.WithinFields.{all_within_larger}
-use Rattle.reorder_pair.proofs.Cells.{AreExchangeable}
-use Rattle.reorder_pair.proofs.CrossedBags.{crossed_left, crossed_right, rotated_bags}
+use Rattle.pact_operators.proofs.PermutedPairs.{pairs_perm}
+use Rattle.reorder_pair.proofs.CallsInEitherOrder.{AreExchangeable}
+use Rattle.reorder_pair.proofs.CrossedBags.{rotated_bags}
 use Rattle.reorder_pair.proofs.FunctionForms.{Row}
 use Rattle.reorder_pair.proofs.Pairs.{bag_of_pair, pair_bag, pair_fits, pair_form, pair_of}
 use Rattle.reorder_pair.proofs.PermittedExchanges.{PermitsRotate, joint, used_touched}
@@ -86,7 +87,7 @@ module _ (fields : ℕ) (v : List WithFields) (ops : List Op) (o : PlanOps) (goo
         let n = pair_bag o g t u m.left_rows x.lower_kind m.left_below in
         let now = crossed hs n.right_rows m.right_rows in
         bag_of_pair o g t (both h u w) n.left_rows now bag x.lower_kind n.left_below (bag_of_pair o h u w n.right_rows m.right_rows now x.upper_kind n.right_below m.right_below (same now))
-        (chains (turned (rotate_bags n.left_rows n.right_rows m.right_rows n.left_below n.right_below m.right_below)) (chains (crossed_left hs (crossed gs n.left_rows n.right_rows) m.left_rows m.right_rows n.perm) m.perm))
+        (chains (turned (rotate_bags n.left_rows n.right_rows m.right_rows n.left_below n.right_below m.right_below)) (chains (pairs_perm hs n.perm (same m.right_rows)) m.perm))
 
     pub rotate_up : (bag : Bag) → Allows o (both g t (both h u w)) bag → Allows o (both h (both g t u) w) bag
     rotate_up bag k =
@@ -94,4 +95,4 @@ module _ (fields : ℕ) (v : List WithFields) (ops : List Op) (o : PlanOps) (goo
         let n = pair_bag o h u w m.right_rows x.upper_kind m.right_below in
         let now = crossed gs m.left_rows n.left_rows in
         bag_of_pair o h (both g t u) w now n.right_rows bag x.upper_kind (bag_of_pair o g t u m.left_rows n.left_rows now x.lower_kind m.left_below n.left_below (same now)) n.right_below
-        (chains (rotate_bags m.left_rows n.left_rows n.right_rows m.left_below n.left_below n.right_below) (chains (crossed_right gs m.left_rows (crossed hs n.left_rows n.right_rows) m.right_rows n.perm) m.perm))
+        (chains (rotate_bags m.left_rows n.left_rows n.right_rows m.left_below n.left_below n.right_below) (chains (pairs_perm gs (same m.left_rows) n.perm) m.perm))

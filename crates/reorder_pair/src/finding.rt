@@ -1,10 +1,10 @@
 //! What is found of the operators of an exchange.
 
-ghost use Rattle.std.specs.Prelude.{◌≡◌, Some, slice_get, true};
+ghost use Rattle.std.specs.Prelude.{◌≡◌, true};
 ghost use Rattle.tac_syntax.specs.declared.declarations.OpKind.TheVariants.{Source};
 ghost use Rattle.tac_syntax.specs.Contexts.{IsContextOf};
 ghost use Rattle.plan_trees.specs.Plans.{has, subtree_of};
-ghost use Rattle.pact_operators.specs.PlanOps.{function_in, kind_at};
+ghost use Rattle.pact_operators.specs.PlanOps.{kind_at};
 ghost use Rattle.reorder_pair.specs.Places.{AreNeighbours, IsFound, IsFoundFor, IsOperatorIn, IsPlace, IsUnionOf};
 ghost use Rattle.reorder_pair.specs.Rules.{exchanged_by};
 
@@ -12,7 +12,7 @@ use crate::rules::Rule;
 use crate::trees::Trees;
 use pact_operators::{Plan, Program, context};
 use tac_flow::Sets;
-use tac_syntax::{Context, Valid};
+use tac_syntax::Context;
 
 /// What is found of an operator's function: the fields that it reads, writes, decides by and touches, and how many records a call of it gives,
 /// at least and at most; `emit_bounds::MANY` is no bound.
@@ -32,16 +32,6 @@ pub struct Neighbours {
     pub lower_context: Context,
 }
 
-// The function that an operator calls.
-fn function_at(program: &Program, at: u32) -> &Valid
-    requires operator { kind_at program.now.ops at ≡ Source → ⊥ }
-    ensures function { slice_get program.now.functions (function_in (slice_get program.now.ops at)) ≡ Some result.now }
-    ensures fields { result.now.fields ≡ program.now.fields }
-{
-    let op = &program.ops()[at as usize];
-    &program.functions()[op.function as usize]
-}
-
 // What the inputs of an operator that stands in both trees may hold in the one or in the other.
 fn united_context(program: &Program, at: u32, trees: &Trees) -> Context
     requires before { has at trees.now.before ≡ true }
@@ -57,7 +47,7 @@ pub fn found_for(program: &Program, at: u32, context: &Context) -> Found
     requires operator { IsOperatorIn program.now at context.now }
     ensures { IsFoundFor program.now at context.now result }
 {
-    let function = function_at(program, at);
+    let function = program.function_at(at);
     let (lo, hi) = emit_bounds::bounds(function);
     Found {
         sets: tac_flow::sets(function, context),

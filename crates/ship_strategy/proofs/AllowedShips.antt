@@ -5,7 +5,7 @@ use Rattle.std.specs.List.{AllByRecursion}
 use Rattle.std.proofs.lemmas.Bool.{cases_Bool}
 use Rattle.pact_record.specs.Keys.{is_listed}
 use Rattle.tac_syntax.specs.declared.declarations.OpKind.{OpKind}
-use Rattle.tac_syntax.specs.declared.declarations.OpKind.TheVariants.{Source, Map, Reduce, Match, Cross, CoGroup}
+use Rattle.tac_syntax.specs.declared.declarations.OpKind.TheVariants.{Map, Reduce, Match, Cross, CoGroup}
 use Rattle.ship_strategy.specs.declared.ways.Way.{Way}
 use Rattle.ship_strategy.specs.declared.ways.Way.TheVariants.{ByKey, LeftEverywhere, RightEverywhere}
 use Rattle.ship_strategy.specs.Facts.{NodeFacts}
@@ -42,12 +42,9 @@ grouped keys below =
     ]
 
 over_by : (kind : OpKind) (keys : List ℕ) (below : Placement) → IsSingle kind → IsLegalOver kind keys (is_broadcast (only_ship kind keys below)) (edge_placement (only_ship kind keys below) below)
-over_by Source keys below k = absurd k
 over_by Map keys below k = refl
 over_by Reduce keys below k = grouped keys below
-over_by Match keys below k = absurd k
-over_by Cross keys below k = absurd k
-over_by CoGroup keys below k = absurd k
+over_by kind keys below k = absurd k
 
 pub over_allowed : (x : NodeFacts) (below : Placement) → IsSingle x.kind → AllowsOver x (only_ship x.kind x.left_keys below) below
 over_allowed x below k = over_by x.kind x.left_keys below k
@@ -55,18 +52,13 @@ over_allowed x below k = over_by x.kind x.left_keys below k
 both_by : (kind : OpKind) (way : Way) (left_keys right_keys : List ℕ) (left right : Placement) → Suits kind way
     → IsLegalBoth kind left_keys right_keys (is_broadcast (left_ship way left_keys left)) (is_broadcast (right_ship way right_keys right))
     (edge_placement (left_ship way left_keys left) left) (edge_placement (right_ship way right_keys right) right)
-both_by Source way lk rk left right k = absurd k
-both_by Map way lk rk left right k = absurd k
-both_by Reduce way lk rk left right k = absurd k
 both_by Match ByKey lk rk left right k = inl (by_key lk left, by_key rk right)
 both_by Match LeftEverywhere lk rk left right k = inr (inl (refl, refl))
 both_by Match RightEverywhere lk rk left right k = inr (inr (refl, refl))
-both_by Cross ByKey lk rk left right k = absurd k
 both_by Cross LeftEverywhere lk rk left right k = inl (refl, refl)
 both_by Cross RightEverywhere lk rk left right k = inr (refl, refl)
 both_by CoGroup ByKey lk rk left right k = (by_key lk left, by_key rk right)
-both_by CoGroup LeftEverywhere lk rk left right k = absurd k
-both_by CoGroup RightEverywhere lk rk left right k = absurd k
+both_by kind way lk rk left right k = absurd k
 
 pub both_allowed : (x : NodeFacts) (way : Way) (left right : Placement) → Suits x.kind way → AllowsBoth x (left_ship way x.left_keys left) (right_ship way x.right_keys right) left right
 both_allowed x way left right k = both_by x.kind way x.left_keys x.right_keys left right k

@@ -12,7 +12,7 @@ use Rattle.plan_trees.specs.declared.physicals.Ship.TheVariants.{Forward, Partit
 use Rattle.plan_trees.specs.Sending.{all_of, arriving, goes, sent, share_from, workers_below}
 use Rattle.pact_operators.specs.Allowed.{Bag}
 use Rattle.ship_strategy.specs.Ships.{Placement, edge_placement, is_broadcast}
-use Rattle.ship_strategy.proofs.EachWorker.{all_each, all_of-one_more, none_each, perm_each}
+use Rattle.plan_trees.proofs.EachWorker.{all_each, all_of-one_more, none_each, perm_each}
 
 -- a worker's records lie where the placement says
 abbrev pub LieBy : ℕ → Placement → ℕ → Bag → Type 0

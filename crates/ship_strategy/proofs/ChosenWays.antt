@@ -1,5 +1,5 @@
 -- The ways that a number chooses, and that they suit the operators.
-use Rattle.std.proofs.Common.{◌≡◌, ◌==◌, ◌+◌, inl, inr, ℕ, zero, suc, true, false, Option, List, [], ◌∷◌, refl, ap, sym, subst, ◌∙◌, arith}
+use Rattle.std.proofs.Common.{◌≡◌, ◌==◌, ◌+◌, inl, inr, ℕ, zero, suc, true, false, List, [], ◌∷◌, refl, ap, sym, subst, ◌∙◌, arith}
 use Rattle.std.proofs.lemmas.Bool.{cases_Bool, or_left, or_right}
 use Rattle.std.proofs.lemmas.Bool.Decides.{nat_tests}
 use Rattle.tac_syntax.specs.declared.declarations.OpKind.{OpKind}
@@ -7,8 +7,9 @@ use Rattle.tac_syntax.specs.declared.declarations.OpKind.TheVariants.{Source, Ma
 use Rattle.plan_trees.specs.Plans.{PlanTree, leaf, over, both, has}
 use Rattle.plan_trees.proofs.SubtreesOfPlans.{has-root}
 use Rattle.pact_operators.specs.declared.operators.Op.{Op}
-use Rattle.pact_operators.specs.PlanOps.{kind_at, kind_in}
-use Rattle.pact_operators.specs.Programs.{HasArity, Takes, takes}
+use Rattle.pact_operators.specs.PlanOps.{kind_at}
+use Rattle.pact_operators.specs.Programs.{HasArity, takes}
+use Rattle.pact_operators.proofs.SourceKinds.{takes_at}
 use Rattle.ship_strategy.specs.declared.ways.Way.{Way}
 use Rattle.ship_strategy.specs.declared.ways.Way.TheVariants.{ByKey}
 use Rattle.ship_strategy.specs.Facts.{Facts}
@@ -47,15 +48,9 @@ suits Cross choice e = elim (cases_Bool (choice == 0)) as (λ _. Suits Cross (wa
 suits CoGroup choice e = tt
 
 single : (kind : OpKind) → takes kind ≡ 1 → IsSingle kind
-single Source e = absurd (omega (arith, e))
 single Map e = tt
 single Reduce e = tt
-single Match e = absurd (omega (arith, e))
-single Cross e = absurd (omega (arith, e))
-single CoGroup e = absurd (omega (arith, e))
-
-takes_at : (ops : List Op) (n count : ℕ) → Takes ops n count → takes (kind_at ops n) ≡ count
-takes_at ops n count h = ap (λ (o : Option Op). takes (kind_in o)) h.1 ∙ h.2
+single kind e = absurd (omega (arith, e))
 
 pub shape : (f : Facts) (ops : List Op) (number : ℕ) (t : PlanTree) → ((n : ℕ) → has n t ≡ true → (f n).kind ≡ kind_at ops n) → HasArity ops t → HasShape f (ways_of ops number) t
 shape f ops number (leaf n) k h = tt

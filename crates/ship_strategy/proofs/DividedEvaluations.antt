@@ -21,7 +21,7 @@ use Rattle.ship_strategy.specs.Facts.{Facts, NodeFacts}
 use Rattle.ship_strategy.specs.PlanFacts.{facts_at}
 use Rattle.ship_strategy.specs.Ships.{AllowsBoth, AllowsOver, IsLegal, is_broadcast, placed_both, placed_over, placement}
 use Rattle.ship_strategy.proofs.Arrivals.{LieBy, all_of-share_from}
-use Rattle.ship_strategy.proofs.EachWorker.{perm_each, picked}
+use Rattle.plan_trees.proofs.EachWorker.{perm_each, picked}
 use Rattle.ship_strategy.proofs.GivenByAll.{HaveSide, both_give, only_edge_stays, over_gives}
 use Rattle.ship_strategy.proofs.KeptPlacements.{both_lie, over_lie}
 use Rattle.ship_strategy.proofs.PlanAttributes.{left_true, right_true}

@@ -1,9 +1,8 @@
 -- Every physical plan of a program has a divided run, whether its ships are legal or not.
-use Rattle.std.proofs.Common.{◌≡◌, ◌<◌, ◌+◌, ◌∙◌, ℕ, zero, suc, Some, Option, List, [], ◌∷◌, slice_get, refl, sym, ap, subst, arith}
+use Rattle.std.proofs.Common.{◌≡◌, ◌<◌, ◌+◌, ◌∙◌, ℕ, zero, suc, Some, List, [], ◌∷◌, slice_get, refl, sym, ap, subst, arith}
 use Rattle.std.specs.Prelude.{IsPermutation, flat_map}
 use Rattle.std.proofs.lemmas.List.Sorted.{IsPermutation-refl}
 use Rattle.pact_bag.specs.Groups.{group_of_key}
-use Rattle.pact_record.specs.declared.values.Value.{Value}
 use Rattle.tac_syntax.specs.declared.declarations.OpKind.{OpKind}
 use Rattle.tac_syntax.specs.declared.declarations.OpKind.TheVariants.{Source, Map, Reduce, Match, Cross, CoGroup}
 use Rattle.plan_trees.specs.Physicals.{PhysicalData, ship_of}
@@ -11,51 +10,33 @@ use Rattle.plan_trees.specs.Plans.{IsPlan, PlanTree, leaf, over, both, node_limi
 use Rattle.plan_trees.specs.Sending.{all_of, arriving, share_from}
 use Rattle.plan_trees.proofs.Ships.{below_limit}
 use Rattle.plan_trees.proofs.SubtreesOfPlans.{root_of-subtree}
-use Rattle.pact_operators.specs.Allowed.{Bag, CoGrouped, Gives, GivesBoth, Grouped, count_of, crossed, keys_in, keys_in_either, matched}
+use Rattle.pact_operators.specs.Allowed.{Bag, Gives, GivesBoth, count_of, crossed, keys_in, keys_in_either, matched}
 use Rattle.pact_operators.specs.Divided.{GaveShare, IsDivided, IsReceived, Shares, count_given}
-use Rattle.pact_operators.specs.PlanOps.{PlanOps, kind_in, plan_ops}
-use Rattle.pact_operators.specs.Programs.{HasArity, IsPlanOf, ProgramData, Takes, takes}
-use Rattle.pact_operators.proofs.SourceRows.{takes_none}
+use Rattle.pact_operators.specs.PlanOps.{PlanOps, plan_ops}
+use Rattle.pact_operators.specs.Programs.{HasArity, IsPlanOf, ProgramData, takes}
+use Rattle.pact_operators.proofs.CallsForKeys.{cogrouped, grouped}
+use Rattle.pact_operators.proofs.SourceKinds.{is_source, takes_at}
 use Rattle.plan_trees.proofs.EverySubtree.{AllBelow, all_below, all_below-at, all_below-root}
 
 -- ---- something that an operator may give
 
-grouped : (List Value → Bag → Bag) → List ℕ → Bag → List (List Value) → Bag
-grouped f keys rows ks = flat_map (λ k. f k (group_of_key keys rows k)) ks
-
-grouped-Grouped : (f : List Value → Bag → Bag) (keys : List ℕ) (rows : Bag) (ks : List (List Value)) → Grouped f keys rows ks (grouped f keys rows ks)
-unfolding grouped
-grouped-Grouped f keys rows [] = refl
-grouped-Grouped f keys rows (k ∷ ks) = (group_of_key keys rows k, grouped f keys rows ks, IsPermutation-refl _, refl, grouped-Grouped f keys rows ks)
-
-cogrouped : (List Value → Bag → Bag → Bag) → List ℕ → List ℕ → Bag → Bag → List (List Value) → Bag
-cogrouped f keys others ls rs ks = flat_map (λ k. f k (group_of_key keys ls k) (group_of_key others rs k)) ks
-
-cogrouped-CoGrouped : (f : List Value → Bag → Bag → Bag) (keys others : List ℕ) (ls rs : Bag) (ks : List (List Value)) → CoGrouped f keys others ls rs ks (cogrouped f keys others ls rs ks)
-unfolding cogrouped
-cogrouped-CoGrouped f keys others ls rs [] = refl
-cogrouped-CoGrouped f keys others ls rs (k ∷ ks) =
-    (group_of_key keys ls k, group_of_key others rs k, cogrouped f keys others ls rs ks, IsPermutation-refl _, IsPermutation-refl _, refl, cogrouped-CoGrouped f keys others ls rs ks)
-
 -- nothing for a kind that takes another number of inputs
 given_over : PlanOps → ℕ → OpKind → Bag → Bag
 given_over o n Map rows = flat_map (o.of_record n) rows
-given_over o n Reduce rows = grouped (o.of_group n) (o.left_keys n) rows (keys_in (o.left_keys n) rows)
+given_over o n Reduce rows = flat_map (λ k. o.of_group n k (group_of_key (o.left_keys n) rows k)) (keys_in (o.left_keys n) rows)
 given_over o n kind rows = []
 
 given_over-Gives : (o : PlanOps) (n : ℕ) (kind : OpKind) → takes kind ≡ 1 → (rows : Bag) → Gives o kind n rows (given_over o n kind rows)
 unfolding given_over
-given_over-Gives o n Source e rows = absurd (omega (arith, e))
 given_over-Gives o n Map e rows = refl
-given_over-Gives o n Reduce e rows = grouped-Grouped (o.of_group n) (o.left_keys n) rows (keys_in (o.left_keys n) rows)
-given_over-Gives o n Match e rows = absurd (omega (arith, e))
-given_over-Gives o n Cross e rows = absurd (omega (arith, e))
-given_over-Gives o n CoGroup e rows = absurd (omega (arith, e))
+given_over-Gives o n Reduce e rows = grouped (o.of_group n) (o.left_keys n) rows (keys_in (o.left_keys n) rows) (given_over o n Reduce rows) refl
+given_over-Gives o n kind e rows = absurd (omega (arith, e))
 
 given_both : PlanOps → ℕ → OpKind → Bag → Bag → Bag
 given_both o n Match ls rs = crossed (matched (o.of_pair n) (o.left_keys n) (o.right_keys n)) ls rs
 given_both o n Cross ls rs = crossed (o.of_pair n) ls rs
-given_both o n CoGroup ls rs = cogrouped (o.of_groups n) (o.left_keys n) (o.right_keys n) ls rs (keys_in_either (o.left_keys n) (o.right_keys n) ls rs)
+given_both o n CoGroup ls rs =
+    flat_map (λ k. o.of_groups n k (group_of_key (o.left_keys n) ls k) (group_of_key (o.right_keys n) rs k)) (keys_in_either (o.left_keys n) (o.right_keys n) ls rs)
 given_both o n kind ls rs = []
 
 given_both-GivesBoth : (o : PlanOps) (n : ℕ) (kind : OpKind) → takes kind ≡ 2 → (ls rs : Bag) → GivesBoth o kind n ls rs (given_both o n kind ls rs)
@@ -65,7 +46,8 @@ given_both-GivesBoth o n Map e ls rs = absurd (omega (arith, e))
 given_both-GivesBoth o n Reduce e ls rs = absurd (omega (arith, e))
 given_both-GivesBoth o n Match e ls rs = refl
 given_both-GivesBoth o n Cross e ls rs = refl
-given_both-GivesBoth o n CoGroup e ls rs = cogrouped-CoGrouped (o.of_groups n) (o.left_keys n) (o.right_keys n) ls rs (keys_in_either (o.left_keys n) (o.right_keys n) ls rs)
+given_both-GivesBoth o n CoGroup e ls rs =
+    cogrouped (o.of_groups n) (o.left_keys n) (o.right_keys n) ls rs (keys_in_either (o.left_keys n) (o.right_keys n) ls rs) (given_both o n CoGroup ls rs) refl
 
 -- ---- a list of counts
 
@@ -90,9 +72,6 @@ module _ (p : ProgramData) (inputs : List Bag) (q : PhysicalData) (gave : Shares
   abbrev O : PlanOps
   O = plan_ops p inputs
 
-  kind_takes : (n count : ℕ) → Takes p.ops n count → takes (O.kind n) ≡ count
-  kind_takes n count h = ap (λ (g : Option _). takes (kind_in g)) h.1 ∙ h.2
-
   abbrev IsGiven : PlanTree → Type 0
   IsGiven t = gave (root_of t) ≡ gives O q t
 
@@ -105,13 +84,13 @@ module _ (p : ProgramData) (inputs : List Bag) (q : PhysicalData) (gave : Shares
 
   all_shares : (t : PlanTree) → HasArity p.ops t → AllBelow IsGiven t → AllBelow (λ s. (w : ℕ) → w < q.workers → GaveShare O q gave s w) t
   unfolding gives
-  all_shares (leaf n) a h = λ w b. (takes_none (O.kind n) (kind_takes n 0 a), same_out n w (gives O q (leaf n)) h)
+  all_shares (leaf n) a h = λ w b. (is_source p.ops n a, same_out n w (gives O q (leaf n)) h)
   all_shares (over n t) a h = (
     λ w b. record {
       rows = arriving (ship_of q t) q.workers (gives O q t) w;
       out = gives O q (over n t) w;
       below = is_received t (all_below-root IsGiven t h.1) w;
-      given = given_over-Gives O n (O.kind n) (kind_takes n 1 a.0) (arriving (ship_of q t) q.workers (gives O q t) w);
+      given = given_over-Gives O n (O.kind n) (takes_at p.ops n 1 a.0) (arriving (ship_of q t) q.workers (gives O q t) w);
       permuted = same_out n w (gives O q (over n t)) h.0;
     },
     all_shares t a.1 h.1,
@@ -123,7 +102,7 @@ module _ (p : ProgramData) (inputs : List Bag) (q : PhysicalData) (gave : Shares
       out = gives O q (both n t u) w;
       left_below = is_received t (all_below-root IsGiven t h.1) w;
       right_below = is_received u (all_below-root IsGiven u h.2) w;
-      given = given_both-GivesBoth O n (O.kind n) (kind_takes n 2 a.0) (arriving (ship_of q t) q.workers (gives O q t) w) (arriving (ship_of q u) q.workers (gives O q u) w);
+      given = given_both-GivesBoth O n (O.kind n) (takes_at p.ops n 2 a.0) (arriving (ship_of q t) q.workers (gives O q t) w) (arriving (ship_of q u) q.workers (gives O q u) w);
       permuted = same_out n w (gives O q (both n t u)) h.0;
     },
     all_shares t a.1 h.1,

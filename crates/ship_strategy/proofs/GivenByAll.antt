@@ -21,11 +21,12 @@ use Rattle.plan_trees.specs.Sending.{all_of}
 use Rattle.pact_operators.specs.Allowed.{Bag, Gives, GivesBoth, crossed, matched, keys_in, keys_in_either}
 use Rattle.pact_operators.specs.PlanOps.{PlanOps}
 use Rattle.pact_operators.proofs.ChosenForKeys.{AreChosen, IsGivenFor, chosen-CoGrouped, chosen-Grouped, cogrouped-AreChosen, grouped-AreChosen, of_one_side}
+use Rattle.pact_operators.proofs.PermutedPairs.{pairs_perm}
 use Rattle.ship_strategy.specs.Ships.{AreByKey, GoesEverywhere, IsLegalBoth, IsLegalOver, Placement, edge_placement, is_broadcast}
 use Rattle.ship_strategy.proofs.Arrivals.{LieBy, target_below}
-use Rattle.ship_strategy.proofs.EachWorker.{none_each, perm_each, same_each}
+use Rattle.plan_trees.proofs.EachWorker.{none_each, perm_each, same_each}
 use Rattle.ship_strategy.proofs.GroupsAtWorkers.{LieAt, gathered}
-use Rattle.ship_strategy.proofs.PairsAtWorkers.{equal_pairs-all, flat_map-all, left_everywhere, over_pairs, over_pairs-perm, right_everywhere}
+use Rattle.ship_strategy.proofs.PairsAtWorkers.{equal_pairs-all, flat_map-all, left_everywhere, over_pairs, right_everywhere}
 
 -- ---- a placement by fields inside a key is one by the key
 
@@ -71,10 +72,10 @@ pairs_together W f true true legal l r ls rs h g = elim legal as (λ _. Perm (al
   | inr b ↦ absurd (both_ways true b.0 refl)
 ]
 pairs_together W f true false legal l r ls rs h g =
-    chains (perm_each (λ w. over_pairs f (l w) (r w)) (λ w. over_pairs f ls (r w)) W (λ w b. over_pairs-perm f (l w) ls (r w) (r w) (h w b) (same (r w))))
+    chains (perm_each (λ w. over_pairs f (l w) (r w)) (λ w. over_pairs f ls (r w)) W (λ w b. pairs_perm f (h w b) (same (r w))))
     (chains (turned (left_everywhere f ls r W)) (is_same (ap (over_pairs f ls) (sym g))))
 pairs_together W f false true legal l r ls rs h g =
-    chains (perm_each (λ w. over_pairs f (l w) (r w)) (λ w. over_pairs f (l w) rs) W (λ w b. over_pairs-perm f (l w) (l w) (r w) rs (same (l w)) (g w b)))
+    chains (perm_each (λ w. over_pairs f (l w) (r w)) (λ w. over_pairs f (l w) rs) W (λ w b. pairs_perm f (same (l w)) (g w b)))
     (is_same (sym (right_everywhere f l rs W) ∙ ap (λ (z : Bag). over_pairs f z rs) (sym h)))
 pairs_together W f false false legal l r ls rs h g = elim legal as (λ _. Perm (all_of W (λ w. over_pairs f (l w) (r w))) (over_pairs f ls rs)) [
   | inl a ↦ absurd (both_ways false refl a.0)
@@ -92,12 +93,9 @@ edge_stays Broadcast p keys e = absurd (none_placed keys e)
 
 -- nor is the edge of an operator of one input
 pub only_edge_stays : (kind : OpKind) (keys : List ℕ) (ship : Ship) (p : Placement) → IsLegalOver kind keys (is_broadcast ship) (edge_placement ship p) → is_broadcast ship ≡ false
-only_edge_stays Source keys ship p legal = absurd legal
 only_edge_stays Map keys ship p legal = legal
 only_edge_stays Reduce keys ship p legal = edge_stays ship p legal.0 legal.1
-only_edge_stays Match keys ship p legal = absurd legal
-only_edge_stays Cross keys ship p legal = absurd legal
-only_edge_stays CoGroup keys ship p legal = absurd legal
+only_edge_stays kind keys ship p legal = absurd legal
 
 -- ---- one input
 
@@ -121,14 +119,11 @@ module _ (o : PlanOps) (n W : ℕ) (some : 1 ≤ W) where
 
   pub over_gives : (k : OpKind) (all : Bool) (edge : Placement) → IsLegalOver k (o.left_keys n) all edge → (received out : ℕ → Bag) → ((w : ℕ) → w < W → LieBy W edge w (received w))
       → ((w : ℕ) → w < W → Gives o k n (received w) (out w)) → GivesAll k received out
-  over_gives Source all edge legal received out lie h = absurd legal
   over_gives Map all edge legal received out lie h =
       (flat_map (o.of_record n) (all_of W received), refl, is_same (same_each out (λ w. flat_map (o.of_record n) (received w)) W h ∙ sym (flat_map-all (o.of_record n) received W)))
   over_gives Reduce all edge legal received out lie h =
       reduce_gives legal.0 legal.2 received out (λ w b. subst (λ (e : Placement). LieBy W e w (received w)) legal.1 (lie w b)) h
-  over_gives Match all edge legal received out lie h = absurd legal
-  over_gives Cross all edge legal received out lie h = absurd legal
-  over_gives CoGroup all edge legal received out lie h = absurd legal
+  over_gives k all edge legal received out lie h = absurd legal
 
   -- ---- two
 

@@ -15,7 +15,7 @@ use Rattle.pact_record.proofs.Permutations.{Perm}
 use Rattle.plan_trees.specs.Sending.{all_of}
 use Rattle.pact_operators.specs.Allowed.{Bag}
 use Rattle.pact_operators.proofs.ChosenForKeys.{AreChosen, AreChosen-permuted, IsGivenFor, first_occurs, later_occurs}
-use Rattle.ship_strategy.proofs.EachWorker.{one_less, only_one}
+use Rattle.plan_trees.proofs.EachWorker.{one_less, only_one}
 
 -- ---- keys of one list after another
 

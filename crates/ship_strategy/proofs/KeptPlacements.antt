@@ -71,12 +71,9 @@ KeptAt writes Q a = (q : List Value) → ((k : ℕ) → writes k ≡ false → a
 
 anchored_each : (Q : List Value → Type 0) (writes : FieldSet) (xs ys : Bag) (places : List ℕ) (outs others : Bag) → AreAnchoredAt writes xs ys places outs others → AllByRecursion (KeptAt writes Q) xs → AllByRecursion Q outs
 anchored_each Q writes xs ys [] [] [] h f = tt
-anchored_each Q writes xs ys [] [] (q ∷ qs) h f = absurd h
-anchored_each Q writes xs ys [] (r ∷ rs) qs h f = absurd h
-anchored_each Q writes xs ys (p ∷ places) [] qs h f = absurd h
-anchored_each Q writes xs ys (p ∷ places) (r ∷ rs) [] h f = absurd h
 anchored_each Q writes xs ys (p ∷ places) (r ∷ rs) (q ∷ qs) h f =
     (AllByRecursion-get_or (KeptAt writes Q) xs p [] h.0 f r h.1.kept, anchored_each Q writes xs ys places rs qs h.2 f)
+anchored_each Q writes xs ys places outs others h f = absurd h
 
 -- ---- the operator of a number, at a worker
 
@@ -125,7 +122,6 @@ module _ (fields : ℕ) (o : PlanOps) (n W w : ℕ) (in_left in_right : ℕ → 
     rows_at edge keys is lie = AllByRecursion-both (IsWithin fields in_left) (LieHere keys) rows fit (subst (λ (p : Placement). LieBy W p w rows) is lie)
 
     pub over_lie : (kind : OpKind) → HasKnownForm fields o n C kind x → (edge : Placement) → LieBy W edge w rows → Gives o kind n rows out → LieBy W (placement_over kind x.writes edge) w out
-    over_lie Source form edge lie given = tt
     over_lie Map form edge lie given = passed_lie W w x.writes edge out (λ keys is none.
         subst (LieBy W (Some keys) w) (sym given)
         (AllByRecursion-flat_map (IsLeft keys) (LieHere keys) (o.of_record n) rows (rows_at edge keys is lie)
@@ -135,9 +131,7 @@ module _ (fields : ℕ) (o : PlanOps) (n W w : ℕ) (in_left in_right : ℕ → 
         (λ k group h keyed some. called_lie Reduce on_left keys (of_group k group) form tt
         (record { apart = apart; called = tt; some = some; keyed = keyed; left = lefts_within keys group h; right = tt }) (kept_place keys none group (lefts_lie keys group h)))
         out given)
-    over_lie Match form edge lie given = tt
-    over_lie Cross form edge lie given = tt
-    over_lie CoGroup form edge lie given = tt
+    over_lie kind form edge lie given = tt
 
   -- ---- of two
 

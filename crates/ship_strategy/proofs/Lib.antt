@@ -13,7 +13,6 @@ pub mod FilledTables
 pub mod PlanAttributes
 pub mod PlanSets
 pub mod ProgramLayouts
-pub mod EachWorker
 pub mod Arrivals
 pub mod GroupsAtWorkers
 pub mod PairsAtWorkers

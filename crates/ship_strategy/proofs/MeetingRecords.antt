@@ -12,13 +12,14 @@ use Rattle.plan_trees.specs.Plans.{PlanTree, root_of}
 use Rattle.plan_trees.specs.Sending.{all_of}
 use Rattle.pact_operators.specs.Allowed.{Bag}
 use Rattle.pact_operators.specs.Divided.{Shares}
+use Rattle.pact_operators.proofs.PermutedPairs.{pairs_perm}
 use Rattle.ship_strategy.specs.Facts.{Facts}
 use Rattle.ship_strategy.specs.Meets.{LieTogether, MeetBoth, MeetOver}
 use Rattle.ship_strategy.specs.Ships.{AreByKey, GoesEverywhere, IsLegalBoth, IsLegalOver, Placement, is_broadcast, placement}
 use Rattle.ship_strategy.proofs.Arrivals.{LieBy}
 use Rattle.ship_strategy.proofs.GivenByAll.{edge_stays, lie_inside, only_edge_stays, pairs_together, place_inside}
 use Rattle.ship_strategy.proofs.GroupsAtWorkers.{LieAt, either_place, one_place}
-use Rattle.ship_strategy.proofs.PairsAtWorkers.{equal_pairs-all, over_pairs-perm, where_equal}
+use Rattle.ship_strategy.proofs.PairsAtWorkers.{equal_pairs-all, where_equal}
 use Rattle.ship_strategy.proofs.ReceivedRecords.{AreReceived, LieAsPlaced, edge_above, received_lie, received_once, side_of}
 
 -- the pair itself
@@ -35,7 +36,6 @@ module _ (f : Facts) (q : PhysicalData) (some : 1 ≤ q.workers) (gave : Shares)
 
   pub meet_over : (t : PlanTree) (kind : OpKind) (keys : List ℕ) → IsLegalOver kind keys (is_broadcast (ship_of q t)) (edge_above f q t) → LieAsPlaced f q gave t
       → (rows : ℕ → Bag) → AreReceived q gave t rows → MeetOver kind keys W rows (Given t)
-  meet_over t Source keys legal h rows received = absurd legal
   meet_over t Map keys legal h rows received = to_permutation (received_once q gave t rows received some legal)
   meet_over t Reduce keys legal h rows received = (
     to_permutation (received_once q gave t rows received some (only_edge_stays Reduce keys (ship_of q t) (placement f q t) legal)),
@@ -46,9 +46,7 @@ module _ (f : Facts) (q : PhysicalData) (some : 1 ≤ q.workers) (gave : Shares)
 
     lie : (w : ℕ) → w < W → LieAt (place_inside W keys legal.0) keys w (rows w)
     lie w b = lie_inside W w keys legal.0 legal.2 (rows w) (subst (λ (e : Placement). LieBy W e w (rows w)) legal.1 (received_lie q gave t rows received f h w b))
-  meet_over t Match keys legal h rows received = absurd legal
-  meet_over t Cross keys legal h rows received = absurd legal
-  meet_over t CoGroup keys legal h rows received = absurd legal
+  meet_over t kind keys legal h rows received = absurd legal
 
   module _ (t u : PlanTree) (h : LieAsPlaced f q gave t) (g : LieAsPlaced f q gave u) (left right : ℕ → Bag) (received_left : AreReceived q gave t left) (received_right : AreReceived q gave u right)
       (keys others : List ℕ) where
@@ -75,7 +73,7 @@ module _ (f : Facts) (q : PhysicalData) (some : 1 ≤ q.workers) (gave : Shares)
 
       equal_pairs_meet : LieTogether W (do_match keys others) left right (Given t) (Given u)
       equal_pairs_meet =
-          to_permutation (chains (over_pairs-perm (where_equal as_pair keys others) (Given t) (all_of W left) (Given u) (all_of W right) once_left once_right)
+          to_permutation (chains (pairs_perm (where_equal as_pair keys others) once_left once_right)
           (is_same (equal_pairs-all as_pair (target W) keys others W left right lie_left lie_right)))
 
     -- one side everywhere
@@ -84,7 +82,7 @@ module _ (f : Facts) (q : PhysicalData) (some : 1 ≤ q.workers) (gave : Shares)
         let pair = λ (l r : List Value). cond (test l r) ((l, r) ∷ []) [] in
         let a = side_of q gave t left received_left some in
         let b = side_of q gave u right received_right some in
-        to_permutation (chains (over_pairs-perm pair (Given t) a.0 (Given u) b.0 a.1.same b.1.same)
+        to_permutation (chains (pairs_perm pair a.1.same b.1.same)
         (turned (pairs_together W pair (is_broadcast (ship_of q t)) (is_broadcast (ship_of q u)) legal left right a.0 b.0 a.1.side b.1.side)))
 
     pub meet_both : (kind : OpKind) → IsLegalBoth kind keys others (is_broadcast (ship_of q t)) (is_broadcast (ship_of q u)) (edge_above f q t) (edge_above f q u)

@@ -7,10 +7,10 @@ use Rattle.pact_bag.proofs.KeyGroups.{same_keys}
 use Rattle.pact_bag.proofs.KeyLists.{Key}
 use Rattle.pact_record.specs.declared.values.Value.{Value}
 use Rattle.pact_record.specs.Record.{key_of}
-use Rattle.pact_record.proofs.Permutations.{Perm, chains, turn, is_same, flat_map_flat_map, flat_map_perm, both_parts}
+use Rattle.pact_record.proofs.Permutations.{Perm, chains, turn, is_same, flat_map_flat_map}
 use Rattle.plan_trees.specs.Sending.{all_of, workers_below}
 use Rattle.pact_operators.specs.Allowed.{Bag}
-use Rattle.ship_strategy.proofs.EachWorker.{same_each, only_one}
+use Rattle.plan_trees.proofs.EachWorker.{same_each, only_one}
 use Rattle.ship_strategy.proofs.GroupsAtWorkers.{LieAt}
 
 pub flat_map-all : (f : List Value → Bag) (rows : ℕ → Bag) (W : ℕ) → flat_map f (all_of W rows) ≡ all_of W (λ w. flat_map f (rows w))
@@ -42,13 +42,6 @@ module _ {B : Type 0} (f : List Value → List Value → List B) where
 
   pub right_everywhere : (ls : ℕ → Bag) (rs : Bag) (W : ℕ) → over_pairs f (all_of W ls) rs ≡ all_of W (λ w. over_pairs f (ls w) rs)
   right_everywhere ls rs W = flat_map_flat_map (λ l. flat_map (f l) rs) ls (workers_below W)
-
-  pub over_pairs-perm : (ls now rs rest : Bag) → Perm ls now → Perm rs rest → Perm (over_pairs f ls rs) (over_pairs f now rest)
-  over_pairs-perm ls now rs rest p q = chains (flat_map_perm (λ l. flat_map (f l) rs) p) (onto now)
-    where
-      onto : (xs : Bag) → Perm (over_pairs f xs rs) (over_pairs f xs rest)
-      onto [] = is_same refl
-      onto (x ∷ xs) = both_parts (flat_map_perm (f x) q) (onto xs)
 
 -- ---- by key on both sides
 

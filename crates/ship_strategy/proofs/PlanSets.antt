@@ -1,5 +1,5 @@
 -- What the analysis finds of an operator's function is what the facts of its plan say.
-use Rattle.std.proofs.Common.{◌≡◌, ℕ, Option, Some, None, slice_get, refl, ap, sym, ◌∙◌}
+use Rattle.std.proofs.Common.{◌≡◌, ℕ, Some, slice_get, refl, sym, ◌∙◌}
 use Rattle.pact_record.specs.FieldSets.{has_field}
 use Rattle.tac_syntax.specs.declared.contexts.Context.{Context}
 use Rattle.tac_syntax.specs.declared.declarations.OpKind.{OpKind}
@@ -7,12 +7,9 @@ use Rattle.tac_syntax.specs.declared.declarations.OpKind.TheVariants.{Source, Ma
 use Rattle.tac_syntax.specs.Valid.{WithFields}
 use Rattle.tac_flow.specs.Results.{FoundSets, sets_of}
 use Rattle.tac_flow.specs.Views.{sets_in}
-use Rattle.pact_operators.specs.declared.operators.Op.{Op}
-use Rattle.pact_operators.specs.PlanOps.{function_in, kind_at, kind_in, left_keys_in, right_keys_in}
+use Rattle.pact_operators.specs.PlanOps.{function_in, kind_at, left_keys_in, right_keys_in}
 use Rattle.pact_operators.specs.Programs.{IsProgram, ProgramData}
-use Rattle.pact_operators.specs.SoundOps.{function_kind}
-use Rattle.pact_operators.proofs.CalledFunctions.{IsCalled, called_at}
-use Rattle.pact_operators.proofs.SoundPrograms.{function_kind-for}
+use Rattle.pact_operators.proofs.CalledFunctions.{called_function, called_kind}
 use Rattle.ship_strategy.specs.PlanFacts.{sets_at, unless_source}
 
 pub operator_sets : (kind : OpKind) (s : FoundSets) → (kind ≡ Source → ⊥) → unless_source kind s ≡ s
@@ -24,17 +21,12 @@ operator_sets Cross s operator = refl
 operator_sets CoGroup s operator = refl
 
 module _ (p : ProgramData) (program : IsProgram p) (n : ℕ) (v : WithFields) (operator : kind_at p.ops n ≡ Source → ⊥) where
-  by_op : (g : Option Op) → slice_get p.ops n ≡ g → (kind_in g ≡ Source → ⊥) → slice_get p.functions (function_in g) ≡ Some v → (op : Op) × IsCalled p n op v
-  by_op None e o function = absurd (o refl)
-  by_op (Some op) e o function = (op, called_at p program n op operator v e function)
-
   pub sets_are : (x : Context) (s : FoundSets) → slice_get p.functions (function_in (slice_get p.ops n)) ≡ Some v → x.left_keys ≡ left_keys_in (slice_get p.ops n) → x.right_keys ≡ right_keys_in (slice_get p.ops n)
       → s ≡ sets_in v x → s ≡ sets_at p n (has_field x.left) (has_field x.right)
   sets_are x s function left_keys right_keys is =
-      let found = by_op (slice_get p.ops n) refl operator function in
-      let op = found.0 in
+      let found = called_function p program n v operator function in
       let c = found.1 in
-      let kind : v.function.kind ≡ function_kind (kind_at p.ops n) = sym (function_kind-for op.kind v.function.kind c.kind) ∙ ap (λ (g : Option Op). function_kind (kind_in g)) (sym c.found) in
+      let kind = called_kind p n found.0 v c in
       is
       ∙ (λ i. sets_of (record { kind = kind i; fields = c.fields i; left = has_field x.left; right = has_field x.right; left_keys = left_keys i; right_keys = right_keys i }) (c.body i))
       ∙ sym (operator_sets (kind_at p.ops n) _ operator)

@@ -12,7 +12,7 @@ use Rattle.pact_operators.specs.Divided.{IsReceived, Shares}
 use Rattle.ship_strategy.specs.Facts.{Facts}
 use Rattle.ship_strategy.specs.Ships.{Placement, edge_placement, is_broadcast, placement}
 use Rattle.ship_strategy.proofs.Arrivals.{LieBy, all_of-arriving, arriving-broadcast, arriving-lie}
-use Rattle.ship_strategy.proofs.EachWorker.{each_of_all, perm_each}
+use Rattle.plan_trees.proofs.EachWorker.{each_of_all, perm_each}
 use Rattle.ship_strategy.proofs.GivenByAll.{HaveSide}
 
 -- of the edge above a tree

@@ -4,7 +4,7 @@ use Rattle.std.proofs.lemmas.Bool.{false_from_ne_true}
 use Rattle.tac_syntax.specs.declared.contexts.Side.{Side}
 use Rattle.tac_syntax.specs.declared.contexts.Side.TheVariants.{Left as on_left, Right as on_right}
 use Rattle.tac_syntax.specs.declared.declarations.OpKind.{OpKind}
-use Rattle.tac_syntax.specs.declared.declarations.OpKind.TheVariants.{Source, Map, Reduce, Match, Cross, CoGroup}
+use Rattle.tac_syntax.specs.declared.declarations.OpKind.TheVariants.{Source, CoGroup}
 use Rattle.tac_syntax.specs.declared.functions.Kind.{Kind}
 use Rattle.tac_syntax.specs.Code.{Code}
 use Rattle.tac_syntax.specs.Call.{Out}
@@ -25,10 +25,9 @@ use Rattle.pact_operators.specs.PlanOps.{body_at, kind_at, kind_in, plan_ops}
 use Rattle.pact_operators.specs.Programs.{IsProgram, ProgramData}
 use Rattle.pact_operators.specs.SoundOps.{called, function_kind}
 use Rattle.pact_operators.proofs.BelowFields.{AreOf}
-use Rattle.pact_operators.proofs.CalledFunctions.{IsCalled, called_at, is_operator}
+use Rattle.pact_operators.proofs.CalledFunctions.{IsCalled, called_at, called_kind, is_operator}
 use Rattle.pact_operators.proofs.PlanContexts.{keys-below, left-below, right-below}
 use Rattle.pact_operators.proofs.SmallerContexts.{IsSmaller, form_in_smaller, form_of_ops}
-use Rattle.pact_operators.proofs.SoundPrograms.{function_kind-for}
 use Rattle.ship_strategy.specs.Facts.{NodeFacts}
 use Rattle.ship_strategy.specs.PlanFacts.{facts_at, left_attribute, right_attribute, scope_at, sets_at}
 use Rattle.ship_strategy.proofs.KeptPlacements.{HasKnownForm, IsAnchored, ports_at}
@@ -37,12 +36,9 @@ use Rattle.ship_strategy.proofs.PlanSets.{operator_sets}
 
 anchored_on : (kind : OpKind) (side : Side) (x : NodeFacts) (s : FoundSets) → x.anchor_left ≡ s.anchor_left → x.anchor_right ≡ s.anchor_right → IsAnchored kind x side → IsAnchoredOn (function_kind kind) side s
 anchored_on Source side x s l r h = absurd h
-anchored_on Map side x s l r h = tt
-anchored_on Reduce side x s l r h = tt
-anchored_on Match side x s l r h = tt
-anchored_on Cross side x s l r h = tt
 anchored_on CoGroup on_left x s l r h = sym l ∙ h
 anchored_on CoGroup on_right x s l r h = sym r ∙ h
+anchored_on kind side x s l r h = tt
 
 module _ (p : ProgramData) (program : IsProgram p) (inputs : List Bag) (t : PlanTree) where
   abbrev N : ℕ
@@ -62,11 +58,9 @@ module _ (p : ProgramData) (program : IsProgram p) (inputs : List Bag) (t : Plan
     well_formed : IsWellFormed (function_kind Root) p.fields 0 (body_at p N)
     well_formed =
         let r = root_function (slice_get p.ops N) refl in
-        let op = r.0 in
         let v = r.1 in
         let c = r.2 in
-        let kind : v.function.kind ≡ function_kind Root = sym (function_kind-for op.kind v.function.kind c.kind) ∙ ap (λ (g : Option Op). function_kind (kind_in g)) (sym c.found) in
-        subst (λ (k : Kind). IsWellFormed k p.fields 0 (body_at p N)) kind
+        subst (λ (k : Kind). IsWellFormed k p.fields 0 (body_at p N)) (called_kind p N r.0 v c)
         (subst (λ (m : ℕ). IsWellFormed v.function.kind m 0 (body_at p N)) c.fields
         (subst (λ (b : Code). IsWellFormed v.function.kind v.fields 0 b) c.body (valid_is_well_formed v.function v.fields c.valid)))
 

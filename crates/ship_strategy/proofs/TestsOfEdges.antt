@@ -1,7 +1,7 @@
 -- The test of legal edges decides them.
-use Rattle.std.proofs.Common.{◌≡◌, inl, inr, ℕ, true, false, Bool, not, List, refl, ap, sym, ◌∙◌, ◌||◌, ◌&&◌}
+use Rattle.std.proofs.Common.{◌≡◌, inl, inr, ℕ, true, false, Bool, List, refl, ap, sym, ◌∙◌, ◌||◌, ◌&&◌}
 use Rattle.std.specs.Prelude.{◌⊎◌}
-use Rattle.std.proofs.lemmas.Bool.{or_cases, or_left, or_right, and_parts, and_from, true≢false, not_from_false}
+use Rattle.std.proofs.lemmas.Bool.{or_cases, or_left, or_right, and_parts, and_from, true≢false, not_from_false, not-true}
 use Rattle.pact_record.specs.Keys.{is_listed}
 use Rattle.tac_syntax.specs.declared.declarations.OpKind.{OpKind}
 use Rattle.tac_syntax.specs.declared.declarations.OpKind.TheVariants.{Source, Map, Reduce, Match, Cross, CoGroup}
@@ -11,28 +11,21 @@ use Rattle.ship_strategy.specs.Facts.{Facts}
 use Rattle.ship_strategy.specs.Ships.{Placement, placement, is_within, is_exactly, IsLegalOver, IsLegalBoth, AreByKey, GoesEverywhere, IsLegal, legal_over, legal_both, are_by_key, goes_everywhere, is_legal, allows_over, allows_both}
 use Rattle.ship_strategy.proofs.TestsOfKeys.{listed_all, exactly, exactly_self, within}
 
-not_true : (b : Bool) → not b ≡ true → b ≡ false
-not_true true e = absurd (true≢false (sym e))
-not_true false e = refl
-
 over_says : (kind : OpKind) (keys : List ℕ) (all : Bool) (edge : Placement) → legal_over kind keys all edge ≡ true → IsLegalOver kind keys all edge
 over_says Source keys all edge e = absurd (true≢false (sym e))
-over_says Map keys all edge e = not_true all e
+over_says Map keys all edge e = not-true all e
 over_says Reduce keys all edge e = within keys edge e
 over_says Match keys all edge e = absurd (true≢false (sym e))
 over_says Cross keys all edge e = absurd (true≢false (sym e))
 over_says CoGroup keys all edge e = absurd (true≢false (sym e))
 
 over_tests : (kind : OpKind) (keys : List ℕ) (all : Bool) (edge : Placement) → IsLegalOver kind keys all edge → legal_over kind keys all edge ≡ true
-over_tests Source keys all edge h = absurd h
 over_tests Map keys all edge h = not_from_false all h
 over_tests Reduce keys all edge h = ap (is_within keys) h.1 ∙ listed_all (is_listed keys) h.0 h.2
-over_tests Match keys all edge h = absurd h
-over_tests Cross keys all edge h = absurd h
-over_tests CoGroup keys all edge h = absurd h
+over_tests kind keys all edge h = absurd h
 
 everywhere_says : (l r : Bool) → goes_everywhere l r ≡ true → GoesEverywhere l r
-everywhere_says true r e = inl (refl, not_true r e)
+everywhere_says true r e = inl (refl, not-true r e)
 everywhere_says false r e = inr (refl, e)
 
 everywhere_tests : (l r : Bool) → GoesEverywhere l r → goes_everywhere l r ≡ true

@@ -1,13 +1,13 @@
 //! What is known of the operators of a program in a plan.
 
-ghost use Rattle.std.specs.Prelude.{◌≡◌, ◌<◌, ◌↔◌, ◌||◌, ℕ, Some, true, slice_get};
+ghost use Rattle.std.specs.Prelude.{◌≡◌, ◌<◌, ◌↔◌, ◌||◌, ℕ, true, slice_get};
 ghost use Rattle.pact_record.specs.FieldSets.{has_field};
 ghost use Rattle.tac_syntax.specs.Contexts.{Has, IsBelow, IsContextOf};
 ghost use Rattle.tac_syntax.specs.declared.declarations.OpKind.TheVariants.{Source};
 ghost use Rattle.tac_flow.specs.Known.{no_fields};
 ghost use Rattle.tac_flow.specs.Views.{found_of};
 ghost use Rattle.plan_trees.specs.Plans.{has, node_limit, subtree_of};
-ghost use Rattle.pact_operators.specs.PlanOps.{function_in, kind_at, left_keys_in, right_keys_in};
+ghost use Rattle.pact_operators.specs.PlanOps.{kind_at, left_keys_in, right_keys_in};
 ghost use Rattle.pact_operators.specs.Programs.{HasLeftAttribute, HasRightAttribute};
 ghost use Rattle.ship_strategy.specs.PlanFacts as known;
 ghost use Rattle.ship_strategy.specs.PlanFacts.{attribute, facts_of, filled, no_sets, owned, sets_at};
@@ -17,7 +17,7 @@ use crate::tables::{OpFacts, Table};
 use pact_operators::{OpKind, Parts, Plan, Program, attrs};
 use pact_record::{Fields, Keys};
 use tac_flow::Sets;
-use tac_syntax::{Context, Valid};
+use tac_syntax::Context;
 
 // A source's columns, or the fields that an operator's function names.
 fn own_fields(program: &Program, at: u32) -> Fields
@@ -28,16 +28,6 @@ fn own_fields(program: &Program, at: u32) -> Fields
     // a program tells that its attributes are below its number of fields
     let _fields = program.fields();
     attrs(program, &Plan::leaf(at), at)
-}
-
-// The function that an operator calls.
-fn function_at(program: &Program, at: u32) -> &Valid
-    requires operator { kind_at program.now.ops at ≡ Source → ⊥ }
-    ensures function { slice_get program.now.functions (function_in (slice_get program.now.ops at)) ≡ Some result.now }
-    ensures fields { result.now.fields ≡ program.now.fields }
-{
-    let op = &program.ops()[at as usize];
-    &program.functions()[op.function as usize]
 }
 
 // Of a source, which has no function.
@@ -64,7 +54,7 @@ fn sets_for(program: &Program, at: u32, context: &Context) -> Sets
 {
     // a program tells that its functions are valid
     let _fields = program.fields();
-    tac_flow::sets(function_at(program, at), context)
+    tac_flow::sets(program.function_at(at), context)
 }
 
 // The same of a source or an operator, whose kind this is.

@@ -1,11 +1,9 @@
 -- Keys of either side, and calls in the order of their keys.
-use Rattle.std.proofs.Common.{◌≡◌, inl, inr, ℕ, List, [], ◌∷◌, ◌++◌, map, refl, sym, ap, ◌∙◌, subst}
-use Rattle.std.specs.Prelude.{flat_map}
+use Rattle.std.proofs.Common.{◌≡◌, inl, inr, ℕ, List, ◌++◌, map, sym, ap, ◌∙◌, subst}
 use Rattle.std.specs.List.{AllByRecursion}
-use Rattle.std.proofs.lemmas.List.Sorted.{IsPermutation-refl}
 use Rattle.pact_bag.specs.Groups.{group_of_key}
 use Rattle.pact_bag.proofs.KeyGroups.{group_keys, keys_have_groups}
-use Rattle.pact_operators.specs.Allowed.{Bag, CoGrouped, Grouped}
+use Rattle.pact_operators.specs.Allowed.{Bag}
 use Rattle.pact_record.specs.declared.values.Value.{Value}
 use Rattle.pact_record.specs.Record.{key_of}
 use Rattle.pact_record.proofs.Lists.{AllByRecursion-append, AllByRecursion-weaker}
@@ -18,26 +16,7 @@ keys_have_either left_keys right_keys ls rs =
     (AllByRecursion-weaker (HasGroup left_keys ls) either (map (key_of left_keys) ls) (λ k h. inl h) (keys_have_groups left_keys ls))
     (AllByRecursion-weaker (HasGroup right_keys rs) either (map (key_of right_keys) rs) (λ k h. inr h) (keys_have_groups right_keys rs))
 
--- ---- calls in the order of the records
-
-pub grouped : (f : List Value → Bag → Bag) (keys : List ℕ) (rows : Bag) (ks : List (List Value)) (out : Bag) → out ≡ flat_map (λ k. f k (group_of_key keys rows k)) ks → Grouped f keys rows ks out
-grouped f keys rows [] out e = e
-grouped f keys rows (k ∷ ks) out e =
-    (group_of_key keys rows k, flat_map (λ j. f j (group_of_key keys rows j)) ks, IsPermutation-refl (group_of_key keys rows k), e, grouped f keys rows ks (flat_map (λ j. f j (group_of_key keys rows j)) ks) refl)
-
-pub cogrouped : (f : List Value → Bag → Bag → Bag) (left_keys right_keys : List ℕ) (ls rs : Bag) (ks : List (List Value)) (out : Bag)
-    → out ≡ flat_map (λ k. f k (group_of_key left_keys ls k) (group_of_key right_keys rs k)) ks → CoGrouped f left_keys right_keys ls rs ks out
-cogrouped f left_keys right_keys ls rs [] out e = e
-cogrouped f left_keys right_keys ls rs (k ∷ ks) out e =
-    let rest = flat_map (λ j. f j (group_of_key left_keys ls j) (group_of_key right_keys rs j)) ks in (
-      group_of_key left_keys ls k,
-      group_of_key right_keys rs k,
-      rest,
-      IsPermutation-refl (group_of_key left_keys ls k),
-      IsPermutation-refl (group_of_key right_keys rs k),
-      e,
-      cogrouped f left_keys right_keys ls rs ks rest refl,
-    )
+-- ---- calls for groups
 
 -- a call over the group, for the key that its records have
 pub on_group : (f : List Value → Bag → Bag) (keys : List ℕ) (rows group out : Bag) (k : List Value) → group ≡ group_of_key keys rows k

@@ -1,4 +1,4 @@
 pub mod KeyGroups
-pub mod Called
+pub mod CallsOfOperators
 pub mod PlanCounts
 pub mod KnownKeys

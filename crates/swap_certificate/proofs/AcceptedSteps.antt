@@ -5,15 +5,16 @@ use Rattle.plan_trees.specs.Plans.{PlanTree}
 use Rattle.pact_operators.specs.declared.operators.Op.{Op}
 use Rattle.pact_operators.specs.PlanOps.{kind_at, kind_in}
 use Rattle.pact_operators.specs.Programs.{ProgramData}
+use Rattle.plan_printer.specs.PlanText.{operator_name}
 use Rattle.reorder_pair.specs.declared.legality.Condition.{Condition}
 use Rattle.reorder_pair.specs.Rules.{exchange_of}
 use Rattle.reorder_pair.specs.ToldExchanges.{IsLegalIn, Lead, after}
 use Rattle.reorder_pair.proofs.PlacesOfRules.{plays-operator}
 use Rattle.swap_certificate.specs.Checks.{Asks, EndsAt, Follow, is_legal, same_line, step_of}
-use Rattle.swap_certificate.specs.PlanLines.{IsNamed, line_of, name_in}
+use Rattle.swap_certificate.specs.PlanLines.{IsNamed, line_of}
 
 -- what isn't a source is an operator, with the name that stands there
-operator_named : (ops : List Op) (n : ℕ) (found : Option Op) → slice_get ops n ≡ found → (kind_in found ≡ Source → ⊥) → IsNamed ops (name_in found) n
+operator_named : (ops : List Op) (n : ℕ) (found : Option Op) → slice_get ops n ≡ found → (kind_in found ≡ Source → ⊥) → IsNamed ops (operator_name found) n
 operator_named ops n None e operator = absurd (operator refl)
 operator_named ops n (Some op) e operator = (op, e, operator, refl)
 

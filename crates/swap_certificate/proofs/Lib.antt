@@ -10,7 +10,7 @@ pub mod StatedSteps
 pub mod WrittenSteps
 pub mod ToldLines
 pub mod LineEnds
-pub mod Written
+pub mod CertificateValues
 pub mod OneShape
 pub mod RisingSets
 pub mod ReadBack

@@ -1,6 +1,6 @@
 -- A JSON value is of one certificate.
 use Rattle.std.proofs.Common.{◌≡◌, ◌<◌, ◌≤◌, ◌==◌, ◌||◌, inl, inr, ℕ, zero, suc, Bool, true, false, cond, List, [], ◌∷◌, map, codes, bytes_eq, IsUtf8, Some, refl, sym, ap, ◌∙◌, arith}
-use Rattle.std.proofs.lemmas.Bool.{cases_lt}
+use Rattle.std.proofs.lemmas.Bool.{cases_lt, or_from}
 use Rattle.std.proofs.lemmas.Bool.Decides.{nat_tests}
 use Rattle.std.proofs.lemmas.List.Folds.{list_any-append}
 use Rattle.std.proofs.lemmas.Nat.Bits.{bit_at-lt, same_from_bits_below}
@@ -26,9 +26,6 @@ is_in k ns = list_any (λ n. n == k) ns
 abbrev maybe : Bool → ℕ → List ℕ
 maybe has n = cond has (n ∷ []) []
 
-or_false : (a b : Bool) → a ≡ false → b ≡ false → (a || b) ≡ false
-or_false a b h k = rw (h, k) refl
-
 maybe-other : (has : Bool) (n k : ℕ) → (n == k) ≡ false → is_in k (maybe has n) ≡ false
 unfolding is_in
 maybe-other true n k h = rw h refl
@@ -48,7 +45,7 @@ unfolding rising_fields is_in
 above-not_in set zero k h = refl
 above-not_in set (suc n) k h =
     let differs : (n == k) ≡ false = grind (arith, nat_tests) in
-    rising_fields-in set n k ∙ or_false _ _ (above-not_in set n k (omega (arith, h))) (maybe-other (has_field set n) n k differs)
+    rising_fields-in set n k ∙ or_from _ _ (above-not_in set n k (omega (arith, h))) (maybe-other (has_field set n) n k differs)
 
 or-right : (a b c : Bool) → a ≡ false → b ≡ c → (a || b) ≡ c
 or-right a b c h k = rw (h, k) refl

@@ -4,7 +4,7 @@ use Rattle.std.specs.Prelude.{Err, IfNone, Option, Result}
 use Rattle.std.specs.List.{AllByRecursion}
 use Rattle.pact_record.specs.declared.records.TheConstants.{MAX_FIELDS}
 use Rattle.plan_printer.specs.FoundText.{rising_fields}
-use Rattle.serde_json.specs.Data.{Data, Items, Members, null, boolean, number, string, array, object, member}
+use Rattle.serde_json.specs.Data.{Data, Items, Members, array, object, member}
 use Rattle.serde_json.specs.Find.{as_array, as_object}
 use Rattle.serde_json.specs.View.{items_of, view}
 use Rattle.serde_json.specs.declared.value.Value.{Value}
@@ -17,20 +17,12 @@ use Rattle.swap_certificate.proofs.RisingSets.{rising_fields-rise}
 -- ---- values by their kind
 
 is_array : (d : Data) (ds : Items) → as_array d ≡ Some ds → d ≡ array ds
-is_array null ds e = absurd (cc)
-is_array (boolean b) ds e = absurd (cc)
-is_array (number x) ds e = absurd (cc)
-is_array (string s) ds e = absurd (cc)
 is_array (array es) ds e = cc
-is_array (object ms) ds e = absurd (cc)
+is_array d ds e = absurd (cc)
 
 is_object : (d : Data) (ms : Members) → as_object d ≡ Some ms → d ≡ object ms
-is_object null ms e = absurd (cc)
-is_object (boolean b) ms e = absurd (cc)
-is_object (number x) ms e = absurd (cc)
-is_object (string s) ms e = absurd (cc)
-is_object (array ds) ms e = absurd (cc)
 is_object (object ns) ms e = cc
+is_object d ms e = absurd (cc)
 
 -- ---- where there is nothing
 

@@ -10,13 +10,13 @@ use Rattle.std.specs.Int.{bit_at}
 use Rattle.pact_record.specs.declared.records.TheConstants.{MAX_FIELDS}
 use Rattle.pact_record.specs.FieldSets.{IsEmpty, has_field}
 use Rattle.plan_printer.specs.FoundText.{rising_fields}
+use Rattle.plan_printer.proofs.RisingFields.{rising_fields-zero, rising_fields-with, rising_fields-without}
 use Rattle.serde_json.specs.Data.{Data}
 use Rattle.serde_json.specs.View.{view}
 use Rattle.serde_json.specs.declared.value.Value.{Value}
 use Rattle.swap_certificate.specs.RisingData.{RisesFrom}
 use Rattle.swap_certificate.specs.Shape.{IsSet, whole}
 use Rattle.swap_certificate.proofs.OneShape.{whole_one}
-use Rattle.swap_certificate.proofs.Written.{rising_fields-zero, rising_fields-with, rising_fields-without}
 
 -- no field from a number on
 abbrev pub EndsBelow : ℕ → ℕ → Type 0

@@ -16,7 +16,8 @@ use Rattle.reorder_pair.specs.declared.rules.Rule.{Rule}
 use Rattle.reorder_pair.specs.declared.rules.Rule.TheVariants.{MapMap, MapLeft, MapLeftUp, MapRight, MapRightUp, Rotate, RotateUp, MapReduce, MapReduceUp, MapCoGroupLeft, MapCoGroupLeftUp, MapCoGroupRight, MapCoGroupRightUp}
 use Rattle.reorder_pair.specs.Rules.{word_of}
 use Rattle.pact_operators.specs.Programs.{AreNames}
-use Rattle.swap_certificate.specs.PlanLines.{line_of, name_at, name_in}
+use Rattle.plan_printer.specs.PlanText.{operator_name}
+use Rattle.swap_certificate.specs.PlanLines.{line_of, name_at}
 use Rattle.swap_certificate.specs.Shape.{IsShortText, line_limit}
 
 -- ---- ASCII
@@ -100,12 +101,12 @@ name-IsShortText (b ∷ bytes) h =
 -- ---- lines
 
 module _ (ops : List Op) (names : AreNames ops) where
-  name_in-IsShortText : (n : ℕ) (found : Option Op) → slice_get ops n ≡ found → IsShortText name_limit (name_in found)
-  name_in-IsShortText n None e = (IsUtf8-nil, omega arith)
-  name_in-IsShortText n (Some op) e = name-IsShortText op.name (names n op e)
+  operator_name-IsShortText : (n : ℕ) (found : Option Op) → slice_get ops n ≡ found → IsShortText name_limit (operator_name found)
+  operator_name-IsShortText n None e = (IsUtf8-nil, omega arith)
+  operator_name-IsShortText n (Some op) e = name-IsShortText op.name (names n op e)
 
   name_at-IsShortText : (n : ℕ) → IsShortText name_limit (name_at ops n)
-  name_at-IsShortText n = name_in-IsShortText n (slice_get ops n) refl
+  name_at-IsShortText n = operator_name-IsShortText n (slice_get ops n) refl
 
   pub name_at-IsWord : (n : ℕ) → IsShortText word_limit (name_at ops n)
   name_at-IsWord n = let short = name_at-IsShortText n in (short.0, omega (arith, short.1))

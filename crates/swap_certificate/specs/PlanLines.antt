@@ -1,16 +1,13 @@
 -- Plans on one line, and operators by their names.
-use Rattle.std.specs.Prelude.{◌≡◌, ℕ, List, [], ◌++◌, Option, Some, None, slice_get, codes}
+use Rattle.std.specs.Prelude.{◌≡◌, ℕ, List, ◌++◌, Some, slice_get, codes}
 use Rattle.tac_syntax.specs.declared.declarations.OpKind.TheVariants.{Source}
 use Rattle.plan_trees.specs.Plans.{PlanTree, leaf, over, both}
 use Rattle.pact_operators.specs.declared.operators.Op.{Op}
-
-abbrev pub name_in : Option Op → List ℕ
-name_in None = []
-name_in (Some op) = op.name
+use Rattle.plan_printer.specs.PlanText.{operator_name}
 
 -- the name of the source or operator of a number
 abbrev pub name_at : List Op → ℕ → List ℕ
-name_at ops n = name_in (slice_get ops n)
+name_at ops n = operator_name (slice_get ops n)
 
 -- `NAME`, `NAME(LINE)` or `NAME(LINE,LINE)`, from the root
 abbrev pub line_of : List Op → PlanTree → List ℕ

@@ -125,11 +125,8 @@ module _ (c : Scope) (body : Code) (fine : IsWellFormed c.kind c.fields 0 body) 
   same_anchors kind (of_record row) single h = refl
   same_anchors kind (of_pair l r) single h = refl
   same_anchors kind (of_group key g) single h = refl
-  same_anchors Map (of_groups key l r) single h = absurd h
-  same_anchors Match (of_groups key l r) single h = absurd h
-  same_anchors Cross (of_groups key l r) single h = absurd h
-  same_anchors Reduce (of_groups key l r) single h = absurd h
   same_anchors CoGroup (of_groups key l r) single h = cc
+  same_anchors kind x single h = absurd h
 
   form_single : is_cogroup c.kind ≡ false → (side : Side) → FormOn (reads_in c (notes_of c body)) (writes_in (notes_of c body)) side
   form_single single left x y h g agree = form_on left (left_notes single) x y h g agree

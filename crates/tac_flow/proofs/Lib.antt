@@ -11,6 +11,9 @@ pub mod RoomToChange
 pub mod LoopsSettle
 pub mod SetsBelowFields
 pub mod SamePaths
+pub mod StartingRecords
+pub mod CallsOfRecords
+pub mod CallsOfGroups
 pub mod LawfulInputs
 pub mod BasesOnTheLeft
 pub mod NotesCover

@@ -18,34 +18,18 @@ same_side-true right right h = refl
 
 pub same_base-true : (a b : Base) → same_base a b ≡ true → a ≡ b
 same_base-true first first h = refl
-same_base-true first (bound n s) h = cc
-same_base-true first (some s) h = cc
-same_base-true first nowhere h = cc
-same_base-true (bound n s) first h = cc
 same_base-true (bound n s) (bound m t) h =
     let p = and_parts (n == m) (same_side s t) h in λ i. bound (eqb-true n m p.0 i) (same_side-true s t p.1 i)
-same_base-true (bound n s) (some t) h = cc
-same_base-true (bound n s) nowhere h = cc
-same_base-true (some s) first h = cc
-same_base-true (some s) (bound n t) h = cc
 same_base-true (some s) (some t) h = λ i. some (same_side-true s t h i)
-same_base-true (some s) nowhere h = cc
-same_base-true nowhere first h = cc
-same_base-true nowhere (bound n t) h = cc
-same_base-true nowhere (some t) h = cc
 same_base-true nowhere nowhere h = refl
+same_base-true a b h = cc
 
 pub same_origin-true : (a b : Origin) → same_origin a b ≡ true → a ≡ b
 same_origin-true (field_of a k) (field_of b m) h =
     let p = and_parts (same_base a b) (k == m) h in λ i. field_of (same_base-true a b p.0 i) (eqb-true k m p.1 i)
-same_origin-true (field_of a k) (key_at m) h = cc
-same_origin-true (field_of a k) unknown h = cc
-same_origin-true (key_at k) (field_of b m) h = cc
 same_origin-true (key_at k) (key_at m) h = λ i. key_at (eqb-true k m h i)
-same_origin-true (key_at k) unknown h = cc
-same_origin-true unknown (field_of b m) h = cc
-same_origin-true unknown (key_at m) h = cc
 same_origin-true unknown unknown h = refl
+same_origin-true a b h = cc
 
 -- ---- looser bases
 

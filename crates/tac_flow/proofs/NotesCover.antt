@@ -58,11 +58,8 @@ IsAnchoredAt W xs ys p r q = (p < length xs) × AreAnchored W (get_or xs p []) (
 push_anchored : (W : FieldSet) (xs ys : List (List Value)) (ps : List ℕ) (rs qs : List (List Value)) (p : ℕ) (r q : List Value) → AreAnchoredAt W xs ys ps rs qs → IsAnchoredAt W xs ys p r q
     → AreAnchoredAt W xs ys (ps ++ p ∷ []) (rs ++ r ∷ []) (qs ++ q ∷ [])
 push_anchored W xs ys [] [] [] p r q h g = (g.0, g.1, tt)
-push_anchored W xs ys [] [] (b ∷ qs) p r q h g = absurd h
-push_anchored W xs ys [] (a ∷ rs) qs p r q h g = absurd h
-push_anchored W xs ys (n ∷ ps) [] qs p r q h g = absurd h
-push_anchored W xs ys (n ∷ ps) (a ∷ rs) [] p r q h g = absurd h
 push_anchored W xs ys (n ∷ ps) (a ∷ rs) (b ∷ qs) p r q h g = (h.0, h.1, push_anchored W xs ys ps rs qs p r q h.2 g)
+push_anchored W xs ys ps rs qs p r q h g = absurd h
 
 module _ (R W : FieldSet) (c : Scope) (x y : CallInput) (calls : AreCalls R c x y) (side : Side) where
   not_changed : (h : Held) (k : ℕ) → IsCoveredHeld R W side h → W k ≡ false → h.changed k ≡ false

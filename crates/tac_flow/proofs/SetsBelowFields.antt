@@ -28,13 +28,10 @@ key_below n (k ∷ ks) zero h j le = ne_eqb j k (λ e. omega (arith, h.0, le, e)
 key_below n (k ∷ ks) (suc at) h j le = key_below n ks at h.1 j le
 
 keys_below : (n : ℕ) (kind : Kind) (ks js : List ℕ) (side : Side) → AllByRecursion (λ k. k < n) ks → AllByRecursion (λ k. k < n) js → AllByRecursion (λ k. k < n) (keys_by kind ks js side)
-keys_below n Map ks js side a b = tt
-keys_below n Match ks js side a b = tt
-keys_below n Cross ks js side a b = tt
 keys_below n Reduce ks js left a b = a
-keys_below n Reduce ks js right a b = tt
 keys_below n CoGroup ks js left a b = a
 keys_below n CoGroup ks js right a b = b
+keys_below n kind ks js side a b = tt
 
 module _ (c : Scope) (small : IsSmallScope c) where
   none_small : (base : Base) (s : FieldSet) → IsBelow c.fields s → IsSmallHeld c.fields (record { base = base; changed = s; depends = no_fields })

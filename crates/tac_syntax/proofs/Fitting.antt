@@ -18,7 +18,7 @@ use Rattle.tac_syntax.specs.Rules.{is_map, is_pairing, is_reduce, is_cogroup, ha
 use Rattle.tac_syntax.specs.CallInputs.{IsOfRecord, IsOfPair, IsOfGroup, IsOfGroups, IsInputOf, HasKeys}
 use Rattle.tac_syntax.specs.InRange.{IsInRange, AreInRange}
 use Rattle.tac_syntax.specs.Ready.{FitsStore, HasRecord, CanAct}
-use Rattle.tac_syntax.proofs.Kept.{IsKept, exec-kept}
+use Rattle.tac_syntax.proofs.KeptByBodies.{IsKept, exec-kept}
 
 -- ---- the input of each kind
 

@@ -2,8 +2,9 @@ pub mod Bodies
 pub mod Leads
 pub mod Naming
 pub mod Ranges
-pub mod Kept
+pub mod KeptByBodies
 pub mod Fitting
+pub mod RunsSoFar
 pub mod Bounds
 pub mod WellFormed
 pub mod EmitsOfSteps

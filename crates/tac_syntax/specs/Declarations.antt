@@ -6,7 +6,7 @@ use Rattle.tac_syntax.specs.declared.declarations.OpKind.{OpKind}
 use Rattle.tac_syntax.specs.declared.declarations.OpKind.TheVariants.{Source as SourceKind, Map, Reduce, Match, Cross, CoGroup}
 use Rattle.tac_syntax.specs.declared.declarations.Decl.{Decl}
 use Rattle.tac_syntax.specs.declared.declarations.Decl.TheVariants.{Source, Op, Sink}
-use Rattle.tac_syntax.specs.Functions.{key_limit}
+use Rattle.pact_record.specs.Keys.{key_limit}
 use Rattle.tac_syntax.specs.Grammar.{IsNumber}
 use Rattle.tac_syntax.specs.Names.{is_name, is_file_name}
 

@@ -1,14 +1,11 @@
 -- Functions that a text can spell.
 use Rattle.std.specs.Prelude.{◌≡◌, ◌≤◌, ℕ, IsTrue}
+pub use Rattle.pact_record.specs.Keys.{key_limit}
 use Rattle.tac_syntax.specs.declared.functions.Kind.{Kind}
 use Rattle.tac_syntax.specs.declared.functions.Kind.TheVariants.{Map, Match, Cross, Reduce, CoGroup}
 use Rattle.tac_syntax.specs.declared.functions.Function.{Function}
 use Rattle.tac_syntax.specs.Grammar.{IsSpelled}
 use Rattle.tac_syntax.specs.Names.{is_name}
-
--- a key has at most so many fields
-abbrev pub key_limit : ℕ
-key_limit = 8
 
 -- a Reduce and a CoGroup have 1 to 8 keys, the other kinds none
 abbrev pub HasKeys : Kind → ℕ → Type 0

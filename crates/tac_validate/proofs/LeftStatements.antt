@@ -9,7 +9,7 @@ use Rattle.tac_validate.specs.declared.walks.Broken.{Broken}
 use Rattle.tac_validate.specs.Stands.{IsAround, place_of}
 use Rattle.tac_validate.specs.Walks.{walked}
 use Rattle.tac_syntax.proofs.Bodies.{code_of-drop, count_of-onto}
-use Rattle.tac_validate.proofs.Walked.{number_after, walked-next, walked-found}
+use Rattle.tac_validate.proofs.WalksOfBodies.{number_after, walked-next, walked-found}
 
 -- those that are left, from the next number on, are as good as all of them
 pub record GoesOn (rule : Rule) (place : Place) (number : ℕ) (stmts : List Stmt) (next : ℕ) (left : List Stmt) : Type 0 where

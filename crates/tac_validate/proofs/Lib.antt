@@ -1,4 +1,4 @@
 pub mod LeftStatements
 pub mod Refusals
 pub mod Turns
-pub mod Walked
+pub mod WalksOfBodies

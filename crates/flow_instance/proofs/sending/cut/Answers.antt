@@ -1,7 +1,7 @@
 use Rattle.std.proofs.Common.{◌≡◌, ◌+◌, [], ◌∷◌, ◌++◌, length, ap, sym, subst, ◌∙◌, arith, length-append}
 use Rattle.std.proofs.lemmas.Iterator.Adapters.{YieldsList-from_vec}
 use Rattle.std.proofs.lemmas.Iterator.Consumers.{YieldsList-turn, YieldsList-end}
-use Rattle.flow_instance.proofs.Carried.{all_carried, held_width, next_width, one_more}
+use Rattle.flow_instance.proofs.CarriedBatches.{all_carried, held_width, next_width, one_more}
 use Rattle.flow_instance.specs.Sending.{AreCarried, AreCarriedBut}
 use Rattle.std.proofs.lemmas.List.{map-id}
 use Rattle.pact_operators.specs.Allowed.{Bag}

@@ -1,4 +1,4 @@
-use Rattle.flow_instance.proofs.Sent.{none_marked}
+use Rattle.flow_instance.proofs.NotesForReceivers.{none_marked}
 use Rattle.flow_instance.proofs.sending.mark.Goals as goal
 
 pub loop-to-init : goal.loop-to-init

@@ -1,5 +1,5 @@
 use Rattle.std.proofs.Common.{sym, ◌∙◌}
-use Rattle.flow_instance.proofs.Sent.{marked_none, marked_one}
+use Rattle.flow_instance.proofs.NotesForReceivers.{marked_none, marked_one}
 use Rattle.flow_instance.proofs.sending.mark_along.Goals as goal
 
 pub returns-in_ok-push_back : goal.returns-in_ok-push_back

@@ -3,7 +3,7 @@ use Rattle.std.proofs.lemmas.Result.{on_ok_weaker}
 use Rattle.plan_trees.specs.declared.physicals.Ship.{Ship}
 use Rattle.plan_trees.specs.declared.physicals.Ship.TheVariants.{Partition}
 use Rattle.flow_instance.specs.Sending.{AreSent, IsSplit}
-use Rattle.flow_instance.proofs.Sent.{none_few, sent_forward}
+use Rattle.flow_instance.proofs.NotesForReceivers.{none_few, sent_forward}
 use Rattle.flow_instance.proofs.sending.send.Goals as goal
 
 pub returns-in-Forward-clause-sent : goal.returns-in-Forward-clause-sent

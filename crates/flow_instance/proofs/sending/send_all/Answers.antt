@@ -1,7 +1,7 @@
 use Rattle.std.proofs.Common.{refl, subst, sym}
 use Rattle.pact_record.specs.Widths.{AreWide}
 use Rattle.plan_trees.specs.declared.physicals.Ship.TheVariants.{Broadcast}
-use Rattle.flow_instance.proofs.Sent.{none_few, none_sent, sent_broadcast, sent_one}
+use Rattle.flow_instance.proofs.NotesForReceivers.{none_few, none_sent, sent_broadcast, sent_one}
 use Rattle.flow_instance.proofs.sending.send_all.Goals as goal
 
 pub loop-to-init : goal.loop-to-init

@@ -4,7 +4,7 @@ use Rattle.std.proofs.lemmas.Iterator.Consumers.{YieldsList-end, YieldsList-turn
 use Rattle.plan_trees.specs.Sending.{sent}
 use Rattle.plan_trees.specs.declared.physicals.Ship.TheVariants.{Partition}
 use Rattle.flow_instance.specs.Sending.{AreSent}
-use Rattle.flow_instance.proofs.Sent.{none_few, none_sent, part_wide, sent_one, sent_part}
+use Rattle.flow_instance.proofs.NotesForReceivers.{none_few, none_sent, part_wide, sent_one, sent_part}
 use Rattle.flow_instance.proofs.sending.send_parts.Goals as goal
 
 pub loop-part-init : goal.loop-part-init

@@ -1,5 +1,5 @@
 use Rattle.std.proofs.Common.{arith}
-use Rattle.flow_instance.proofs.Carried.{all_carried, all_held}
+use Rattle.flow_instance.proofs.CarriedBatches.{all_carried, all_held}
 use Rattle.flow_instance.proofs.sending.send_to.Goals as goal
 
 pub returns-clause-carried : goal.returns-clause-carried

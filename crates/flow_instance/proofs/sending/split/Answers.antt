@@ -1,7 +1,7 @@
 use Rattle.std.proofs.Common.{length, ap, ◌∙◌}
 use Rattle.std.proofs.lemmas.Iterator.Adapters.{YieldsList-from_vec}
 use Rattle.std.proofs.lemmas.Iterator.Consumers.{YieldsList-turn}
-use Rattle.flow_instance.proofs.Split.{more_wide, part_width, parts-more}
+use Rattle.flow_instance.proofs.SplitRows.{more_wide, part_width, parts-more}
 use Rattle.flow_instance.proofs.sending.split.Goals as goal
 
 pub push-requires : goal.push-requires

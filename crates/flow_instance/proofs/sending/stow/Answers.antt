@@ -1,7 +1,7 @@
 use Rattle.std.proofs.Common.{◌<◌, length, sym, subst, arith}
 use Rattle.pact_operators.specs.Allowed.{Bag}
 use Rattle.flow_instance.specs.Sending.{AreCarriedBut}
-use Rattle.flow_instance.proofs.Carried.{stowed}
+use Rattle.flow_instance.proofs.CarriedBatches.{stowed}
 use Rattle.flow_instance.proofs.sending.stow.Goals as goal
 
 pub returns-clause-stowed : goal.returns-clause-stowed

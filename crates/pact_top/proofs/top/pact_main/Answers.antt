@@ -1,7 +1,7 @@
 use Rattle.std.proofs.Common.{◌≡◌, ◌≤◌, ◌⊎◌, inl, inr}
 use Rattle.pact_top.specs.Refusal.{refusal_line, status_of}
 use Rattle.pact_words.specs.Words.{texts_of}
-use Rattle.pact_top.proofs.Told.{line_is, not_missing, not_stopped, stopped, unnamed_refused, unread_there, usage_told, usage_unnamed, where_ready, where_missing, where_stopped}
+use Rattle.pact_top.proofs.StatusesOfRefusals.{line_is, not_missing, not_stopped, stopped, unnamed_refused, unread_there, usage_told, usage_unnamed, where_ready, where_missing, where_stopped}
 use Rattle.pact_top.proofs.top.pact_main.Goals as goal
 
 pub returns-in-Ok-clause-missing_file : goal.returns-in-Ok-clause-missing_file

@@ -1,10 +1,12 @@
-use Rattle.std.proofs.Common.{sym, ◌∙◌}
-use Rattle.plan_printer.proofs.ListedFields.{rising_fields-zero, listed, passed_over}
+use Rattle.std.proofs.Common.{ap, sym, ◌∙◌}
+use Rattle.plan_printer.specs.FoundText.{with_commas}
+use Rattle.plan_printer.proofs.ListedFields.{listed, passed_over}
+use Rattle.plan_printer.proofs.RisingFields.{rising_fields-zero}
 use Rattle.plan_printer.proofs.findings.fields_text.Goals as goal
 use Rattle.plan_printer.proofs.findings.fields_text.Goals.{then-has+in_ok-push_listed, else-has}
 
 pub loop-field-init : goal.loop-field-init
-loop-field-init c = c.new-text.ensures ∙ sym (rising_fields-zero c.args.set)
+loop-field-init c = c.new-text.ensures ∙ sym (ap with_commas (rising_fields-zero c.args.set))
 
 pub loop-field-preserved : goal.loop-field-preserved
 loop-field-preserved c = elim c.if-has.branch [

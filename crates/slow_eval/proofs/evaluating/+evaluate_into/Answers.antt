@@ -9,9 +9,10 @@ use Rattle.pact_operators.specs.declared.operators.Op.{Op}
 use Rattle.pact_record.specs.declared.values.Value.{Value}
 use Rattle.slow_eval.specs.GivenRows.{rows_of}
 use Rattle.plan_trees.proofs.RootParts.{is_both, is_leaf, is_over}
-use Rattle.slow_eval.proofs.Called.{at_below}
+use Rattle.slow_eval.proofs.CallsOfOperators.{at_below}
 use Rattle.slow_eval.proofs.PlanCounts.{counted-both, counted-leaf, counted-over, others-both, others-leaf, others-over}
-use Rattle.pact_operators.proofs.SourceRows.{input_widths, is_source, place_below}
+use Rattle.pact_operators.proofs.SourceKinds.{is_source}
+use Rattle.pact_operators.proofs.SourceRows.{input_widths, place_below}
 use Rattle.pact_record.specs.Widths.{AreWide}
 use Rattle.pact_record.proofs.Lists.{AllByRecursion-slice_get}
 use Rattle.slow_eval.proofs.evaluating.+evaluate_into.Goals as goal

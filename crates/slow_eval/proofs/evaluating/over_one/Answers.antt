@@ -1,7 +1,7 @@
 use Rattle.std.proofs.Common.{subst}
 use Rattle.std.proofs.lemmas.Result.{IfOk-weaker}
 use Rattle.pact_record.specs.Widths.{AreWide}
-use Rattle.slow_eval.proofs.Called.{called_from, gives_map, gives_reduce}
+use Rattle.slow_eval.proofs.CallsOfOperators.{called_from, gives_map, gives_reduce}
 use Rattle.slow_eval.proofs.evaluating.over_one.Goals as goal
 
 pub returns-in-Map-clause-given : goal.returns-in-Map-clause-given

@@ -1,7 +1,7 @@
 use Rattle.std.proofs.Common.{subst}
 use Rattle.std.proofs.lemmas.Result.{IfOk-weaker}
 use Rattle.pact_record.specs.Widths.{AreWide}
-use Rattle.slow_eval.proofs.Called.{called_from, gives_cogroup, gives_cross, gives_match}
+use Rattle.slow_eval.proofs.CallsOfOperators.{called_from, gives_cogroup, gives_cross, gives_match}
 use Rattle.slow_eval.proofs.evaluating.over_two.Goals as goal
 
 pub returns-in-Match-clause-given : goal.returns-in-Match-clause-given

@@ -5,7 +5,7 @@ use Rattle.pact_bag.proofs.Widths.{HaveOneWidth-append}
 use Rattle.pact_bag.specs.Groups.{group_of_key}
 use Rattle.pact_operators.specs.Allowed.{keys_in_either}
 use Rattle.tac_syntax.specs.Call.{Out, of_groups}
-use Rattle.slow_eval.proofs.KeyGroups.{cogrouped}
+use Rattle.pact_operators.proofs.CallsForKeys.{cogrouped}
 use Rattle.slow_eval.proofs.grouping.cogroup_rows.Goals as goal
 
 pub append-requires : goal.append-requires

@@ -5,7 +5,7 @@ use Rattle.pact_bag.proofs.Widths.{HaveOneWidth-append}
 use Rattle.pact_bag.specs.Groups.{group_of_key}
 use Rattle.pact_operators.specs.Allowed.{keys_in}
 use Rattle.tac_syntax.specs.Call.{Out, of_group}
-use Rattle.slow_eval.proofs.KeyGroups.{grouped}
+use Rattle.pact_operators.proofs.CallsForKeys.{grouped}
 use Rattle.slow_eval.proofs.grouping.reduce_rows.Goals as goal
 
 pub append-requires : goal.append-requires

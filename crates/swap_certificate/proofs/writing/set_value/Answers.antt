@@ -2,7 +2,8 @@ use Rattle.std.proofs.Common.{◌++◌, [], ◌∷◌, map, sym, ap, ◌∙◌}
 use Rattle.std.proofs.lemmas.List.{map-append}
 use Rattle.serde_json.specs.View.{view}
 use Rattle.swap_certificate.specs.Shape.{whole}
-use Rattle.swap_certificate.proofs.Written.{rising_fields-zero, wholes-with, wholes-without}
+use Rattle.plan_printer.proofs.RisingFields.{rising_fields-zero}
+use Rattle.swap_certificate.proofs.CertificateValues.{wholes-with, wholes-without}
 use Rattle.swap_certificate.proofs.writing.set_value.Goals.{then-has+in_ok-push, else-has}
 use Rattle.swap_certificate.proofs.writing.set_value.Goals as goal
 

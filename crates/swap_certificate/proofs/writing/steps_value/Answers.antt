@@ -4,7 +4,7 @@ use Rattle.serde_json.specs.Data.{Data, array}
 use Rattle.serde_json.specs.View.{items_of, view}
 use Rattle.serde_json.proofs.Views.{view-Array}
 use Rattle.swap_certificate.specs.Shape.{step_data}
-use Rattle.swap_certificate.proofs.Written.{one_value_more}
+use Rattle.swap_certificate.proofs.CertificateValues.{one_value_more}
 use Rattle.swap_certificate.proofs.writing.steps_value.Goals as goal
 
 pub loop-step-preserved : goal.loop-step-preserved

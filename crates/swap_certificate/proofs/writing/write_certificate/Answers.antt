@@ -2,7 +2,7 @@ use Rattle.std.proofs.Common.{◌≡◌, ◌≤◌, false, Some, sym, ap, subst,
 use Rattle.serde_json.specs.Data.{Data, depth}
 use Rattle.serde_json.specs.Read.{max_depth, read}
 use Rattle.serde_json.specs.Written.{compact_text, has_float}
-use Rattle.swap_certificate.proofs.Written.{certificate-plain, certificate-depth}
+use Rattle.swap_certificate.proofs.CertificateValues.{certificate-plain, certificate-depth}
 use Rattle.swap_certificate.proofs.OneShape.{stated-is_text, text_one}
 use Rattle.swap_certificate.proofs.writing.write_certificate.Goals as goal
 

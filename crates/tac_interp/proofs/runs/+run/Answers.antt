@@ -4,7 +4,7 @@ use Rattle.tac_syntax.specs.Code.{Code, nesting}
 use Rattle.tac_syntax.specs.Trees.{only, code_of}
 use Rattle.tac_syntax.specs.Exec.{exec}
 use Rattle.tac_syntax.proofs.Bodies.{nesting-only-le}
-use Rattle.tac_interp.proofs.Bodies.{CanStart-next, RunsOn-next, TurnsOn-next, GoesOn-next}
+use Rattle.tac_syntax.proofs.RunsSoFar.{CanStart-next, RunsOn-next, TurnsOn-next, GoesOn-next}
 use Rattle.tac_interp.proofs.runs.+run.Goals as goal
 
 pub run_body-run_stmt-requires : goal.run_body-run_stmt-requires

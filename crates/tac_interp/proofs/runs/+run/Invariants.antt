@@ -1,7 +1,7 @@
 use Rattle.std.proofs.Common.{◌-◌, ◌+◌, ◌*◌, drop}
 use Rattle.tac_syntax.specs.Code.{nesting}
 use Rattle.tac_syntax.specs.Trees.{only, code_of}
-use Rattle.tac_interp.proofs.Bodies.{RunsOn, TurnsOn, GoesOn}
+use Rattle.tac_syntax.proofs.RunsSoFar.{RunsOn, TurnsOn, GoesOn}
 use Rattle.tac_interp.proofs.runs.+run.Given as goal
 
 abbrev pub invariant-run_body-loop-stmt : goal.invariant-run_body-loop-stmt

@@ -10,7 +10,7 @@ use Rattle.tac_validate.specs.Stands.{place_of}
 use Rattle.tac_validate.specs.Walks.{walked}
 use Rattle.tac_syntax.proofs.Bodies.{tall-only-le}
 use Rattle.tac_validate.proofs.LeftStatements.{goes_on-next, goes_on-found, goes_on-number}
-use Rattle.tac_validate.proofs.Walked.{walked-body, walked-other, walked-again}
+use Rattle.tac_validate.proofs.WalksOfBodies.{walked-body, walked-other, walked-again}
 use Rattle.tac_validate.proofs.walks.+walk.Goals as goal
 
 pub walk_body-walk_stmt-requires : goal.walk_body-walk_stmt-requires

@@ -1,12 +1,11 @@
-use Rattle.std.proofs.Common.{◌≡◌, ap, arith, get_or, length, map, subst, sym, ◌∙◌, List, []}
-use Rattle.std.proofs.lemmas.List.{get_or_default}
+use Rattle.std.proofs.Common.{◌≡◌, ap, arith, length, map, subst, sym, ◌∙◌, List}
 use Rattle.pact_bag.specs.Rows.{HaveOneWidth}
 use Rattle.pact_record.specs.Widths.{AreWide}
 use Rattle.plan_trees.specs.Plans.{root_of}
 use Rattle.plan_trees.specs.Sending.{all_of}
 use Rattle.flow_core.specs.Stations.{placed_by, total_given}
 use Rattle.flow_core.specs.Worlds.{StationData, WorldData}
-use Rattle.flow_core.proofs.Finishing.{one_width, placed_widths, root_below, root_row, spread_of}
+use Rattle.flow_core.proofs.Finishing.{one_width, placed_widths, root_below, spread_of, taken_row}
 use Rattle.flow_core.proofs.worlds.World.finish.Goals as goal
 
 pub swap_remove-requires : goal.swap_remove-requires
@@ -20,21 +19,14 @@ swap_remove-requires g c =
 pub into_placed-requires-after_bounds : goal.into_placed-requires-after_bounds
 into_placed-requires-after_bounds g c κs within =
     let w = c.args.self in
-    let root : c.root-root.result ≡ root_of w.physical.tree = c.root-root.ensures ∙ ap (λ (x : WorldData). root_of x.physical.tree) c.self.view_is in
-    let items : c.self.inside.stations.items ≡ w.stations = ap (λ (x : WorldData). x.stations) c.self.view_is in
-    let below = root_below w c.requires in
-    let row = c.swap_remove.result in
-    let row_is : row ≡ root_row w = c.swap_remove.ensures.value ∙ (λ i. get_or (items i) (root i) row) ∙ get_or_default w.stations (root_of w.physical.tree) row [] below in
+    let row_is = taken_row w _ c.root-root.result c.swap_remove.result c.self.view_is c.root-root.ensures c.swap_remove.ensures.value c.requires in
     subst (λ (r : List StationData). HaveOneWidth (all_of (length r) (placed_by r))) (sym row_is) (one_width w c.requires)
 
 pub returns-clause-spread : goal.returns-clause-spread
 returns-clause-spread g c =
     let w = c.args.self in
-    let root : c.root-root.result ≡ root_of w.physical.tree = c.root-root.ensures ∙ ap (λ (x : WorldData). root_of x.physical.tree) c.self.view_is in
-    let items : c.self.inside.stations.items ≡ w.stations = ap (λ (x : WorldData). x.stations) c.self.view_is in
-    let below = root_below w c.requires in
-    let row = c.swap_remove.result in
-    let row_is : row ≡ root_row w = c.swap_remove.ensures.value ∙ (λ i. get_or (items i) (root i) row) ∙ get_or_default w.stations (root_of w.physical.tree) row [] below in
+    let items = ap (λ (x : WorldData). x.stations) c.self.view_is in
+    let row_is = taken_row w _ c.root-root.result c.swap_remove.result c.self.view_is c.root-root.ensures c.swap_remove.ensures.value c.requires in
     let rows_are = c.in_ok-rows.ensures ∙ ap (λ (r : List StationData). all_of (length r) (placed_by r)) row_is in
     let counts_are = c.in_ok-counts.ensures ∙ ap (map total_given) (c.deref.ensures.value ∙ items) in
     λ s h standing done. spread_of s w h c.in_ok-rows.rows c.in_ok-counts.counts c.requires.is_physical standing done rows_are counts_are
@@ -42,10 +34,6 @@ returns-clause-spread g c =
 pub returns-clause-widths : goal.returns-clause-widths
 returns-clause-widths g c =
     let w = c.args.self in
-    let root : c.root-root.result ≡ root_of w.physical.tree = c.root-root.ensures ∙ ap (λ (x : WorldData). root_of x.physical.tree) c.self.view_is in
-    let items : c.self.inside.stations.items ≡ w.stations = ap (λ (x : WorldData). x.stations) c.self.view_is in
-    let below = root_below w c.requires in
-    let row = c.swap_remove.result in
-    let row_is : row ≡ root_row w = c.swap_remove.ensures.value ∙ (λ i. get_or (items i) (root i) row) ∙ get_or_default w.stations (root_of w.physical.tree) row [] below in
+    let row_is = taken_row w _ c.root-root.result c.swap_remove.result c.self.view_is c.root-root.ensures c.swap_remove.ensures.value c.requires in
     let rows_are = c.in_ok-rows.ensures ∙ ap (λ (r : List StationData). all_of (length r) (placed_by r)) row_is in
     λ s h standing. subst (AreWide s.fields) (sym rows_are) (placed_widths s w h standing)

@@ -11,27 +11,18 @@ returns-clause-standing g c =
     let p = c.args.program.now in
     let physical = c.args.physical.now in
     let w : WorldData = record { physical = c.new.result; depth = c.args.depth; stations = c.in_ok-stations.stations.items } in
-    let standing = standing_start (setting p c.args.inputs physical) c.args.batch (length p.ops) c.in_ok-stations.stations.items c.in_ok-stations.ensures w c.new.ensures refl
-    (λ at there. number_below p.ops at physical.tree there c.requires.plan.arity) (λ at less. c.requires.plan.all at less) in
-    standing
+    standing_start (setting p c.args.inputs physical) c.args.batch (length p.ops) c.in_ok-stations.stations.items c.in_ok-stations.ensures w c.new.ensures refl
+    (λ at there. number_below p.ops at physical.tree there c.requires.plan.arity) (λ at less. c.requires.plan.all at less)
 
 pub returns-clause-stands : goal.returns-clause-stands
 returns-clause-stands g c =
     let p = c.args.program.now in
     let physical = c.args.physical.now in
     let w : WorldData = record { physical = c.new.result; depth = c.args.depth; stations = c.in_ok-stations.stations.items } in
-    let standing = standing_start (setting p c.args.inputs physical) c.args.batch (length p.ops) c.in_ok-stations.stations.items c.in_ok-stations.ensures w c.new.ensures refl
-    (λ at there. number_below p.ops at physical.tree there c.requires.plan.arity) (λ at less. c.requires.plan.all at less) in
-    some_start p c.args.inputs physical w c.fields-fields.ensures.keeps c.requires.inputs c.workers-workers.ensures.physical c.requires.plan c.requires.depth.0 c.new.ensures standing
+    some_start p c.args.inputs physical w c.fields-fields.ensures.keeps c.requires.inputs c.workers-workers.ensures.physical c.requires.plan c.requires.depth.0 c.new.ensures (returns-clause-standing g c)
 
 pub returns-clause-laws : goal.returns-clause-laws
-returns-clause-laws g c =
-    let p = c.args.program.now in
-    let physical = c.args.physical.now in
-    let w : WorldData = record { physical = c.new.result; depth = c.args.depth; stations = c.in_ok-stations.stations.items } in
-    let standing = standing_start (setting p c.args.inputs physical) c.args.batch (length p.ops) c.in_ok-stations.stations.items c.in_ok-stations.ensures w c.new.ensures refl
-    (λ at there. number_below p.ops at physical.tree there c.requires.plan.arity) (λ at less. c.requires.plan.all at less) in
-    laws_hold w (some_start p c.args.inputs physical w c.fields-fields.ensures.keeps c.requires.inputs c.workers-workers.ensures.physical c.requires.plan c.requires.depth.0 c.new.ensures standing)
+returns-clause-laws g c = laws_hold (record { physical = c.new.result; depth = c.args.depth; stations = c.in_ok-stations.stations.items }) (returns-clause-stands g c)
 
 pub returns-clause-batch : goal.returns-clause-batch
 returns-clause-batch g c =

@@ -1,6 +1,6 @@
 use Rattle.std.proofs.lemmas.Result.{IfOk-weaker}
 use Rattle.flow_instance.proofs.EndMarks.{cogroup_given}
-use Rattle.flow_instance.proofs.Kept.{wide_permuted}
+use Rattle.flow_instance.proofs.KeptRecords.{wide_permuted}
 use Rattle.flow_instance.proofs.states.State.cogroup.Goals as goal
 
 pub returns-clause-given : goal.returns-clause-given

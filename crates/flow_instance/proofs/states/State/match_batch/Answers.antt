@@ -1,5 +1,5 @@
 use Rattle.flow_instance.proofs.Results.{on_ok_three}
-use Rattle.flow_instance.proofs.Sound.{sound_given}
+use Rattle.flow_instance.proofs.SoundInstances.{sound_given}
 use Rattle.flow_instance.proofs.TakenNotes.{took_pair}
 use Rattle.flow_instance.proofs.states.State.match_batch.Goals as goal
 

@@ -1,7 +1,7 @@
 -- What workers have, one after another.
-use Rattle.std.proofs.Common.{◌≡◌, ◌<◌, ◌==◌, ◌⊎◌, inl, inr, ℕ, zero, suc, Bool, true, false, cond, List, [], ◌∷◌, ◌++◌, refl, sym, ap, subst, ◌∙◌, append-nil, arith}
+use Rattle.std.proofs.Common.{◌≡◌, ◌<◌, ◌==◌, ◌⊎◌, inl, inr, ℕ, zero, suc, cond, List, [], ◌∷◌, ◌++◌, refl, sym, ap, subst, ◌∙◌, append-nil, arith}
 use Rattle.std.specs.List.{AllByRecursion}
-use Rattle.std.proofs.lemmas.Bool.{cases_lt, ne_eqb}
+use Rattle.std.proofs.lemmas.Bool.{cases_lt, ne_eqb, cond-false, cond-true}
 use Rattle.std.proofs.lemmas.Bool.Decides.{eqb_tells}
 use Rattle.pact_record.proofs.Lists.{AllByRecursion-append, AllByRecursion-left, AllByRecursion-right}
 use Rattle.pact_record.proofs.Permutations.{Perm, before, both_parts, chains, is_same, middle, nothing}
@@ -67,17 +67,11 @@ module _ {A : Type 0} where
   abbrev pub one_more : ℕ → A → (ℕ → List A) → ℕ → List A
   one_more v x f w = cond (v == w) (x ∷ f w) (f w)
 
-  other_worker : (v w : ℕ) (x : A) (l : List A) → (v == w) ≡ false → cond (v == w) (x ∷ l) l ≡ l
-  other_worker v w x l e = ap (λ (b : Bool). cond b (x ∷ l) l) e
-
-  this_worker : (v w : ℕ) (x : A) (l : List A) → (v == w) ≡ true → cond (v == w) (x ∷ l) l ≡ x ∷ l
-  this_worker v w x l e = ap (λ (b : Bool). cond b (x ∷ l) l) e
-
   pub all_of-one_more : (v : ℕ) (x : A) (f : ℕ → List A) (W : ℕ) → v < W → Perm (x ∷ all_of W f) (all_of W (one_more v x f))
   all_of-one_more v x f zero b = absurd (omega (arith, b))
   all_of-one_more v x f (suc n) b = elim (eqb_tells v n) as (λ _. Perm (x ∷ all_of (suc n) f) (all_of (suc n) (one_more v x f))) [
-    | inl e ↦ is_same (sym ((λ i. this_worker v n x (f n) e.0 i ++ same_each (one_more v x f) f n (λ w c. other_worker v w x (f w) (ne_eqb v w (λ q. omega (arith, c, q, e.1)))) i)))
+    | inl e ↦ is_same (sym ((λ i. cond-true (v == n) (x ∷ f n) (f n) e.0 i ++ same_each (one_more v x f) f n (λ w c. cond-false (v == w) (x ∷ f w) (f w) (ne_eqb v w (λ q. omega (arith, c, q, e.1)))) i)))
     | inr e ↦
         chains (middle x (f n) (all_of n f))
-        (chains (before (f n) (all_of-one_more v x f n (one_less v n b e.1))) (is_same (sym (λ i. other_worker v n x (f n) e.0 i ++ all_of n (one_more v x f)))))
+        (chains (before (f n) (all_of-one_more v x f n (one_less v n b e.1))) (is_same (sym (λ i. cond-false (v == n) (x ∷ f n) (f n) e.0 i ++ all_of n (one_more v x f)))))
   ]

@@ -2,7 +2,7 @@
 use Rattle.std.proofs.Common.{◌≡◌, ◌<◌, ◌==◌, ℕ, Bool, cond, List, [], ◌∷◌, ◌++◌, length, map, get_or, refl, ap, sym, ◌∙◌, subst, arith, append_assoc, append-nil}
 use Rattle.std.specs.List.{AllByRecursion}
 use Rattle.std.proofs.lemmas.Bool.{eq-eqb}
-use Rattle.std.proofs.lemmas.List.{map-append}
+use Rattle.std.proofs.lemmas.List.{map-append, nil_from_length}
 use Rattle.std.proofs.lemmas.List.Elements.{recursion_from_All}
 use Rattle.pact_bag.specs.Rows.{HaveOneWidth}
 use Rattle.pact_operators.specs.Allowed.{Bag}
@@ -46,16 +46,12 @@ one_more fields to done row old new held width c = record {
   wide = AllByRecursion-append (λ (r : List Value). length r ≡ fields) held (row ∷ []) c.wide (width, tt);
 }
 
-no_items : (held : Bag) → length held < 1 → held ≡ []
-no_items [] h = refl
-no_items (row ∷ held) h = absurd (omega (arith, h))
-
 pub all_carried : (fields to : ℕ) (done : Bag) (old new : List Parcel) (held : Bag) → length held < 1 → AreCarriedBut fields to done old new held → AreCarried fields to done old new
 all_carried fields to done old new held few c = record {
   more = c.more;
   behind = c.behind;
   batches = c.batches;
-  carried = sym (append-nil (rows_for to c.more)) ∙ ap (λ (l : Bag). rows_for to c.more ++ l) (sym (no_items held few)) ∙ c.carried;
+  carried = sym (append-nil (rows_for to c.more)) ∙ ap (λ (l : Bag). rows_for to c.more ++ l) (sym (nil_from_length held (omega (arith, few)))) ∙ c.carried;
 }
 
 -- ---- rows that come one by one

@@ -13,8 +13,8 @@ use Rattle.plan_trees.specs.declared.physicals.Ship.{Ship}
 use Rattle.plan_trees.specs.declared.physicals.Ship.TheVariants.{Forward, Partition, Broadcast}
 use Rattle.flow_instance.specs.Sending.{AreCarried, AreFew, AreMarked, AreSent, IsBatchFor, HasPipe, IsSent, IsSplit, batch_parcel, mark_parcel}
 use Rattle.flow_instance.specs.declared.parcels.Parcel.{Parcel}
-use Rattle.flow_instance.proofs.Carried.{rows_for-append}
-use Rattle.flow_instance.proofs.Split.{read}
+use Rattle.flow_instance.proofs.CarriedBatches.{rows_for-append}
+use Rattle.flow_instance.proofs.SplitRows.{read}
 
 others_none : (fields to t : ℕ) (more : List (ℕ × Bag)) → AllByRecursion (IsBatchFor fields to) more → t ≢ to → rows_for t more ≡ []
 others_none fields to t [] h other = refl

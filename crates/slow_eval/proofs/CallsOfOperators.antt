@@ -12,19 +12,12 @@ use Rattle.tac_syntax.specs.Call.{Out, of_group, of_groups, of_pair, of_record}
 use Rattle.tac_syntax.specs.Code.{Code}
 use Rattle.tac_syntax.specs.Valid.{WithFields}
 use Rattle.pact_operators.proofs.CalledFunctions.{IsCalled, is_called}
+use Rattle.pact_operators.proofs.SourceKinds.{takes_at}
 
 -- ---- operators and their functions
 
-takes_some : (count : ℕ) (kind : OpKind) → takes kind ≡ suc count → kind ≡ Source → ⊥
-takes_some count Source h e = omega (arith, h)
-takes_some count Map h e = cc
-takes_some count Reduce h e = cc
-takes_some count Match h e = cc
-takes_some count Cross h e = cc
-takes_some count CoGroup h e = cc
-
 is_operator : (ops : List Op) (at count : ℕ) → Takes ops at (suc count) → kind_at ops at ≡ Source → ⊥
-is_operator ops at count t source = takes_some count t.0.kind t.2 (sym (ap kind_in t.1) ∙ source)
+is_operator ops at count t source = let none : takes Source ≡ suc count = sym (ap takes source) ∙ takes_at ops at (suc count) t in omega (arith, none)
 
 pub at_below : (p : ProgramData) (at count : ℕ) → Takes p.ops at count → at < length p.ops
 at_below p at count t = slice_get_within p.ops at t.0 t.1

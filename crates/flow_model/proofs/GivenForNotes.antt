@@ -1,5 +1,6 @@
 -- What an operator gives for one note more.
-use Rattle.std.proofs.Common.{◌≡◌, ◌↔◌, ◌==◌, ℕ, zero, suc, Bool, true, false, cond, List, [], ◌∷◌, ◌++◌, length, slice_get, refl, ap, sym, ◌∙◌, subst, append-nil, arith}
+use Rattle.std.proofs.Common.{◌≡◌, ◌↔◌, ◌==◌, ℕ, zero, suc, Bool, true, false, cond, List, [], ◌∷◌, ◌++◌, slice_get, refl, ap, sym, ◌∙◌, subst, append-nil}
+use Rattle.std.proofs.lemmas.List.{nil_from_length}
 use Rattle.std.specs.Prelude.{flat_map}
 use Rattle.std.specs.List.Sorted.{IsPermutation}
 use Rattle.std.proofs.lemmas.List.Concat.{flat_map-append}
@@ -19,12 +20,8 @@ use Rattle.flow_model.proofs.Bags.{is_same, joined, turned, beside, crossed-nil,
 abbrev pub Grown : (ℕ → Bag) → ℕ → Note → (ℕ → Bag) → Type 0
 Grown rows port note new = (p : ℕ) → IsPermutation (kept_with rows port note p) (new p)
 
-no_items : {X : Type 0} (ys : List X) → length ys ≡ 0 → ys ≡ []
-no_items [] e = refl
-no_items (y ∷ ys) e = absurd (omega arith)
-
 pub nil_only : {X : Type 0} {ys : List X} → IsPermutation [] ys → ys ≡ []
-nil_only {X} {ys} p = no_items ys (length_permutation [] ys p)
+nil_only {X} {ys} p = nil_from_length ys (length_permutation [] ys p)
 
 -- at another port nothing is added
 pub unchanged : (rows new : ℕ → Bag) (port p : ℕ) (note : Note) → (p == port) ≡ false → Grown rows port note new → IsPermutation (new p) (rows p)
@@ -97,12 +94,9 @@ pub given_more : (s : Spot) (kind : OpKind) (ports : List Port) (worker port fro
     → works_at_once kind ≡ true → is_edge (slice_get ports port) from worker ≡ true → Grown rows port note new → KeepsRows kind rows kept → (port ≡ 0 → rows 1 ≡ [])
     → IsGiven s kind ports worker rows given → GivesAtOnce s kind port (kept 0) note out → IsGiven s kind ports worker new (given ++ out)
 given_more s kind ports worker port from End rows new kept given out w e grown keeps order g o = ended s kind ports worker port rows new given out grown g ((none_at_end s kind port (kept 0) out).0 o)
-given_more s kind [] worker port from (Batch batch) rows new kept given out w e grown keeps order g o = absurd (cc)
 given_more s kind (p ∷ q ∷ r ∷ ports) worker port from (Batch batch) rows new kept given out w e grown keeps order g o = absurd g.may
 given_more s Source (p ∷ []) worker port from (Batch batch) rows new kept given out w e grown keeps order g o = absurd g.may
 given_more s Source (p ∷ q ∷ []) worker port from (Batch batch) rows new kept given out w e grown keeps order g o = absurd g.may
-given_more s Reduce (p ∷ ports) worker port from (Batch batch) rows new kept given out w e grown keeps order g o = absurd (cc)
-given_more s CoGroup (p ∷ ports) worker port from (Batch batch) rows new kept given out w e grown keeps order g o = absurd (cc)
 given_more s Map (p ∷ []) worker zero from (Batch batch) rows new kept given out w e grown keeps order g o = record {
   left = g.left ++ batch;
   right = g.right;
@@ -112,30 +106,23 @@ given_more s Map (p ∷ []) worker zero from (Batch batch) rows new kept given o
   may = refl;
   permuted = joined (is_same (flat_map-append (s.ops.of_record s.at) g.left batch)) (beside (joined (is_same (sym g.may)) g.permuted) (is_same (sym o)));
 }
-given_more s Map (p ∷ []) worker (suc port) from (Batch batch) rows new kept given out w e grown keeps order g o = absurd (cc)
 given_more s Map (p ∷ q ∷ []) worker port from (Batch batch) rows new kept given out w e grown keeps order g o = absurd g.may
 given_more s Match (p ∷ []) worker port from (Batch batch) rows new kept given out w e grown keeps order g o = absurd g.may
 given_more s Match (p ∷ q ∷ []) worker zero from (Batch batch) rows new kept given out w e grown keeps order g o =
     left_first s Match (matched (s.ops.of_pair s.at) (s.ops.left_keys s.at) (s.ops.right_keys s.at)) p q worker rows new batch given out (λ ls rs x m. m) (λ ls rs. refl) grown (order refl) g o
 given_more s Match (p ∷ q ∷ []) worker (suc zero) from (Batch batch) rows new kept given out w e grown keeps order g o =
     right_next s Match (matched (s.ops.of_pair s.at) (s.ops.left_keys s.at) (s.ops.right_keys s.at)) p q worker rows new (kept 0) batch given out (λ ls rs x m. m) (λ ls rs. refl) grown keeps g o
-given_more s Match (p ∷ q ∷ []) worker (suc (suc port)) from (Batch batch) rows new kept given out w e grown keeps order g o = absurd (cc)
 given_more s Cross (p ∷ []) worker port from (Batch batch) rows new kept given out w e grown keeps order g o = absurd g.may
 given_more s Cross (p ∷ q ∷ []) worker zero from (Batch batch) rows new kept given out w e grown keeps order g o =
     left_first s Cross (s.ops.of_pair s.at) p q worker rows new batch given out (λ ls rs x m. m) (λ ls rs. refl) grown (order refl) g o
 given_more s Cross (p ∷ q ∷ []) worker (suc zero) from (Batch batch) rows new kept given out w e grown keeps order g o =
     right_next s Cross (s.ops.of_pair s.at) p q worker rows new (kept 0) batch given out (λ ls rs x m. m) (λ ls rs. refl) grown keeps g o
-given_more s Cross (p ∷ q ∷ []) worker (suc (suc port)) from (Batch batch) rows new kept given out w e grown keeps order g o = absurd (cc)
+given_more s kind ports worker port from note rows new kept given out w e grown keeps order g o = absurd (cc)
 
 -- what an operator gives that waits for all
 pub given_last : (s : Spot) (kind : OpKind) (ports : List Port) (worker port from : ℕ) (note : Note) (rows new kept : ℕ → Bag) (out : Bag)
     → works_at_once kind ≡ false → is_edge (slice_get ports port) from worker ≡ true → Grown rows port note new → KeepsRows kind rows kept
     → IsGiven s kind ports worker (kept_with kept port note) out → IsGiven s kind ports worker new out
-given_last s Source ports worker port from note rows new kept out w e grown keeps g = absurd (cc)
-given_last s Map ports worker port from note rows new kept out w e grown keeps g = absurd (cc)
-given_last s Match ports worker port from note rows new kept out w e grown keeps g = absurd (cc)
-given_last s Cross ports worker port from note rows new kept out w e grown keeps g = absurd (cc)
-given_last s kind [] worker port from note rows new kept out w e grown keeps g = absurd (cc)
 given_last s kind (p ∷ q ∷ r ∷ ports) worker port from note rows new kept out w e grown keeps g = absurd g.may
 given_last s Reduce (p ∷ q ∷ []) worker port from note rows new kept out w e grown keeps g = absurd g.may
 given_last s CoGroup (p ∷ []) worker port from note rows new kept out w e grown keeps g = absurd g.may
@@ -157,6 +144,7 @@ given_last s CoGroup (p ∷ q ∷ []) worker port from note rows new kept out w 
   may = g.may;
   permuted = g.permuted;
 }
+given_last s kind ports worker port from note rows new kept out w e grown keeps g = absurd (cc)
 
 -- one port's rows are kept with the note's
 kept_port : (rows new kept more : ℕ → Bag) (port p : ℕ) (note : Note) → Grown rows port note new → IsPermutation (rows p) (kept p) → IsPermutation (kept_with kept port note p) (more p)

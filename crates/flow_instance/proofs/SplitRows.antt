@@ -14,7 +14,7 @@ use Rattle.pact_record.specs.Widths.{AreWide}
 use Rattle.pact_record.specs.declared.values.Value.{Value}
 use Rattle.plan_trees.specs.Sending.{goes, sent}
 use Rattle.plan_trees.specs.declared.physicals.Ship.TheVariants.{Partition}
-use Rattle.flow_instance.proofs.Carried.{IsNext, next_width}
+use Rattle.flow_instance.proofs.CarriedBatches.{IsNext, next_width}
 use Rattle.flow_instance.specs.Sending.{IsSplit}
 
 pub read : {X : Type 0} (xs : List X) (n : ℕ) (x y : X) → slice_get xs n ≡ Some x → y ≡ get_or xs n y → y ≡ x

@@ -1,10 +1,10 @@
--- Certificates as JSON values: the fields of a set one after another, no float, and few levels.
-use Rattle.std.proofs.Common.{◌≡◌, ◌<◌, ◌≤◌, ◌+◌, ◌++◌, ℕ, Bool, true, false, cond, List, [], ◌∷◌, map, get_or, length, take, refl, ap, ◌∙◌, arith, append-nil, sym}
-use Rattle.std.proofs.Math.Numerals.{suc-eq-add-one}
+-- Certificates as JSON values: the fields of a set one after another, no float, few levels, and one step more.
+use Rattle.std.proofs.Common.{◌≡◌, ◌<◌, ◌≤◌, ◌+◌, ◌++◌, ℕ, true, false, List, [], ◌∷◌, map, get_or, length, take, refl, ap, ◌∙◌, arith, sym}
 use Rattle.std.proofs.lemmas.List.{map-append, take_more}
 use Rattle.pact_record.specs.declared.records.TheConstants.{MAX_FIELDS}
 use Rattle.pact_record.specs.FieldSets.{has_field}
 use Rattle.plan_printer.specs.FoundText.{rising_fields}
+use Rattle.plan_printer.proofs.RisingFields.{rising_fields-with, rising_fields-without}
 use Rattle.reorder_pair.specs.declared.finding.Found.{Found}
 use Rattle.serde_json.specs.Data.{depth, items_depth}
 use Rattle.serde_json.specs.Read.{max_depth}
@@ -16,21 +16,6 @@ use Rattle.swap_certificate.specs.declared.certificates.Step.{Step}
 use Rattle.swap_certificate.specs.Shape.{certificate_data, found_data, step_data, whole}
 
 -- ---- the fields of a set below one number more
-
-pub rising_fields-zero : (set : ℕ) → rising_fields set 0 ≡ []
-unfolding rising_fields
-rising_fields-zero set = refl
-
-rising_fields-suc : (set n : ℕ) → rising_fields set (n + 1) ≡ rising_fields set n ++ cond (has_field set n) (n ∷ []) []
-unfolding rising_fields
-rising_fields-suc set n = ap (rising_fields set) (sym (suc-eq-add-one n))
-
-pub rising_fields-with : (set n : ℕ) → has_field set n ≡ true → rising_fields set (n + 1) ≡ rising_fields set n ++ n ∷ []
-rising_fields-with set n h = rising_fields-suc set n ∙ ap (λ (has : Bool). rising_fields set n ++ cond has (n ∷ []) []) h
-
-pub rising_fields-without : (set n : ℕ) → has_field set n ≡ false → rising_fields set (n + 1) ≡ rising_fields set n
-rising_fields-without set n h =
-    rising_fields-suc set n ∙ ap (λ (has : Bool). rising_fields set n ++ cond has (n ∷ []) []) h ∙ append-nil (rising_fields set n)
 
 pub wholes-with : (set n : ℕ) → has_field set n ≡ true → map whole (rising_fields set (n + 1)) ≡ map whole (rising_fields set n) ++ whole n ∷ []
 wholes-with set n h = ap (map whole) (rising_fields-with set n h) ∙ map-append whole (rising_fields set n) (n ∷ [])
