@@ -3,12 +3,11 @@ use Rattle.std.proofs.Common.{◌≡◌, ◌<◌, ◌≤◌, ◌+◌, inl, inr, 
 use Rattle.tac_syntax.specs.Drafts.{DraftData}
 use Rattle.text_lines.specs.declared.lines.TextFault.{TextFault}
 use Rattle.text_lines.specs.declared.lines.TextFault.TheVariants as told
-use Rattle.text_lines.specs.FirstFaults.{HasFault, IsFirstFault}
+use Rattle.text_lines.specs.FirstFaults.{IsFirstFault, IsLineFault, told_at}
 use Rattle.text_lines.specs.TextLines.{lines_of}
-use Rattle.text_lines.proofs.LineRuns.{EndsEarly-run, IsFaultyLine-run, Runs-append, Runs-unique}
+use Rattle.text_lines.proofs.LineRuns.{EndsEarly-run, TellsFirst-line, Runs-append, Runs-unique}
 use Rattle.text_lines.specs.declared.faults.NotRead.{NotRead}
-use Rattle.text_lines.specs.declared.faults.NotRead.TheVariants as decl
-use Rattle.program_text.specs.ProgramReading.{EndsWith, GivesDraft, IsLineFault, TellsFirstFault, at_line}
+use Rattle.program_text.specs.ProgramReading.{EndsWith, GivesDraft, TellsFirstFault}
 use Rattle.program_text.specs.ProgramStates.{MaySay, ProgramState, RunsTo, drafted, nothing_read, program_place, said_on, words_of_program_line}
 use Rattle.program_text.specs.ProgramTexts.{IsProgramText, ProgramText, program_fault, program_missing}
 use Rattle.program_text.proofs.ProgramReads.{ProgramText-RunsTo, RunsTo-ProgramText, program_faults, program_sayings, reads_programs}
@@ -34,16 +33,11 @@ reached_on text rest behind line lines s t h e shorter run = record {
   few = omega (arith, h.few, shorter);
 }
 
-pub first_fault : (text rest behind line : List ℕ) (lines what : ℕ) (s : ProgramState) → Reached text rest lines s → lines_of rest ≡ line ∷ lines_of behind → HasFault (program_fault (program_place s)) line what
-    → IsFirstFault IsProgramText program_fault program_missing (lines_of text) (lines + 1) what
-first_fault text rest behind line lines what s h e fault =
-    inl (IsFaultyLine-run IsProgramText words_of_program_line MaySay said_on nothing_read program_place program_fault program_sayings program_faults reads_programs
-    (lines_of text) h.front (lines_of behind) line (lines + 1) what s h.run (h.all ∙ ap (λ (x : List (List ℕ)). h.front ++ x) e) (omega (arith, h.counted)) fault)
-
-pub told_fault : (text rest behind line : List ℕ) (lines : ℕ) (s : ProgramState) (e : NotRead) (answer : TextFault) → Reached text rest lines s → lines_of rest ≡ line ∷ lines_of behind → IsLineFault s line e
-    → answer ≡ at_line (lines + 1) e → TellsFirstFault answer (lines_of text)
-told_fault text rest behind line lines s (decl.Fault what) answer h e fault is = rw is (first_fault text rest behind line lines what s h e fault)
-told_fault text rest behind line lines s decl.Memory answer h e fault is = rw is tt
+pub told_fault : (text rest behind line : List ℕ) (lines : ℕ) (s : ProgramState) (why : NotRead) → Reached text rest lines s → lines_of rest ≡ line ∷ lines_of behind → IsLineFault (program_fault (program_place s)) why line
+    → TellsFirstFault (told_at (lines + 1) why) (lines_of text)
+told_fault text rest behind line lines s why h e fault =
+    TellsFirst-line IsProgramText words_of_program_line MaySay said_on nothing_read program_place program_fault program_missing program_sayings program_faults reads_programs
+    (lines_of text) h.front (lines_of behind) line (lines + 1) s why h.run (h.all ∙ ap (λ (x : List (List ℕ)). h.front ++ x) e) (omega (arith, h.counted)) fault
 
 -- a text with a first fault is no program's
 pub faulty_is_none : (text : List (List ℕ)) (number what : ℕ) (d : DraftData) → IsFirstFault IsProgramText program_fault program_missing text number what → ProgramText d text → ⊥

@@ -1,13 +1,11 @@
 -- What reading a program answers, line by line and as a whole.
 use Rattle.std.specs.Prelude.{◌≡◌, ℕ, Bool, false, max, List, ◌∷◌, Some, Result, Ok, Err, codes, bytes_eq}
 use Rattle.tac_syntax.specs.Drafts.{DraftData}
-use Rattle.text_lines.specs.declared.faults.NotRead.{NotRead}
 use Rattle.text_lines.specs.declared.lines.TextFault.{TextFault}
 use Rattle.text_lines.specs.declared.lines.TextFault.TheVariants as told
 use Rattle.text_lines.specs.declared.line_words.LineWord.{LineWord}
 use Rattle.text_lines.specs.declared.line_words.LineWord.TheVariants.{Plain as plain_word}
-use Rattle.text_lines.specs.FirstFaults.{HasFault, IsFirstFault}
-use Rattle.text_lines.specs.declared.faults.NotRead.TheVariants.{Fault, Memory}
+use Rattle.text_lines.specs.FirstFaults.{TellsFirst}
 use Rattle.program_text.specs.declared.program_reading.State.{State}
 use Rattle.program_text.specs.declared.program_reading.State.TheVariants as state
 use Rattle.program_text.specs.ProgramStates.{ProgramLine, ProgramState, nothing_read, version_read, drafted, open_function, MaySay, program_place, said_on, words_of_program_line}
@@ -20,10 +18,6 @@ state_of state.VersionRead = version_read
 state_of (state.Drafted draft) = drafted draft
 state_of (state.Open draft function) = open_function draft function
 
-abbrev pub at_line : ℕ → NotRead → TextFault
-at_line number (Fault what) = told.At number what
-at_line number Memory = told.Memory
-
 abbrev pub begins_function : List LineWord → Bool
 begins_function (plain_word word ∷ words) = bytes_eq word (codes "function")
 begins_function words = false
@@ -31,11 +25,6 @@ begins_function words = false
 -- the words are of a line that may be said there, and leads to this state
 abbrev pub LeadsOn : ProgramState → List LineWord → ProgramState → Type 0
 LeadsOn s words t = (l : ProgramLine) × (words ≡ words_of_program_line l) × MaySay s l × (t ≡ said_on s l)
-
--- a fault that is told is the line's, and want of memory tells nothing
-abbrev pub IsLineFault : ProgramState → List ℕ → NotRead → Type 0
-IsLineFault s line (Fault what) = HasFault (program_fault (program_place s)) line what
-IsLineFault s line Memory = Unit {0}
 
 -- what stands behind the last of so many lines
 abbrev pub EndsWith : ProgramState → ℕ → Result DraftData TextFault → Type 0
@@ -51,5 +40,4 @@ GivesDraft (Err told.Memory) d = Unit {0}
 
 -- the first fault of the text, and want of memory tells nothing
 abbrev pub TellsFirstFault : TextFault → List (List ℕ) → Type 0
-TellsFirstFault (told.At number what) text = IsFirstFault IsProgramText program_fault program_missing text number what
-TellsFirstFault told.Memory text = Unit {0}
+TellsFirstFault e text = TellsFirst IsProgramText program_fault program_missing e text

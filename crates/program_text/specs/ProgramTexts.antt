@@ -14,7 +14,7 @@ use Rattle.statement_lines.specs.StatementFaults.{statement_fault}
 use Rattle.statement_lines.specs.StatementLines.{LinePlace}
 use Rattle.text_lines.specs.declared.line_words.LineWord.{LineWord}
 use Rattle.text_lines.specs.declared.line_words.LineWord.TheVariants.{Plain as plain_word, Literal as literal_word}
-use Rattle.text_lines.specs.CanonicalLines.{canonical_line}
+use Rattle.text_lines.specs.CanonicalLines.{line_spelling}
 use Rattle.text_lines.specs.TextLines.{Say}
 use Rattle.program_text.specs.DeclarationFaults.{declaration_fault}
 use Rattle.program_text.specs.DeclarationWords.{words_of_decl}
@@ -85,17 +85,14 @@ program_missing (in_function place) = Some 10
 
 -- ---- the canonical spelling
 
-abbrev pub line_spelling : List LineWord → List ℕ
-line_spelling words = canonical_line 0 words ++ 10 ∷ []
-
 abbrev pub function_text : Option Function → List ℕ
 function_text None = []
 function_text (Some f) = function_spelling f
 
 abbrev pub decl_spelling : List Function → Decl → List ℕ
 decl_spelling functions (FunctionDecl number) = function_text (slice_get functions number)
-decl_spelling functions decl = line_spelling (words_of_decl decl)
+decl_spelling functions decl = line_spelling 0 (words_of_decl decl)
 
 -- in the order of the declarations
 abbrev pub program_spelling : DraftData → List ℕ
-program_spelling d = line_spelling version_words ++ (line_spelling (field_count_words d.fields) ++ flat_map (decl_spelling d.functions) d.decls)
+program_spelling d = line_spelling 0 version_words ++ (line_spelling 0 (field_count_words d.fields) ++ flat_map (decl_spelling d.functions) d.decls)

@@ -1,4 +1,3 @@
-pub mod BodyLines
 pub mod BodySteps
 pub mod LongerBodies
 pub mod FunctionReads

@@ -1,30 +1,33 @@
 -- A body that is written statement after statement.
-use Rattle.std.proofs.Common.{◌≡◌, ◌<◌, ◌+◌, ℕ, List, [], ◌∷◌, ◌++◌, length, take, get_or, flat_map, ap, sym, ◌∙◌, append_assoc}
-use Rattle.std.proofs.lemmas.List.{take_more}
-use Rattle.std.proofs.lemmas.List.Concat.{flat_map-append}
+use Rattle.std.proofs.Common.{◌≡◌, ◌<◌, ◌+◌, ℕ, List, [], ◌∷◌, ◌++◌, length, drop, get_or, ap, sym, ◌∙◌, append_assoc}
+use Rattle.std.proofs.lemmas.List.{at_drop_more}
+use Rattle.tac_syntax.specs.Code.{Code, stop, simple, test, turns, over, close}
+use Rattle.tac_syntax.specs.Coding.{is_stop}
 use Rattle.tac_syntax.specs.declared.statements.Stmt.{Stmt}
-use Rattle.tac_syntax.specs.Trees.{code_of, only}
-use Rattle.tac_syntax.proofs.Bodies.{code_of-last}
-use Rattle.tac_text.specs.Spelling.{body_text}
-use Rattle.text_lines.specs.CanonicalLines.{TextLine, line_text}
-use Rattle.tac_text.proofs.BodyLines.{body_text-joined}
+use Rattle.tac_syntax.specs.Trees.{Statement, one_line, choice, turning, going_through, onto, statement_of, code_of, only}
+use Rattle.tac_text.specs.Spelling.{at_depth, body_text, other_text}
 
-body_text-take : (depth : ℕ) (stmts : List Stmt) (n : ℕ) (stmt : Stmt) → n < length stmts → stmt ≡ get_or stmts n stmt
-    → body_text depth (code_of (take (n + 1) stmts)) ≡ body_text depth (code_of (take n stmts)) ++ body_text depth (only stmt)
-body_text-take depth stmts n stmt h e =
-    ap (λ (l : List Stmt). body_text depth (code_of l)) (take_more stmts n stmt h ∙ ap (λ (s : Stmt). take n stmts ++ s ∷ []) (sym e))
-    ∙ ap (body_text depth) (code_of-last (take n stmts) stmt)
-    ∙ body_text-joined depth (code_of (take n stmts)) (only stmt)
+-- the parts of a block, and a text behind it
+block_then : (a b c d : List ℕ) → a ++ (b ++ (c ++ d)) ≡ (a ++ (b ++ (c ++ []))) ++ d
+block_then a b c d = simp append_assoc
 
-pub written_more : (first now new : List ℕ) (depth : ℕ) (stmts : List Stmt) (n : ℕ) (stmt : Stmt) → n < length stmts → stmt ≡ get_or stmts n stmt
-    → now ≡ first ++ flat_map line_text (body_text depth (code_of (take n stmts)))
-    → new ≡ now ++ flat_map line_text (body_text depth (only stmt))
-    → new ≡ first ++ flat_map line_text (body_text depth (code_of (take (n + 1) stmts)))
-written_more first now new depth stmts n stmt h e before more =
-    let written = body_text depth (code_of (take n stmts)) in
-    let next = body_text depth (only stmt) in
-    more
-    ∙ ap (λ (l : List ℕ). l ++ flat_map line_text next) before
-    ∙ append_assoc first (flat_map line_text written) (flat_map line_text next)
-    ∙ ap (λ (l : List ℕ). first ++ l) (sym (flat_map-append line_text written next))
-    ∙ ap (λ (l : List TextLine). first ++ flat_map line_text l) (sym (body_text-take depth stmts n stmt h e))
+branch_then : (a b o c d : List ℕ) → a ++ (b ++ (o ++ (c ++ d))) ≡ (a ++ (b ++ (o ++ (c ++ [])))) ++ d
+branch_then a b o c d = simp append_assoc
+
+body_text-onto : (depth : ℕ) (s : Statement) (c : Code) → body_text depth (onto s c) ≡ body_text depth (onto s stop) ++ body_text depth c
+body_text-onto depth (one_line s) c = sym (append_assoc (at_depth depth (simple s)) [] (body_text depth c))
+body_text-onto depth (choice on body other) c =
+    branch_then (at_depth depth (test on)) (body_text (depth + 1) body) (other_text depth (is_stop other) (body_text (depth + 1) other)) (at_depth depth close) (body_text depth c)
+body_text-onto depth (turning count body) c = block_then (at_depth depth (turns count)) (body_text (depth + 1) body) (at_depth depth close) (body_text depth c)
+body_text-onto depth (going_through name list body) c = block_then (at_depth depth (over name list)) (body_text (depth + 1) body) (at_depth depth close) (body_text depth c)
+
+-- behind a statement more, less is left to write
+pub written_more : (now new whole : List ℕ) (depth : ℕ) (stmts : List Stmt) (n : ℕ) (stmt : Stmt) → n < length stmts → stmt ≡ get_or stmts n stmt → now ++ body_text depth (code_of (drop n stmts)) ≡ whole
+    → new ≡ now ++ body_text depth (only stmt) → new ++ body_text depth (code_of (drop (n + 1) stmts)) ≡ whole
+written_more now new whole depth stmts n stmt h e before more =
+    let left = body_text depth (code_of (drop (n + 1) stmts)) in
+    let next = at_drop_more (λ (l : List Stmt). body_text depth (code_of l)) stmts n stmt h ∙ ap (λ (s : Stmt). body_text depth (code_of (s ∷ drop (n + 1) stmts))) (sym e) in
+    ap (λ (l : List ℕ). l ++ left) more
+    ∙ append_assoc now (body_text depth (only stmt)) left
+    ∙ ap (λ (l : List ℕ). now ++ l) (sym (next ∙ body_text-onto depth (statement_of stmt) (code_of (drop (n + 1) stmts))))
+    ∙ before

@@ -1,6 +1,7 @@
 -- The text of a function: its header, the lines of its body, and `end`.
-use Rattle.std.specs.Prelude.{◌≡◌, ◌≤◌, ℕ, List, [], ◌∷◌, ◌++◌, map, length, drop, IsTrue}
+use Rattle.std.specs.Prelude.{◌≡◌, ◌≤◌, ℕ, List, [], ◌∷◌, ◌++◌, map, length, drop, IsTrue, codes, decimal}
 use Rattle.tac_syntax.specs.declared.functions.Kind.{Kind}
+use Rattle.tac_syntax.specs.declared.functions.Kind.TheVariants.{Map, Match, Cross, Reduce, CoGroup}
 use Rattle.tac_syntax.specs.declared.functions.Function.{Function}
 use Rattle.tac_syntax.specs.Code.{Line, close, nesting}
 use Rattle.tac_syntax.specs.Functions.{HasKeys, IsSpelledFunction}
@@ -10,7 +11,6 @@ use Rattle.text_lines.specs.declared.line_words.LineWord.{LineWord}
 use Rattle.text_lines.specs.declared.line_words.LineWord.TheVariants.{Plain as plain_word}
 use Rattle.text_lines.specs.TextLines.{HasWords, Say, lines_of}
 use Rattle.tac_text.specs.Blocks.{SpellsBody}
-use Rattle.tac_text.specs.Spelling.{header_texts}
 use Rattle.statement_lines.specs.Spelling.{words_of_line}
 
 -- ---- lines
@@ -20,8 +20,21 @@ pub data FunctionLine : Type 0 where
   header : (name : List ℕ) → (kind : Kind) → (keys : ℕ) → FunctionLine
   inside : (line : Line) → FunctionLine
 
+abbrev pub kind_word : Kind → List ℕ
+kind_word Map = codes "map"
+kind_word Match = codes "match"
+kind_word Cross = codes "cross"
+kind_word Reduce = codes "reduce"
+kind_word CoGroup = codes "cogroup"
+
+-- the number of keys, where the kind has keys
+abbrev pub key_words : Kind → ℕ → List LineWord
+key_words Reduce keys = plain_word (decimal keys) ∷ []
+key_words CoGroup keys = plain_word (decimal keys) ∷ []
+key_words kind keys = []
+
 abbrev pub header_words : List ℕ → Kind → ℕ → List LineWord
-header_words name kind keys = map plain_word (header_texts name kind keys)
+header_words name kind keys = plain_word (codes "function") ∷ plain_word name ∷ plain_word (kind_word kind) ∷ key_words kind keys
 
 abbrev pub words_of_function_line : FunctionLine → List LineWord
 words_of_function_line (header name kind keys) = header_words name kind keys

@@ -3,14 +3,11 @@ use Rattle.std.specs.Prelude.{◌≡◌, Bool, true, false, ℕ, List, [], ◌�
 use Rattle.tac_syntax.specs.Code.{Line, close}
 use Rattle.tac_syntax.specs.declared.functions.Function.{Function}
 use Rattle.text_lines.specs.declared.line_words.LineWord.{LineWord}
-use Rattle.text_lines.specs.FirstFaults.{HasFault}
 use Rattle.text_lines.specs.Runs.{Runs}
 use Rattle.text_lines.specs.TextLines.{HasWords}
 use Rattle.tac_text.specs.declared.building.Block.{Block}
-use Rattle.text_lines.specs.declared.faults.NotRead.{NotRead}
-use Rattle.text_lines.specs.declared.faults.NotRead.TheVariants.{Fault, Memory}
 use Rattle.tac_text.specs.FunctionAnswers.{OpenData, begun, function_of, with_build}
-use Rattle.tac_text.specs.FunctionFaults.{FunctionPlace, header_due, inside_body, function_ended, function_fault}
+use Rattle.tac_text.specs.FunctionFaults.{FunctionPlace, header_due, inside_body, function_ended}
 use Rattle.tac_text.specs.FunctionLines.{FunctionLine, header, inside, words_of_function_line, IsHeader}
 use Rattle.tac_text.specs.Places.{built_on, place_of}
 use Rattle.statement_lines.specs.StatementLines.{MayStand}
@@ -69,8 +66,3 @@ LeadsOn false words old now = (l : FunctionLine) × (words ≡ words_of_function
 abbrev pub LeadsLine : Bool → List ℕ → Option OpenData → Option OpenData → Type 0
 LeadsLine true line old now = (words : List LineWord) × HasWords line words × IsOwnEnd words old now
 LeadsLine false line old now = Leads (state_of old) (line ∷ []) (state_of now)
-
--- a fault that is told is the line's own
-abbrev pub HasLineCause : NotRead → List ℕ → Option OpenData → Type 0
-HasLineCause (Fault what) line old = HasFault (function_fault (place_at (state_of old))) line what
-HasLineCause Memory line old = Unit {0}

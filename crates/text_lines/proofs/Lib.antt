@@ -8,6 +8,7 @@ pub mod WrittenLines
 pub mod ReadWords
 pub mod DigitWords
 pub mod LineRuns
+pub mod WrittenTexts
 pub mod FirstLines
 pub mod LinePlaces
 pub mod ReadOperands
