@@ -13,9 +13,8 @@ use Rattle.text_lines.specs.Slots.{Slot, fixed, register, operand, number, signe
 use Rattle.text_lines.specs.Digits.{or_else}
 use Rattle.text_lines.proofs.Faultless.{by_cases, by_cases_of, named, or_else-none, same_word, is_plain-same}
 use Rattle.text_lines.proofs.FilledSlots.{AllFit, AreUsual, Values, filled_line, words_then}
-use Rattle.statement_lines.specs.Spelling.{op1_word, op2_word}
+use Rattle.statement_lines.specs.Spelling.{op1_word, op2_word, words_of_line}
 use Rattle.statement_lines.specs.StatementLines.{LinePlace, MayStand}
-use Rattle.statement_lines.specs.Spelling.{words_of_line}
 use Rattle.statement_lines.specs.StatementFaults.{is_target, Wanted, wanted_by, form_fault, is_op1, is_op2, target_alone, assignment_fault, block_fault, word_fault, statement_fault}
 use Rattle.statement_lines.specs.declared.operation_words.TheConstants.{OPS1, OPS2}
 

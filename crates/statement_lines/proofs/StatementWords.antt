@@ -7,10 +7,9 @@ use Rattle.tac_syntax.specs.Code.{load_int, load_text, load_null, move_value, ge
 use Rattle.tac_syntax.specs.Limits.{nesting_limit}
 use Rattle.tac_syntax.specs.Grammar.{IsNumber, IsLoopName, IsSpelledLine}
 use Rattle.text_lines.specs.declared.line_words.LineWord.{LineWord}
-use Rattle.statement_lines.specs.Spelling.{op1_word, op2_word}
+use Rattle.statement_lines.specs.Spelling.{op1_word, op2_word, words_of_line}
 use Rattle.text_lines.specs.OperandWords.{value_register, record_register}
 use Rattle.statement_lines.specs.StatementLines.{LinePlace, MayStand}
-use Rattle.statement_lines.specs.Spelling.{words_of_line}
 use Rattle.text_lines.specs.LineReading.{TellsFault}
 use Rattle.text_lines.specs.declared.faults.NotRead.{NotRead}
 use Rattle.text_lines.specs.declared.faults.NotRead.TheVariants.{Fault, Memory}
@@ -22,8 +21,7 @@ use Rattle.text_lines.specs.Slots.{register, name_fault, register_fault}
 use Rattle.text_lines.proofs.DigitWords.{are_digits-decimal, is_signed_word-signed_decimal}
 use Rattle.statement_lines.proofs.Operations.{each_op1, each_op2}
 use Rattle.statement_lines.proofs.LineForms.{line_in, line_in-line_texts, word_bytes}
-use Rattle.text_lines.proofs.SlotWords.{bytes_eq-decimal}
-use Rattle.text_lines.proofs.SlotWords.{register_fault-letter, number_fits, turns_fit, operand_fault-record_word, is_list_word-list_word, name_fault-loop_name}
+use Rattle.text_lines.proofs.SlotWords.{bytes_eq-decimal, register_fault-letter, number_fits, turns_fit, operand_fault-record_word, is_list_word-list_word, name_fault-loop_name}
 
 -- ---- what may stand has no fault
 

@@ -5,9 +5,8 @@ use Rattle.pact_record.specs.declared.operations.Op2.{Op2}
 use Rattle.tac_syntax.specs.Code.{load_int, load_text, load_null, move_value, get_field, get_key, apply_one, apply_two, new_record, copy_record, set_field, emit_record, Line, simple, test, turns, over, otherwise, close}
 use Rattle.tac_syntax.specs.Grammar.{IsNumber, IsSpelledLine}
 use Rattle.text_lines.specs.declared.line_words.LineWord.TheVariants.{Plain as plain_word}
-use Rattle.statement_lines.specs.Spelling.{op1_word, op2_word}
+use Rattle.statement_lines.specs.Spelling.{op1_word, op2_word, words_of_line}
 use Rattle.statement_lines.proofs.Operations.{each_op1, each_op2}
-use Rattle.statement_lines.specs.Spelling.{words_of_line}
 use Rattle.text_lines.proofs.FineWords.{AreFine, IsFine}
 use Rattle.text_lines.specs.Slots.{list as items, loop, number, operand, register, signed}
 use Rattle.text_lines.proofs.FilledSlots.{fine_slot}

@@ -4,9 +4,8 @@ use Rattle.std.proofs.lemmas.Bool.{eqb-true, or_parts}
 use Rattle.std.proofs.lemmas.Bool.Decides.{nat_tests}
 use Rattle.std.proofs.lemmas.List.Folds.{list_any-append}
 use Rattle.std.proofs.lemmas.Str.{IsUtf8-nil, IsUtf8-append}
-use Rattle.text_lines.specs.CanonicalLines.{word_text, canonical_line, IsLineWord, AreLineWords}
+use Rattle.text_lines.specs.CanonicalLines.{word_text, canonical_line, IsLineWord, AreLineWords, escaped, literal, spaced}
 use Rattle.text_lines.specs.LineGrammar.{LineWord, plain_word, literal_word, needs_escape, SpellsByte, SpellsBytes, SpellsWord, SpellsWords, IsGap, IsWordEnd, IsLine, has_return}
-use Rattle.text_lines.specs.CanonicalLines.{escaped, literal, spaced}
 use Rattle.text_lines.specs.TextLines.{HasWords, trimmed}
 use Rattle.text_lines.proofs.FirstLines.{has_feed}
 use Rattle.text_lines.proofs.LiteralTexts.{IsUtf8-spelling}
