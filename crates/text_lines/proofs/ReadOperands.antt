@@ -1,51 +1,39 @@
 -- Operands that are read from their words.
-use Rattle.std.proofs.Common.{◌≡◌, ◌≢◌, ◌≤◌, ◌<◌, ◌^◌, ◌==◌, ◌⊎◌, inl, inr, ℕ, ℤ, FitsSigned, Bool, true, false, List, ◌∷◌, Option, Some, None, decimal, refl, ap, sym, subst, ◌∙◌, arith, w64}
+use Rattle.std.proofs.Common.{◌≡◌, ◌≢◌, ◌≤◌, ◌<◌, ◌+◌, ◌-◌, ◌^◌, ◌==◌, ℕ, zero, suc, ℤ, pos, negsuc, ◌-ℤ◌, to_z, of_z, to_z-of_z, FitsSigned, true, false, List, ◌∷◌, Some, None, decimal, refl, ap, ◌∙◌, arith, w64}
 use Rattle.std.specs.Fmt.{signed_decimal}
 use Rattle.std.proofs.lemmas.Bool.Decides.{nat_tests}
 use Rattle.std.proofs.lemmas.Fmt.{decimal_is_IsNumeral}
+use Rattle.std.proofs.lemmas.Int.{to_z_pos}
 use Rattle.text_lines.specs.Digits.{is_in_range, is_signed_word, told_unless}
 use Rattle.text_lines.specs.Slots.{name_fault}
-use Rattle.text_lines.proofs.DigitWords.{are_digits-decimal, is_in_range-decimal, number_in, number_in-decimal, number_spelled}
-use Rattle.text_lines.proofs.SlotWords.{name_fault-loop_name, signed_spelled}
-
--- the number that a word in range spells
-pub number_read : (low high n : ℕ) (word : List ℕ) → high < 2 ^ 32 → n ≡ number_in word → is_in_range low high word ≡ true → (word ≡ decimal n) × (low ≤ n) × (n ≤ high)
-number_read low high n word small e h =
-    let s = number_spelled low high word (omega (arith, small)) h in
-    let same : s.number ≡ n = sym (number_in-decimal s.number (omega (arith, small, s.below))) ∙ ap number_in (sym s.spelled) ∙ sym e in
-    (s.spelled ∙ ap decimal same, omega (arith, s.above, same), omega (arith, s.below, same))
+use Rattle.text_lines.proofs.DigitWords.{are_digits-decimal, is_in_range-decimal, is_signed_word-signed_decimal}
+use Rattle.text_lines.proofs.SlotWords.{name_fault-loop_name}
 
 -- ---- numbers with a sign
 
-pub record SignedFound (word : List ℕ) (found : Option ℤ) : Type 0 where
-  pub value : ℤ
-  pub is : found ≡ Some value
-  pub fits : FitsSigned w64 value
-  pub spelled : word ≡ signed_decimal value
+below_minus_one : (n : ℕ) → negsuc 0 -ℤ pos n ≡ negsuc n
+below_minus_one zero = refl
+below_minus_one (suc n) = let same : 0 + n ≡ n = omega arith in ap (λ (m : ℕ). negsuc (suc m)) same
 
-pub signed_found : (word : List ℕ) (found : Option ℤ) → is_signed_word word ≡ true → ((z : ℤ) → FitsSigned w64 z → word ≡ signed_decimal z → found ≡ Some z) → SignedFound word found
-signed_found word found h read =
-    let s = signed_spelled word h in record { value = s.value; is = read s.value s.fits s.spelled; fits = s.fits; spelled = s.spelled }
+-- one less than the size goes into 63 bits
+minus : (n : ℕ) → 1 ≤ n → n ≤ 2 ^ 63 → to_z w64 (of_z w64 (negsuc 0 -ℤ to_z w64 (n - 1))) ≡ negsuc (n - 1)
+minus n some high =
+    let fits : FitsSigned w64 (negsuc (n - 1)) = omega (arith, some, high) in
+    let size : to_z w64 (n - 1) ≡ pos (n - 1) = to_z_pos w64 (n - 1) (omega (arith, some, high)) in
+    ap (λ (z : ℤ). to_z w64 (of_z w64 (negsuc 0 -ℤ z))) size
+    ∙ ap (λ (z : ℤ). to_z w64 (of_z w64 z)) (below_minus_one (n - 1))
+    ∙ to_z-of_z {w = w64} fits
 
-either_bool : (b : Bool) → (b ≡ true) ⊎ (b ≡ false)
-either_bool true = inl refl
-either_bool false = inr refl
+pub signed_minus : (word digits : List ℕ) (n : ℕ) → word ≡ 45 ∷ digits → digits ≡ decimal n → 1 ≤ n → n ≤ 2 ^ 63 → is_in_range 1 (2 ^ 63) digits ≡ true
+    → (word ≡ signed_decimal (to_z w64 (of_z w64 (negsuc 0 -ℤ to_z w64 (n - 1))))) × FitsSigned w64 (to_z w64 (of_z w64 (negsuc 0 -ℤ to_z w64 (n - 1)))) × (told_unless (is_signed_word word) 7 ≡ None)
+signed_minus word digits n e d some high h =
+    let size : n ≡ suc (n - 1) = omega (arith, some) in
+    rw (minus n some high) (e ∙ ap (λ (x : List ℕ). 45 ∷ x) (d ∙ ap decimal size), omega (arith, some, high), rw (e, h) refl)
 
-pub signed_reads : (word : List ℕ) (found : Option ℤ) (z : ℤ) → found ≡ Some z → (is_signed_word word ≡ false → found ≡ None) → ((z : ℤ) → FitsSigned w64 z → word ≡ signed_decimal z → found ≡ Some z)
-    → (word ≡ signed_decimal z) × FitsSigned w64 z × (told_unless (is_signed_word word) 7 ≡ None)
-signed_reads word found z is other read = elim (either_bool (is_signed_word word)) [
-  | inl h ↦
-      let f = signed_found word found h read in
-      let same : f.value ≡ z = let p : Some f.value ≡ Some z = sym f.is ∙ is in cc in
-      (f.spelled ∙ ap signed_decimal same, subst (FitsSigned w64) same f.fits, rw h refl)
-  | inr h ↦ let none = other h in absurd cc
-]
-
-pub signed_told : (word : List ℕ) (found : Option ℤ) → found ≡ None → ((z : ℤ) → FitsSigned w64 z → word ≡ signed_decimal z → found ≡ Some z) → told_unless (is_signed_word word) 7 ≡ Some 7
-signed_told word found none read = elim (either_bool (is_signed_word word)) [
-  | inl h ↦ let f = signed_found word found h read in let is = f.is in absurd cc
-  | inr h ↦ rw h refl
-]
+pub signed_bare : (word : List ℕ) (n : ℕ) → word ≡ decimal n → n ≤ 2 ^ 63 - 1 → (word ≡ signed_decimal (to_z w64 n)) × FitsSigned w64 (to_z w64 n) × (told_unless (is_signed_word word) 7 ≡ None)
+signed_bare word n e high =
+    let fits : FitsSigned w64 (pos n) = omega (arith, high) in
+    rw (to_z_pos w64 n (omega (arith, high))) (e, fits, rw (e, is_signed_word-signed_decimal (pos n) fits) refl)
 
 -- ---- names of loops
 

@@ -1,15 +1,17 @@
 -- A canonical line is read as the words that it was made of.
 use Rattle.std.proofs.Common.{◌≡◌, ◌==◌, ◌*◌, inl, inr, ℕ, zero, suc, Bool, true, false, List, [], ◌∷◌, ◌++◌, map, flat_map, replicate, IsUtf8, refl, ap, sym, subst, ◌∙◌, arith}
+use Rattle.std.specs.List.{AllByRecursion}
 use Rattle.std.proofs.lemmas.Bool.{eqb-true, or_parts}
 use Rattle.std.proofs.lemmas.Bool.Decides.{nat_tests}
 use Rattle.std.proofs.lemmas.List.Folds.{list_any-append}
 use Rattle.std.proofs.lemmas.Str.{IsUtf8-nil, IsUtf8-append}
+use Rattle.pact_record.proofs.Lists.{AllByRecursion-weaker}
 use Rattle.text_lines.specs.CanonicalLines.{word_text, canonical_line, IsLineWord, AreLineWords, escaped, literal, spaced}
 use Rattle.text_lines.specs.LineGrammar.{LineWord, plain_word, literal_word, needs_escape, SpellsByte, SpellsBytes, SpellsWord, SpellsWords, IsGap, IsWordEnd, IsLine, has_return}
 use Rattle.text_lines.specs.TextLines.{HasWords, trimmed}
 use Rattle.text_lines.proofs.FirstLines.{has_feed}
 use Rattle.text_lines.proofs.LiteralTexts.{IsUtf8-spelling}
-use Rattle.text_lines.proofs.Utf8Cuts.{IsUtf8-around_ascii}
+use Rattle.text_lines.proofs.Utf8Cuts.{IsUtf8-around_ascii, IsUtf8-ascii}
 
 -- ---- literals
 
@@ -72,16 +74,6 @@ IsClean-literal bytes h =
       no_return = has_return-append inside (34 ∷ []) (clean_escapes bytes).0 refl;
     }
 
-IsClean-space : (bytes : List ℕ) → IsClean bytes → IsClean (32 ∷ bytes)
-IsClean-space bytes h = record { utf8 = IsUtf8-around_ascii [] 32 bytes (omega arith) IsUtf8-nil h.utf8; no_return = h.no_return }
-
-clean_nothing : IsClean []
-clean_nothing = record { utf8 = IsUtf8-nil; no_return = refl }
-
-IsClean-spaces : (n : ℕ) → IsClean (replicate n 32)
-IsClean-spaces zero = clean_nothing
-IsClean-spaces (suc n) = IsClean-space (replicate n 32) (IsClean-spaces n)
-
 IsClean-word_text : (word : LineWord) → IsLineWord word → IsClean (word_text word)
 IsClean-word_text (plain_word bytes) h = record { utf8 = h.1; no_return = h.2 }
 IsClean-word_text (literal_word bytes) h = IsClean-literal bytes h.1
@@ -90,14 +82,31 @@ IsClean-word_text (literal_word bytes) h = IsClean-literal bytes h.1
 abbrev more_text : List LineWord → List ℕ
 more_text words = flat_map (λ v. 32 ∷ v) (map word_text words)
 
-IsClean-more_text : (words : List LineWord) → AreLineWords words → IsClean (more_text words)
-IsClean-more_text [] h = clean_nothing
-IsClean-more_text (word ∷ words) h =
-    IsClean-append (32 ∷ word_text word) (more_text words) (IsClean-space (word_text word) (IsClean-word_text word h.0)) (IsClean-more_text words h.1)
+-- what holds of spaces, and of two texts together, holds of a line where it holds of its words
+pub record OfTexts (P : List ℕ → Type 0) : Type 0 where
+  pub nothing : P []
+  pub space : P (32 ∷ [])
+  pub both : (x y : List ℕ) → P x → P y → P (x ++ y)
 
-IsClean-spaced : (words : List LineWord) → AreLineWords words → IsClean (spaced (map word_text words))
-IsClean-spaced [] h = clean_nothing
-IsClean-spaced (word ∷ words) h = IsClean-append (word_text word) (more_text words) (IsClean-word_text word h.0) (IsClean-more_text words h.1)
+of_spaces : (P : List ℕ → Type 0) → OfTexts P → (n : ℕ) → P (replicate n 32)
+of_spaces P o zero = o.nothing
+of_spaces P o (suc n) = o.both (32 ∷ []) (replicate n 32) o.space (of_spaces P o n)
+
+of_more : (P : List ℕ → Type 0) → OfTexts P → (words : List LineWord) → AllByRecursion (λ w. P (word_text w)) words → P (more_text words)
+of_more P o [] h = o.nothing
+of_more P o (word ∷ words) h = o.both (32 ∷ word_text word) (more_text words) (o.both (32 ∷ []) (word_text word) o.space h.0) (of_more P o words h.1)
+
+pub of_line : (P : List ℕ → Type 0) → OfTexts P → (depth : ℕ) (words : List LineWord) → AllByRecursion (λ w. P (word_text w)) words → P (canonical_line depth words)
+of_line P o depth [] h = o.both (replicate (2 * depth) 32) [] (of_spaces P o (2 * depth)) o.nothing
+of_line P o depth (word ∷ words) h =
+    o.both (replicate (2 * depth) 32) (word_text word ++ more_text words) (of_spaces P o (2 * depth)) (o.both (word_text word) (more_text words) h.0 (of_more P o words h.1))
+
+clean_texts : OfTexts IsClean
+clean_texts = record {
+  nothing = record { utf8 = IsUtf8-nil; no_return = refl };
+  space = record { utf8 = IsUtf8-ascii 32 (omega arith); no_return = refl };
+  both = IsClean-append;
+}
 
 -- ---- words
 
@@ -127,7 +136,7 @@ IsGap-spaces (suc n) = (refl, IsGap-spaces n)
 
 pub IsLine-canonical_line : (depth : ℕ) (words : List LineWord) → AreLineWords words → IsLine (canonical_line depth words) words
 IsLine-canonical_line depth words h =
-    let clean = IsClean-append (replicate (2 * depth) 32) (spaced (map word_text words)) (IsClean-spaces (2 * depth)) (IsClean-spaced words h) in
+    let clean = of_line IsClean clean_texts depth words (AllByRecursion-weaker IsLineWord (λ (w : LineWord). IsClean (word_text w)) words IsClean-word_text h) in
     (clean.utf8, clean.no_return, SpellsWords-spaced (replicate (2 * depth) 32) words (IsGap-spaces (2 * depth)) h)
 
 pub IsLine-written : (line : List ℕ) (depth : ℕ) (words : List LineWord) → AreLineWords words → line ≡ canonical_line depth words → IsLine line words
