@@ -15,11 +15,12 @@ use Rattle.text_lines.specs.declared.line_words.LineWord.TheVariants.{Plain as p
 use Rattle.text_lines.proofs.LineRuns.{IsStart-run, Reads, Runs-said, said_by_run}
 use Rattle.program_text.specs.DeclarationFaults.{declaration_fault}
 use Rattle.program_text.specs.DeclarationWords.{words_of_decl}
+use Rattle.program_text.specs.FirstLines.{field_count_words, version_words}
+use Rattle.text_lines.proofs.FineWords.{AreLineWords-fine}
 use Rattle.program_text.specs.ProgramStates.{ProgramLine, version, field_count, declares, of_function, ProgramState, nothing_read, version_read, drafted, open_function, MaySay, program_place, said_on, words_of_program_line, RunsTo}
 use Rattle.program_text.specs.ProgramTexts.{IsProgramText, ProgramText, between_fault, program_fault}
-use Rattle.program_text.proofs.DeclarationLaws.{AreDeclarationWords, OtherFirst, decl_first, faultless, words_of_decl-some, words_of_decl-unique}
-use Rattle.program_text.proofs.SpelledLines.{decl_of_words}
-use Rattle.program_text.proofs.FirstLineLaws.{AreFieldCountWords, AreVersionWords, field_count_declared, field_count_faultless, field_count_words-some, field_count_words-unique, version_declared, version_faultless, version_words-some}
+use Rattle.program_text.proofs.DeclarationLaws.{AreFine-words_of_decl, OtherFirst, decl_first, faultless, words_of_decl-some, words_of_decl-unique, decl_of_words}
+use Rattle.program_text.proofs.FirstLineLaws.{AreFine-field_count_words, AreFine-version_words, field_count_declared, field_count_faultless, field_count_words-some, field_count_words-unique, version_declared, version_words-some}
 use Rattle.program_text.proofs.ProgramRuns.{StateFront, can_end, lines_read, program_leads}
 
 -- ---- declarations, and the first lines of functions
@@ -74,7 +75,7 @@ fault_none (drafted d) = refl
 fault_none (open_function d o) = refl
 
 fault_sound : (s : ProgramState) (l : ProgramLine) → MaySay s l → program_fault (program_place s) (words_of_program_line l) ≡ None
-fault_sound nothing_read version h = version_faultless
+fault_sound nothing_read version h = refl
 fault_sound version_read (field_count count) h = field_count_faultless count h
 fault_sound (drafted d) (declares decl) h = between-other (words_of_decl decl) (decl_first decl h) ∙ faultless decl h
 fault_sound (drafted d) (of_function l) h = between-header l h ∙ function_faults.sound waiting l h
@@ -106,9 +107,9 @@ program_faults = record { none = fault_none; sound = fault_sound; complete = fau
 -- ---- what may be said can be written
 
 said_words : (s : ProgramState) (l : ProgramLine) → MaySay s l → AreLineWords (words_of_program_line l)
-said_words nothing_read version h = AreVersionWords
-said_words version_read (field_count count) h = AreFieldCountWords count h
-said_words (drafted d) (declares decl) h = AreDeclarationWords decl h
+said_words nothing_read version h = AreLineWords-fine version_words AreFine-version_words
+said_words version_read (field_count count) h = AreLineWords-fine (field_count_words count) (AreFine-field_count_words count h)
+said_words (drafted d) (declares decl) h = AreLineWords-fine (words_of_decl decl) (AreFine-words_of_decl decl h)
 said_words (drafted d) (of_function l) h = follow_words waiting l h
 said_words (open_function d o) (of_function l) h = follow_words (reading o) l h
 said_words s l h = absurd h

@@ -17,8 +17,7 @@ use Rattle.text_lines.specs.TextLines.{Say, lines_of}
 use Rattle.text_lines.proofs.WrittenTexts.{IsWritten, IsWritten-append, Say-written, line_written, nothing_written}
 use Rattle.program_text.specs.DeclarationWords.{words_of_decl}
 use Rattle.program_text.specs.FirstLines.{IsFieldCount, field_count_words, version_words}
-use Rattle.program_text.specs.ProgramTexts.{IsWritableDraft, ProgramText, SpellsDecls, decl_spelling, function_text, program_spelling}
-use Rattle.program_text.specs.ProgramWriting.{CanWrite}
+use Rattle.program_text.specs.ProgramTexts.{IsWritableDraft, ProgramText, SpellsDecls, decl_spelling, function_text, program_spelling, CanWrite}
 use Rattle.program_text.proofs.DeclarationLaws.{AreFine-words_of_decl, words_of_decl-some}
 use Rattle.program_text.proofs.FirstLineLaws.{AreFine-field_count_words, AreFine-version_words, field_count_words-some, version_words-some}
 

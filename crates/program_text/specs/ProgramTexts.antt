@@ -1,4 +1,4 @@
--- The text of a program, and what is wrong with a text that is none.
+-- The text of a program, what is wrong with a text that is none, and what can be written.
 use Rattle.std.specs.Prelude.{◌≡◌, ◌≤◌, ℕ, Option, Some, None, List, [], ◌∷◌, ◌++◌, flat_map, slice_get, codes, bytes_eq, if◌then◌else◌}
 use Rattle.std.specs.List.{AllByRecursion}
 use Rattle.tac_syntax.specs.declared.declarations.Decl.{Decl}
@@ -19,6 +19,8 @@ use Rattle.text_lines.specs.TextLines.{Say}
 use Rattle.program_text.specs.DeclarationFaults.{declaration_fault}
 use Rattle.program_text.specs.DeclarationWords.{words_of_decl}
 use Rattle.program_text.specs.FirstLines.{version_words, field_count_words, version_fault, fields_fault}
+use Rattle.tac_syntax.specs.Declarations.{IsSpelledDecl}
+use Rattle.tac_syntax.specs.Functions.{IsSpelledFunction}
 
 -- ---- the grammar
 
@@ -96,3 +98,10 @@ decl_spelling functions decl = line_spelling 0 (words_of_decl decl)
 -- in the order of the declarations
 abbrev pub program_spelling : DraftData → List ℕ
 program_spelling d = line_spelling 0 version_words ++ (line_spelling 0 (field_count_words d.fields) ++ flat_map (decl_spelling d.functions) d.decls)
+
+-- ---- what can be written
+
+-- a declaration that a text can spell, or that of one of these functions
+abbrev pub CanWrite : List Function → Decl → Type 0
+CanWrite functions (FunctionDecl number) = (f : Function) × (slice_get functions number ≡ Some f) × IsSpelledFunction f
+CanWrite functions decl = IsSpelledDecl decl

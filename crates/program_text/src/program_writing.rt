@@ -2,8 +2,7 @@
 
 ghost use Rattle.std.specs.Prelude.{◌≡◌, ◌≤◌, ◌++◌, IfOk};
 ghost use Rattle.std.specs.List.{AllByRecursion};
-ghost use Rattle.program_text.specs.ProgramTexts.{ProgramText, decl_spelling, program_spelling};
-ghost use Rattle.program_text.specs.ProgramWriting.{CanWrite};
+ghost use Rattle.program_text.specs.ProgramTexts.{ProgramText, decl_spelling, program_spelling, CanWrite};
 ghost use Rattle.program_text.specs.FirstLines.{field_count_words, version_words};
 ghost use Rattle.tac_syntax.specs.Code.{nesting};
 ghost use Rattle.tac_syntax.specs.Limits.{nesting_limit};

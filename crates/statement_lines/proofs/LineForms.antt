@@ -1,12 +1,14 @@
 -- A line is told from its words: no two lines that may stand have the same.
+use Rattle.std.specs.List.{AllByRecursion}
+use Rattle.pact_record.specs.declared.operations.Op1.{Op1}
+use Rattle.pact_record.specs.declared.operations.Op1.TheVariants.{Not, IsNull, Len}
+use Rattle.pact_record.specs.declared.operations.Op2.{Op2}
+use Rattle.pact_record.specs.declared.operations.Op2.TheVariants.{Add, Sub, Mul, Div, Rem, AddW, Min, Max, Lt, Le, Eq, And, Or, Cat}
+use Rattle.statement_lines.specs.declared.operation_words.TheConstants.{OPS1, OPS2}
 use Rattle.std.proofs.Common.{◌≡◌, ◌<◌, ◌^◌, ◌==◌, inr, inl, ℕ, suc, ℤ, pos, negsuc, neg_ℤ, if◌then◌else◌, Option, None, unwrap_or, FitsSigned, List, [], ◌∷◌, ◌++◌, map, length, drop, get_or, nat_lt, codes, bytes_eq, decimal, refl, ap, ◌∙◌, arith, w64}
 use Rattle.std.specs.Fmt.{signed_decimal}
 use Rattle.std.specs.Str.Parse.{AllDigits}
 use Rattle.std.proofs.lemmas.Fmt.{decimal_is_IsNumeral}
-use Rattle.pact_record.specs.declared.operations.Op1.{Op1}
-use Rattle.pact_record.specs.declared.operations.Op1.TheVariants.{Not}
-use Rattle.pact_record.specs.declared.operations.Op2.{Op2}
-use Rattle.pact_record.specs.declared.operations.Op2.TheVariants.{Add}
 use Rattle.tac_syntax.specs.declared.statements.Rec.{Rec}
 use Rattle.tac_syntax.specs.declared.statements.Rec.TheVariants.{Reg, Loop, Input, Left, Right, Join, First}
 use Rattle.tac_syntax.specs.declared.statements.LoopList.{LoopList}
@@ -18,9 +20,32 @@ use Rattle.text_lines.specs.declared.line_words.LineWord.TheVariants.{Plain as p
 use Rattle.text_lines.specs.OperandWords.{fixed_record, list_word, named_in, record_word, value_register}
 use Rattle.text_lines.proofs.DigitWords.{number_back, number_in, number_in-decimal}
 use Rattle.text_lines.proofs.SlotWords.{bytes_eq-decimal, digit_other}
-use Rattle.statement_lines.proofs.Operations.{each_op1, each_op2}
-use Rattle.statement_lines.specs.declared.operation_words.TheConstants.{OPS1, OPS2}
 use Rattle.statement_lines.specs.Spelling.{op1_word, op2_word, words_of_line}
+
+-- ---- what holds of each operation, by the tables of their words
+
+pub each_op1 : (P : Op1 → Type 0) → AllByRecursion P OPS1 → (op : Op1) → P op
+each_op1 P h Not = h.0
+each_op1 P h IsNull = h.1.0
+each_op1 P h Len = h.1.1.0
+
+pub each_op2 : (P : Op2 → Type 0) → AllByRecursion P OPS2 → (op : Op2) → P op
+each_op2 P h Add = h.0
+each_op2 P h Sub = h.1.0
+each_op2 P h Mul = h.1.1.0
+each_op2 P h Div = h.1.1.1.0
+each_op2 P h Rem = h.1.1.1.1.0
+each_op2 P h AddW = h.1.1.1.1.1.0
+each_op2 P h Min = h.1.1.1.1.1.1.0
+each_op2 P h Max = h.1.1.1.1.1.1.1.0
+each_op2 P h Lt = h.1.1.1.1.1.1.1.1.0
+each_op2 P h Le = h.1.1.1.1.1.1.1.1.1.0
+each_op2 P h Eq = h.1.1.1.1.1.1.1.1.1.1.0
+each_op2 P h And = h.1.1.1.1.1.1.1.1.1.1.1.0
+each_op2 P h Or = h.1.1.1.1.1.1.1.1.1.1.1.1.0
+each_op2 P h Cat = h.1.1.1.1.1.1.1.1.1.1.1.1.1.0
+
+-- ---- lines from their words
 
 -- the bytes of a word: a literal's are those that it stands for
 abbrev pub word_bytes : LineWord → List ℕ

@@ -7,15 +7,14 @@ use Rattle.text_lines.specs.FirstFaults.{HasFault, IsLineFault, told_at}
 use Rattle.text_lines.specs.TextLines.{HasWords, lines_of, trimmed}
 use Rattle.text_lines.specs.declared.lines.TextFault.TheVariants.{At}
 use Rattle.text_lines.proofs.LineFaults.{IsLine-unique}
-use Rattle.text_lines.proofs.LinePlaces.{one_place}
+use Rattle.text_lines.proofs.TextLines.{one_place}
 use Rattle.text_lines.proofs.LineRuns.{Runs-append, Runs-parts, Runs-unique, one_line, ¬HasFault-IsFaultless, TellsFirst-line, EndsEarly-run}
 use Rattle.text_lines.specs.declared.faults.NotRead.{NotRead}
 use Rattle.text_lines.specs.declared.faults.NotRead.TheVariants.{Fault, Memory}
 use Rattle.tac_text.specs.FunctionAnswers.{OpenData, function_of}
 use Rattle.tac_text.specs.FunctionFaults.{function_fault, function_missing}
 use Rattle.tac_text.specs.FunctionLines.{inside, words_of_function_line, FunctionText, EndsWithEnd, FunctionAt, IsFunctionText}
-use Rattle.tac_text.specs.FunctionReading.{IsFunctionFault, GivesFunction}
-use Rattle.tac_text.specs.FunctionStates.{FunctionState, waiting, reading, whole, MayFollow, after, place_at, Leads, state_of, LeadsLine}
+use Rattle.tac_text.specs.FunctionStates.{IsFunctionFault, GivesFunction, FunctionState, waiting, reading, whole, MayFollow, after, place_at, Leads, state_of, LeadsLine}
 use Rattle.statement_lines.specs.Spelling.{words_of_line}
 use Rattle.tac_text.proofs.FunctionRuns.{function_sayings, function_faults, Leads-FunctionText, FunctionText-Leads, at_own_end, reads_functions}
 

@@ -20,14 +20,11 @@ use Rattle.tac_text.specs.FunctionStates.{FunctionState, waiting, reading, whole
 use Rattle.tac_text.specs.Places.{lists_in, IsInside, MayInside, built_on, place_of, FitsBuild, Front}
 use Rattle.statement_lines.specs.StatementLines.{MayStand}
 use Rattle.statement_lines.specs.Spelling.{words_of_line}
-use Rattle.tac_text.proofs.BodySteps.{body_steps, front_start, fits_start, front_step, front_whole, closable}
-use Rattle.tac_text.proofs.LongerBodies.{build}
+use Rattle.tac_text.proofs.BodySteps.{body_steps, front_start, fits_start, front_step, front_whole, closable, build}
 use Rattle.statement_lines.proofs.FaultlessWords.{line_of_words}
-use Rattle.tac_text.proofs.HeaderWords.{header_fault-header_words, header_of_words, one_header}
-use Rattle.statement_lines.proofs.StatementWords.{IsSpelledLine-MayStand, statement_fault-words_of_line, words_of_line-some, words_of_one_line}
+use Rattle.tac_text.proofs.HeaderWords.{header_fault-header_words, header_of_words, one_header, AreFine-header_words}
+use Rattle.statement_lines.proofs.StatementWords.{IsSpelledLine-MayStand, statement_fault-words_of_line, words_of_line-some, words_of_one_line, AreFine-words_of_line}
 use Rattle.text_lines.proofs.FineWords.{AreLineWords-fine}
-use Rattle.tac_text.proofs.WrittenHeaders.{AreFine-header_words}
-use Rattle.statement_lines.proofs.WrittenWords.{AreFine-words_of_line}
 use Rattle.text_lines.proofs.Faultless.{some_length}
 
 -- ---- what may follow has words of its own

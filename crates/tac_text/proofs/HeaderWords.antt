@@ -1,4 +1,4 @@
--- The words of a header, which are those of no other, and words without a fault.
+-- The words of a header, which are those of no other, and words without a fault; some line has them.
 use Rattle.std.proofs.Common.{◌≡◌, ◌≢◌, ◌≤◌, ℕ, List, [], ◌∷◌, Option, Some, None, Result, Ok, Err, codes, bytes_eq, decimal, refl, ap, sym, subst, ◌∙◌, arith}
 use Rattle.std.specs.Prelude.{IfErr, IfOk}
 use Rattle.tac_syntax.specs.declared.functions.Kind.{Kind}
@@ -18,6 +18,7 @@ use Rattle.text_lines.specs.CanonicalLines.{AreLineWords}
 use Rattle.text_lines.specs.Slots.{identifier, number, first_fault}
 use Rattle.text_lines.proofs.FilledSlots.{filled, filled_line, none_left}
 use Rattle.text_lines.proofs.Faultless.{by_cases, named_as, same_word}
+use Rattle.text_lines.proofs.FineWords.{AreFine, IsFine, fine_decimal, fine_name}
 
 -- ---- a header's words have no fault
 
@@ -131,3 +132,20 @@ pub TellsFault-header : (r : Result OpenData NotRead) (words : List LineWord) �
 TellsFault-header (Ok o) words read told what h = let none = ap header_fault read.0 ∙ header_fault-header_words o.name o.kind o.keys read.1 in absurd cc
 TellsFault-header (Err (Fault e)) words read told what h = cc
 TellsFault-header (Err Memory) words read told what h = tt
+
+-- ---- words that some line has
+
+fine_kind : (kind : Kind) → IsFine (plain_word (kind_word kind))
+fine_kind Map = refl
+fine_kind Match = refl
+fine_kind Cross = refl
+fine_kind Reduce = refl
+fine_kind CoGroup = refl
+
+fine_keys : (kind : Kind) (keys : ℕ) → HasKeys kind keys → AreFine (key_words kind keys)
+fine_keys Reduce keys h = (fine_decimal keys (omega (arith, h.1)), tt)
+fine_keys CoGroup keys h = (fine_decimal keys (omega (arith, h.1)), tt)
+fine_keys kind keys h = tt
+
+pub AreFine-header_words : (name : List ℕ) (kind : Kind) (keys : ℕ) → IsHeader name kind keys → AreFine (header_words name kind keys)
+AreFine-header_words name kind keys h = (refl, (fine_name name h.0, (fine_kind kind, fine_keys kind keys h.1)))

@@ -6,6 +6,4 @@ pub mod Places
 pub mod FunctionLines
 pub mod FunctionFaults
 pub mod FunctionAnswers
-pub mod HeaderReading
 pub mod FunctionStates
-pub mod FunctionReading

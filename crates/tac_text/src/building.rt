@@ -7,7 +7,7 @@ ghost use Rattle.tac_syntax.specs.Trees.{only};
 ghost use Rattle.tac_text.specs.Building.{IsBuilt, build_start, built, closed, finished, with_statement};
 ghost use Rattle.tac_syntax.specs.Limits.{nesting_limit};
 ghost use Rattle.tac_text.specs.Places.{lists_in, may_part, place_of};
-ghost use Rattle.statement_lines.specs.Said.{said};
+ghost use Rattle.statement_lines.specs.StatementAnswers.{said};
 
 use pact_record::OutOfMemory;
 use statement_lines::{BodyLine, Place};

@@ -11,7 +11,7 @@ use Rattle.std.proofs.lemmas.Bool.Decides.{nat_tests}
 use Rattle.tac_syntax.specs.Names.{is_file_byte, is_file_name, all_bytes, is_small_letter, is_name_byte, is_name}
 use Rattle.text_lines.specs.CanonicalLines.{IsLineWord, AreLineWords, canonical_line, escaped, word_text}
 use Rattle.text_lines.specs.LineGrammar.{LineWord, plain_word, literal_word, ends_word, has_return}
-use Rattle.text_lines.proofs.FirstLines.{has_feed}
+use Rattle.text_lines.proofs.TextLines.{has_feed}
 use Rattle.text_lines.proofs.WrittenLines.{OfTexts, has_feed-append, has_feed-escaped, of_line}
 use Rattle.text_lines.proofs.Utf8Cuts.{IsUtf8-around_ascii}
 

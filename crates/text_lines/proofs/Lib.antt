@@ -9,9 +9,7 @@ pub mod ReadWords
 pub mod DigitWords
 pub mod LineRuns
 pub mod WrittenTexts
-pub mod FirstLines
-pub mod LinePlaces
-pub mod ReadOperands
+pub mod TextLines
 pub mod SlotWords
 pub mod FineWords
 pub mod FilledSlots

@@ -9,7 +9,7 @@ use Rattle.pact_record.proofs.Lists.{AllByRecursion-weaker}
 use Rattle.text_lines.specs.CanonicalLines.{word_text, canonical_line, IsLineWord, AreLineWords, escaped, literal, spaced}
 use Rattle.text_lines.specs.LineGrammar.{LineWord, plain_word, literal_word, needs_escape, SpellsByte, SpellsBytes, SpellsWord, SpellsWords, IsGap, IsWordEnd, IsLine, has_return}
 use Rattle.text_lines.specs.TextLines.{HasWords, trimmed}
-use Rattle.text_lines.proofs.FirstLines.{has_feed}
+use Rattle.text_lines.proofs.TextLines.{has_feed}
 use Rattle.text_lines.proofs.LiteralTexts.{IsUtf8-spelling}
 use Rattle.text_lines.proofs.Utf8Cuts.{IsUtf8-around_ascii, IsUtf8-ascii}
 

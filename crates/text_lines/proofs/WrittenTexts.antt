@@ -4,7 +4,7 @@ use Rattle.text_lines.specs.CanonicalLines.{canonical_line, line_spelling}
 use Rattle.text_lines.specs.LineGrammar.{LineWord}
 use Rattle.text_lines.specs.TextLines.{Say, lines_of}
 use Rattle.text_lines.proofs.FineWords.{AreFine, AreLineWords-fine, has_feed-canonical_line}
-use Rattle.text_lines.proofs.FirstLines.{lines_of-feed}
+use Rattle.text_lines.proofs.TextLines.{lines_of-feed}
 use Rattle.text_lines.proofs.WrittenLines.{HasWords-canonical_line}
 
 pub record IsWritten (text : List ℕ) (lines : List (List ℕ)) (said : List (List LineWord)) : Type 0 where

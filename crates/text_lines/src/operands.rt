@@ -3,9 +3,8 @@
 ghost use Rattle.std.specs.Prelude.{◌≡◌, ◌≤◌, ◌∷◌, FitsSigned, IfErr, IfNone, IfSome, None, Some, decimal, false, if◌then◌else◌, true};
 ghost use Rattle.std.specs.Fmt.{signed_decimal};
 ghost use Rattle.tac_syntax.specs.Grammar.{IsLoopName, IsNumber, IsSpelledRecord};
-ghost use Rattle.text_lines.specs.Cursors.{ReadsPlain};
+ghost use Rattle.text_lines.specs.LineReading.{ReadsPlain, IsTold};
 ghost use Rattle.text_lines.specs.Digits.{is_in_form, is_in_range, is_signed_word, told_unless};
-ghost use Rattle.text_lines.specs.LineReading.{IsTold};
 ghost use Rattle.text_lines.specs.OperandWords.{column_text, fixed_record, list_word, loop_name, record_register, record_word, value_register};
 ghost use Rattle.text_lines.specs.Slots.{column_fault, is_list_word, name_fault, numbered_fault, operand_fault, register_fault};
 ghost use mir.Syntax.{w64};

@@ -1,8 +1,7 @@
 use Rattle.std.proofs.Common.{Bool, Err, sym, subst}
 use Rattle.text_lines.specs.declared.lines.TextFault.{TextFault}
 use Rattle.tac_text.specs.FunctionLines.{FunctionAt}
-use Rattle.tac_text.specs.FunctionReading.{GivesFunction}
-use Rattle.tac_text.specs.FunctionStates.{LeadsLine}
+use Rattle.tac_text.specs.FunctionStates.{GivesFunction, LeadsLine}
 use Rattle.tac_text.proofs.FunctionReads.{FunctionAt-read, FunctionAt-unique, HasRead-line, IsFunctionFault-read, IsFunctionFault-end, GivesFunction-fault, GivesFunction-end}
 use Rattle.tac_text.proofs.function_reading.read_function.Goals as goal
 

@@ -5,7 +5,7 @@ use Rattle.tac_syntax.specs.Coding.{tall}
 use Rattle.tac_syntax.specs.Trees.{only}
 use Rattle.tac_syntax.proofs.Bodies.{tall-only-le, nesting-only-le}
 use Rattle.tac_text.specs.Spelling.{deepest}
-use Rattle.tac_text.proofs.WrittenBodies.{written_more}
+use Rattle.tac_text.proofs.WrittenFunctions.{written_more}
 use Rattle.tac_text.proofs.writing.+write.Goals as goal
 
 pub write_lines-write_stmt-requires : goal.write_lines-write_stmt-requires
