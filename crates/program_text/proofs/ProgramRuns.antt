@@ -12,9 +12,8 @@ use Rattle.tac_syntax.specs.declared.functions.Function.{Function}
 use Rattle.tac_syntax.specs.Code.{Line, close, nesting}
 use Rattle.tac_syntax.specs.Functions.{IsSpelledFunction}
 use Rattle.tac_syntax.specs.Limits.{nesting_limit}
-use Rattle.tac_text.specs.Blocks.{SpellsBody}
+use Rattle.tac_text.specs.FunctionLines.{SpellsBody, FunctionLine, IsWritable, SpellsFunction, header_words, words_of_function_line}
 use Rattle.tac_text.specs.FunctionAnswers.{OpenData}
-use Rattle.tac_text.specs.FunctionLines.{FunctionLine, IsWritable, SpellsFunction, header_words, words_of_function_line}
 use Rattle.tac_text.specs.FunctionStates.{FunctionState, waiting, reading, whole, MayFollow, after}
 use Rattle.statement_lines.specs.Spelling.{words_of_line}
 use Rattle.tac_text.proofs.FunctionRuns.{LedBy, finished, function_steps, led_step, lines_of_function, words_of_inside}

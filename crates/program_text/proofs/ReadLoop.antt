@@ -8,8 +8,7 @@ use Rattle.tac_text.specs.FunctionAnswers.{OpenData, TakesWords, function_of}
 use Rattle.tac_text.specs.FunctionLines.{inside}
 use Rattle.tac_text.proofs.FunctionRuns.{LeadsOn-TakesWords, at_own_end}
 use Rattle.program_text.specs.declared.program_reading.State.{State}
-use Rattle.program_text.specs.ProgramReading.{LeadsOn, state_of, EndsWith, GivesDraft, TellsFirstFault}
-use Rattle.program_text.specs.ProgramStates.{of_function, in_program, drafted, open_function, with_function, MaySay, ProgramState, RunsTo, nothing_read, program_place, said_on, words_of_program_line}
+use Rattle.program_text.specs.ProgramStates.{LeadsOn, state_of, EndsWith, GivesDraft, TellsFirstFault, of_function, in_program, drafted, open_function, with_function, MaySay, ProgramState, RunsTo, nothing_read, program_place, said_on, words_of_program_line}
 use Rattle.text_lines.specs.declared.lines.TextFault.{TextFault}
 use Rattle.text_lines.specs.FirstFaults.{IsFirstFault, IsLineFault, told_at}
 use Rattle.text_lines.specs.TextLines.{lines_of}

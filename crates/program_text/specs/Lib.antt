@@ -4,4 +4,3 @@ pub mod DeclarationAnswers
 pub mod FirstLines
 pub mod ProgramTexts
 pub mod ProgramStates
-pub mod ProgramReading

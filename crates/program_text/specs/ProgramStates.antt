@@ -1,5 +1,5 @@
--- Reading a program line by line.
-use Rattle.std.specs.Prelude.{ℕ, List, [], ◌∷◌, ◌++◌, length}
+-- Reading a program line by line: where its lines lead, and what its reader answers, line by line and as a whole.
+use Rattle.std.specs.Prelude.{ℕ, List, [], ◌∷◌, ◌++◌, length, ◌≡◌, Bool, false, max, Some, Result, Ok, Err, codes, bytes_eq}
 use Rattle.tac_syntax.specs.declared.declarations.Decl.{Decl}
 use Rattle.tac_syntax.specs.declared.declarations.Decl.TheVariants.{Function as FunctionDecl}
 use Rattle.tac_syntax.specs.Declarations.{IsSpelledDecl}
@@ -13,7 +13,13 @@ use Rattle.text_lines.specs.Runs.{Runs}
 use Rattle.text_lines.specs.declared.line_words.LineWord.{LineWord}
 use Rattle.program_text.specs.DeclarationWords.{words_of_decl}
 use Rattle.program_text.specs.FirstLines.{version_words, field_count_words, IsFieldCount}
-use Rattle.program_text.specs.ProgramTexts.{ProgramPlace, version_due, fields_due, between, in_function}
+use Rattle.program_text.specs.ProgramTexts.{ProgramPlace, version_due, fields_due, between, in_function, IsProgramText, program_fault, program_missing}
+use Rattle.text_lines.specs.declared.lines.TextFault.{TextFault}
+use Rattle.text_lines.specs.declared.line_words.LineWord.TheVariants.{Plain as plain_word}
+use Rattle.text_lines.specs.FirstFaults.{TellsFirst}
+use Rattle.program_text.specs.declared.program_reading.State.{State}
+use Rattle.text_lines.specs.declared.lines.TextFault.TheVariants as told
+use Rattle.program_text.specs.declared.program_reading.State.TheVariants as state
 
 -- what a line of a program says
 pub data ProgramLine : Type 0 where
@@ -73,3 +79,36 @@ said_on state line = state
 -- lines of a text take the reader from one state to another
 abbrev pub RunsTo : ProgramState → List (List ℕ) → ProgramState → Type 0
 RunsTo s text t = Runs words_of_program_line MaySay said_on s text t
+
+-- ---- answers
+
+-- what the reader holds
+abbrev pub state_of : State → ProgramState
+state_of state.NothingRead = nothing_read
+state_of state.VersionRead = version_read
+state_of (state.Drafted draft) = drafted draft
+state_of (state.Open draft function) = open_function draft function
+
+abbrev pub begins_function : List LineWord → Bool
+begins_function (plain_word word ∷ words) = bytes_eq word (codes "function")
+begins_function words = false
+
+-- the words are of a line that may be said there, and leads to this state
+abbrev pub LeadsOn : ProgramState → List LineWord → ProgramState → Type 0
+LeadsOn s words t = (l : ProgramLine) × (words ≡ words_of_program_line l) × MaySay s l × (t ≡ said_on s l)
+
+-- what stands behind the last of so many lines
+abbrev pub EndsWith : ProgramState → ℕ → Result DraftData TextFault → Type 0
+EndsWith s lines (Ok d) = s ≡ drafted d
+EndsWith s lines (Err (told.At number what)) = (program_missing (program_place s) ≡ Some what) × (number ≡ max 1 lines)
+EndsWith s lines (Err told.Memory) = ⊥
+
+-- this draft, or want of memory
+abbrev pub GivesDraft : Result DraftData TextFault → DraftData → Type 0
+GivesDraft (Ok found) d = found ≡ d
+GivesDraft (Err (told.At number what)) d = ⊥
+GivesDraft (Err told.Memory) d = Unit {0}
+
+-- the first fault of the text, and want of memory tells nothing
+abbrev pub TellsFirstFault : TextFault → List (List ℕ) → Type 0
+TellsFirstFault e text = TellsFirst IsProgramText program_fault program_missing e text

@@ -3,8 +3,7 @@
 ghost use Rattle.std.specs.Prelude.{◌≡◌, ◌<◌, ◌∷◌, [], true, false, length, IfErr, IfOk};
 ghost use Rattle.tac_syntax.specs.Drafts.{DraftData};
 ghost use Rattle.text_lines.specs.LineReading.{IsFaultOf};
-ghost use Rattle.program_text.specs.ProgramReading.{EndsWith, GivesDraft, LeadsOn, TellsFirstFault, begins_function, state_of};
-ghost use Rattle.program_text.specs.ProgramStates.{drafted, nothing_read, open_function, program_place, RunsTo, version_read, with_function};
+ghost use Rattle.program_text.specs.ProgramStates.{EndsWith, GivesDraft, LeadsOn, TellsFirstFault, begins_function, state_of, drafted, nothing_read, open_function, program_place, RunsTo, version_read, with_function};
 ghost use Rattle.program_text.specs.ProgramTexts.{ProgramText, program_fault};
 ghost use Rattle.text_lines.specs.declared.faults.NotRead.TheVariants.{Memory};
 ghost use Rattle.tac_text.specs.FunctionAnswers.{function_of};
@@ -31,17 +30,6 @@ enum State {
 }
 
 // ---- one line's words
-
-fn first_words(words: &[LineWord]) -> Result<State, NotRead>
-    requires { 0 < length words.now }
-    ensures leads { IfOk result (λ t. LeadsOn nothing_read words.now (state_of t)) }
-    ensures fault { IfErr result (λ e. IsFaultOf e (program_fault (program_place nothing_read) words.now)) }
-{
-    match read_version(words) {
-        Ok(()) => Ok(State::VersionRead),
-        Err(what) => Err(NotRead::Fault { what }),
-    }
-}
 
 fn second_words(alloc: Global, words: &[LineWord]) -> Result<State, NotRead>
     requires { 0 < length words.now }
@@ -124,7 +112,10 @@ fn next(alloc: Global, state: State, words: &[LineWord]) -> Result<State, NotRea
     ensures fault { IfErr result (λ e. IsFaultOf e (program_fault (program_place (state_of state)) words.now)) }
 {
     match state {
-        State::NothingRead => first_words(words),
+        State::NothingRead => match read_version(words) {
+            Ok(()) => Ok(State::VersionRead),
+            Err(what) => Err(NotRead::Fault { what }),
+        },
         State::VersionRead => second_words(alloc, words),
         State::Drafted(draft) => {
             if begins_function(words) {

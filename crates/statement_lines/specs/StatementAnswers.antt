@@ -8,9 +8,8 @@ use Rattle.tac_syntax.specs.Grammar.{IsSpelledSimple}
 use Rattle.tac_syntax.specs.declared.statements.Stmt.{Stmt}
 use Rattle.text_lines.specs.declared.line_words.LineWord.{LineWord}
 use Rattle.text_lines.specs.declared.line_words.LineWord.TheVariants.{Plain as plain_word}
-use Rattle.text_lines.specs.LineReading.{IsFaultOf}
+use Rattle.text_lines.specs.LineReading.{Gives, IsFaultOf}
 use Rattle.text_lines.specs.declared.faults.NotRead.{NotRead}
-use Rattle.text_lines.specs.declared.faults.NotRead.TheVariants.{Fault, Memory}
 use Rattle.statement_lines.specs.StatementFaults.{wanted_by, form_fault, assignment_fault, statement_fault}
 use Rattle.statement_lines.specs.StatementLines.{LinePlace, MayStand}
 use Rattle.statement_lines.specs.Spelling.{words_of_simple, words_of_line}
@@ -60,6 +59,4 @@ ReadsLine p (Err e) words = IsFaultOf e (statement_fault p words)
 
 -- this line, or want of memory
 abbrev pub GivesLine : Result BodyLine NotRead → Line → Type 0
-GivesLine (Ok b) l = said b ≡ Some l
-GivesLine (Err (Fault what)) l = ⊥
-GivesLine (Err Memory) l = Unit {0}
+GivesLine r l = Gives (λ b. said b ≡ Some l) r

@@ -11,7 +11,7 @@ use Rattle.tac_syntax.proofs.Bodies.{nesting-joined}
 use Rattle.text_lines.specs.Runs.{Steps}
 use Rattle.text_lines.proofs.LineRuns.{Steps-append}
 use Rattle.tac_text.specs.declared.building.Block.TheVariants.{If, Else, Repeat, Each}
-use Rattle.tac_text.specs.Blocks.{SpellsBody}
+use Rattle.tac_text.specs.FunctionLines.{SpellsBody}
 use Rattle.tac_text.specs.Places.{lists_in, MayInside, built_or, built_on, opening, before_block, FitsBody, FitsFirst, FitsBuild, BeginsBlock, Front}
 
 -- ---- a body that grows by one statement

@@ -11,11 +11,10 @@ use Rattle.text_lines.specs.Runs.{Steps, AreSayings, TellsFaults}
 use Rattle.text_lines.specs.declared.line_words.LineWord.{LineWord}
 use Rattle.text_lines.proofs.LineRuns.{Runs-said, said_by_run, Steps-append, Steps-kept, IsStart-run, Reads}
 use Rattle.tac_text.specs.declared.building.Block.{Block}
-use Rattle.tac_text.specs.Blocks.{SpellsBody}
+use Rattle.tac_text.specs.FunctionLines.{SpellsBody, FunctionLine, header, inside, header_words, words_of_function_line, IsHeader, IsWritable, FunctionText, IsFunctionText}
 use Rattle.tac_text.specs.Building.{Build, build_start}
 use Rattle.tac_text.specs.FunctionAnswers.{OpenData, begun, function_of, with_build, TakesWords}
 use Rattle.tac_text.specs.FunctionFaults.{ended_fault, function_fault}
-use Rattle.tac_text.specs.FunctionLines.{FunctionLine, header, inside, header_words, words_of_function_line, IsHeader, IsWritable, FunctionText, IsFunctionText}
 use Rattle.tac_text.specs.FunctionStates.{FunctionState, waiting, reading, whole, MayFollow, after_inside, after, place_at, Leads, LeadsOn}
 use Rattle.tac_text.specs.Places.{lists_in, IsInside, MayInside, built_on, place_of, FitsBuild, Front}
 use Rattle.statement_lines.specs.StatementLines.{MayStand}

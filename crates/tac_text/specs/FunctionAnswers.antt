@@ -14,7 +14,7 @@ use Rattle.tac_text.specs.Places.{MayInside, built_on}
 use Rattle.statement_lines.specs.Spelling.{words_of_line}
 use Rattle.tac_syntax.specs.Functions.{HasKeys}
 use Rattle.text_lines.specs.declared.line_words.LineWord.TheVariants.{Plain as plain_word}
-use Rattle.text_lines.specs.LineReading.{IsFaultOf}
+use Rattle.text_lines.specs.LineReading.{Gives, IsFaultOf}
 use Rattle.text_lines.specs.Slots.{first_fault}
 use Rattle.tac_text.specs.declared.headers.Header.{Header}
 use Rattle.tac_text.specs.FunctionFaults.{header_fault, key_slots, kind_fault, named_fault}
@@ -49,9 +49,7 @@ coded_open =
 
 -- this header with no line behind it, or want of memory
 abbrev pub GivesHeader : Result OpenData NotRead → List ℕ → Kind → ℕ → Type 0
-GivesHeader (Ok o) name kind keys = o ≡ begun name kind keys
-GivesHeader (Err (Fault what)) name kind keys = ⊥
-GivesHeader (Err Memory) name kind keys = Unit {0}
+GivesHeader r name kind keys = Gives (λ o. o ≡ begun name kind keys) r
 
 -- Whether these words were the function's own `end`: they are it where no block is open, and nothing changes. Else they are a line of the body,
 -- which was taken.

@@ -1,9 +1,8 @@
 pub mod Spelling
 pub mod Building
 pub mod BuildCode
-pub mod Blocks
 pub mod Places
-pub mod FunctionLines
 pub mod FunctionFaults
 pub mod FunctionAnswers
 pub mod FunctionStates
+pub mod FunctionLines

@@ -12,8 +12,8 @@ use Rattle.tac_syntax.specs.Names.{is_file_byte, is_file_name, all_bytes, is_sma
 use Rattle.text_lines.specs.CanonicalLines.{IsLineWord, AreLineWords, canonical_line, escaped, word_text}
 use Rattle.text_lines.specs.LineGrammar.{LineWord, plain_word, literal_word, ends_word, has_return}
 use Rattle.text_lines.proofs.TextLines.{has_feed}
-use Rattle.text_lines.proofs.WrittenLines.{OfTexts, has_feed-append, has_feed-escaped, of_line}
-use Rattle.text_lines.proofs.Utf8Cuts.{IsUtf8-around_ascii}
+use Rattle.text_lines.proofs.CanonicalLines.{OfTexts, has_feed-append, has_feed-escaped, of_line}
+use Rattle.text_lines.proofs.Utf8Texts.{IsUtf8-around_ascii}
 
 -- ---- words of letters, digits and signs
 

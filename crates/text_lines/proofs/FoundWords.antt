@@ -1,13 +1,13 @@
--- What is read as words spells these words.
-use Rattle.std.proofs.Common.{◌≡◌, inl, inr, ◌==◌, nat_lt, ℕ, Bool, true, false, List, [], ◌∷◌, ◌++◌, length, Option, Some, None, refl, ap, sym, subst, ◌∙◌, append_assoc, append-nil}
+-- What is read as words spells these words; so a line has words or one fault.
+use Rattle.std.proofs.Common.{◌≡◌, inl, inr, ◌==◌, nat_lt, ℕ, Bool, true, false, List, [], ◌∷◌, ◌++◌, length, Option, Some, None, refl, ap, sym, subst, ◌∙◌, append_assoc, append-nil, IsUtf8}
 use Rattle.std.proofs.lemmas.Bool.{ltb-false, eqb-true, or_parts}
 use Rattle.pact_record.proofs.Lists.{AllByRecursion-last}
 use Rattle.pact_record.specs.Limits.{text_limit}
 use Rattle.text_lines.specs.declared.scanning.Place.{Place}
 use Rattle.text_lines.specs.declared.scanning.Place.TheVariants.{Gap, Plain, Literal, Escape, Behind, Comment, Fault}
-use Rattle.text_lines.specs.LineGrammar.{LineWord, plain_word, literal_word, is_blank, ends_word, needs_escape, escaped_byte, IsPlainSpelling, SpellsByte, SpellsBytes, SpellsWords, IsWordEnd, has_return}
+use Rattle.text_lines.specs.LineGrammar.{LineWord, plain_word, literal_word, is_blank, ends_word, needs_escape, escaped_byte, IsPlainSpelling, SpellsByte, SpellsBytes, SpellsWords, IsWordEnd, has_return, IsLine, IsGarbled, IsUnspelled, HasLineFault}
 use Rattle.text_lines.specs.Scans.{Scan, scan_step, escape_step, words_in}
-use Rattle.text_lines.proofs.SpelledWords.{scan_at, words_from, gap_step-blank, gap_step-plain, plain_step-end, plain_step-plain, behind_step-end, literal_step-own, literal_step-quote}
+use Rattle.text_lines.proofs.SpelledWords.{scan_at, words_from, gap_step-blank, gap_step-plain, plain_step-end, plain_step-plain, behind_step-end, literal_step-own, literal_step-quote, words_in-spelled, SpellsWords-unique}
 
 -- the bytes of the word that is open at a place, as they stand in the line
 abbrev Seen : Place → (word seen : List ℕ) → Type 0
@@ -171,3 +171,26 @@ pub SpellsWords-words_in : (line : List ℕ) (words : List LineWord) → has_ret
 SpellsWords-words_in line words return e =
     let found = finds_on line return [] Gap [] [] words (refl, refl) e in
     subst (SpellsWords line) (sym found.all_are) found.spelled
+
+-- ---- a line has words or one fault, and no two of these
+
+pub ¬IsGarbled-clean : (line : List ℕ) → IsUtf8 line → has_return line ≡ false → ¬ IsGarbled line
+¬IsGarbled-clean line utf8 clean (inl other) = other utf8
+¬IsGarbled-clean line utf8 clean (inr return) = absurd cc
+
+pub IsLine-unique : (line : List ℕ) (words others : List LineWord) → IsLine line words → IsLine line others → words ≡ others
+IsLine-unique line words others h k = SpellsWords-unique line words others h.2 k.2
+
+pub IsLine-words_in : (line : List ℕ) (words : List LineWord) → IsUtf8 line → has_return line ≡ false → words_in line ≡ Some words → IsLine line words
+IsLine-words_in line words utf8 clean e = (utf8, clean, SpellsWords-words_in line words clean e)
+
+pub IsUnspelled-words_in : (line : List ℕ) → IsUtf8 line → has_return line ≡ false → words_in line ≡ None → IsUnspelled line
+IsUnspelled-words_in line utf8 clean e = (
+  ¬IsGarbled-clean line utf8 clean,
+  λ words h. let found : Some words ≡ None = sym (words_in-spelled line words h) ∙ e in cc,
+)
+
+-- a line with words has no fault
+pub ¬HasLineFault-IsLine : (line : List ℕ) (words : List LineWord) (what : ℕ) → IsLine line words → ¬ HasLineFault what line
+¬HasLineFault-IsLine line words what h (inl first) = ¬IsGarbled-clean line h.0 h.1 first.1
+¬HasLineFault-IsLine line words what h (inr second) = second.1.1 words h.2

@@ -1,11 +1,8 @@
 pub mod Faultless
 pub mod SpelledWords
 pub mod FoundWords
-pub mod LineFaults
-pub mod Utf8Cuts
-pub mod LiteralTexts
-pub mod WrittenLines
-pub mod ReadWords
+pub mod Utf8Texts
+pub mod CanonicalLines
 pub mod DigitWords
 pub mod LineRuns
 pub mod WrittenTexts

@@ -8,9 +8,8 @@ use Rattle.text_lines.specs.TextLines.{HasWords, Say, trimmed}
 use Rattle.text_lines.specs.FirstFaults.{IsStart, IsFaultless, HasFault, IsPlaceBehind, IsFaultyLine, EndsEarly, IsLineFault, told_at, TellsFirst}
 use Rattle.text_lines.specs.LineReading.{HasCause}
 use Rattle.text_lines.specs.Runs.{Steps, Runs, AreSayings, TellsFaults}
-use Rattle.text_lines.proofs.LineFaults.{IsLine-unique, ¬HasLineFault-IsLine}
-use Rattle.text_lines.proofs.ReadWords.{AreLineWords-IsLine}
-use Rattle.text_lines.proofs.WrittenLines.{HasWords-canonical_line}
+use Rattle.text_lines.proofs.FoundWords.{IsLine-unique, ¬HasLineFault-IsLine}
+use Rattle.text_lines.proofs.CanonicalLines.{AreLineWords-IsLine, HasWords-canonical_line}
 
 -- ---- runs
 

@@ -5,7 +5,7 @@ use Rattle.text_lines.specs.LineGrammar.{LineWord}
 use Rattle.text_lines.specs.TextLines.{Say, lines_of}
 use Rattle.text_lines.proofs.FineWords.{AreFine, AreLineWords-fine, has_feed-canonical_line}
 use Rattle.text_lines.proofs.TextLines.{lines_of-feed}
-use Rattle.text_lines.proofs.WrittenLines.{HasWords-canonical_line}
+use Rattle.text_lines.proofs.CanonicalLines.{HasWords-canonical_line}
 
 pub record IsWritten (text : List ℕ) (lines : List (List ℕ)) (said : List (List LineWord)) : Type 0 where
   pub parts : (rest : List ℕ) → lines_of (text ++ rest) ≡ lines ++ lines_of rest

@@ -9,11 +9,15 @@ abbrev pub HasCause : NotRead → List ℕ → Type 0
 HasCause (Fault what) line = HasLineFault what line
 HasCause Memory line = Unit {0}
 
+-- such an answer, or want of memory
+abbrev pub Gives : {A : Type 0} → (A → Type 0) → Result A NotRead → Type 0
+Gives Good (Ok x) = Good x
+Gives Good (Err (Fault what)) = ⊥
+Gives Good (Err Memory) = Unit {0}
+
 -- these words, or want of memory
 abbrev pub GivesWords : Result (List LineWord) NotRead → List LineWord → Type 0
-GivesWords (Ok words) wanted = words ≡ wanted
-GivesWords (Err (Fault what)) wanted = ⊥
-GivesWords (Err Memory) wanted = Unit {0}
+GivesWords r wanted = Gives (λ words. words ≡ wanted) r
 
 -- the fault that is told is the one there is
 abbrev pub IsFaultOf : NotRead → Option ℕ → Type 0
@@ -33,9 +37,7 @@ TellsFault (Err Memory) what = Unit {0}
 
 -- no fault
 abbrev pub TellsNoFault : {A : Type 0} → Result A NotRead → Type 0
-TellsNoFault (Ok x) = Unit {0}
-TellsNoFault (Err (Fault what)) = ⊥
-TellsNoFault (Err Memory) = Unit {0}
+TellsNoFault r = Gives (λ _. Unit {0}) r
 
 -- ---- the words of a line, one after the other
 

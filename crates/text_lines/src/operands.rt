@@ -50,10 +50,7 @@ fn numbered(letter: u8, low: u32, high: u32, word: &[u8]) -> Result<u32, NotRead
     if !is_in_form(letter, word) {
         return Err(NotRead::Fault { what: 8 });
     }
-    match number_between(u64::from(low), u64::from(high), &word[1..]) {
-        Some(number) => Ok(number as u32),
-        None => Err(NotRead::Fault { what: 7 }),
-    }
+    number_in(low, high, &word[1..])
 }
 
 /// A value register, as its number.

@@ -1,6 +1,6 @@
 use Rattle.std.proofs.Common.{◌≡◌, [], arith}
 use Rattle.std.proofs.lemmas.List.{nil_from_length}
-use Rattle.program_text.specs.ProgramReading.{state_of}
+use Rattle.program_text.specs.ProgramStates.{state_of}
 use Rattle.program_text.proofs.ReadLoop.{reached_start, reached_on, told_fault, not_given, read_so}
 use Rattle.program_text.proofs.program_reading.read_program.Goals as goal
 
