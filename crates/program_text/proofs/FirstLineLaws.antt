@@ -10,21 +10,15 @@ use Rattle.program_text.specs.FirstLines.{IsFieldCount, field_count_words, field
 use Rattle.text_lines.proofs.Faultless.{by_cases, is_plain-same, told_unless-none}
 use Rattle.text_lines.proofs.FilledSlots.{filled_line}
 use Rattle.text_lines.specs.Slots.{number}
-use Rattle.text_lines.proofs.FineWords.{AreFine, AreLineWords-fine, fine_decimal}
+use Rattle.text_lines.proofs.FineWords.{AreFine, fine_decimal}
 
 -- ---- the version
 
 pub AreFine-version_words : AreFine version_words
 AreFine-version_words = (refl, (refl, tt))
 
-pub AreVersionWords : AreLineWords version_words
-AreVersionWords = AreLineWords-fine version_words AreFine-version_words
-
 pub version_words-some : version_words ≢ []
 version_words-some = λ e. absurd cc
-
-pub version_faultless : version_fault version_words ≡ None
-version_faultless = refl
 
 one_left : (words : List LineWord) → one_fault words ≡ None → words ≡ plain_word (codes "1") ∷ []
 one_left [] h = absurd cc
@@ -40,9 +34,6 @@ version_declared (word ∷ words) some h = by_cases (is_plain (codes "pact") wor
 
 pub AreFine-field_count_words : (count : ℕ) → IsFieldCount count → AreFine (field_count_words count)
 AreFine-field_count_words count h = (refl, (fine_decimal count (omega (arith, h.1)), tt))
-
-pub AreFieldCountWords : (count : ℕ) → IsFieldCount count → AreLineWords (field_count_words count)
-AreFieldCountWords count h = AreLineWords-fine (field_count_words count) (AreFine-field_count_words count h)
 
 pub field_count_words-some : (count : ℕ) → IsFieldCount count → field_count_words count ≢ []
 field_count_words-some count h = λ e. absurd cc

@@ -1,10 +1,7 @@
 pub mod DeclaredWords
-pub mod ListWords
-pub mod SpelledLines
 pub mod DeclarationLaws
 pub mod FirstLineLaws
 pub mod ProgramRuns
 pub mod ProgramReads
-pub mod ReadSteps
-pub mod ReadLoop
 pub mod WrittenPrograms
+pub mod ReadLoop

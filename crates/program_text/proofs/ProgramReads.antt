@@ -1,35 +1,27 @@
 -- The lines of a text lead a reader of programs on exactly where a program's text goes on.
-use Rattle.std.proofs.Common.{◌≡◌, ◌≢◌, inr, ℕ, Bool, true, false, bytes_eq, codes, List, [], ◌∷◌, ◌++◌, map, Some, None, refl, ap, sym, subst, ◌∙◌}
+use Rattle.std.proofs.Common.{◌≡◌, ◌≢◌, ℕ, Bool, true, false, bytes_eq, codes, List, [], ◌∷◌, map, Some, None, refl, ap, sym, subst, ◌∙◌}
 use Rattle.tac_syntax.specs.declared.declarations.Decl.{Decl}
 use Rattle.tac_syntax.specs.Declarations.{IsSpelledDecl}
 use Rattle.tac_syntax.specs.Drafts.{DraftData}
-use Rattle.tac_syntax.specs.declared.functions.Kind.{Kind}
 use Rattle.tac_text.specs.FunctionFaults.{header_fault}
-use Rattle.tac_text.specs.FunctionLines.{FunctionLine, header, header_words}
-use Rattle.tac_text.specs.Places.{lists_in, place_of}
-use Rattle.statement_lines.specs.Spelling.{words_of_line}
-use Rattle.statement_lines.proofs.FaultlessWords.{line_of_words}
-use Rattle.tac_text.proofs.HeaderWords.{header_fault-header_words, header_of_words, one_header}
-use Rattle.statement_lines.proofs.StatementWords.{IsSpelledLine-MayStand, statement_fault-words_of_line, words_of_line-some, words_of_one_line}
-use Rattle.text_lines.proofs.FineWords.{AreLineWords-fine}
-use Rattle.tac_text.proofs.WrittenHeaders.{AreFine-header_words}
-use Rattle.statement_lines.proofs.WrittenWords.{AreFine-words_of_line}
-use Rattle.text_lines.specs.CanonicalLines.{AreLineWords, canonical_line}
+use Rattle.tac_text.specs.FunctionLines.{FunctionLine, header, inside, words_of_function_line}
+use Rattle.tac_text.specs.FunctionStates.{waiting, reading, MayFollow}
+use Rattle.tac_text.proofs.FunctionRuns.{follow_words, function_faults, function_sayings}
+use Rattle.text_lines.specs.CanonicalLines.{AreLineWords}
 use Rattle.text_lines.specs.FirstFaults.{IsStart}
 use Rattle.text_lines.specs.Runs.{AreSayings, TellsFaults}
 use Rattle.text_lines.specs.declared.line_words.LineWord.{LineWord}
 use Rattle.text_lines.specs.declared.line_words.LineWord.TheVariants.{Plain as plain_word, Literal as literal_word}
-use Rattle.text_lines.proofs.LineRuns.{Reads, Runs-append, Runs-said, said_by_run}
-use Rattle.text_lines.proofs.WrittenLines.{HasWords-canonical_line}
+use Rattle.text_lines.proofs.LineRuns.{IsStart-run, Reads, Runs-said, said_by_run}
 use Rattle.program_text.specs.DeclarationFaults.{declaration_fault}
 use Rattle.program_text.specs.DeclarationWords.{words_of_decl}
-use Rattle.program_text.specs.ProgramStates.{ProgramLine, version, field_count, declares, begins, inside, ProgramState, nothing_read, version_read, drafted, open_function, MaySay, program_place, said_on, words_of_program_line, RunsTo}
+use Rattle.program_text.specs.FirstLines.{field_count_words, version_words}
+use Rattle.text_lines.proofs.FineWords.{AreLineWords-fine}
+use Rattle.program_text.specs.ProgramStates.{ProgramLine, version, field_count, declares, of_function, ProgramState, nothing_read, version_read, drafted, open_function, MaySay, program_place, said_on, words_of_program_line, RunsTo}
 use Rattle.program_text.specs.ProgramTexts.{IsProgramText, ProgramText, between_fault, program_fault}
-use Rattle.program_text.proofs.DeclarationLaws.{AreDeclarationWords, OtherFirst, decl_first, faultless, words_of_decl-some, words_of_decl-unique}
-use Rattle.program_text.proofs.SpelledLines.{decl_of_words}
-use Rattle.program_text.proofs.FirstLineLaws.{AreFieldCountWords, AreVersionWords, field_count_declared, field_count_faultless, field_count_words-some, field_count_words-unique, version_declared, version_faultless, version_words-some}
-use Rattle.program_text.proofs.ProgramRuns.{Leads, StateFront, can_end, lines_read, program_leads}
-use Rattle.text_lines.proofs.Faultless.{some_length}
+use Rattle.program_text.proofs.DeclarationLaws.{AreFine-words_of_decl, OtherFirst, decl_first, faultless, words_of_decl-some, words_of_decl-unique, decl_of_words}
+use Rattle.program_text.proofs.FirstLineLaws.{AreFine-field_count_words, AreFine-version_words, field_count_declared, field_count_faultless, field_count_words-some, field_count_words-unique, version_declared, version_words-some}
+use Rattle.program_text.proofs.ProgramRuns.{StateFront, can_end, lines_read, program_leads}
 
 -- ---- declarations, and the first lines of functions
 
@@ -37,12 +29,14 @@ between-other : (words : List LineWord) → OtherFirst words → between_fault w
 between-other (plain_word word ∷ words) h = rw h refl
 between-other words h = absurd h
 
-between-header : (name : List ℕ) (kind : Kind) (keys : ℕ) → between_fault (header_words name kind keys) ≡ header_fault (header_words name kind keys)
-between-header name kind keys = refl
+between-header : (l : FunctionLine) → MayFollow waiting l → between_fault (words_of_function_line l) ≡ header_fault (words_of_function_line l)
+between-header (header name kind keys) h = refl
+between-header (inside l) h = absurd h
 
-not_both : (d : Decl) (name : List ℕ) (kind : Kind) (keys : ℕ) → IsSpelledDecl d → words_of_decl d ≡ header_words name kind keys → ⊥
-not_both d name kind keys h e =
+not_both : (d : Decl) (l : FunctionLine) → IsSpelledDecl d → MayFollow waiting l → words_of_decl d ≡ words_of_function_line l → ⊥
+not_both d (header name kind keys) h k e =
     let other : true ≡ false = subst OtherFirst e (decl_first d h) in cc
+not_both d (inside l) h k e = k
 
 -- ---- what may be said has words of its own
 
@@ -50,30 +44,23 @@ some_said : (s : ProgramState) (l : ProgramLine) → MaySay s l → words_of_pro
 some_said nothing_read version h = version_words-some
 some_said version_read (field_count count) h = field_count_words-some count h
 some_said (drafted d) (declares decl) h = words_of_decl-some decl h
-some_said (drafted d) (begins name kind keys) h = λ e. absurd cc
-some_said (open_function d o) (inside line) h = words_of_line-some (lists_in o.build.blocks) line (IsSpelledLine-MayStand (place_of o.build) line h)
+some_said (drafted d) (of_function l) h = function_sayings.some waiting l h
+some_said (open_function d o) (of_function l) h = function_sayings.some (reading o) l h
 some_said s l h = absurd h
-
-header_parts : (a b : List ℕ) (j k : Kind) (m n : ℕ) → header a j m ≡ header b k n → begins a j m ≡ begins b k n
-header_parts a b j k m n e = ap (λ (l : FunctionLine). line_of l) e
-  where
-    line_of : FunctionLine → ProgramLine
-    line_of (header name kind keys) = begins name kind keys
-    line_of (FunctionLine.inside line) = version
 
 unique_said : (s : ProgramState) (l m : ProgramLine) → MaySay s l → MaySay s m → words_of_program_line l ≡ words_of_program_line m → l ≡ m
 unique_said nothing_read version version h k e = refl
 unique_said version_read (field_count i) (field_count j) h k e = ap field_count (field_count_words-unique i j h k e)
 unique_said (drafted d) (declares a) (declares b) h k e = ap declares (words_of_decl-unique a b h k e)
-unique_said (drafted d) (declares a) (begins name kind keys) h k e = absurd (not_both a name kind keys h e)
-unique_said (drafted d) (begins name kind keys) (declares b) h k e = absurd (not_both b name kind keys k (sym e))
-unique_said (drafted d) (begins a j m) (begins b i n) h k e = header_parts a b j i m n (one_header a b j i m n h k e)
-unique_said (open_function d o) (inside l) (inside m) h k e = ap inside (words_of_one_line (place_of o.build) (place_of o.build) l m h k e)
+unique_said (drafted d) (declares a) (of_function l) h k e = absurd (not_both a l h k e)
+unique_said (drafted d) (of_function l) (declares b) h k e = absurd (not_both b l k h (sym e))
+unique_said (drafted d) (of_function l) (of_function m) h k e = ap of_function (function_sayings.unique waiting l m h k e)
+unique_said (open_function d o) (of_function l) (of_function m) h k e = ap of_function (function_sayings.unique (reading o) l m h k e)
 unique_said nothing_read version m h k e = absurd k
 unique_said version_read (field_count i) m h k e = absurd k
 unique_said (drafted d) (declares a) m h k e = absurd k
-unique_said (drafted d) (begins a j m) l h k e = absurd k
-unique_said (open_function d o) (inside l) m h k e = absurd k
+unique_said (drafted d) (of_function l) m h k e = absurd k
+unique_said (open_function d o) (of_function l) m h k e = absurd k
 unique_said s l m h k e = absurd h
 
 pub program_sayings : AreSayings words_of_program_line MaySay
@@ -88,11 +75,11 @@ fault_none (drafted d) = refl
 fault_none (open_function d o) = refl
 
 fault_sound : (s : ProgramState) (l : ProgramLine) → MaySay s l → program_fault (program_place s) (words_of_program_line l) ≡ None
-fault_sound nothing_read version h = version_faultless
+fault_sound nothing_read version h = refl
 fault_sound version_read (field_count count) h = field_count_faultless count h
 fault_sound (drafted d) (declares decl) h = between-other (words_of_decl decl) (decl_first decl h) ∙ faultless decl h
-fault_sound (drafted d) (begins name kind keys) h = between-header name kind keys ∙ header_fault-header_words name kind keys h
-fault_sound (open_function d o) (inside line) h = statement_fault-words_of_line (place_of o.build) line h
+fault_sound (drafted d) (of_function l) h = between-header l h ∙ function_faults.sound waiting l h
+fault_sound (open_function d o) (of_function l) h = function_faults.sound (reading o) l h
 fault_sound s l h = absurd h
 
 pub said_between : (d : DraftData) (ws : List LineWord) → ws ≢ [] → AreLineWords ws → between_fault ws ≡ None → (l : ProgramLine) × (ws ≡ words_of_program_line l) × MaySay (drafted d) l
@@ -103,7 +90,7 @@ said_between d (plain_word word ∷ words) some good e = by_word (bytes_eq word 
     by_word : (b : Bool) → bytes_eq word (codes "function") ≡ b → (l : ProgramLine) × (plain_word word ∷ words ≡ words_of_program_line l) × MaySay (drafted d) l
     by_word true w =
         let told : header_fault (plain_word word ∷ words) ≡ None = rw w (rw w at e) in
-        let h = header_of_words (plain_word word ∷ words) some good told in (begins h.0 h.1 h.2, h.3, h.4)
+        let h = function_faults.complete waiting (plain_word word ∷ words) some good told in (of_function h.0, h.1, h.2)
     by_word false w =
         let told : declaration_fault (plain_word word ∷ words) ≡ None = rw w at e in
         let h = decl_of_words (plain_word word ∷ words) some good told in (declares h.0, h.1, h.2)
@@ -112,27 +99,20 @@ fault_complete : (s : ProgramState) (ws : List LineWord) → ws ≢ [] → AreLi
 fault_complete nothing_read ws some good e = (version, version_declared ws some e, tt)
 fault_complete version_read ws some good e = let h = field_count_declared ws some good e in (field_count h.0, h.1, h.2)
 fault_complete (drafted d) ws some good e = said_between d ws some good e
-fault_complete (open_function d o) ws some good e = let h = line_of_words (place_of o.build) ws (some_length ws some) good e in (inside h.0, h.1, h.2)
+fault_complete (open_function d o) ws some good e = let h = function_faults.complete (reading o) ws some good e in (of_function h.0, h.1, h.2)
 
 pub program_faults : TellsFaults words_of_program_line MaySay (λ s. program_fault (program_place s))
 program_faults = record { none = fault_none; sound = fault_sound; complete = fault_complete }
 
 -- ---- what may be said can be written
 
-pub said_words : (s : ProgramState) (l : ProgramLine) → MaySay s l → AreLineWords (words_of_program_line l)
-said_words nothing_read version h = AreVersionWords
-said_words version_read (field_count count) h = AreFieldCountWords count h
-said_words (drafted d) (declares decl) h = AreDeclarationWords decl h
-said_words (drafted d) (begins name kind keys) h = AreLineWords-fine (header_words name kind keys) (AreFine-header_words name kind keys h)
-said_words (open_function d o) (inside line) h = AreLineWords-fine (words_of_line line) (AreFine-words_of_line (place_of o.build).lists line (IsSpelledLine-MayStand (place_of o.build) line h))
+said_words : (s : ProgramState) (l : ProgramLine) → MaySay s l → AreLineWords (words_of_program_line l)
+said_words nothing_read version h = AreLineWords-fine version_words AreFine-version_words
+said_words version_read (field_count count) h = AreLineWords-fine (field_count_words count) (AreFine-field_count_words count h)
+said_words (drafted d) (declares decl) h = AreLineWords-fine (words_of_decl decl) (AreFine-words_of_decl decl h)
+said_words (drafted d) (of_function l) h = follow_words waiting l h
+said_words (open_function d o) (of_function l) h = follow_words (reading o) l h
 said_words s l h = absurd h
-
-written_lines : (s t : ProgramState) (ls : List ProgramLine) → Leads s ls t → (lines : List (List ℕ)) × RunsTo s lines t
-written_lines s t [] p = ([], p)
-written_lines s t (l ∷ ls) p =
-    let rest = written_lines (said_on s l) t ls p.1 in
-    let words = words_of_program_line l in
-    (canonical_line 0 words ∷ rest.0, inr (l, HasWords-canonical_line 0 words (said_words s l p.0), p.0, rest.1))
 
 -- ---- texts of programs
 
@@ -144,7 +124,7 @@ RunsTo-ProgramText d text t =
 pub ProgramText-RunsTo : (d : DraftData) (text : List (List ℕ)) → RunsTo nothing_read text (drafted d) → ProgramText d text
 ProgramText-RunsTo d text run =
     let said = said_by_run words_of_program_line MaySay said_on program_sayings nothing_read (drafted d) text run in
-    let read : StateFront (drafted d) said.0 = lines_read nothing_read (drafted d) [] said.0 refl said.2 in
+    let read : StateFront (drafted d) said.0 = lines_read (drafted d) said.0 said.2 in
     record {
       said = map words_of_program_line said.0;
       says = said.1;
@@ -153,12 +133,8 @@ ProgramText-RunsTo d text run =
     }
 
 begins_whole : (front : List (List ℕ)) (s : ProgramState) → RunsTo nothing_read front s → IsStart IsProgramText front
-begins_whole front s run =
-    let said = said_by_run words_of_program_line MaySay said_on program_sayings nothing_read s front run in
-    let rest = can_end s said.0 (lines_read nothing_read s [] said.0 refl said.2) in
-    let more = written_lines s (drafted rest.1) rest.0 rest.2 in
-    let all = Runs-append words_of_program_line MaySay said_on nothing_read s (drafted rest.1) front more.0 run more.1 in
-    (more.0, (rest.1, ProgramText-RunsTo rest.1 (front ++ more.0) all))
+begins_whole front s run = IsStart-run IsProgramText words_of_program_line MaySay said_on nothing_read program_sayings said_words (λ t ls steps.
+    let rest = can_end t ls (lines_read t ls steps) in (rest.0, drafted rest.1, rest.2, λ text all. (rest.1, ProgramText-RunsTo rest.1 text all))) front s run
 
 pub reads_programs : Reads IsProgramText words_of_program_line MaySay said_on nothing_read
 reads_programs = record { whole = λ text w. (drafted w.0, RunsTo-ProgramText w.0 text w.1); begins = begins_whole }

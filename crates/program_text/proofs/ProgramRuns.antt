@@ -12,20 +12,17 @@ use Rattle.tac_syntax.specs.declared.functions.Function.{Function}
 use Rattle.tac_syntax.specs.Code.{Line, close, nesting}
 use Rattle.tac_syntax.specs.Functions.{IsSpelledFunction}
 use Rattle.tac_syntax.specs.Limits.{nesting_limit}
-use Rattle.tac_text.specs.Blocks.{SpellsBody}
-use Rattle.tac_text.specs.FunctionAnswers.{OpenData, begun}
-use Rattle.tac_text.specs.FunctionLines.{FunctionLine, header, inside as function_inside, IsWritable, SpellsFunction, header_words, words_of_function_line}
+use Rattle.tac_text.specs.FunctionLines.{SpellsBody, FunctionLine, IsWritable, SpellsFunction, header_words, words_of_function_line}
+use Rattle.tac_text.specs.FunctionAnswers.{OpenData}
 use Rattle.tac_text.specs.FunctionStates.{FunctionState, waiting, reading, whole, MayFollow, after}
-use Rattle.tac_text.specs.Places.{place_of}
-use Rattle.statement_lines.specs.StatementLines.{MayStand}
 use Rattle.statement_lines.specs.Spelling.{words_of_line}
 use Rattle.tac_text.proofs.FunctionRuns.{LedBy, finished, function_steps, led_step, lines_of_function, words_of_inside}
 use Rattle.text_lines.specs.declared.line_words.LineWord.{LineWord}
 use Rattle.text_lines.specs.Runs.{Steps}
-use Rattle.text_lines.proofs.LineRuns.{Steps-append}
+use Rattle.text_lines.proofs.LineRuns.{Steps-append, Steps-kept}
 use Rattle.program_text.specs.DeclarationWords.{words_of_decl}
 use Rattle.program_text.specs.FirstLines.{field_count_words, version_words}
-use Rattle.program_text.specs.ProgramStates.{ProgramLine, version, field_count, declares, begins, inside, ProgramState, nothing_read, version_read, drafted, open_function, MaySay, in_program, said_on, with_decl, with_function, words_of_program_line}
+use Rattle.program_text.specs.ProgramStates.{ProgramLine, version, field_count, declares, of_function, ProgramState, nothing_read, version_read, drafted, open_function, MaySay, in_program, said_on, with_decl, with_function, words_of_program_line}
 use Rattle.program_text.specs.ProgramTexts.{IsWritableDraft, SpellsDecls, SpellsProgram}
 
 abbrev pub Leads : ProgramState → List ProgramLine → ProgramState → Type 0
@@ -33,24 +30,18 @@ Leads s lines t = Steps MaySay said_on s lines t
 
 -- ---- the words of a program take the reader to it
 
--- a function's line in a program
-abbrev line_in_program : FunctionLine → ProgramLine
-line_in_program (header name kind keys) = begins name kind keys
-line_in_program (function_inside line) = inside line
-
-function_leads : (d : DraftData) (s t : FunctionState) (lines : List FunctionLine) → Steps MayFollow after s lines t → Leads (in_program d s) (map line_in_program lines) (in_program d t)
+function_leads : (d : DraftData) (s t : FunctionState) (lines : List FunctionLine) → Steps MayFollow after s lines t → Leads (in_program d s) (map of_function lines) (in_program d t)
 function_leads d s t [] h = ap (in_program d) h
-function_leads d waiting t (header name kind keys ∷ lines) h = (h.0, function_leads d (reading (begun name kind keys)) t lines h.1)
-function_leads d (reading o) t (function_inside line ∷ lines) h = (h.0, function_leads d (after (reading o) (function_inside line)) t lines h.1)
-function_leads d s t (line ∷ lines) h = absurd h.0
+function_leads d waiting t (line ∷ lines) h = (h.0, function_leads d (after waiting line) t lines h.1)
+function_leads d (reading o) t (line ∷ lines) h = (h.0, function_leads d (after (reading o) line) t lines h.1)
+function_leads d (whole f) t (line ∷ lines) h = absurd h.0
 
-words_in_program : (lines : List FunctionLine) → map words_of_program_line (map line_in_program lines) ≡ map words_of_function_line lines
+words_in_program : (lines : List FunctionLine) → map words_of_program_line (map of_function lines) ≡ map words_of_function_line lines
 words_in_program [] = refl
-words_in_program (header name kind keys ∷ lines) = ap (λ (x : List (List LineWord)). header_words name kind keys ∷ x) (words_in_program lines)
-words_in_program (function_inside line ∷ lines) = ap (λ (x : List (List LineWord)). words_of_line line ∷ x) (words_in_program lines)
+words_in_program (line ∷ lines) = ap (λ (x : List (List LineWord)). words_of_function_line line ∷ x) (words_in_program lines)
 
 abbrev function_in_program : Function → List Line → List ProgramLine
-function_in_program f lines = map line_in_program (lines_of_function f.name f.kind f.keys lines)
+function_in_program f lines = map of_function (lines_of_function f.name f.kind f.keys lines)
 
 function_words : (f : Function) (lines : List Line) (first : List (List LineWord)) → first ≡ header_words f.name f.kind f.keys ∷ (map words_of_line lines ++ words_of_line close ∷ [])
     → first ≡ map words_of_program_line (function_in_program f lines)
@@ -130,7 +121,7 @@ pub record ReadSo (d : DraftData) (lines : List ProgramLine) : Type 0 where
 pub record OpenSo (d : DraftData) (o : OpenData) (lines : List ProgramLine) : Type 0 where
   pub outer : List ProgramLine
   pub own : List FunctionLine
-  pub all : lines ≡ outer ++ map line_in_program own
+  pub all : lines ≡ outer ++ map of_function own
   pub read : ReadSo d outer
   pub led : LedBy (reading o) own
 
@@ -179,23 +170,22 @@ ended_read d f lines inner h b w =
 
 -- ---- a line more
 
-function_read : (d : DraftData) (s : FunctionState) (outer : List ProgramLine) (own : List FunctionLine) → ReadSo d outer → LedBy s own → StateFront (in_program d s) (outer ++ map line_in_program own)
-function_read d waiting outer own read led = subst (ReadSo d) (sym (append-nil outer) ∙ ap (λ (x : List FunctionLine). outer ++ map line_in_program x) (sym led)) read
+function_read : (d : DraftData) (s : FunctionState) (outer : List ProgramLine) (own : List FunctionLine) → ReadSo d outer → LedBy s own → StateFront (in_program d s) (outer ++ map of_function own)
+function_read d waiting outer own read led = subst (ReadSo d) (sym (append-nil outer) ∙ ap (λ (x : List FunctionLine). outer ++ map of_function x) (sym led)) read
 function_read d (reading o) outer own read led = record { outer = outer; own = own; all = refl; read = read; led = led }
 function_read d (whole f) outer own read led =
-    subst (λ (x : List FunctionLine). ReadSo (with_function d f) (outer ++ map line_in_program x)) (sym led.1) (ended_read d f outer led.0 read led.2 led.3)
+    subst (λ (x : List FunctionLine). ReadSo (with_function d f) (outer ++ map of_function x)) (sym led.1) (ended_read d f outer led.0 read led.2 led.3)
 
-inside_read : (d : DraftData) (o : OpenData) (lines : List ProgramLine) (line : Line) → OpenSo d o lines → MayStand (place_of o.build) line
-    → StateFront (said_on (open_function d o) (inside line)) (lines ++ inside line ∷ [])
-inside_read d o lines line h may =
-    let next = function_inside line in
-    let all : h.outer ++ map line_in_program (h.own ++ next ∷ []) ≡ lines ++ inside line ∷ [] =
-    ap (λ (x : List ProgramLine). h.outer ++ x) (map-append line_in_program h.own (next ∷ []))
-    ∙ sym (append_assoc h.outer (map line_in_program h.own) (inside line ∷ []))
-    ∙ ap (λ (x : List ProgramLine). x ++ inside line ∷ []) (sym h.all) in
+inside_read : (d : DraftData) (o : OpenData) (lines : List ProgramLine) (next : FunctionLine) → OpenSo d o lines → MayFollow (reading o) next
+    → StateFront (said_on (open_function d o) (of_function next)) (lines ++ of_function next ∷ [])
+inside_read d o lines next h may =
+    let all : h.outer ++ map of_function (h.own ++ next ∷ []) ≡ lines ++ of_function next ∷ [] =
+    ap (λ (x : List ProgramLine). h.outer ++ x) (map-append of_function h.own (next ∷ []))
+    ∙ sym (append_assoc h.outer (map of_function h.own) (of_function next ∷ []))
+    ∙ ap (λ (x : List ProgramLine). x ++ of_function next ∷ []) (sym h.all) in
     subst (StateFront (in_program d (after (reading o) next))) all (function_read d (after (reading o) next) h.outer (h.own ++ next ∷ []) h.read (led_step (reading o) next h.own h.led may))
 
-pub line_read : (s : ProgramState) (l : ProgramLine) (lines : List ProgramLine) → StateFront s lines → MaySay s l → StateFront (said_on s l) (lines ++ l ∷ [])
+line_read : (s : ProgramState) (l : ProgramLine) (lines : List ProgramLine) → StateFront s lines → MaySay s l → StateFront (said_on s l) (lines ++ l ∷ [])
 line_read nothing_read version lines h m = ap (λ (x : List ProgramLine). x ++ version ∷ []) h
 line_read version_read (field_count count) lines h m = record {
   decls = [];
@@ -204,14 +194,12 @@ line_read version_read (field_count count) lines h m = record {
   writable = record { spelled = record { some_field = m.0; few_fields = m.1; functions = tt; declared = refl }; nested = tt };
 }
 line_read (drafted d) (declares decl) lines h m = decl_read d decl lines h m
-line_read (drafted d) (begins name kind keys) lines h m = function_read d (reading (begun name kind keys)) lines (header name kind keys ∷ []) h (led_step waiting (header name kind keys) [] refl m)
-line_read (open_function d o) (inside line) lines h m = inside_read d o lines line h m
+line_read (drafted d) (of_function l) lines h m = function_read d (after waiting l) lines (l ∷ []) h (led_step waiting l [] refl m)
+line_read (open_function d o) (of_function l) lines h m = inside_read d o lines l h m
 line_read s l lines h m = absurd m
 
-pub lines_read : (s t : ProgramState) (lines more : List ProgramLine) → StateFront s lines → Leads s more t → StateFront t (lines ++ more)
-lines_read s t lines [] h e = subst (StateFront t) (sym (append-nil lines)) (subst (λ (x : ProgramState). StateFront x lines) e h)
-lines_read s t lines (l ∷ more) h m =
-    subst (StateFront t) (append_assoc lines (l ∷ []) more) (lines_read (said_on s l) t (lines ++ l ∷ []) more (line_read s l lines h m.0) m.1)
+pub lines_read : (t : ProgramState) (lines : List ProgramLine) → Leads nothing_read lines t → StateFront t lines
+lines_read t lines h = Steps-kept MaySay said_on StateFront line_read nothing_read t [] lines refl h
 
 -- ---- what was read can become whole
 
@@ -221,4 +209,4 @@ can_end version_read lines h = (field_count 1 ∷ [], record { fields = 1; funct
 can_end (drafted d) lines h = ([], d, refl)
 can_end (open_function d o) lines h =
     let more = finished (reading o) h.own h.led in
-    (map line_in_program more.0, with_function d more.1, function_leads d (reading o) (whole more.1) more.0 more.2)
+    (map of_function more.0, with_function d more.1, function_leads d (reading o) (whole more.1) more.0 more.2)

@@ -1,17 +1,43 @@
 -- What the reader of programs has come to behind some lines.
-use Rattle.std.proofs.Common.{◌≡◌, ◌<◌, ◌≤◌, ◌+◌, inl, inr, max, ℕ, List, [], ◌∷◌, ◌++◌, length, Some, None, Result, Ok, Err, IfOk, IfErr, refl, ap, sym, subst, ◌∙◌, append_assoc, append-nil, arith, length-append}
+use Rattle.std.proofs.Common.{◌≡◌, Bool, true, false, Result, Ok, Err, IfOk, List, ap, sym, subst, ◌∙◌, ◌<◌, ◌≤◌, ◌+◌, inl, inr, max, ℕ, [], ◌∷◌, ◌++◌, length, Some, None, IfErr, refl, append_assoc, append-nil, arith, length-append}
+use Rattle.tac_syntax.specs.Code.{close}
 use Rattle.tac_syntax.specs.Drafts.{DraftData}
-use Rattle.text_lines.specs.declared.lines.TextFault.{TextFault}
-use Rattle.text_lines.specs.declared.lines.TextFault.TheVariants as told
-use Rattle.text_lines.specs.FirstFaults.{HasFault, IsFirstFault}
-use Rattle.text_lines.specs.TextLines.{lines_of}
-use Rattle.text_lines.proofs.LineRuns.{EndsEarly-run, IsFaultyLine-run, Runs-append, Runs-unique}
 use Rattle.text_lines.specs.declared.faults.NotRead.{NotRead}
-use Rattle.text_lines.specs.declared.faults.NotRead.TheVariants as decl
-use Rattle.program_text.specs.ProgramReading.{EndsWith, GivesDraft, IsLineFault, TellsFirstFault, at_line}
-use Rattle.program_text.specs.ProgramStates.{MaySay, ProgramState, RunsTo, drafted, nothing_read, program_place, said_on, words_of_program_line}
+use Rattle.text_lines.specs.declared.line_words.LineWord.{LineWord}
+use Rattle.tac_text.specs.FunctionAnswers.{OpenData, TakesWords, function_of}
+use Rattle.tac_text.specs.FunctionLines.{inside}
+use Rattle.tac_text.proofs.FunctionRuns.{LeadsOn-TakesWords, at_own_end}
+use Rattle.program_text.specs.declared.program_reading.State.{State}
+use Rattle.program_text.specs.ProgramStates.{LeadsOn, state_of, EndsWith, GivesDraft, TellsFirstFault, of_function, in_program, drafted, open_function, with_function, MaySay, ProgramState, RunsTo, nothing_read, program_place, said_on, words_of_program_line}
+use Rattle.text_lines.specs.declared.lines.TextFault.{TextFault}
+use Rattle.text_lines.specs.FirstFaults.{IsFirstFault, IsLineFault, told_at}
+use Rattle.text_lines.specs.TextLines.{lines_of}
+use Rattle.text_lines.proofs.LineRuns.{EndsEarly-run, TellsFirst-line, Runs-append, Runs-unique}
 use Rattle.program_text.specs.ProgramTexts.{IsProgramText, ProgramText, program_fault, program_missing}
 use Rattle.program_text.proofs.ProgramReads.{ProgramText-RunsTo, RunsTo-ProgramText, program_faults, program_sayings, reads_programs}
+use Rattle.text_lines.specs.declared.lines.TextFault.TheVariants as told
+
+-- ---- one step inside a function
+
+-- the function's own `end`
+pub ended_words : (d : DraftData) (old now : OpenData) (said : List LineWord) (ended : Bool) (r : Result State NotRead) → ended ≡ true → TakesWords ended said old now
+    → IfOk r (λ t. state_of t ≡ drafted (with_function d (function_of now))) → IfOk r (λ t. LeadsOn (open_function d old) said (state_of t))
+ended_words d old now said ended (Err e) is taken h = tt
+ended_words d old now said ended (Ok t) is taken h =
+    let own : TakesWords true said old now = subst (λ (b : Bool). TakesWords b said old now) is taken in (
+      of_function (inside close),
+      own.0,
+      tt,
+      h ∙ ap (λ (o : OpenData). drafted (with_function d (function_of o))) own.2 ∙ sym (ap (in_program d) (at_own_end old.build.blocks old own.1)),
+    )
+
+-- a line of its body
+pub inner_words : (d : DraftData) (old now : OpenData) (said : List LineWord) (ended : Bool) → ended ≡ false → TakesWords ended said old now → LeadsOn (open_function d old) said (open_function d now)
+inner_words d old now said ended is taken =
+    let on = LeadsOn-TakesWords false said old now (subst (λ (b : Bool). TakesWords b said old now) is taken) in
+    (of_function on.0, on.1, on.2, ap (in_program d) on.3)
+
+-- ---- behind some lines
 
 -- so many lines of the text took it to this state, and the rest is left
 pub record Reached (text rest : List ℕ) (lines : ℕ) (s : ProgramState) : Type 0 where
@@ -34,16 +60,11 @@ reached_on text rest behind line lines s t h e shorter run = record {
   few = omega (arith, h.few, shorter);
 }
 
-pub first_fault : (text rest behind line : List ℕ) (lines what : ℕ) (s : ProgramState) → Reached text rest lines s → lines_of rest ≡ line ∷ lines_of behind → HasFault (program_fault (program_place s)) line what
-    → IsFirstFault IsProgramText program_fault program_missing (lines_of text) (lines + 1) what
-first_fault text rest behind line lines what s h e fault =
-    inl (IsFaultyLine-run IsProgramText words_of_program_line MaySay said_on nothing_read program_place program_fault program_sayings program_faults reads_programs
-    (lines_of text) h.front (lines_of behind) line (lines + 1) what s h.run (h.all ∙ ap (λ (x : List (List ℕ)). h.front ++ x) e) (omega (arith, h.counted)) fault)
-
-pub told_fault : (text rest behind line : List ℕ) (lines : ℕ) (s : ProgramState) (e : NotRead) (answer : TextFault) → Reached text rest lines s → lines_of rest ≡ line ∷ lines_of behind → IsLineFault s line e
-    → answer ≡ at_line (lines + 1) e → TellsFirstFault answer (lines_of text)
-told_fault text rest behind line lines s (decl.Fault what) answer h e fault is = rw is (first_fault text rest behind line lines what s h e fault)
-told_fault text rest behind line lines s decl.Memory answer h e fault is = rw is tt
+pub told_fault : (text rest behind line : List ℕ) (lines : ℕ) (s : ProgramState) (why : NotRead) → Reached text rest lines s → lines_of rest ≡ line ∷ lines_of behind → IsLineFault (program_fault (program_place s)) why line
+    → TellsFirstFault (told_at (lines + 1) why) (lines_of text)
+told_fault text rest behind line lines s why h e fault =
+    TellsFirst-line IsProgramText words_of_program_line MaySay said_on nothing_read program_place program_fault program_missing program_sayings program_faults reads_programs
+    (lines_of text) h.front (lines_of behind) line (lines + 1) s why h.run (h.all ∙ ap (λ (x : List (List ℕ)). h.front ++ x) e) (omega (arith, h.counted)) fault
 
 -- a text with a first fault is no program's
 pub faulty_is_none : (text : List (List ℕ)) (number what : ℕ) (d : DraftData) → IsFirstFault IsProgramText program_fault program_missing text number what → ProgramText d text → ⊥

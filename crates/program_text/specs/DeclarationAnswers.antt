@@ -6,9 +6,8 @@ use Rattle.tac_syntax.specs.Declarations.{AreColumns, AreNumbers, IsKeyList, IsS
 use Rattle.tac_syntax.specs.Functions.{key_limit}
 use Rattle.text_lines.specs.declared.line_words.LineWord.{LineWord}
 use Rattle.text_lines.specs.declared.line_words.LineWord.TheVariants.{Plain as plain_word}
-use Rattle.text_lines.specs.LineReading.{IsFaultOf}
+use Rattle.text_lines.specs.LineReading.{Gives, IsFaultOf}
 use Rattle.text_lines.specs.declared.faults.NotRead.{NotRead}
-use Rattle.text_lines.specs.declared.faults.NotRead.TheVariants.{Fault, Memory}
 use Rattle.program_text.specs.DeclarationFaults.{columns_fault, key_pair_fault, numbers_fault, word_fault}
 use Rattle.program_text.specs.DeclarationWords.{column_word, key_pair_words, number_words, words_of_decl}
 
@@ -41,6 +40,4 @@ ReadsDecl first (Err e) words = IsFaultOf e (word_fault first words)
 
 -- this declaration, or want of memory
 abbrev pub GivesDecl : Result Decl NotRead → Decl → Type 0
-GivesDecl (Ok found) decl = found ≡ decl
-GivesDecl (Err (Fault what)) decl = ⊥
-GivesDecl (Err Memory) decl = Unit {0}
+GivesDecl r decl = Gives (λ found. found ≡ decl) r

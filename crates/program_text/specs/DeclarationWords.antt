@@ -1,5 +1,5 @@
 -- The words of a declaration's line.
-use Rattle.std.specs.Prelude.{ℕ, List, [], ◌∷◌, ◌++◌, map, codes, decimal}
+use Rattle.std.specs.Prelude.{ℕ, List, [], ◌∷◌, ◌++◌, map, codes, decimal, Bool, true, false}
 use Rattle.pact_record.specs.declared.columns.Column.{Column}
 use Rattle.tac_syntax.specs.declared.declarations.OpKind.{OpKind}
 use Rattle.tac_syntax.specs.declared.declarations.OpKind.TheVariants.{Source as SourceKind, Map, Reduce, Match, Cross, CoGroup}
@@ -44,3 +44,20 @@ words_of_decl (Source name file columns) = plain_words (codes "source" ∷ name 
 words_of_decl (Function number) = []
 words_of_decl (Op name kind function left right left_keys right_keys) = words_of_op kind name function left right left_keys right_keys
 words_of_decl (Sink input fields) = plain_words (codes "sink" ∷ input ∷ []) ++ number_words fields
+
+-- ---- an operator's line behind its first input
+
+-- whether operators of the kind have a second input
+abbrev pub has_right : OpKind → Bool
+has_right Match = true
+has_right Cross = true
+has_right CoGroup = true
+has_right kind = false
+
+-- the second input, and the keys
+abbrev pub behind_left : OpKind → (right left_keys right_keys : List ℕ) → List LineWord
+behind_left Reduce right left_keys right_keys = plain_word (codes "by") ∷ number_words left_keys
+behind_left Match right left_keys right_keys = plain_word right ∷ plain_word (codes "by") ∷ key_pair_words left_keys right_keys
+behind_left Cross right left_keys right_keys = plain_word right ∷ []
+behind_left CoGroup right left_keys right_keys = plain_word right ∷ plain_word (codes "by") ∷ key_pair_words left_keys right_keys
+behind_left kind right left_keys right_keys = []

@@ -2,8 +2,5 @@ pub mod DeclarationWords
 pub mod DeclarationFaults
 pub mod DeclarationAnswers
 pub mod FirstLines
-pub mod DeclarationWriting
 pub mod ProgramTexts
 pub mod ProgramStates
-pub mod ProgramReading
-pub mod ProgramWriting

@@ -1,38 +1,38 @@
--- Reading a program line by line.
-use Rattle.std.specs.Prelude.{ℕ, List, [], ◌∷◌, ◌++◌, length}
+-- Reading a program line by line: where its lines lead, and what its reader answers, line by line and as a whole.
+use Rattle.std.specs.Prelude.{ℕ, List, [], ◌∷◌, ◌++◌, length, ◌≡◌, Bool, false, max, Some, Result, Ok, Err, codes, bytes_eq}
 use Rattle.tac_syntax.specs.declared.declarations.Decl.{Decl}
 use Rattle.tac_syntax.specs.declared.declarations.Decl.TheVariants.{Function as FunctionDecl}
 use Rattle.tac_syntax.specs.Declarations.{IsSpelledDecl}
 use Rattle.tac_syntax.specs.Drafts.{DraftData}
 use Rattle.tac_syntax.specs.declared.functions.Function.{Function}
-use Rattle.tac_syntax.specs.declared.functions.Kind.{Kind}
-use Rattle.tac_syntax.specs.Code.{Line}
-use Rattle.tac_text.specs.FunctionAnswers.{OpenData, begun}
-use Rattle.tac_text.specs.FunctionLines.{header_words, inside as function_inside, IsHeader}
-use Rattle.tac_text.specs.FunctionStates.{FunctionState, waiting, reading, whole, after}
+use Rattle.tac_text.specs.FunctionAnswers.{OpenData}
+use Rattle.tac_text.specs.FunctionLines.{FunctionLine, words_of_function_line}
+use Rattle.tac_text.specs.FunctionStates.{FunctionState, waiting, reading, whole, MayFollow, after}
 use Rattle.tac_text.specs.Places.{place_of}
-use Rattle.statement_lines.specs.StatementLines.{MayStand}
-use Rattle.statement_lines.specs.Spelling.{words_of_line}
 use Rattle.text_lines.specs.Runs.{Runs}
 use Rattle.text_lines.specs.declared.line_words.LineWord.{LineWord}
 use Rattle.program_text.specs.DeclarationWords.{words_of_decl}
 use Rattle.program_text.specs.FirstLines.{version_words, field_count_words, IsFieldCount}
-use Rattle.program_text.specs.ProgramTexts.{ProgramPlace, version_due, fields_due, between, in_function}
+use Rattle.program_text.specs.ProgramTexts.{ProgramPlace, version_due, fields_due, between, in_function, IsProgramText, program_fault, program_missing}
+use Rattle.text_lines.specs.declared.lines.TextFault.{TextFault}
+use Rattle.text_lines.specs.declared.line_words.LineWord.TheVariants.{Plain as plain_word}
+use Rattle.text_lines.specs.FirstFaults.{TellsFirst}
+use Rattle.program_text.specs.declared.program_reading.State.{State}
+use Rattle.text_lines.specs.declared.lines.TextFault.TheVariants as told
+use Rattle.program_text.specs.declared.program_reading.State.TheVariants as state
 
 -- what a line of a program says
 pub data ProgramLine : Type 0 where
   version : ProgramLine
   field_count : (count : ℕ) → ProgramLine
   declares : (decl : Decl) → ProgramLine
-  begins : (name : List ℕ) → (kind : Kind) → (keys : ℕ) → ProgramLine
-  inside : (line : Line) → ProgramLine
+  of_function : (line : FunctionLine) → ProgramLine
 
 abbrev pub words_of_program_line : ProgramLine → List LineWord
 words_of_program_line version = version_words
 words_of_program_line (field_count count) = field_count_words count
 words_of_program_line (declares decl) = words_of_decl decl
-words_of_program_line (begins name kind keys) = header_words name kind keys
-words_of_program_line (inside line) = words_of_line line
+words_of_program_line (of_function line) = words_of_function_line line
 
 -- what was read: nothing yet, the version, a draft so far, and besides it a function that is open
 pub data ProgramState : Type 0 where
@@ -51,8 +51,8 @@ abbrev pub MaySay : ProgramState → ProgramLine → Type 0
 MaySay nothing_read version = Unit {0}
 MaySay version_read (field_count count) = IsFieldCount count
 MaySay (drafted d) (declares decl) = IsSpelledDecl decl
-MaySay (drafted d) (begins name kind keys) = IsHeader name kind keys
-MaySay (open_function d o) (inside line) = MayStand (place_of o.build) line
+MaySay (drafted d) (of_function line) = MayFollow waiting line
+MaySay (open_function d o) (of_function line) = MayFollow (reading o) line
 MaySay state line = ⊥
 
 abbrev pub with_decl : DraftData → Decl → DraftData
@@ -72,10 +72,43 @@ abbrev pub said_on : ProgramState → ProgramLine → ProgramState
 said_on nothing_read version = version_read
 said_on version_read (field_count count) = drafted (record { fields = count; functions = []; decls = [] })
 said_on (drafted d) (declares decl) = drafted (with_decl d decl)
-said_on (drafted d) (begins name kind keys) = open_function d (begun name kind keys)
-said_on (open_function d o) (inside line) = in_program d (after (reading o) (function_inside line))
+said_on (drafted d) (of_function line) = in_program d (after waiting line)
+said_on (open_function d o) (of_function line) = in_program d (after (reading o) line)
 said_on state line = state
 
 -- lines of a text take the reader from one state to another
 abbrev pub RunsTo : ProgramState → List (List ℕ) → ProgramState → Type 0
 RunsTo s text t = Runs words_of_program_line MaySay said_on s text t
+
+-- ---- answers
+
+-- what the reader holds
+abbrev pub state_of : State → ProgramState
+state_of state.NothingRead = nothing_read
+state_of state.VersionRead = version_read
+state_of (state.Drafted draft) = drafted draft
+state_of (state.Open draft function) = open_function draft function
+
+abbrev pub begins_function : List LineWord → Bool
+begins_function (plain_word word ∷ words) = bytes_eq word (codes "function")
+begins_function words = false
+
+-- the words are of a line that may be said there, and leads to this state
+abbrev pub LeadsOn : ProgramState → List LineWord → ProgramState → Type 0
+LeadsOn s words t = (l : ProgramLine) × (words ≡ words_of_program_line l) × MaySay s l × (t ≡ said_on s l)
+
+-- what stands behind the last of so many lines
+abbrev pub EndsWith : ProgramState → ℕ → Result DraftData TextFault → Type 0
+EndsWith s lines (Ok d) = s ≡ drafted d
+EndsWith s lines (Err (told.At number what)) = (program_missing (program_place s) ≡ Some what) × (number ≡ max 1 lines)
+EndsWith s lines (Err told.Memory) = ⊥
+
+-- this draft, or want of memory
+abbrev pub GivesDraft : Result DraftData TextFault → DraftData → Type 0
+GivesDraft (Ok found) d = found ≡ d
+GivesDraft (Err (told.At number what)) d = ⊥
+GivesDraft (Err told.Memory) d = Unit {0}
+
+-- the first fault of the text, and want of memory tells nothing
+abbrev pub TellsFirstFault : TextFault → List (List ℕ) → Type 0
+TellsFirstFault e text = TellsFirst IsProgramText program_fault program_missing e text

@@ -1,4 +1,4 @@
--- The text of a program, and what is wrong with a text that is none.
+-- The text of a program, what is wrong with a text that is none, and what can be written.
 use Rattle.std.specs.Prelude.{◌≡◌, ◌≤◌, ℕ, Option, Some, None, List, [], ◌∷◌, ◌++◌, flat_map, slice_get, codes, bytes_eq, if◌then◌else◌}
 use Rattle.std.specs.List.{AllByRecursion}
 use Rattle.tac_syntax.specs.declared.declarations.Decl.{Decl}
@@ -14,11 +14,13 @@ use Rattle.statement_lines.specs.StatementFaults.{statement_fault}
 use Rattle.statement_lines.specs.StatementLines.{LinePlace}
 use Rattle.text_lines.specs.declared.line_words.LineWord.{LineWord}
 use Rattle.text_lines.specs.declared.line_words.LineWord.TheVariants.{Plain as plain_word, Literal as literal_word}
-use Rattle.text_lines.specs.CanonicalLines.{canonical_line}
+use Rattle.text_lines.specs.CanonicalLines.{line_spelling}
 use Rattle.text_lines.specs.TextLines.{Say}
 use Rattle.program_text.specs.DeclarationFaults.{declaration_fault}
 use Rattle.program_text.specs.DeclarationWords.{words_of_decl}
 use Rattle.program_text.specs.FirstLines.{version_words, field_count_words, version_fault, fields_fault}
+use Rattle.tac_syntax.specs.Declarations.{IsSpelledDecl}
+use Rattle.tac_syntax.specs.Functions.{IsSpelledFunction}
 
 -- ---- the grammar
 
@@ -85,17 +87,21 @@ program_missing (in_function place) = Some 10
 
 -- ---- the canonical spelling
 
-abbrev pub line_spelling : List LineWord → List ℕ
-line_spelling words = canonical_line 0 words ++ 10 ∷ []
-
 abbrev pub function_text : Option Function → List ℕ
 function_text None = []
 function_text (Some f) = function_spelling f
 
 abbrev pub decl_spelling : List Function → Decl → List ℕ
 decl_spelling functions (FunctionDecl number) = function_text (slice_get functions number)
-decl_spelling functions decl = line_spelling (words_of_decl decl)
+decl_spelling functions decl = line_spelling 0 (words_of_decl decl)
 
 -- in the order of the declarations
 abbrev pub program_spelling : DraftData → List ℕ
-program_spelling d = line_spelling version_words ++ (line_spelling (field_count_words d.fields) ++ flat_map (decl_spelling d.functions) d.decls)
+program_spelling d = line_spelling 0 version_words ++ (line_spelling 0 (field_count_words d.fields) ++ flat_map (decl_spelling d.functions) d.decls)
+
+-- ---- what can be written
+
+-- a declaration that a text can spell, or that of one of these functions
+abbrev pub CanWrite : List Function → Decl → Type 0
+CanWrite functions (FunctionDecl number) = (f : Function) × (slice_get functions number ≡ Some f) × IsSpelledFunction f
+CanWrite functions decl = IsSpelledDecl decl

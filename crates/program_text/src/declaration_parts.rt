@@ -3,7 +3,7 @@
 ghost use Rattle.std.specs.Prelude.{◌≡◌, ◌≤◌, ◌++◌, ◌∷◌, [], IsTrue, OnOk};
 ghost use Rattle.tac_syntax.specs.Grammar.{IsNumber};
 ghost use Rattle.tac_syntax.specs.Names.{is_file_name, is_name};
-ghost use Rattle.text_lines.specs.Cursors.{ReadsNext};
+ghost use Rattle.text_lines.specs.LineReading.{ReadsNext};
 ghost use Rattle.text_lines.specs.declared.line_words.LineWord.TheVariants.{Plain as plain_word};
 ghost use Rattle.text_lines.specs.Slots.{file_name, identifier};
 ghost use Rattle.program_text.specs.DeclarationAnswers.{ReadsColumns, ReadsKeyPair, ReadsLeftKeys, ReadsNumbers};

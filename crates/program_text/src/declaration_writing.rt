@@ -4,8 +4,7 @@ ghost use Rattle.std.specs.Prelude.{◌≡◌, ◌++◌, ◌∷◌, [], IfOk, co
 ghost use Rattle.tac_syntax.specs.Declarations.{IsSpelledDecl};
 ghost use Rattle.text_lines.specs.CanonicalLines.{canonical_line, word_text};
 ghost use Rattle.text_lines.specs.declared.line_words.LineWord.TheVariants.{Plain as plain_word};
-ghost use Rattle.program_text.specs.DeclarationWords.{column_word, key_pair_words, number_words, words_of_decl};
-ghost use Rattle.program_text.specs.DeclarationWriting.{behind_left};
+ghost use Rattle.program_text.specs.DeclarationWords.{column_word, key_pair_words, number_words, words_of_decl, behind_left};
 
 use pact_record::{Bytes, Columns, OutOfMemory, Word};
 use statement_lines::{Words, put_line};

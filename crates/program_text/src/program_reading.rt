@@ -3,12 +3,11 @@
 ghost use Rattle.std.specs.Prelude.{◌≡◌, ◌<◌, ◌∷◌, [], true, false, length, IfErr, IfOk};
 ghost use Rattle.tac_syntax.specs.Drafts.{DraftData};
 ghost use Rattle.text_lines.specs.LineReading.{IsFaultOf};
-ghost use Rattle.program_text.specs.ProgramReading as reading;
-ghost use Rattle.program_text.specs.ProgramReading.{EndsWith, GivesDraft, IsLineFault, LeadsOn, TellsFirstFault, begins_function, state_of};
-ghost use Rattle.program_text.specs.ProgramStates.{drafted, nothing_read, open_function, program_place, RunsTo, version_read, with_function};
+ghost use Rattle.program_text.specs.ProgramStates.{EndsWith, GivesDraft, LeadsOn, TellsFirstFault, begins_function, state_of, drafted, nothing_read, open_function, program_place, RunsTo, version_read, with_function};
 ghost use Rattle.program_text.specs.ProgramTexts.{ProgramText, program_fault};
 ghost use Rattle.text_lines.specs.declared.faults.NotRead.TheVariants.{Memory};
 ghost use Rattle.tac_text.specs.FunctionAnswers.{function_of};
+ghost use Rattle.text_lines.specs.FirstFaults.{IsLineFault};
 ghost use Rattle.text_lines.specs.TextLines.{lines_of};
 ghost use Rattle.text_lines.specs.CanonicalLines.{AreLineWords};
 
@@ -30,27 +29,7 @@ enum State {
     Open(Draft, OpenFunction),
 }
 
-fn at_line(line: u64, not: NotRead) -> TextFault
-    ensures { result ≡ reading.at_line line not }
-{
-    match not {
-        NotRead::Fault { what } => TextFault::At { line, what },
-        NotRead::Memory => TextFault::Memory,
-    }
-}
-
 // ---- one line's words
-
-fn first_words(words: &[LineWord]) -> Result<State, NotRead>
-    requires { 0 < length words.now }
-    ensures leads { IfOk result (λ t. LeadsOn nothing_read words.now (state_of t)) }
-    ensures fault { IfErr result (λ e. IsFaultOf e (program_fault (program_place nothing_read) words.now)) }
-{
-    match read_version(words) {
-        Ok(()) => Ok(State::VersionRead),
-        Err(what) => Err(NotRead::Fault { what }),
-    }
-}
 
 fn second_words(alloc: Global, words: &[LineWord]) -> Result<State, NotRead>
     requires { 0 < length words.now }
@@ -133,7 +112,10 @@ fn next(alloc: Global, state: State, words: &[LineWord]) -> Result<State, NotRea
     ensures fault { IfErr result (λ e. IsFaultOf e (program_fault (program_place (state_of state)) words.now)) }
 {
     match state {
-        State::NothingRead => first_words(words),
+        State::NothingRead => match read_version(words) {
+            Ok(()) => Ok(State::VersionRead),
+            Err(what) => Err(NotRead::Fault { what }),
+        },
         State::VersionRead => second_words(alloc, words),
         State::Drafted(draft) => {
             if begins_function(words) {
@@ -150,7 +132,7 @@ fn next(alloc: Global, state: State, words: &[LineWord]) -> Result<State, NotRea
 
 fn read_line(alloc: Global, state: State, line: &[u8]) -> Result<State, NotRead>
     ensures leads { IfOk result (λ t. RunsTo (state_of state) (line.now ∷ []) (state_of t)) }
-    ensures fault { IfErr result (λ e. IsLineFault (state_of state) line.now e) }
+    ensures fault { IfErr result (λ e. IsLineFault (program_fault (program_place (state_of state))) e line.now) }
 {
     let words = read_words(alloc, trim_line(line))?;
     if words.words().is_empty() {
@@ -186,7 +168,7 @@ pub fn read_program(alloc: Global, text: &[u8]) -> Result<Draft, TextFault>
         lines += 1;
         state = match read_line(alloc, state, line) {
             Ok(next) => next,
-            Err(not) => return Err(at_line(lines, not)),
+            Err(not) => return Err(not.at_line(lines)),
         };
         rest = behind;
     }

@@ -2,11 +2,11 @@
 
 ghost use Rattle.std.specs.Prelude.{◌≡◌, ◌≤◌, ◌++◌, IfOk};
 ghost use Rattle.std.specs.List.{AllByRecursion};
-ghost use Rattle.program_text.specs.ProgramTexts.{ProgramText, decl_spelling, line_spelling, program_spelling};
-ghost use Rattle.program_text.specs.ProgramWriting.{CanWrite};
+ghost use Rattle.program_text.specs.ProgramTexts.{ProgramText, decl_spelling, program_spelling, CanWrite};
 ghost use Rattle.program_text.specs.FirstLines.{field_count_words, version_words};
 ghost use Rattle.tac_syntax.specs.Code.{nesting};
 ghost use Rattle.tac_syntax.specs.Limits.{nesting_limit};
+ghost use Rattle.text_lines.specs.CanonicalLines.{line_spelling};
 ghost use Rattle.text_lines.specs.TextLines.{lines_of};
 
 use crate::declaration_writing::write_declaration;
@@ -17,7 +17,7 @@ use tac_text::write_function;
 
 // The version, and the number of fields.
 fn first_lines(alloc: Global, fields: u32) -> Result<Bytes, OutOfMemory>
-    ensures { IfOk result (λ text. text ≡ line_spelling version_words ++ line_spelling (field_count_words fields)) }
+    ensures { IfOk result (λ text. text ≡ line_spelling 0 version_words ++ line_spelling 0 (field_count_words fields)) }
 {
     let mut text = Bytes::from_slice(alloc, b"pact 1\nfields ")?;
     let digits = fields.to_string(alloc)?;

@@ -1,5 +1,5 @@
 -- Words without a fault are the words of a line.
-use Rattle.std.proofs.Common.{◌≡◌, length, ◌<◌, ◌+◌, ℕ, true, nat_lt, if◌then◌else◌, List, [], ◌∷◌, Option, Some, None, codes, bytes_eq, decimal, refl, sym, ◌∙◌, arith}
+use Rattle.std.proofs.Common.{◌≡◌, length, ◌<◌, ◌+◌, ℕ, true, nat_lt, List, [], ◌∷◌, Option, Some, None, codes, bytes_eq, decimal, refl, sym, ◌∙◌, arith}
 use Rattle.std.proofs.lemmas.Bool.{ltb-true}
 use Rattle.std.specs.List.{AllByRecursion}
 use Rattle.pact_record.specs.declared.operations.Op2.{Op2}
@@ -13,9 +13,8 @@ use Rattle.text_lines.specs.Slots.{Slot, fixed, register, operand, number, signe
 use Rattle.text_lines.specs.Digits.{or_else}
 use Rattle.text_lines.proofs.Faultless.{by_cases, by_cases_of, named, or_else-none, same_word, is_plain-same}
 use Rattle.text_lines.proofs.FilledSlots.{AllFit, AreUsual, Values, filled_line, words_then}
-use Rattle.statement_lines.specs.Spelling.{op1_word, op2_word}
+use Rattle.statement_lines.specs.Spelling.{op1_word, op2_word, words_of_line}
 use Rattle.statement_lines.specs.StatementLines.{LinePlace, MayStand}
-use Rattle.statement_lines.specs.Spelling.{words_of_line}
 use Rattle.statement_lines.specs.StatementFaults.{is_target, Wanted, wanted_by, form_fault, is_op1, is_op2, target_alone, assignment_fault, block_fault, word_fault, statement_fault}
 use Rattle.statement_lines.specs.declared.operation_words.TheConstants.{OPS1, OPS2}
 
@@ -34,39 +33,16 @@ line_of_slots p word name words slots usual line spelled may good is h =
     let all : plain_word word ∷ words ≡ plain_word name ∷ words_then slots f.0 [] = λ i. plain_word (is i) ∷ f.1 i in
     (line f.0, all ∙ sym (spelled f.0), may f.0 f.2)
 
-set_line : (p : LinePlace) (word : List ℕ) (words : List LineWord) → AreLineWords words → word ≡ codes "set" → first_fault (register 114 ∷ number 0 255 ∷ register 118 ∷ []) words ≡ None → LineFor p (plain_word word ∷ words)
-set_line p word words good is h = line_of_slots p word (codes "set") words (register 114 ∷ number 0 255 ∷ register 118 ∷ []) (refl, (omega arith, (refl, tt)))
-    (λ x. simple (set_field x.0 x.1.0 x.1.1.0)) (λ x. refl) (λ x fit. (fit.0, fit.1.0.1, fit.1.1.0)) good is h
-
-emit_line : (p : LinePlace) (word : List ℕ) (words : List LineWord) → AreLineWords words → word ≡ codes "emit" → first_fault (register 114 ∷ []) words ≡ None → LineFor p (plain_word word ∷ words)
-emit_line p word words good is h = line_of_slots p word (codes "emit") words (register 114 ∷ []) (refl, tt) (λ x. simple (emit_record x.0)) (λ x. refl) (λ x fit. fit.0) good is h
-
 -- there is room for a block, and its words have no fault
 block_parts : (p : LinePlace) (slots : List Slot) (words : List LineWord) → block_fault p slots words ≡ None → (p.blocks < nesting_limit) × (first_fault slots words ≡ None)
 block_parts p slots words h = by_cases (nat_lt p.blocks nesting_limit) _ _ (λ room rest. (ltb-true p.blocks nesting_limit room, rest)) (λ _ e. absurd cc) h
 
-if_line : (p : LinePlace) (word : List ℕ) (words : List LineWord) → AreLineWords words → word ≡ codes "if" → block_fault p (register 118 ∷ []) words ≡ None → LineFor p (plain_word word ∷ words)
-if_line p word words good is h =
-    let b = block_parts p (register 118 ∷ []) words h in
-    line_of_slots p word (codes "if") words (register 118 ∷ []) (refl, tt) (λ x. test x.0) (λ x. refl) (λ x fit. (b.0, fit.0)) good is b.1
-
-repeat_line : (p : LinePlace) (word : List ℕ) (words : List LineWord) → AreLineWords words → word ≡ codes "repeat" → block_fault p (number 1 1000 ∷ []) words ≡ None → LineFor p (plain_word word ∷ words)
-repeat_line p word words good is h =
-    let b = block_parts p (number 1 1000 ∷ []) words h in
-    line_of_slots p word (codes "repeat") words (number 1 1000 ∷ []) (omega arith, tt) (λ x. turns x.0) (λ x. refl) (λ x fit. (b.0, fit.0)) good is b.1
-
-each_line : (p : LinePlace) (word : List ℕ) (words : List LineWord) → AreLineWords words → word ≡ codes "each" → block_fault p (loop (p.lists + 1) ∷ fixed (codes "of") ∷ list ∷ []) words ≡ None → LineFor p (plain_word word ∷ words)
-each_line p word words good is h =
-    let b = block_parts p (loop (p.lists + 1) ∷ fixed (codes "of") ∷ list ∷ []) words h in
-    line_of_slots p word (codes "each") words (loop (p.lists + 1) ∷ fixed (codes "of") ∷ list ∷ []) (tt, (refl, (tt, tt)))
-    (λ x. over (p.lists + 1) x.1.1.0) (λ x. refl) (λ x fit. (b.0, (refl, fit.0))) good is b.1
-
-else_line : (p : LinePlace) (word : List ℕ) (words : List LineWord) → AreLineWords words → word ≡ codes "else" → (if p.may_part then first_fault [] words else Some 10) ≡ None → LineFor p (plain_word word ∷ words)
-else_line p word words good is h = by_cases p.may_part _ _
-    (λ parts rest. line_of_slots p word (codes "else") words [] tt (λ x. otherwise) (λ x. refl) (λ x fit. parts) good is rest) (λ _ e. absurd cc) h
-
-end_line : (p : LinePlace) (word : List ℕ) (words : List LineWord) → AreLineWords words → word ≡ codes "end" → first_fault [] words ≡ None → LineFor p (plain_word word ∷ words)
-end_line p word words good is h = line_of_slots p word (codes "end") words [] tt (λ x. close) (λ x. refl) (λ x fit. tt) good is h
+-- the same for the first line of a block
+line_of_block : (p : LinePlace) (word name : List ℕ) (words : List LineWord) (slots : List Slot) → AreUsual slots → (line : Values slots → Line)
+    → ((xs : Values slots) → words_of_line (line xs) ≡ plain_word name ∷ words_then slots xs []) → (p.blocks < nesting_limit → (xs : Values slots) → AllFit slots xs → MayStand p (line xs))
+    → AreLineWords words → word ≡ name → block_fault p slots words ≡ None → LineFor p (plain_word word ∷ words)
+line_of_block p word name words slots usual line spelled may good is h =
+    let b = block_parts p slots words h in line_of_slots p word name words slots usual line spelled (may b.0) good is b.1
 
 -- ---- assignments
 
@@ -133,13 +109,13 @@ assignment_line p target (equals ∷ literal_word form ∷ words) good h = by_ca
 
 word_line : (p : LinePlace) (word : List ℕ) (words : List LineWord) → AreLineWords (plain_word word ∷ words) → word_fault p word words ≡ None → LineFor p (plain_word word ∷ words)
 word_line p word words good h =
-    by_cases (bytes_eq word (codes "set")) _ _ (λ e k. set_line p word words good.1 (same_word word _ e) k) (λ _ h0.
-    by_cases (bytes_eq word (codes "emit")) _ _ (λ e k. emit_line p word words good.1 (same_word word _ e) k) (λ _ h1.
-    by_cases (bytes_eq word (codes "if")) _ _ (λ e k. if_line p word words good.1 (same_word word _ e) k) (λ _ h2.
-    by_cases (bytes_eq word (codes "repeat")) _ _ (λ e k. repeat_line p word words good.1 (same_word word _ e) k) (λ _ h3.
-    by_cases (bytes_eq word (codes "each")) _ _ (λ e k. each_line p word words good.1 (same_word word _ e) k) (λ _ h4.
-    by_cases (bytes_eq word (codes "else")) _ _ (λ e k. else_line p word words good.1 (same_word word _ e) k) (λ _ h5.
-    by_cases (bytes_eq word (codes "end")) _ _ (λ e k. end_line p word words good.1 (same_word word _ e) k) (λ _ h6.
+    by_cases (bytes_eq word (codes "set")) _ _ (λ e k. line_of_slots p word (codes "set") words (register 114 ∷ number 0 255 ∷ register 118 ∷ []) (refl, (omega arith, (refl, tt))) (λ x. simple (set_field x.0 x.1.0 x.1.1.0)) (λ x. refl) (λ x fit. (fit.0, fit.1.0.1, fit.1.1.0)) good.1 (same_word word _ e) k) (λ _ h0.
+    by_cases (bytes_eq word (codes "emit")) _ _ (λ e k. line_of_slots p word (codes "emit") words (register 114 ∷ []) (refl, tt) (λ x. simple (emit_record x.0)) (λ x. refl) (λ x fit. fit.0) good.1 (same_word word _ e) k) (λ _ h1.
+    by_cases (bytes_eq word (codes "if")) _ _ (λ e k. line_of_block p word (codes "if") words (register 118 ∷ []) (refl, tt) (λ x. test x.0) (λ x. refl) (λ room x fit. (room, fit.0)) good.1 (same_word word _ e) k) (λ _ h2.
+    by_cases (bytes_eq word (codes "repeat")) _ _ (λ e k. line_of_block p word (codes "repeat") words (number 1 1000 ∷ []) (omega arith, tt) (λ x. turns x.0) (λ x. refl) (λ room x fit. (room, fit.0)) good.1 (same_word word _ e) k) (λ _ h3.
+    by_cases (bytes_eq word (codes "each")) _ _ (λ e k. line_of_block p word (codes "each") words (loop (p.lists + 1) ∷ fixed (codes "of") ∷ list ∷ []) (tt, (refl, (tt, tt))) (λ x. over (p.lists + 1) x.1.1.0) (λ x. refl) (λ room x fit. (room, (refl, fit.0))) good.1 (same_word word _ e) k) (λ _ h4.
+    by_cases (bytes_eq word (codes "else")) _ _ (λ e k. by_cases p.may_part _ _ (λ parts rest. line_of_slots p word (codes "else") words [] tt (λ x. otherwise) (λ x. refl) (λ x fit. parts) good.1 (same_word word _ e) rest) (λ _ bad. absurd cc) k) (λ _ h5.
+    by_cases (bytes_eq word (codes "end")) _ _ (λ e k. line_of_slots p word (codes "end") words [] tt (λ x. close) (λ x. refl) (λ x fit. tt) good.1 (same_word word _ e) k) (λ _ h6.
     by_cases (is_target word) _ _ (λ _ k. assignment_line p word words good k) (λ _ k. absurd cc) h6) h5) h4) h3) h2) h1) h0) h
 
 pub line_of_words : (p : LinePlace) (words : List LineWord) → 0 < length words → AreLineWords words → statement_fault p words ≡ None → (l : Line) × (words ≡ words_of_line l) × MayStand p l

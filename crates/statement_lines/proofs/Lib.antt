@@ -1,5 +1,3 @@
-pub mod Operations
-pub mod LineForms
 pub mod StatementWords
 pub mod FaultlessWords
-pub mod WrittenWords
+pub mod LineForms

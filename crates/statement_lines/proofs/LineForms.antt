@@ -1,12 +1,14 @@
 -- A line is told from its words: no two lines that may stand have the same.
+use Rattle.std.specs.List.{AllByRecursion}
+use Rattle.pact_record.specs.declared.operations.Op1.{Op1}
+use Rattle.pact_record.specs.declared.operations.Op1.TheVariants.{Not, IsNull, Len}
+use Rattle.pact_record.specs.declared.operations.Op2.{Op2}
+use Rattle.pact_record.specs.declared.operations.Op2.TheVariants.{Add, Sub, Mul, Div, Rem, AddW, Min, Max, Lt, Le, Eq, And, Or, Cat}
+use Rattle.statement_lines.specs.declared.operation_words.TheConstants.{OPS1, OPS2}
 use Rattle.std.proofs.Common.{◌≡◌, ◌<◌, ◌^◌, ◌==◌, inr, inl, ℕ, suc, ℤ, pos, negsuc, neg_ℤ, if◌then◌else◌, Option, None, unwrap_or, FitsSigned, List, [], ◌∷◌, ◌++◌, map, length, drop, get_or, nat_lt, codes, bytes_eq, decimal, refl, ap, ◌∙◌, arith, w64}
 use Rattle.std.specs.Fmt.{signed_decimal}
 use Rattle.std.specs.Str.Parse.{AllDigits}
 use Rattle.std.proofs.lemmas.Fmt.{decimal_is_IsNumeral}
-use Rattle.pact_record.specs.declared.operations.Op1.{Op1}
-use Rattle.pact_record.specs.declared.operations.Op1.TheVariants.{Not}
-use Rattle.pact_record.specs.declared.operations.Op2.{Op2}
-use Rattle.pact_record.specs.declared.operations.Op2.TheVariants.{Add}
 use Rattle.tac_syntax.specs.declared.statements.Rec.{Rec}
 use Rattle.tac_syntax.specs.declared.statements.Rec.TheVariants.{Reg, Loop, Input, Left, Right, Join, First}
 use Rattle.tac_syntax.specs.declared.statements.LoopList.{LoopList}
@@ -18,10 +20,32 @@ use Rattle.text_lines.specs.declared.line_words.LineWord.TheVariants.{Plain as p
 use Rattle.text_lines.specs.OperandWords.{fixed_record, list_word, named_in, record_word, value_register}
 use Rattle.text_lines.proofs.DigitWords.{number_back, number_in, number_in-decimal}
 use Rattle.text_lines.proofs.SlotWords.{bytes_eq-decimal, digit_other}
-use Rattle.statement_lines.proofs.Operations.{each_op1, each_op2}
-use Rattle.statement_lines.specs.declared.operation_words.TheConstants.{OPS1, OPS2}
-use Rattle.statement_lines.specs.Spelling.{op1_word, op2_word}
-use Rattle.statement_lines.specs.Spelling.{words_of_line}
+use Rattle.statement_lines.specs.Spelling.{op1_word, op2_word, words_of_line}
+
+-- ---- what holds of each operation, by the tables of their words
+
+pub each_op1 : (P : Op1 → Type 0) → AllByRecursion P OPS1 → (op : Op1) → P op
+each_op1 P h Not = h.0
+each_op1 P h IsNull = h.1.0
+each_op1 P h Len = h.1.1.0
+
+pub each_op2 : (P : Op2 → Type 0) → AllByRecursion P OPS2 → (op : Op2) → P op
+each_op2 P h Add = h.0
+each_op2 P h Sub = h.1.0
+each_op2 P h Mul = h.1.1.0
+each_op2 P h Div = h.1.1.1.0
+each_op2 P h Rem = h.1.1.1.1.0
+each_op2 P h AddW = h.1.1.1.1.1.0
+each_op2 P h Min = h.1.1.1.1.1.1.0
+each_op2 P h Max = h.1.1.1.1.1.1.1.0
+each_op2 P h Lt = h.1.1.1.1.1.1.1.1.0
+each_op2 P h Le = h.1.1.1.1.1.1.1.1.1.0
+each_op2 P h Eq = h.1.1.1.1.1.1.1.1.1.1.0
+each_op2 P h And = h.1.1.1.1.1.1.1.1.1.1.1.0
+each_op2 P h Or = h.1.1.1.1.1.1.1.1.1.1.1.1.0
+each_op2 P h Cat = h.1.1.1.1.1.1.1.1.1.1.1.1.1.0
+
+-- ---- lines from their words
 
 -- the bytes of a word: a literal's are those that it stands for
 abbrev pub word_bytes : LineWord → List ℕ
@@ -122,34 +146,27 @@ assigned_line-op2_word target a b =
 -- ---- the line
 
 pub line_in-line_texts : (lists : ℕ) (l : Line) → IsSpelledLine lists l → line_in (line_texts l) ≡ l
-line_in-line_texts lists (simple (load_int to value)) h =
-    let x = number_back to h.0 in let y = signed_in-signed_decimal value h.1 in λ i. simple (load_int (x i) (y i))
-line_in-line_texts lists (simple (load_text to bytes)) h =
-    let x = number_back to h.0 in λ i. simple (load_text (x i) bytes)
-line_in-line_texts lists (simple (load_null to)) h = let x = number_back to h in λ i. simple (load_null (x i))
-line_in-line_texts lists (simple (move_value to from)) h =
-    let x = number_back to h.0 in let y = number_back from h.1 in λ i. simple (move_value (x i) (y i))
+line_in-line_texts lists (simple (load_int to value)) h = rw (number_back to h.0, signed_in-signed_decimal value h.1) refl
+line_in-line_texts lists (simple (load_text to bytes)) h = rw (number_back to h.0) refl
+line_in-line_texts lists (simple (load_null to)) h = rw (number_back to h) refl
+line_in-line_texts lists (simple (move_value to from)) h = let x = number_back to h.0 in let y = number_back from h.1 in λ i. simple (move_value (x i) (y i))
 line_in-line_texts lists (simple (get_field to from field)) h =
     let x = number_back to h.0 in let y = record_in-record_word from h.1 in let z = number_back field h.2 in λ i. simple (get_field (x i) (y i) (z i))
-line_in-line_texts lists (simple (get_key to at)) h =
-    let x = number_back to h.0 in let y = number_back at h.1 in λ i. simple (get_key (x i) (y i))
+line_in-line_texts lists (simple (get_key to at)) h = let x = number_back to h.0 in let y = number_back at h.1 in λ i. simple (get_key (x i) (y i))
 line_in-line_texts lists (simple (apply_one to op a)) h =
     let x = number_back to h.0 in let z = number_back a h.1 in assigned_line-op1_word (value_register to) (value_register a) op ∙ (λ i. simple (apply_one (x i) op (z i)))
 line_in-line_texts lists (simple (apply_two to op a b)) h =
     let x = number_back to h.0 in let z = number_back a h.1 in let u = number_back b h.2 in
     assigned_line-op2_word (value_register to) (value_register a) (value_register b) op ∙ (λ i. simple (apply_two (x i) op (z i) (u i)))
 line_in-line_texts lists (simple (new_record to)) h = let x = number_back to h in λ i. simple (new_record (x i))
-line_in-line_texts lists (simple (copy_record to from)) h =
-    let x = number_back to h.0 in let y = record_in-record_word from h.1 in λ i. simple (copy_record (x i) (y i))
-line_in-line_texts lists (simple (set_field to field value)) h =
-    let x = number_back to h.0 in let y = number_back field h.1 in let z = number_back value h.2 in λ i. simple (set_field (x i) (y i) (z i))
-line_in-line_texts lists (simple (emit_record from)) h = let x = number_back from h in λ i. simple (emit_record (x i))
-line_in-line_texts lists (test on) h = let x = number_back on h in λ i. test (x i)
+line_in-line_texts lists (simple (copy_record to from)) h = let x = number_back to h.0 in let y = record_in-record_word from h.1 in λ i. simple (copy_record (x i) (y i))
+line_in-line_texts lists (simple (set_field to field value)) h = rw (number_back to h.0, number_back field h.1, number_back value h.2) refl
+line_in-line_texts lists (simple (emit_record from)) h = rw (number_back from h) refl
+line_in-line_texts lists (test on) h = rw (number_back on h) refl
 line_in-line_texts lists (turns count) h =
     let small : count < 2 ^ 64 = omega (arith, h.1) in
     let other = bytes_eq-decimal count 61 [] small (inr (omega arith)) in
     rw other (ap turns (number_in-decimal count small))
-line_in-line_texts lists (over name list) h =
-    let x = number_in-decimal name (omega (arith, h.1.1)) in let y = list_in-list_word list in λ i. over (x i) (y i)
+line_in-line_texts lists (over name list) h = rw (number_in-decimal name (omega (arith, h.1.1)), list_in-list_word list) refl
 line_in-line_texts lists otherwise h = refl
 line_in-line_texts lists close h = refl

@@ -1,4 +1,4 @@
--- The words without a fault are those of the lines that may stand.
+-- The words without a fault are those of the lines that may stand, and some line has them.
 use Rattle.std.proofs.Common.{◌≡◌, ◌≢◌, ◌+◌, inr, ℕ, true, false, List, [], ◌∷◌, map, Option, Some, None, Result, Ok, Err, codes, bytes_eq, decimal, refl, ap, sym, subst, ◌∙◌, arith}
 use Rattle.std.proofs.lemmas.Bool.{lt-ltb}
 use Rattle.pact_record.specs.declared.operations.Op1.{Op1}
@@ -7,23 +7,22 @@ use Rattle.tac_syntax.specs.Code.{load_int, load_text, load_null, move_value, ge
 use Rattle.tac_syntax.specs.Limits.{nesting_limit}
 use Rattle.tac_syntax.specs.Grammar.{IsNumber, IsLoopName, IsSpelledLine}
 use Rattle.text_lines.specs.declared.line_words.LineWord.{LineWord}
-use Rattle.statement_lines.specs.Spelling.{op1_word, op2_word}
+use Rattle.statement_lines.specs.Spelling.{op1_word, op2_word, words_of_line}
 use Rattle.text_lines.specs.OperandWords.{value_register, record_register}
 use Rattle.statement_lines.specs.StatementLines.{LinePlace, MayStand}
-use Rattle.statement_lines.specs.Spelling.{words_of_line}
 use Rattle.text_lines.specs.LineReading.{TellsFault}
 use Rattle.text_lines.specs.declared.faults.NotRead.{NotRead}
 use Rattle.text_lines.specs.declared.faults.NotRead.TheVariants.{Fault, Memory}
 use Rattle.statement_lines.specs.declared.lines.BodyLine.{BodyLine}
-use Rattle.statement_lines.specs.Said.{said}
-use Rattle.statement_lines.specs.StatementAnswers.{GivesLine, IsLineAt, ReadsLine}
+use Rattle.statement_lines.specs.StatementAnswers.{said, GivesLine, IsLineAt, ReadsLine}
 use Rattle.statement_lines.specs.StatementFaults.{is_target, to_value, wanted_by, statement_fault}
-use Rattle.text_lines.specs.Slots.{register, name_fault, register_fault}
+use Rattle.text_lines.specs.Slots.{register, name_fault, register_fault, list as list_slot, loop, number, operand, signed}
 use Rattle.text_lines.proofs.DigitWords.{are_digits-decimal, is_signed_word-signed_decimal}
-use Rattle.statement_lines.proofs.Operations.{each_op1, each_op2}
-use Rattle.statement_lines.proofs.LineForms.{line_in, line_in-line_texts, word_bytes}
-use Rattle.text_lines.proofs.SlotWords.{bytes_eq-decimal}
-use Rattle.text_lines.proofs.SlotWords.{register_fault-letter, number_fits, turns_fit, operand_fault-record_word, is_list_word-list_word, name_fault-loop_name}
+use Rattle.statement_lines.proofs.LineForms.{each_op1, each_op2, line_in, line_in-line_texts, word_bytes}
+use Rattle.text_lines.proofs.SlotWords.{bytes_eq-decimal, register_fault-letter, number_fits, turns_fit, operand_fault-record_word, is_list_word-list_word, name_fault-loop_name}
+use Rattle.text_lines.specs.declared.line_words.LineWord.TheVariants.{Plain as plain_word}
+use Rattle.text_lines.proofs.FineWords.{AreFine, IsFine}
+use Rattle.text_lines.proofs.FilledSlots.{fine_slot}
 
 -- ---- what may stand has no fault
 
@@ -116,3 +115,39 @@ pub TellsFault-read : (p : LinePlace) (r : Result BodyLine NotRead) (words : Lis
 TellsFault-read p (Ok line) words read what h = let none = no_fault p (said line) words read in absurd cc
 TellsFault-read p (Err (Fault told)) words read what h = cc
 TellsFault-read p (Err Memory) words read what h = tt
+
+-- ---- words that some line has
+
+number_word : (n : ℕ) → IsNumber n → IsFine (plain_word (decimal n))
+number_word n h = fine_slot (number 0 255) n (omega arith) (omega arith, h)
+
+value_word : (n : ℕ) → IsNumber n → IsFine (plain_word (118 ∷ decimal n))
+value_word n h = fine_slot (register 118) n refl h
+
+register_word : (n : ℕ) → IsNumber n → IsFine (plain_word (114 ∷ decimal n))
+register_word n h = fine_slot (register 114) n refl h
+
+fine_op1 : (op : Op1) → IsFine (plain_word (op1_word op))
+fine_op1 = each_op1 (λ op. IsFine (plain_word (op1_word op))) (refl, (refl, (refl, tt)))
+
+fine_op2 : (op : Op2) → IsFine (plain_word (op2_word op))
+fine_op2 = each_op2 (λ op. IsFine (plain_word (op2_word op))) (refl, (refl, (refl, (refl, (refl, (refl, (refl, (refl, (refl, (refl, (refl, (refl, (refl, (refl, tt))))))))))))))
+
+pub AreFine-words_of_line : (lists : ℕ) (l : Line) → IsSpelledLine lists l → AreFine (words_of_line l)
+AreFine-words_of_line lists (simple (load_int to value)) h = (value_word to h.0, (refl, (refl, (fine_slot signed value tt h.1, tt))))
+AreFine-words_of_line lists (simple (load_text to bytes)) h = (value_word to h.0, (refl, (refl, (h.1, tt))))
+AreFine-words_of_line lists (simple (load_null to)) h = (value_word to h, (refl, (refl, tt)))
+AreFine-words_of_line lists (simple (move_value to from)) h = (value_word to h.0, (refl, (refl, (value_word from h.1, tt))))
+AreFine-words_of_line lists (simple (get_field to from field)) h = (value_word to h.0, (refl, (refl, (fine_slot operand from tt h.1, (number_word field h.2, tt)))))
+AreFine-words_of_line lists (simple (get_key to at)) h = (value_word to h.0, (refl, (refl, (number_word at h.1, tt))))
+AreFine-words_of_line lists (simple (apply_one to op a)) h = (value_word to h.0, (refl, (fine_op1 op, (value_word a h.1, tt))))
+AreFine-words_of_line lists (simple (apply_two to op a b)) h = (value_word to h.0, (refl, (fine_op2 op, (value_word a h.1, (value_word b h.2, tt)))))
+AreFine-words_of_line lists (simple (new_record to)) h = (register_word to h, (refl, (refl, tt)))
+AreFine-words_of_line lists (simple (copy_record to from)) h = (register_word to h.0, (refl, (refl, (fine_slot operand from tt h.1, tt))))
+AreFine-words_of_line lists (simple (set_field to field value)) h = (refl, (register_word to h.0, (number_word field h.1, (value_word value h.2, tt))))
+AreFine-words_of_line lists (simple (emit_record from)) h = (refl, (register_word from h, tt))
+AreFine-words_of_line lists (test on) h = (refl, (value_word on h, tt))
+AreFine-words_of_line lists (turns count) h = (refl, (fine_slot (number 1 1000) count (omega arith) h, tt))
+AreFine-words_of_line lists (over name list) h = (refl, (fine_slot (loop name) tt tt h.1, (refl, (fine_slot list_slot list tt tt, tt))))
+AreFine-words_of_line lists otherwise h = (refl, tt)
+AreFine-words_of_line lists close h = (refl, tt)

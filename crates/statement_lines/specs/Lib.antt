@@ -1,5 +1,4 @@
 pub mod Spelling
 pub mod StatementLines
 pub mod StatementFaults
-pub mod Said
 pub mod StatementAnswers

@@ -1,19 +1,33 @@
--- What reading the words of a line answers.
-use Rattle.std.specs.Prelude.{◌≡◌, ℕ, List, ◌∷◌, Option, Some, None, Result, Ok, Err, codes}
-use Rattle.tac_syntax.specs.Code.{Line}
-use Rattle.tac_syntax.specs.Grammar.{IsSpelledSimple}
+-- What reading the words of a line answers, and what a line that was read says.
+use Rattle.std.specs.Prelude.{Option, Some, None, ◌≡◌, ℕ, List, ◌∷◌, Result, Ok, Err, codes}
+use Rattle.tac_syntax.specs.Code.{Line, simple, test, turns, over, otherwise, close}
 use Rattle.tac_syntax.specs.Trees.{Statement, one_line, statement_of}
+use Rattle.statement_lines.specs.declared.lines.BodyLine.{BodyLine}
+use Rattle.statement_lines.specs.declared.lines.BodyLine.TheVariants.{Plain, If, Repeat, Each, Else, End}
+use Rattle.tac_syntax.specs.Grammar.{IsSpelledSimple}
 use Rattle.tac_syntax.specs.declared.statements.Stmt.{Stmt}
 use Rattle.text_lines.specs.declared.line_words.LineWord.{LineWord}
 use Rattle.text_lines.specs.declared.line_words.LineWord.TheVariants.{Plain as plain_word}
-use Rattle.text_lines.specs.LineReading.{IsFaultOf}
+use Rattle.text_lines.specs.LineReading.{Gives, IsFaultOf}
 use Rattle.text_lines.specs.declared.faults.NotRead.{NotRead}
-use Rattle.text_lines.specs.declared.faults.NotRead.TheVariants.{Fault, Memory}
-use Rattle.statement_lines.specs.declared.lines.BodyLine.{BodyLine}
-use Rattle.statement_lines.specs.Said.{said}
 use Rattle.statement_lines.specs.StatementFaults.{wanted_by, form_fault, assignment_fault, statement_fault}
 use Rattle.statement_lines.specs.StatementLines.{LinePlace, MayStand}
 use Rattle.statement_lines.specs.Spelling.{words_of_simple, words_of_line}
+
+-- ---- what a line says
+
+-- a statement that is one line
+abbrev pub line_said : Statement → Option Line
+line_said (one_line s) = Some (simple s)
+line_said stmt = None
+
+abbrev pub said : BodyLine → Option Line
+said (Plain stmt) = line_said (statement_of stmt)
+said (If on) = Some (test on)
+said (Repeat count) = Some (turns count)
+said (Each name list) = Some (over name list)
+said Else = Some otherwise
+said End = Some close
 
 -- ---- one line
 
@@ -45,6 +59,4 @@ ReadsLine p (Err e) words = IsFaultOf e (statement_fault p words)
 
 -- this line, or want of memory
 abbrev pub GivesLine : Result BodyLine NotRead → Line → Type 0
-GivesLine (Ok b) l = said b ≡ Some l
-GivesLine (Err (Fault what)) l = ⊥
-GivesLine (Err Memory) l = Unit {0}
+GivesLine r l = Gives (λ b. said b ≡ Some l) r

@@ -28,7 +28,7 @@ fn put_words(out: &mut Bytes, words: &[Bytes]) -> Result<(), OutOfMemory>
 
 /// Puts a line behind a text: two spaces for each open block, the words with one space between, a line feed.
 pub fn put_line(out: &mut Bytes, depth: u32, words: &Words) -> Result<(), OutOfMemory>
-    ensures { OnOk result (out.new ≡ out.old ++ line_text (record { depth = depth; words = words.now })) }
+    ensures { OnOk result (out.new ≡ out.old ++ line_text depth words.now) }
 {
     put_indent(out, depth)?;
     if let [first, others @ ..] = words.words() {
@@ -40,7 +40,7 @@ pub fn put_line(out: &mut Bytes, depth: u32, words: &Words) -> Result<(), OutOfM
 
 /// Puts a line of one word.
 pub fn put_word(alloc: Global, out: &mut Bytes, depth: u32, word: &[u8]) -> Result<(), OutOfMemory>
-    ensures { OnOk result (out.new ≡ out.old ++ line_text (record { depth = depth; words = word.now ∷ [] })) }
+    ensures { OnOk result (out.new ≡ out.old ++ line_text depth (word.now ∷ [])) }
 {
     put_line(out, depth, &Words::new(alloc).and_word(alloc, word)?)
 }

@@ -1,17 +1,40 @@
 -- The lines of a body, one after the other: a body's own lines may follow each other and make it, and lines that may follow each other are
 -- those of what they make.
-use Rattle.std.proofs.Common.{◌≡◌, ◌≤◌, ◌<◌, ◌+◌, ◌-◌, inl, inr, ℕ, suc, Bool, true, Option, Some, List, [], ◌∷◌, ◌++◌, length, refl, ap, sym, subst, ◌∙◌, append_assoc, append-nil, arith}
-use Rattle.tac_syntax.specs.Code.{Simple, Code, stop, plain, branch, again, each, Line, simple, test, turns, over, otherwise, close, joined, nesting}
-use Rattle.tac_syntax.specs.Grammar.{IsSpelled, IsSpelledLine}
+use Rattle.std.proofs.Common.{◌≡◌, ◌≤◌, Bool, true, Some, List, refl, ap, ◌<◌, ◌+◌, inl, inr, ℕ, suc, Option, [], ◌∷◌, ◌++◌, length, sym, subst, ◌∙◌, append_assoc, append-nil, arith}
+use Rattle.std.proofs.lemmas.Bool.{le-leb}
+use Rattle.tac_syntax.specs.Code.{Code, stop, plain, branch, again, each, joined, nesting, Simple, Line, simple, test, turns, over, otherwise, close}
 use Rattle.tac_syntax.specs.Limits.{nesting_limit}
+use Rattle.tac_text.specs.declared.building.Block.{Block}
+use Rattle.tac_text.specs.Building.{Build, with_statement, build_start, built, IsBuilt}
+use Rattle.tac_syntax.specs.Grammar.{IsSpelled, IsSpelledLine}
+use Rattle.tac_syntax.proofs.Bodies.{nesting-joined}
 use Rattle.text_lines.specs.Runs.{Steps}
 use Rattle.text_lines.proofs.LineRuns.{Steps-append}
-use Rattle.tac_text.specs.declared.building.Block.{Block}
 use Rattle.tac_text.specs.declared.building.Block.TheVariants.{If, Else, Repeat, Each}
-use Rattle.tac_text.specs.Blocks.{SpellsBody}
-use Rattle.tac_text.specs.Building.{Build, build_start, built, IsBuilt}
+use Rattle.tac_text.specs.FunctionLines.{SpellsBody}
 use Rattle.tac_text.specs.Places.{lists_in, MayInside, built_or, built_on, opening, before_block, FitsBody, FitsFirst, FitsBuild, BeginsBlock, Front}
-use Rattle.tac_text.proofs.LongerBodies.{build, joined-stop, joined-joined, with_statement-fits}
+
+-- ---- a body that grows by one statement
+
+abbrev pub build : List Block → Code → Build
+build blocks body = record { blocks = blocks; body = body }
+
+pub joined-stop : (c : Code) → joined c stop ≡ c
+joined-stop stop = refl
+joined-stop (plain s next) = ap (plain s) (joined-stop next)
+joined-stop (branch on body other next) = ap (branch on body other) (joined-stop next)
+joined-stop (again count body next) = ap (again count body) (joined-stop next)
+joined-stop (each name list body next) = ap (each name list body) (joined-stop next)
+
+pub joined-joined : (a b c : Code) → joined (joined a b) c ≡ joined a (joined b c)
+joined-joined stop b c = refl
+joined-joined (plain s next) b c = ap (plain s) (joined-joined next b c)
+joined-joined (branch on body other next) b c = ap (branch on body other) (joined-joined next b c)
+joined-joined (again count body next) b c = ap (again count body) (joined-joined next b c)
+joined-joined (each name list body next) b c = ap (each name list body) (joined-joined next b c)
+
+pub with_statement-fits : (blocks : List Block) (body statement : Code) → nesting statement ≤ nesting_limit → with_statement blocks body statement ≡ Some (build blocks (joined body statement))
+with_statement-fits blocks body statement h = rw (le-leb (nesting statement) nesting_limit h) refl
 
 -- ---- a block that ends
 
@@ -116,17 +139,8 @@ IsSpelled-joined lists (branch on body other a) b p q = (p.0, p.1, p.2, IsSpelle
 IsSpelled-joined lists (again count body a) b p q = (p.0, p.1, IsSpelled-joined lists a b p.2 q)
 IsSpelled-joined lists (each name list body a) b p q = (p.0, p.1, IsSpelled-joined lists a b p.2 q)
 
-pub nesting-joined : (a b : Code) (n : ℕ) → nesting a ≤ n → nesting b ≤ n → nesting (joined a b) ≤ n
-nesting-joined stop b n p q = q
-nesting-joined (plain s a) b n p q = nesting-joined a b n p q
-nesting-joined (branch on body other a) b n p q = let h = nesting-joined a b n (omega (arith, p)) q in omega (arith, p, h)
-nesting-joined (again count body a) b n p q = let h = nesting-joined a b n (omega (arith, p)) q in omega (arith, p, h)
-nesting-joined (each name list body a) b n p q = let h = nesting-joined a b n (omega (arith, p)) q in omega (arith, p, h)
-
 FitsBody-joined : (blocks lists : ℕ) (a b : Code) → FitsBody blocks lists a → FitsBody blocks lists b → FitsBody blocks lists (joined a b)
-FitsBody-joined blocks lists a b p q =
-    let deep = nesting-joined a b (nesting_limit - blocks) (omega (arith, p.1)) (omega (arith, q.1)) in
-    (IsSpelled-joined lists a b p.0 q.0, omega (arith, p.1, deep))
+FitsBody-joined blocks lists a b p q = (IsSpelled-joined lists a b p.0 q.0, omega (arith, p.1, q.1, nesting-joined a b))
 
 FitsBody-deeper : (blocks lists : ℕ) (body : Code) → FitsBody (suc blocks) lists body → FitsBody (blocks + 1) lists body
 FitsBody-deeper blocks lists body h = (h.0, omega (arith, h.1))
@@ -141,10 +155,6 @@ Front-opened : (block : Block) (around : List Block) (lines : List Line) (l : Li
     → Front (build (block ∷ around) stop) (lines ++ l ∷ [])
 Front-opened block around lines l begins (outer, inside, p, q, e) =
     (lines ++ l ∷ [], [], (outer, inside, l ∷ [], p, q, begins, behind outer inside lines (l ∷ []) e), refl, sym (append-nil (lines ++ l ∷ [])))
-
-FitsBuild-opened : (block : Block) (around : List Block) → FitsBuild (build around (before_block block)) → length around < nesting_limit → IsSpelledLine (lists_in around) (opening block) → FitsFirst around block
-    → FitsBuild (build (block ∷ around) stop)
-FitsBuild-opened block around fits room spelled first = ((fits.0, room, spelled, fits.1, first), (tt, omega (arith, room)))
 
 -- ---- a block that ends
 
@@ -178,83 +188,78 @@ FitsBuild-ended block around body fits =
 
 -- ---- one line
 
--- what was read fits behind a line, too
-abbrev FitsOn : List Block → Code → Line → Type 0
-FitsOn blocks body l = FitsBuild (build blocks body) → MayInside (build blocks body) l → FitsBuild (built_on (build blocks body) l)
+-- where a line that may follow leads: what was read still fits, and the lines with it are those of what they have come to
+record On (blocks : List Block) (body : Code) (l : Line) : Type 0 where
+  next : Build
+  taken : built (build blocks body) l ≡ Some next
+  fits : FitsBuild next
+  front : (lines : List Line) → Front (build blocks body) lines → Front next (lines ++ l ∷ [])
 
-part_fits : (blocks : List Block) (body : Code) → FitsOn blocks body otherwise
-part_fits (If on before ∷ around) body fits may =
-    ((fits.0.0, fits.0.1, fits.0.2, fits.0.3, FitsBody-deeper (length around) (lists_in around) body fits.1), (tt, omega (arith, fits.0.1)))
-part_fits blocks body fits may = absurd (let e = may.0 in cc)
-
-end_fits : (blocks : List Block) (body : Code) → FitsOn blocks body close
-end_fits [] body fits may = absurd may.1
-end_fits (block ∷ around) body fits may =
-    subst FitsBuild (sym (built_on-close block around body (ended_deep block around body fits))) (FitsBuild-ended block around body fits)
-
-line_fits : (blocks : List Block) (body : Code) (l : Line) → FitsOn blocks body l
-line_fits blocks body (simple s) fits may = (fits.0, FitsBody-joined (length blocks) (lists_in blocks) body (plain s stop) fits.1 ((may.0, tt), omega (arith, fits.1.1)))
-line_fits blocks body (test on) fits may = FitsBuild-opened (If on body) blocks fits may.0.0 may.0.1 tt
-line_fits blocks body (turns count) fits may = FitsBuild-opened (Repeat count body) blocks fits may.0.0 may.0.1 tt
-line_fits blocks body (over name list) fits may = FitsBuild-opened (Each name list body) blocks fits may.0.0 may.0.1 tt
-line_fits blocks body otherwise fits may = part_fits blocks body fits may
-line_fits blocks body close fits may = end_fits blocks body fits may
-
-pub fits_step : (b : Build) (l : Line) → FitsBuild b → MayInside b l → FitsBuild (built_on b l)
-fits_step b l fits may = line_fits b.blocks b.body l fits may
-
--- and the lines with it are those of what they have come to
-abbrev FrontOn : List Block → Code → Line → Type 0
-FrontOn blocks body l =
-    (lines : List Line) → Front (build blocks body) lines → FitsBuild (build blocks body) → MayInside (build blocks body) l → Front (built_on (build blocks body) l) (lines ++ l ∷ [])
-
-statement_front : (blocks : List Block) (body : Code) (s : Simple) → FrontOn blocks body (simple s)
-statement_front blocks body s lines (outer, inside, p, q, e) fits may =
+statement_front : (blocks : List Block) (body : Code) (s : Simple) (lines : List Line) → Front (build blocks body) lines → Front (build blocks (joined body (plain s stop))) (lines ++ simple s ∷ [])
+statement_front blocks body s lines (outer, inside, p, q, e) =
     (outer, inside ++ simple s ∷ [], p, SpellsBody-joined body (plain s stop) inside (simple s ∷ []) q ([], refl, refl), behind outer inside lines (simple s ∷ []) e)
 
-part_front : (blocks : List Block) (body : Code) → FrontOn blocks body otherwise
-part_front (If on before ∷ around) body lines (fronts, inside, (outer, b, begun, p, q, r, e), sp, f) fits may =
+statement_on : (blocks : List Block) (body : Code) (s : Simple) → FitsBuild (build blocks body) → MayInside (build blocks body) (simple s) → On blocks body (simple s)
+statement_on blocks body s fits may = record {
+  next = build blocks (joined body (plain s stop));
+  taken = refl;
+  fits = (fits.0, FitsBody-joined (length blocks) (lists_in blocks) body (plain s stop) fits.1 ((may.0, tt), omega (arith, fits.1.1)));
+  front = λ lines f. statement_front blocks body s lines f;
+}
+
+opened_on : (block : Block) (around : List Block) (l : Line) → built (build around (before_block block)) l ≡ Some (build (block ∷ around) stop) → BeginsBlock block (l ∷ []) → FitsBuild (build around (before_block block))
+    → length around < nesting_limit → IsSpelledLine (lists_in around) (opening block) → FitsFirst around block → On around (before_block block) l
+opened_on block around l taken begins fits room spelled first = record {
+  next = build (block ∷ around) stop;
+  taken = taken;
+  fits = ((fits.0, room, spelled, fits.1, first), (tt, omega (arith, room)));
+  front = λ lines f. Front-opened block around lines l begins f;
+}
+
+part_front : (on : ℕ) (before body : Code) (around : List Block) (lines : List Line) → Front (build (If on before ∷ around) body) lines → Front (build (Else on body before ∷ around) stop) (lines ++ otherwise ∷ [])
+part_front on before body around lines (fronts, inside, (outer, b, begun, p, q, r, e), sp, f) =
     let inner : begun ++ (inside ++ otherwise ∷ []) ≡ test on ∷ (inside ++ otherwise ∷ []) = rw r refl in
     let all : lines ++ otherwise ∷ [] ≡ outer ++ (b ++ (test on ∷ (inside ++ otherwise ∷ []))) =
     behind fronts inside lines (otherwise ∷ []) f
     ∙ behind outer (b ++ begun) fronts (inside ++ otherwise ∷ []) e
     ∙ ap (λ (x : List Line). outer ++ x) (append_assoc b begun (inside ++ otherwise ∷ []) ∙ ap (λ (x : List Line). b ++ x) inner) in
     (lines ++ otherwise ∷ [], [], (outer, b, test on ∷ (inside ++ otherwise ∷ []), p, q, (inside, sp, refl), all), refl, sym (append-nil (lines ++ otherwise ∷ [])))
-part_front blocks body lines front fits may = absurd (let e = may.0 in cc)
 
-end_front : (blocks : List Block) (body : Code) → FrontOn blocks body close
-end_front [] body lines front fits may = absurd may.1
-end_front (block ∷ around) body lines front fits may =
-    subst (λ (b : Build). Front b (lines ++ close ∷ [])) (sym (built_on-close block around body (ended_deep block around body fits))) (Front-ended block around body lines front)
+part_on : (blocks : List Block) (body : Code) → FitsBuild (build blocks body) → MayInside (build blocks body) otherwise → On blocks body otherwise
+part_on (If on before ∷ around) body fits may = record {
+  next = build (Else on body before ∷ around) stop;
+  taken = refl;
+  fits = ((fits.0.0, fits.0.1, fits.0.2, fits.0.3, FitsBody-deeper (length around) (lists_in around) body fits.1), (tt, omega (arith, fits.0.1)));
+  front = λ lines f. part_front on before body around lines f;
+}
+part_on blocks body fits may = absurd (let e = may.0 in cc)
 
-line_front : (blocks : List Block) (body : Code) (l : Line) → FrontOn blocks body l
-line_front blocks body (simple s) lines front fits may = statement_front blocks body s lines front fits may
-line_front blocks body (test on) lines front fits may = Front-opened (If on body) blocks lines (test on) refl front
-line_front blocks body (turns count) lines front fits may = Front-opened (Repeat count body) blocks lines (turns count) refl front
-line_front blocks body (over name list) lines front fits may = Front-opened (Each name list body) blocks lines (over name list) refl front
-line_front blocks body otherwise lines front fits may = part_front blocks body lines front fits may
-line_front blocks body close lines front fits may = end_front blocks body lines front fits may
+end_on : (blocks : List Block) (body : Code) → FitsBuild (build blocks body) → MayInside (build blocks body) close → On blocks body close
+end_on [] body fits may = absurd may.1
+end_on (block ∷ around) body fits may = record {
+  next = build around (joined (before_block block) (ended block body));
+  taken = built-close block around body (ended_deep block around body fits);
+  fits = FitsBuild-ended block around body fits;
+  front = λ lines f. Front-ended block around body lines f;
+}
 
--- a line that may follow is taken
-taken_part : (blocks : List Block) (body : Code) → MayInside (build blocks body) otherwise → built (build blocks body) otherwise ≡ Some (built_on (build blocks body) otherwise)
-taken_part (If on before ∷ around) body may = refl
-taken_part blocks body may = absurd (let e = may.0 in cc)
+line_on : (blocks : List Block) (body : Code) (l : Line) → FitsBuild (build blocks body) → MayInside (build blocks body) l → On blocks body l
+line_on blocks body (simple s) fits may = statement_on blocks body s fits may
+line_on blocks body (test on) fits may = opened_on (If on body) blocks (test on) refl refl fits may.0.0 may.0.1 tt
+line_on blocks body (turns count) fits may = opened_on (Repeat count body) blocks (turns count) refl refl fits may.0.0 may.0.1 tt
+line_on blocks body (over name list) fits may = opened_on (Each name list body) blocks (over name list) refl refl fits may.0.0 may.0.1 tt
+line_on blocks body otherwise fits may = part_on blocks body fits may
+line_on blocks body close fits may = end_on blocks body fits may
 
-taken_end : (blocks : List Block) (body : Code) → FitsBuild (build blocks body) → MayInside (build blocks body) close → built (build blocks body) close ≡ Some (built_on (build blocks body) close)
-taken_end [] body fits may = absurd may.1
-taken_end (block ∷ around) body fits may = let deep = ended_deep block around body fits in built-close block around body deep ∙ ap Some (sym (built_on-close block around body deep))
-
-taken_line : (blocks : List Block) (body : Code) (l : Line) → FitsBuild (build blocks body) → MayInside (build blocks body) l → built (build blocks body) l ≡ Some (built_on (build blocks body) l)
-taken_line blocks body otherwise fits may = taken_part blocks body may
-taken_line blocks body close fits may = taken_end blocks body fits may
-taken_line blocks body l fits may = refl
-
-pub built-inside : (b : Build) (l : Line) → FitsBuild b → MayInside b l → built b l ≡ Some (built_on b l)
-built-inside b l fits may = taken_line b.blocks b.body l fits may
+pub fits_step : (b : Build) (l : Line) → FitsBuild b → MayInside b l → FitsBuild (built_on b l)
+fits_step b l fits may = let on = line_on b.blocks b.body l fits may in subst FitsBuild (sym (ap (built_or b) on.taken)) on.fits
 
 -- what a step on such a line comes to
 pub IsBuilt-inside : (b now : Build) (l : Line) (taken : Bool) → FitsBuild b → MayInside b l → IsBuilt (built b l) taken now → (taken ≡ true) × (now ≡ built_on b l)
-IsBuilt-inside b now l taken fits may h = subst (λ (due : Option Build). IsBuilt due taken now) (built-inside b l fits may) h
+IsBuilt-inside b now l taken fits may h =
+    let on = line_on b.blocks b.body l fits may in
+    let due : IsBuilt (Some on.next) taken now = subst (λ (x : Option Build). IsBuilt x taken now) on.taken h in
+    (due.0, due.1 ∙ sym (ap (built_or b) on.taken))
 
 -- ---- all lines
 
@@ -265,7 +270,9 @@ pub fits_start : FitsBuild build_start
 fits_start = (tt, (tt, omega arith))
 
 pub front_step : (b : Build) (l : Line) (lines : List Line) → Front b lines → FitsBuild b → MayInside b l → Front (built_on b l) (lines ++ l ∷ []) × FitsBuild (built_on b l)
-front_step b l lines front fits may = (line_front b.blocks b.body l lines front fits may, fits_step b l fits may)
+front_step b l lines front fits may =
+    let on = line_on b.blocks b.body l fits may in
+    (subst (λ (x : Build). Front x (lines ++ l ∷ [])) (sym (ap (built_or b) on.taken)) (on.front lines front), fits_step b l fits may)
 
 whole : (blocks : List Block) (body : Code) (lines : List Line) → blocks ≡ [] → Front (build blocks body) lines → FitsBuild (build blocks body)
     → SpellsBody body lines × IsSpelled 0 body × (nesting body ≤ nesting_limit)

@@ -3,28 +3,20 @@ use Rattle.std.proofs.Common.{◌≡◌, ◌≢◌, ◌≤◌, ◌<◌, ◌⊎�
 use Rattle.std.proofs.lemmas.List.{drop_all}
 use Rattle.tac_syntax.specs.declared.functions.Function.{Function}
 use Rattle.tac_syntax.specs.Code.{close}
-use Rattle.text_lines.specs.FirstFaults.{HasFault}
-use Rattle.text_lines.specs.LineReading.{HasCause}
+use Rattle.text_lines.specs.FirstFaults.{HasFault, IsLineFault, told_at}
 use Rattle.text_lines.specs.TextLines.{HasWords, lines_of, trimmed}
 use Rattle.text_lines.specs.declared.lines.TextFault.TheVariants.{At}
-use Rattle.text_lines.proofs.LineFaults.{IsLine-unique}
-use Rattle.text_lines.proofs.LinePlaces.{one_place}
-use Rattle.text_lines.proofs.LineRuns.{Runs-append, Runs-parts, Runs-unique, one_line, ¬HasFault-IsFaultless, IsFaultyLine-run, EndsEarly-run}
+use Rattle.text_lines.proofs.FoundWords.{IsLine-unique}
+use Rattle.text_lines.proofs.TextLines.{one_place}
+use Rattle.text_lines.proofs.LineRuns.{Runs-append, Runs-parts, Runs-unique, one_line, ¬HasFault-IsFaultless, TellsFirst-line, EndsEarly-run}
 use Rattle.text_lines.specs.declared.faults.NotRead.{NotRead}
 use Rattle.text_lines.specs.declared.faults.NotRead.TheVariants.{Fault, Memory}
 use Rattle.tac_text.specs.FunctionAnswers.{OpenData, function_of}
 use Rattle.tac_text.specs.FunctionFaults.{function_fault, function_missing}
 use Rattle.tac_text.specs.FunctionLines.{inside, words_of_function_line, FunctionText, EndsWithEnd, FunctionAt, IsFunctionText}
-use Rattle.tac_text.specs.FunctionReading.{told_at, IsFunctionFault, GivesFunction}
-use Rattle.tac_text.specs.FunctionStates.{FunctionState, waiting, reading, whole, MayFollow, after, place_at, Leads, state_of, LeadsLine, HasLineCause}
+use Rattle.tac_text.specs.FunctionStates.{IsFunctionFault, GivesFunction, FunctionState, waiting, reading, whole, MayFollow, after, place_at, Leads, state_of, LeadsLine}
 use Rattle.statement_lines.specs.Spelling.{words_of_line}
 use Rattle.tac_text.proofs.FunctionRuns.{function_sayings, function_faults, Leads-FunctionText, FunctionText-Leads, at_own_end, reads_functions}
-
--- ---- one line
-
-pub HasLineCause-HasCause : (e : NotRead) (words line : List ℕ) (begun : Option OpenData) → words ≡ trimmed line → HasCause e words → HasLineCause e line begun
-HasLineCause-HasCause (Fault what) words line begun same h = inl (subst (HasCause (Fault what)) same h)
-HasLineCause-HasCause Memory words line begun same h = tt
 
 -- ---- runs of functions
 
@@ -178,14 +170,13 @@ parted : (text : List ℕ) (start at next : ℕ) (front : List (List ℕ)) (line
 parted text start at next front line e h = e ∙ ap (λ (x : List (List ℕ)). front ++ x) h
 
 pub IsFunctionFault-read : (text : List ℕ) (start at next number : ℕ) (line : List ℕ) (begun : Option OpenData) (why : NotRead) → HasRead text start begun at number → lines_of (drop at text) ≡ line ∷ lines_of (drop next text)
-    → HasLineCause why line begun → IsFunctionFault (told_at (number + 1) why) (lines_of (drop start text))
-IsFunctionFault-read text start at next number line begun (Fault what) h lines cause =
-    inl (IsFaultyLine-run IsFunctionText words_of_function_line MayFollow after waiting place_at function_fault function_sayings function_faults reads_functions
-    (lines_of (drop start text)) h.front (lines_of (drop next text)) line (number + 1) what (state_of begun) h.run (parted text start at next h.front line h.lines lines) (ap (λ (n : ℕ). n + 1) h.counted) cause)
-IsFunctionFault-read text start at next number line begun Memory h lines cause = tt
+    → IsLineFault (function_fault (place_at (state_of begun))) why line → IsFunctionFault (told_at (number + 1) why) (lines_of (drop start text))
+IsFunctionFault-read text start at next number line begun why h lines cause =
+    TellsFirst-line IsFunctionText words_of_function_line MayFollow after waiting place_at function_fault function_missing function_sayings function_faults reads_functions
+    (lines_of (drop start text)) h.front (lines_of (drop next text)) line (number + 1) (state_of begun) why h.run (parted text start at next h.front line h.lines lines) (ap (λ (n : ℕ). n + 1) h.counted) cause
 
 pub GivesFunction-fault : (text : List ℕ) (start at next number : ℕ) (line : List ℕ) (begun : Option OpenData) (why : NotRead) → HasRead text start begun at number → lines_of (drop at text) ≡ line ∷ lines_of (drop next text)
-    → HasLineCause why line begun → (f : Function) (behind : ℕ) → FunctionAt f text start behind → GivesFunction (Err (told_at (number + 1) why)) f behind
+    → IsLineFault (function_fault (place_at (state_of begun))) why line → (f : Function) (behind : ℕ) → FunctionAt f text start behind → GivesFunction (Err (told_at (number + 1) why)) f behind
 GivesFunction-fault text start at next number line begun (Fault what) h lines cause f behind (x, from, within, whole_lines, function, end) =
     no_function (lines_of (drop start text)) h.front (line ∷ lines_of (drop next text)) (state_of begun) (parted text start at next h.front line h.lines lines) h.run (not_whole begun) (stuck_at (state_of begun) line (lines_of (drop next text)) what cause)
     f x (lines_of (drop behind text)) function whole_lines

@@ -1,34 +1,29 @@
 -- The lines of a text lead a reader of functions on exactly where a function's text goes on.
-use Rattle.std.proofs.Common.{◌≡◌, ◌≢◌, inr, ℕ, Bool, true, false, List, [], ◌∷◌, ◌++◌, map, Some, None, refl, ap, sym, subst, ◌∙◌, append_assoc, append-nil, arith}
+use Rattle.std.proofs.Common.{◌≡◌, ◌≢◌, ℕ, Bool, true, false, List, [], ◌∷◌, ◌++◌, map, Some, None, refl, ap, sym, subst, ◌∙◌, arith}
 use Rattle.std.proofs.lemmas.List.{map-append}
 use Rattle.tac_syntax.specs.declared.functions.Function.{Function}
 use Rattle.tac_syntax.specs.declared.functions.Kind.{Kind}
 use Rattle.tac_syntax.specs.declared.functions.Kind.TheVariants.{Map}
 use Rattle.tac_syntax.specs.Code.{Code, Line, close}
-use Rattle.text_lines.specs.CanonicalLines.{AreLineWords, canonical_line}
+use Rattle.text_lines.specs.CanonicalLines.{AreLineWords}
 use Rattle.text_lines.specs.FirstFaults.{IsStart}
 use Rattle.text_lines.specs.Runs.{Steps, AreSayings, TellsFaults}
 use Rattle.text_lines.specs.declared.line_words.LineWord.{LineWord}
-use Rattle.text_lines.proofs.LineRuns.{Runs-append, Runs-said, said_by_run, Steps-append, Reads}
-use Rattle.text_lines.proofs.WrittenLines.{HasWords-canonical_line}
+use Rattle.text_lines.proofs.LineRuns.{Runs-said, said_by_run, Steps-append, Steps-kept, IsStart-run, Reads}
 use Rattle.tac_text.specs.declared.building.Block.{Block}
-use Rattle.tac_text.specs.Blocks.{SpellsBody}
+use Rattle.tac_text.specs.FunctionLines.{SpellsBody, FunctionLine, header, inside, header_words, words_of_function_line, IsHeader, IsWritable, FunctionText, IsFunctionText}
 use Rattle.tac_text.specs.Building.{Build, build_start}
 use Rattle.tac_text.specs.FunctionAnswers.{OpenData, begun, function_of, with_build, TakesWords}
 use Rattle.tac_text.specs.FunctionFaults.{ended_fault, function_fault}
-use Rattle.tac_text.specs.FunctionLines.{FunctionLine, header, inside, header_words, words_of_function_line, IsHeader, IsWritable, FunctionText, IsFunctionText}
 use Rattle.tac_text.specs.FunctionStates.{FunctionState, waiting, reading, whole, MayFollow, after_inside, after, place_at, Leads, LeadsOn}
 use Rattle.tac_text.specs.Places.{lists_in, IsInside, MayInside, built_on, place_of, FitsBuild, Front}
 use Rattle.statement_lines.specs.StatementLines.{MayStand}
 use Rattle.statement_lines.specs.Spelling.{words_of_line}
-use Rattle.tac_text.proofs.BodySteps.{body_steps, front_start, fits_start, front_step, front_whole, closable}
-use Rattle.tac_text.proofs.LongerBodies.{build}
+use Rattle.tac_text.proofs.BodySteps.{body_steps, front_start, fits_start, front_step, front_whole, closable, build}
 use Rattle.statement_lines.proofs.FaultlessWords.{line_of_words}
-use Rattle.tac_text.proofs.HeaderWords.{header_fault-header_words, header_of_words, one_header}
-use Rattle.statement_lines.proofs.StatementWords.{IsSpelledLine-MayStand, statement_fault-words_of_line, words_of_line-some, words_of_one_line}
+use Rattle.tac_text.proofs.HeaderWords.{header_fault-header_words, header_of_words, one_header, AreFine-header_words}
+use Rattle.statement_lines.proofs.StatementWords.{IsSpelledLine-MayStand, statement_fault-words_of_line, words_of_line-some, words_of_one_line, AreFine-words_of_line}
 use Rattle.text_lines.proofs.FineWords.{AreLineWords-fine}
-use Rattle.tac_text.proofs.WrittenHeaders.{AreFine-header_words}
-use Rattle.statement_lines.proofs.WrittenWords.{AreFine-words_of_line}
 use Rattle.text_lines.proofs.Faultless.{some_length}
 
 -- ---- what may follow has words of its own
@@ -151,15 +146,13 @@ led_step waiting (header name kind keys) ls led may = ([], ap (λ (x : List Func
 led_step (reading o) (inside l) ls led may = led_on l o.build.blocks o ls refl led may
 led_step s l ls led may = absurd may
 
-led_steps : (s t : FunctionState) (ls more : List FunctionLine) → LedBy s ls → StepsTo s more t → LedBy t (ls ++ more)
-led_steps s t ls [] led p = subst (LedBy t) (sym (append-nil ls)) (subst (λ (x : FunctionState). LedBy x ls) p led)
-led_steps s t ls (l ∷ more) led p =
-    subst (LedBy t) (append_assoc ls (l ∷ []) more) (led_steps (after s l) t (ls ++ l ∷ []) more (led_step s l ls led p.0) p.1)
+led_steps : (t : FunctionState) (ls : List FunctionLine) → StepsTo waiting ls t → LedBy t ls
+led_steps t ls p = Steps-kept MayFollow after LedBy led_step waiting t [] ls refl p
 
 pub FunctionText-Leads : (f : Function) (text : List (List ℕ)) → Leads waiting text (whole f) → FunctionText f text
 FunctionText-Leads f text run =
     let said = said_by_run words_of_function_line MayFollow after function_sayings waiting (whole f) text run in
-    let led : LedBy (whole f) said.0 = led_steps waiting (whole f) [] said.0 refl said.2 in
+    let led : LedBy (whole f) said.0 = led_steps (whole f) said.0 said.2 in
     let words = ap (map words_of_function_line) led.1 ∙ ap (λ (x : List (List LineWord)). header_words f.name f.kind f.keys ∷ x) (words_of_inside led.0) in
     record { said = map words_of_function_line said.0; says = said.1; spelled = (led.0, led.2, words); writable = led.3 }
 
@@ -176,27 +169,15 @@ finished (reading o) ls (lines, e, head, front, fits) =
     (map inside rest.0 ++ inside close ∷ [], function_of (with_build o (build [] rest.1)), ended_steps o rest.0 rest.1 rest.2)
 finished (whole f) ls led = ([], f, refl)
 
-follow_words : (s : FunctionState) (l : FunctionLine) → MayFollow s l → AreLineWords (words_of_function_line l)
+pub follow_words : (s : FunctionState) (l : FunctionLine) → MayFollow s l → AreLineWords (words_of_function_line l)
 follow_words waiting (header name kind keys) h = AreLineWords-fine (header_words name kind keys) (AreFine-header_words name kind keys h)
 follow_words (reading o) (inside l) h =
     AreLineWords-fine (words_of_line l) (AreFine-words_of_line (place_of o.build).lists l (IsSpelledLine-MayStand (place_of o.build) l h))
 follow_words s l h = absurd h
 
--- what may follow can stand in a text
-written_steps : (s t : FunctionState) (ls : List FunctionLine) → StepsTo s ls t → (lines : List (List ℕ)) × Leads s lines t
-written_steps s t [] p = ([], p)
-written_steps s t (l ∷ ls) p =
-    let rest = written_steps (after s l) t ls p.1 in
-    let words = words_of_function_line l in
-    (canonical_line 0 words ∷ rest.0, inr (l, HasWords-canonical_line 0 words (follow_words s l p.0), p.0, rest.1))
-
 begins : (front : List (List ℕ)) (s : FunctionState) → Leads waiting front s → IsStart IsFunctionText front
-begins front s run =
-    let said = said_by_run words_of_function_line MayFollow after function_sayings waiting s front run in
-    let rest = finished s said.0 (led_steps waiting s [] said.0 refl said.2) in
-    let more = written_steps s (whole rest.1) rest.0 rest.2 in
-    let all = Runs-append words_of_function_line MayFollow after waiting s (whole rest.1) front more.0 run more.1 in
-    (more.0, (rest.1, FunctionText-Leads rest.1 (front ++ more.0) all))
+begins front s run = IsStart-run IsFunctionText words_of_function_line MayFollow after waiting function_sayings follow_words (λ t ls steps.
+    let rest = finished t ls (led_steps t ls steps) in (rest.0, whole rest.1, rest.2, λ text all. (rest.1, FunctionText-Leads rest.1 text all))) front s run
 
 pub reads_functions : Reads IsFunctionText words_of_function_line MayFollow after waiting
 reads_functions = record { whole = λ text t. (whole t.0, Leads-FunctionText t.0 text t.1); begins = begins }

@@ -1,5 +1,5 @@
--- The words of a header, which are those of no other, and words without a fault.
-use Rattle.std.proofs.Common.{◌≡◌, ◌≢◌, ◌≤◌, ℕ, List, [], ◌∷◌, map, Option, Some, None, Result, Ok, Err, codes, bytes_eq, decimal, refl, ap, sym, subst, ◌∙◌, arith}
+-- The words of a header, which are those of no other, and words without a fault; some line has them.
+use Rattle.std.proofs.Common.{◌≡◌, ◌≢◌, ◌≤◌, ℕ, List, [], ◌∷◌, Option, Some, None, Result, Ok, Err, codes, bytes_eq, decimal, refl, ap, sym, subst, ◌∙◌, arith}
 use Rattle.std.specs.Prelude.{IfErr, IfOk}
 use Rattle.tac_syntax.specs.declared.functions.Kind.{Kind}
 use Rattle.tac_syntax.specs.declared.functions.Kind.TheVariants.{Map, Match, Cross, Reduce, CoGroup}
@@ -13,16 +13,16 @@ use Rattle.text_lines.specs.declared.faults.NotRead.TheVariants.{Fault, Memory}
 use Rattle.tac_text.specs.Building.{build_start}
 use Rattle.tac_text.specs.FunctionAnswers.{GivesHeader, OpenData, begun}
 use Rattle.tac_text.specs.FunctionFaults.{kind_named, key_slots, keys_fault, kind_fault, named_fault, is_part_or_end, header_fault}
-use Rattle.tac_text.specs.FunctionLines.{header, header_words, IsHeader}
-use Rattle.tac_text.specs.Spelling.{kind_word, key_words}
+use Rattle.tac_text.specs.FunctionLines.{header, header_words, IsHeader, kind_word, key_words}
 use Rattle.text_lines.specs.CanonicalLines.{AreLineWords}
 use Rattle.text_lines.specs.Slots.{identifier, number, first_fault}
 use Rattle.text_lines.proofs.FilledSlots.{filled, filled_line, none_left}
 use Rattle.text_lines.proofs.Faultless.{by_cases, named_as, same_word}
+use Rattle.text_lines.proofs.FineWords.{AreFine, IsFine, fine_decimal, fine_name}
 
 -- ---- a header's words have no fault
 
-first_fault-keys : (kind : Kind) (keys : ℕ) → HasKeys kind keys → first_fault (key_slots kind) (map plain_word (key_words kind keys)) ≡ None
+first_fault-keys : (kind : Kind) (keys : ℕ) → HasKeys kind keys → first_fault (key_slots kind) (key_words kind keys) ≡ None
 first_fault-keys Reduce keys h = rw (is_in_range-decimal 1 key_limit keys h.0 h.1 (omega (arith, h.1))) refl
 first_fault-keys CoGroup keys h = rw (is_in_range-decimal 1 key_limit keys h.0 h.1 (omega (arith, h.1))) refl
 first_fault-keys kind keys h = refl
@@ -45,7 +45,7 @@ HeaderFor words = (name : List ℕ) × (kind : Kind) × (keys : ℕ) × (words �
 
 -- what stands behind a kind, with the number of keys
 abbrev KeysFor : Kind → List LineWord → Type 0
-KeysFor kind words = (keys : ℕ) × (words ≡ map plain_word (key_words kind keys)) × HasKeys kind keys
+KeysFor kind words = (keys : ℕ) × (words ≡ key_words kind keys) × HasKeys kind keys
 
 some_keys : (words : List LineWord) → AreLineWords words → first_fault (number 1 key_limit ∷ []) words ≡ None → (keys : ℕ) × (words ≡ plain_word (decimal keys) ∷ []) × ((1 ≤ keys) × (keys ≤ key_limit))
 some_keys words good h =
@@ -58,7 +58,7 @@ keys_of_words kind words good h = (0, none_left words h, refl)
 
 -- words behind the name
 abbrev KindFor : List LineWord → Type 0
-KindFor words = (kind : Kind) × (keys : ℕ) × (words ≡ plain_word (kind_word kind) ∷ map plain_word (key_words kind keys)) × HasKeys kind keys
+KindFor words = (kind : Kind) × (keys : ℕ) × (words ≡ plain_word (kind_word kind) ∷ key_words kind keys) × HasKeys kind keys
 
 kind_found : (word : List ℕ) (words : List LineWord) (kind : Kind) → AreLineWords words → word ≡ kind_word kind → first_fault (key_slots kind) words ≡ None → KindFor (plain_word word ∷ words)
 kind_found word words kind good e h = let keys = keys_of_words kind words good h in (kind, keys.0, (λ i. plain_word (e i) ∷ keys.1 i), keys.2)
@@ -93,7 +93,7 @@ keys_value k m h l e = sym (number_in-decimal k (omega (arith, h))) ∙ ap numbe
 one_kind : (a b : Kind) → kind_word a ≡ kind_word b → a ≡ b
 one_kind a b e = let same : Some a ≡ Some b = sym (kind_named-kind_word a) ∙ ap kind_named e ∙ kind_named-kind_word b in cc
 
-one_keys : (kind : Kind) (k m : ℕ) → HasKeys kind k → HasKeys kind m → map plain_word (key_words kind k) ≡ map plain_word (key_words kind m) → k ≡ m
+one_keys : (kind : Kind) (k m : ℕ) → HasKeys kind k → HasKeys kind m → key_words kind k ≡ key_words kind m → k ≡ m
 one_keys Reduce k m h l e = keys_value k m h.1 l.1 (let same : decimal k ≡ decimal m = cc in same)
 one_keys CoGroup k m h l e = keys_value k m h.1 l.1 (let same : decimal k ≡ decimal m = cc in same)
 one_keys kind k m h l e = h ∙ sym l
@@ -104,8 +104,8 @@ one_header a b j k m n h l e =
     let name : a ≡ b = cc in
     let word : kind_word j ≡ kind_word k = cc in
     let kind = one_kind j k word in
-    let rest : map plain_word (key_words j m) ≡ map plain_word (key_words k n) = cc in
-    let keys = one_keys k m n (subst (λ (x : Kind). HasKeys x m) kind h.1) l.1 (subst (λ (x : Kind). map plain_word (key_words x m) ≡ map plain_word (key_words k n)) kind rest) in
+    let rest : key_words j m ≡ key_words k n = cc in
+    let keys = one_keys k m n (subst (λ (x : Kind). HasKeys x m) kind h.1) l.1 (subst (λ (x : Kind). key_words x m ≡ key_words k n) kind rest) in
     λ i. header (name i) (kind i) (keys i)
 
 -- ---- what a header's reader answers
@@ -132,3 +132,20 @@ pub TellsFault-header : (r : Result OpenData NotRead) (words : List LineWord) �
 TellsFault-header (Ok o) words read told what h = let none = ap header_fault read.0 ∙ header_fault-header_words o.name o.kind o.keys read.1 in absurd cc
 TellsFault-header (Err (Fault e)) words read told what h = cc
 TellsFault-header (Err Memory) words read told what h = tt
+
+-- ---- words that some line has
+
+fine_kind : (kind : Kind) → IsFine (plain_word (kind_word kind))
+fine_kind Map = refl
+fine_kind Match = refl
+fine_kind Cross = refl
+fine_kind Reduce = refl
+fine_kind CoGroup = refl
+
+fine_keys : (kind : Kind) (keys : ℕ) → HasKeys kind keys → AreFine (key_words kind keys)
+fine_keys Reduce keys h = (fine_decimal keys (omega (arith, h.1)), tt)
+fine_keys CoGroup keys h = (fine_decimal keys (omega (arith, h.1)), tt)
+fine_keys kind keys h = tt
+
+pub AreFine-header_words : (name : List ℕ) (kind : Kind) (keys : ℕ) → IsHeader name kind keys → AreFine (header_words name kind keys)
+AreFine-header_words name kind keys h = (refl, (fine_name name h.0, (fine_kind kind, fine_keys kind keys h.1)))

@@ -1,9 +1,5 @@
-pub mod BodyLines
-pub mod BodySteps
-pub mod LongerBodies
 pub mod FunctionReads
 pub mod FunctionRuns
 pub mod HeaderWords
-pub mod WrittenBodies
+pub mod BodySteps
 pub mod WrittenFunctions
-pub mod WrittenHeaders

@@ -7,7 +7,7 @@ use Rattle.text_lines.specs.declared.line_words.LineWord.{LineWord}
 use Rattle.text_lines.specs.declared.line_words.LineWord.TheVariants.{Plain as plain_word, Literal as literal_word}
 use Rattle.statement_lines.specs.StatementFaults.{statement_fault}
 use Rattle.text_lines.specs.OperandWords.{named_in}
-use Rattle.tac_text.specs.Spelling.{kind_word}
+use Rattle.tac_text.specs.FunctionLines.{kind_word}
 use Rattle.text_lines.specs.Slots.{Slot, identifier, number, fault_then, first_fault}
 use Rattle.statement_lines.specs.StatementLines.{LinePlace}
 

@@ -1,27 +1,54 @@
--- The text of a function: its header, the lines of its body, and `end`.
-use Rattle.std.specs.Prelude.{◌≡◌, ◌≤◌, ℕ, List, [], ◌∷◌, ◌++◌, map, length, drop, IsTrue}
+-- The lines that spell a body, and the text of a function: its header, the lines of its body, and `end`.
+use Rattle.std.specs.Prelude.{◌≡◌, ◌⊎◌, List, [], ◌∷◌, ◌++◌, ◌≤◌, ℕ, map, length, drop, IsTrue, codes, decimal}
+use Rattle.tac_syntax.specs.Code.{Code, stop, plain, branch, again, each, Line, simple, test, turns, over, otherwise, close, nesting}
 use Rattle.tac_syntax.specs.declared.functions.Kind.{Kind}
+use Rattle.tac_syntax.specs.declared.functions.Kind.TheVariants.{Map, Match, Cross, Reduce, CoGroup}
 use Rattle.tac_syntax.specs.declared.functions.Function.{Function}
-use Rattle.tac_syntax.specs.Code.{Line, close, nesting}
 use Rattle.tac_syntax.specs.Functions.{HasKeys, IsSpelledFunction}
 use Rattle.tac_syntax.specs.Limits.{nesting_limit}
 use Rattle.tac_syntax.specs.Names.{is_name}
 use Rattle.text_lines.specs.declared.line_words.LineWord.{LineWord}
 use Rattle.text_lines.specs.declared.line_words.LineWord.TheVariants.{Plain as plain_word}
 use Rattle.text_lines.specs.TextLines.{HasWords, Say, lines_of}
-use Rattle.tac_text.specs.Blocks.{SpellsBody}
-use Rattle.tac_text.specs.Spelling.{header_texts}
 use Rattle.statement_lines.specs.Spelling.{words_of_line}
 
+-- ---- bodies
+
+-- Its statements, one after the other: a statement of one line is that line; a block is its first line, the lines of the body inside it,
+-- and `end`. Between the bodies of an `if` stands `else`, which may be left out where the second body has no lines.
+abbrev pub SpellsBody : Code → List Line → Type 0
+SpellsBody stop lines = lines ≡ []
+SpellsBody (plain s next) lines = (rest : List Line) × (lines ≡ simple s ∷ rest) × SpellsBody next rest
+SpellsBody (branch on body other next) lines =
+    (first second rest : List Line) × SpellsBody body first × SpellsBody other second × SpellsBody next rest
+    × ((lines ≡ test on ∷ (first ++ otherwise ∷ (second ++ close ∷ rest))) ⊎ ((second ≡ []) × (lines ≡ test on ∷ (first ++ close ∷ rest))))
+SpellsBody (again count body next) lines =
+    (inside rest : List Line) × SpellsBody body inside × SpellsBody next rest × (lines ≡ turns count ∷ (inside ++ close ∷ rest))
+SpellsBody (each name list body next) lines =
+    (inside rest : List Line) × SpellsBody body inside × SpellsBody next rest × (lines ≡ over name list ∷ (inside ++ close ∷ rest))
+
 -- ---- lines
+
+abbrev pub kind_word : Kind → List ℕ
+kind_word Map = codes "map"
+kind_word Match = codes "match"
+kind_word Cross = codes "cross"
+kind_word Reduce = codes "reduce"
+kind_word CoGroup = codes "cogroup"
+
+-- the number of keys, where the kind has keys
+abbrev pub key_words : Kind → ℕ → List LineWord
+key_words Reduce keys = plain_word (decimal keys) ∷ []
+key_words CoGroup keys = plain_word (decimal keys) ∷ []
+key_words kind keys = []
+
+abbrev pub header_words : List ℕ → Kind → ℕ → List LineWord
+header_words name kind keys = plain_word (codes "function") ∷ plain_word name ∷ plain_word (kind_word kind) ∷ key_words kind keys
 
 -- a function's first line, or one behind it
 pub data FunctionLine : Type 0 where
   header : (name : List ℕ) → (kind : Kind) → (keys : ℕ) → FunctionLine
   inside : (line : Line) → FunctionLine
-
-abbrev pub header_words : List ℕ → Kind → ℕ → List LineWord
-header_words name kind keys = map plain_word (header_texts name kind keys)
 
 abbrev pub words_of_function_line : FunctionLine → List LineWord
 words_of_function_line (header name kind keys) = header_words name kind keys

@@ -1,20 +1,20 @@
--- Reading a function: where its lines have led, and which may follow.
-use Rattle.std.specs.Prelude.{◌≡◌, Bool, true, false, ℕ, List, [], ◌∷◌, Option, Some, None}
+-- Reading a function: where its lines have led, which may follow, and what its reader answers.
+use Rattle.std.specs.Prelude.{◌≡◌, Bool, true, false, ℕ, List, [], ◌∷◌, Option, Some, None, Result, Ok, Err}
 use Rattle.tac_syntax.specs.Code.{Line, close}
 use Rattle.tac_syntax.specs.declared.functions.Function.{Function}
 use Rattle.text_lines.specs.declared.line_words.LineWord.{LineWord}
-use Rattle.text_lines.specs.FirstFaults.{HasFault}
 use Rattle.text_lines.specs.Runs.{Runs}
 use Rattle.text_lines.specs.TextLines.{HasWords}
 use Rattle.tac_text.specs.declared.building.Block.{Block}
-use Rattle.text_lines.specs.declared.faults.NotRead.{NotRead}
-use Rattle.text_lines.specs.declared.faults.NotRead.TheVariants.{Fault, Memory}
 use Rattle.tac_text.specs.FunctionAnswers.{OpenData, begun, function_of, with_build}
-use Rattle.tac_text.specs.FunctionFaults.{FunctionPlace, header_due, inside_body, function_ended, function_fault}
-use Rattle.tac_text.specs.FunctionLines.{FunctionLine, header, inside, words_of_function_line, IsHeader}
+use Rattle.tac_text.specs.FunctionFaults.{FunctionPlace, header_due, inside_body, function_ended, function_fault, function_missing}
+use Rattle.tac_text.specs.FunctionLines.{FunctionLine, header, inside, words_of_function_line, IsHeader, IsFunctionText}
 use Rattle.tac_text.specs.Places.{built_on, place_of}
 use Rattle.statement_lines.specs.StatementLines.{MayStand}
 use Rattle.statement_lines.specs.Spelling.{words_of_line}
+use Rattle.text_lines.specs.FirstFaults.{TellsFirst}
+use Rattle.text_lines.specs.declared.lines.TextFault.{TextFault}
+use Rattle.text_lines.specs.declared.lines.TextFault.TheVariants.{At, Memory as NoMemory}
 
 -- before the header, behind some lines of the function, and behind its `end`
 pub data FunctionState : Type 0 where
@@ -70,7 +70,14 @@ abbrev pub LeadsLine : Bool → List ℕ → Option OpenData → Option OpenData
 LeadsLine true line old now = (words : List LineWord) × HasWords line words × IsOwnEnd words old now
 LeadsLine false line old now = Leads (state_of old) (line ∷ []) (state_of now)
 
--- a fault that is told is the line's own
-abbrev pub HasLineCause : NotRead → List ℕ → Option OpenData → Type 0
-HasLineCause (Fault what) line old = HasFault (function_fault (place_at (state_of old))) line what
-HasLineCause Memory line old = Unit {0}
+-- ---- the whole function
+
+-- this function, up to this place, or want of memory
+abbrev pub GivesFunction : Result (Function × ℕ) TextFault → Function → ℕ → Type 0
+GivesFunction (Ok r) f behind = (r.0 ≡ f) × (r.1 ≡ behind)
+GivesFunction (Err (At line what)) f behind = ⊥
+GivesFunction (Err NoMemory) f behind = Unit {0}
+
+-- the first fault of the lines, and want of memory tells nothing
+abbrev pub IsFunctionFault : TextFault → List (List ℕ) → Type 0
+IsFunctionFault e lines = TellsFirst IsFunctionText function_fault function_missing e lines

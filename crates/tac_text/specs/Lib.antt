@@ -1,11 +1,8 @@
 pub mod Spelling
 pub mod Building
 pub mod BuildCode
-pub mod Blocks
 pub mod Places
-pub mod FunctionLines
 pub mod FunctionFaults
 pub mod FunctionAnswers
-pub mod HeaderReading
 pub mod FunctionStates
-pub mod FunctionReading
+pub mod FunctionLines

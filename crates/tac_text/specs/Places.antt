@@ -5,7 +5,7 @@ use Rattle.tac_syntax.specs.Grammar.{IsSpelled, IsSpelledLine}
 use Rattle.tac_syntax.specs.Limits.{nesting_limit}
 use Rattle.tac_text.specs.declared.building.Block.{Block}
 use Rattle.tac_text.specs.declared.building.Block.TheVariants.{If, Else, Repeat, Each}
-use Rattle.tac_text.specs.Blocks.{SpellsBody}
+use Rattle.tac_text.specs.FunctionLines.{SpellsBody}
 use Rattle.tac_text.specs.Building.{Build, built}
 use Rattle.statement_lines.specs.StatementLines.{LinePlace, MayStand}
 

@@ -1,13 +1,13 @@
 //! A body built from its lines, one after the other.
 
 ghost use Rattle.std.specs.Bool.{OnFalse, OnTrue};
-ghost use Rattle.std.specs.Prelude.{◌≡◌, ◌≤◌, ◌<◌, ◌∷◌, [], length, reverse, IfOk, OnOk};
-ghost use Rattle.tac_syntax.specs.Code.{Line, stop, test, turns, over, otherwise, close};
+ghost use Rattle.std.specs.Prelude.{◌≡◌, ◌≤◌, ◌<◌, ◌∷◌, [], length, reverse, IfOk, true};
+ghost use Rattle.tac_syntax.specs.Code.{Line, stop, otherwise, close};
 ghost use Rattle.tac_syntax.specs.Trees.{only};
 ghost use Rattle.tac_text.specs.Building.{IsBuilt, build_start, built, closed, finished, with_statement};
 ghost use Rattle.tac_syntax.specs.Limits.{nesting_limit};
 ghost use Rattle.tac_text.specs.Places.{lists_in, may_part, place_of};
-ghost use Rattle.statement_lines.specs.Said.{said};
+ghost use Rattle.statement_lines.specs.StatementAnswers.{said};
 
 use pact_record::OutOfMemory;
 use statement_lines::{BodyLine, Place};
@@ -132,34 +132,10 @@ impl Builder {
         mem::replace(&mut self.body, Body::new(alloc))
     }
 
-    fn open(&mut self, block: Block) -> Result<(), OutOfMemory>
-        ensures { OnOk result (self.new ≡ record { blocks = block ∷ self.old.blocks; body = self.old.body }) }
+    fn open(&mut self, block: Block) -> Result<bool, OutOfMemory>
+        ensures { IfOk result (λ taken. (taken ≡ true) × (self.new ≡ record { blocks = block ∷ self.old.blocks; body = self.old.body })) }
     {
         self.blocks.push(block)?;
-        Ok(())
-    }
-
-    fn open_if(&mut self, alloc: Global, on: u32) -> Result<bool, OutOfMemory>
-        ensures { IfOk result (λ taken. IsBuilt (built self.old (test on)) taken self.new) }
-    {
-        let before = self.take_body(alloc);
-        self.open(Block::If { on, before })?;
-        Ok(true)
-    }
-
-    fn open_repeat(&mut self, alloc: Global, count: u32) -> Result<bool, OutOfMemory>
-        ensures { IfOk result (λ taken. IsBuilt (built self.old (turns count)) taken self.new) }
-    {
-        let before = self.take_body(alloc);
-        self.open(Block::Repeat { count, before })?;
-        Ok(true)
-    }
-
-    fn open_each(&mut self, alloc: Global, name: u32, list: LoopList) -> Result<bool, OutOfMemory>
-        ensures { IfOk result (λ taken. IsBuilt (built self.old (over name list)) taken self.new) }
-    {
-        let before = self.take_body(alloc);
-        self.open(Block::Each { name, list, before })?;
         Ok(true)
     }
 
@@ -169,8 +145,7 @@ impl Builder {
         match self.blocks.pop() {
             Some(Block::If { on, before }) => {
                 let first = self.take_body(alloc);
-                self.open(Block::Else { on, first, before })?;
-                Ok(true)
+                self.open(Block::Else { on, first, before })
             }
             _ => Ok(false),
         }
@@ -230,9 +205,18 @@ impl Builder {
     {
         match line {
             BodyLine::Plain(stmt) => self.push(stmt),
-            BodyLine::If { on } => self.open_if(alloc, on),
-            BodyLine::Repeat { count } => self.open_repeat(alloc, count),
-            BodyLine::Each { name, list } => self.open_each(alloc, name, list),
+            BodyLine::If { on } => {
+                let before = self.take_body(alloc);
+                self.open(Block::If { on, before })
+            }
+            BodyLine::Repeat { count } => {
+                let before = self.take_body(alloc);
+                self.open(Block::Repeat { count, before })
+            }
+            BodyLine::Each { name, list } => {
+                let before = self.take_body(alloc);
+                self.open(Block::Each { name, list, before })
+            }
             BodyLine::Else => self.part(alloc),
             BodyLine::End => self.close(alloc),
         }

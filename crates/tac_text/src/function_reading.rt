@@ -4,12 +4,12 @@ ghost use Rattle.std.specs.Prelude.{◌≡◌, ◌≤◌, ◌<◌, ℕ, [], Some
 ghost use Rattle.tac_syntax.specs.declared.functions.Function.{Function};
 ghost use Rattle.tac_syntax.specs.Functions.{IsSpelledFunction};
 ghost use Rattle.text_lines.specs.CanonicalLines.{AreLineWords};
+ghost use Rattle.text_lines.specs.FirstFaults.{IsLineFault};
 ghost use Rattle.text_lines.specs.TextLines.{lines_of};
 ghost use Rattle.tac_text.specs.FunctionAnswers.{function_of, OpenData};
 ghost use Rattle.tac_text.specs.FunctionFaults.{function_fault};
 ghost use Rattle.tac_text.specs.FunctionLines.{FunctionAt};
-ghost use Rattle.tac_text.specs.FunctionReading.{GivesFunction, IsFunctionFault, told_at};
-ghost use Rattle.tac_text.specs.FunctionStates.{HasLineCause, LeadsLine, LeadsOn, place_at, state_of};
+ghost use Rattle.tac_text.specs.FunctionStates.{GivesFunction, IsFunctionFault, LeadsLine, LeadsOn, place_at, state_of};
 ghost use Rattle.text_lines.specs.LineReading.{IsFaultOf};
 
 use crate::open_functions::{OpenFunction, read_header};
@@ -40,7 +40,7 @@ fn take_words(
 // Takes one line more, and tells whether it was the function's own `end`.
 fn take_line(alloc: Global, begun: &mut Option<OpenFunction>, line: &[u8]) -> Result<bool, NotRead>
     ensures taken { IfOk result (λ ended. LeadsLine ended line.now begun.old begun.new) }
-    ensures fault { IfErr result (λ e. HasLineCause e line.now begun.old) }
+    ensures fault { IfErr result (λ e. IsLineFault (function_fault (place_at (state_of begun.old))) e line.now) }
 {
     let words = read_words(alloc, trim_line(line))?;
     if words.words().is_empty() {
@@ -57,15 +57,6 @@ fn finished(begun: Option<OpenFunction>) -> Function
     match begun {
         Some(open) => open.finish(),
         None => unreachable!(),
-    }
-}
-
-fn fault_at(line: u64, why: NotRead) -> TextFault
-    ensures { result ≡ told_at line why }
-{
-    match why {
-        NotRead::Fault { what } => TextFault::At { line, what },
-        NotRead::Memory => TextFault::Memory,
     }
 }
 
@@ -89,7 +80,7 @@ pub fn read_function(alloc: Global, text: &[u8], at: usize) -> Result<(Function,
         match take_line(alloc, &mut begun, line) {
             Ok(false) => {}
             Ok(true) => return Ok((finished(begun), behind)),
-            Err(why) => return Err(fault_at(number, why)),
+            Err(why) => return Err(why.at_line(number)),
         }
     }
     Err(TextFault::At {

@@ -1,9 +1,10 @@
 //! The canonical spelling of functions.
 
-ghost use Rattle.std.specs.Prelude.{◌≡◌, ◌++◌, ℕ, IfOk, List, length};
+ghost use Rattle.std.specs.Prelude.{◌≡◌, ◌++◌, ℕ, IfOk, List, length, map};
 ghost use Rattle.tac_syntax.specs.Functions.{IsSpelledFunction};
-ghost use Rattle.tac_text.specs.FunctionLines.{FunctionAt};
-ghost use Rattle.tac_text.specs.Spelling.{function_spelling, header_texts};
+ghost use Rattle.tac_text.specs.FunctionLines.{FunctionAt, header_words};
+ghost use Rattle.tac_text.specs.Spelling.{function_spelling};
+ghost use Rattle.text_lines.specs.CanonicalLines.{word_text};
 
 use crate::kind_words::kind_name;
 use crate::writing::write_lines;
@@ -13,7 +14,7 @@ use std::alloc::Global;
 use tac_syntax::{Function, Kind};
 
 fn header_words(alloc: Global, function: &Function) -> Result<Words, OutOfMemory>
-    ensures { IfOk result (λ words. words ≡ header_texts function.now.name function.now.kind function.now.keys) }
+    ensures { IfOk result (λ words. words ≡ map word_text (header_words function.now.name function.now.kind function.now.keys)) }
 {
     let words = Words::new(alloc)
         .and_word(alloc, b"function")?

@@ -2,7 +2,7 @@
 
 ghost use Rattle.std.specs.Prelude.{◌≡◌};
 ghost use Rattle.tac_text.specs.FunctionFaults.{kind_named};
-ghost use Rattle.tac_text.specs.Spelling.{kind_word};
+ghost use Rattle.tac_text.specs.FunctionLines.{kind_word};
 
 use tac_syntax::Kind;
 use text_lines::is_word;

@@ -11,7 +11,7 @@ ghost use Rattle.tac_text.specs.FunctionAnswers.{begun, function_of, GivesHeader
 ghost use Rattle.tac_text.specs.FunctionFaults.{header_fault};
 ghost use Rattle.tac_text.specs.FunctionLines.{header_words, IsHeader, IsWritable};
 ghost use Rattle.tac_text.specs.Places.{built_on, IsInside, MayInside, place_of};
-ghost use Rattle.statement_lines.specs.Said.{said};
+ghost use Rattle.statement_lines.specs.StatementAnswers.{said};
 ghost use Rattle.text_lines.specs.LineReading.{IsFaultOf, TellsFault, TellsNoFault};
 ghost use Rattle.statement_lines.specs.StatementFaults.{statement_fault};
 

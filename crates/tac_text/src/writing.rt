@@ -1,10 +1,9 @@
 //! The canonical spelling of bodies.
 
-ghost use Rattle.std.specs.Prelude.{◌≡◌, ◌≤◌, ◌+◌, ◌++◌, OnOk, flat_map};
+ghost use Rattle.std.specs.Prelude.{◌≡◌, ◌≤◌, ◌+◌, ◌++◌, OnOk};
 ghost use Rattle.tac_syntax.specs.Code.{nesting};
 ghost use Rattle.tac_syntax.specs.Trees.{only};
 ghost use Rattle.tac_text.specs.Spelling.{body_text, deepest};
-ghost use Rattle.text_lines.specs.CanonicalLines.{line_text};
 
 use pact_record::{Bytes, OutOfMemory};
 use statement_lines::{first_words, put_line, put_word};
@@ -14,7 +13,7 @@ use tac_syntax::{Body, Stmt};
 #[cycle(write)]
 fn write_stmt(alloc: Global, out: &mut Bytes, depth: u32, stmt: &Stmt) -> Result<(), OutOfMemory>
     requires { depth + nesting (only stmt.now) ≤ deepest }
-    ensures { OnOk result (out.new ≡ out.old ++ flat_map line_text (body_text depth (only stmt.now))) }
+    ensures { OnOk result (out.new ≡ out.old ++ body_text depth (only stmt.now)) }
 {
     put_line(out, depth, &first_words(alloc, stmt)?)?;
     match stmt {
@@ -46,7 +45,7 @@ pub fn write_lines(
     body: &Body,
 ) -> Result<(), OutOfMemory>
     requires { depth + nesting body.now ≤ deepest }
-    ensures { OnOk result (out.new ≡ out.old ++ flat_map line_text (body_text depth body.now)) }
+    ensures { OnOk result (out.new ≡ out.old ++ body_text depth body.now) }
 {
     for stmt in body.stmts() {
         write_stmt(alloc, out, depth, stmt)?;

@@ -1,9 +1,9 @@
 -- Words of digits, and the numbers that they spell.
-use Rattle.std.proofs.Common.{◌≡◌, ◌≤◌, ◌<◌, ◌^◌, ◌==◌, ◌&&◌, ◌||◌, ℕ, zero, suc, ℤ, pos, negsuc, Bool, true, false, not, nat_le, nat_lt, List, [], ◌∷◌, length, get_or, IsUtf8, FitsSigned, decimal, refl, sym, arith, w64}
+use Rattle.std.proofs.Common.{◌≡◌, ◌≤◌, ◌<◌, ◌^◌, ◌-◌, ◌==◌, ◌&&◌, ◌||◌, ℕ, zero, suc, ℤ, pos, negsuc, Bool, true, false, not, nat_le, List, [], ◌∷◌, length, get_or, IsUtf8, FitsSigned, decimal, refl, ap, sym, ◌∙◌, arith, w64}
 use Rattle.std.specs.Fmt.{signed_decimal}
 use Rattle.std.specs.List.{list_any}
 use Rattle.std.specs.Str.Parse.{digits_value}
-use Rattle.std.proofs.lemmas.Bool.{and_from, and_parts, le-leb, lt-ltb, leb-true, not-true, or_left}
+use Rattle.std.proofs.lemmas.Bool.{and_parts, le-leb, leb-true, not-true, or_left}
 use Rattle.std.proofs.lemmas.Bool.Decides.{nat_tests}
 use Rattle.std.proofs.lemmas.Fmt.{IsAscii-from_digits, decimal-digits_value, decimal_is_IsNumeral, first_decimal, length-decimal-le}
 use Rattle.std.proofs.lemmas.Str.{IsUtf8-from_ascii}
@@ -64,9 +64,6 @@ first_or_short : (n : ℕ) → n < 2 ^ 64 → (nat_le (length (decimal n)) 1 || 
 first_or_short zero h = let l = length-decimal-le 1 0 (omega arith) (omega arith) h in or_left _ _ (le-leb (length (decimal 0)) 1 l)
 first_or_short (suc m) h = let f = first_decimal (suc m) (omega arith) h in or_not (nat_le (length (decimal (suc m))) 1) (get_or (decimal (suc m)) 0 0) f
 
-pub is_number_word-decimal : (n : ℕ) → n < 2 ^ 64 → is_number_word (decimal n) ≡ true
-is_number_word-decimal n h = rw (are_digits-decimal n h, first_or_short n h) refl
-
 pub is_in_range-decimal : (low high n : ℕ) → low ≤ n → n ≤ high → n < 2 ^ 64 → is_in_range low high (decimal n) ≡ true
 is_in_range-decimal low high n above below small =
     let v = (decimal_is_IsNumeral n small).1 in
@@ -84,42 +81,36 @@ number_back n h = number_in-decimal n (omega (arith, h))
 
 -- ---- numbers with a sign
 
-is_signed_word-digits : (w : List ℕ) → are_digits w ≡ true → is_number_word w ≡ true → nat_lt (digits_value 10 w) (2 ^ 63) ≡ true → is_signed_word w ≡ true
-is_signed_word-digits [] d h l = absurd cc
-is_signed_word-digits (b ∷ bytes) d h l = rw (minus_no_digit b bytes d) (and_from (is_number_word (b ∷ bytes)) _ h l)
+is_signed_word-digits : (w : List ℕ) → are_digits w ≡ true → is_in_range 0 (2 ^ 63 - 1) w ≡ true → is_signed_word w ≡ true
+is_signed_word-digits [] d h = absurd cc
+is_signed_word-digits (b ∷ bytes) d h = rw (minus_no_digit b bytes d) h
 
 pub is_signed_word-signed_decimal : (z : ℤ) → FitsSigned w64 z → is_signed_word (signed_decimal z) ≡ true
 is_signed_word-signed_decimal (pos n) h =
     let small : n < 2 ^ 64 = omega (arith, h) in
-    is_signed_word-digits (decimal n) (are_digits-decimal n small) (is_number_word-decimal n small)
-    (rw ((decimal_is_IsNumeral n small).1) (lt-ltb n (2 ^ 63) (omega (arith, h))))
+    is_signed_word-digits (decimal n) (are_digits-decimal n small) (is_in_range-decimal 0 (2 ^ 63 - 1) n (omega arith) (omega (arith, h)) small)
 is_signed_word-signed_decimal (negsuc n) h = is_in_range-decimal 1 (2 ^ 63) (suc n) (omega arith) (omega (arith, h)) (omega (arith, h))
 
 -- ---- what a test of a word tells
 
--- a number in range is spelled so
-pub record NumberSpelled (low high : ℕ) (word : List ℕ) : Type 0 where
-  pub number : ℕ
-  pub above : low ≤ number
-  pub below : number ≤ high
-  pub spelled : word ≡ decimal number
-
 short_by_first : (ds : List ℕ) → 0 < length ds → (nat_le (length ds) 1 || not (get_or ds 0 0 == 48)) ≡ true → get_or ds 0 0 ≡ 48 → length ds ≡ 1
 short_by_first ds some h e = grind (arith, nat_tests)
 
-pub number_spelled : (low high : ℕ) (word : List ℕ) → high < 2 ^ 64 → is_in_range low high word ≡ true → NumberSpelled low high word
+-- a number in range is spelled so
+pub number_spelled : (low high : ℕ) (word : List ℕ) → high < 2 ^ 64 → is_in_range low high word ≡ true → (n : ℕ) × (word ≡ decimal n) × (low ≤ n) × (n ≤ high)
 number_spelled low high word small h =
     let bounds = and_parts (is_number_word word && nat_le low (digits_value 10 word)) _ h in
     let parts = and_parts (is_number_word word) _ bounds.0 in
     let spelled = and_parts (are_digits word) _ parts.0 in
-    let digits = spelled.0 in
-    let lead = spelled.1 in
     let above = leb-true low (digits_value 10 word) parts.1 in
     let below = leb-true (digits_value 10 word) high bounds.1 in
-    let some = some_digit word digits in
-    record {
-      number = digits_value 10 word;
-      above = above;
-      below = below;
-      spelled = sym (decimal-digits_value own_digits word (no_other word digits) some (short_by_first word some lead) (omega (arith, below, small)));
-    }
+    let some = some_digit word spelled.0 in
+    let lead = short_by_first word some spelled.1 in
+    (digits_value 10 word, sym (decimal-digits_value own_digits word (no_other word spelled.0) some lead (omega (arith, below, small))), above, below)
+
+-- and it is the one that its digits are worth
+pub number_read : (low high n : ℕ) (word : List ℕ) → high < 2 ^ 64 → n ≡ number_in word → is_in_range low high word ≡ true → (word ≡ decimal n) × (low ≤ n) × (n ≤ high)
+number_read low high n word small e h =
+    let s = number_spelled low high word small h in
+    let same : s.0 ≡ n = sym (number_in-decimal s.0 (omega (arith, small, s.3))) ∙ ap number_in (sym s.1) ∙ sym e in
+    (s.1 ∙ ap decimal same, omega (arith, s.2, same), omega (arith, s.3, same))

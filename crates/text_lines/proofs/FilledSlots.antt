@@ -82,16 +82,16 @@ fits_slot column c usual h = column_fault-column_text c.field c.text h
 
 pub fills : (slot : Slot) (word : LineWord) → IsUsual slot → IsLineWord word → slot_fault slot word ≡ None → (x : Value slot) × (word ≡ word_of slot x) × Fits slot x
 fills (fixed v) (plain_word w) usual good h = (tt, ap plain_word (same_word w v (told_unless-none _ _ h)), tt)
-fills (register letter) (plain_word w) usual good h = let s = register_spelled letter w h in (s.number, ap plain_word s.spelled, s.below)
-fills operand (plain_word w) usual good h = let s = operand_spelled w h in (s.from, ap plain_word s.spelled, s.fits)
-fills (number low high) (plain_word w) usual good h = let s = number_spelled low high w usual (told_unless-none _ _ h) in (s.number, ap plain_word s.spelled, (s.above, s.below))
-fills signed (plain_word w) usual good h = let s = signed_spelled w (told_unless-none _ _ h) in (s.value, ap plain_word s.spelled, s.fits)
+fills (register letter) (plain_word w) usual good h = let s = register_spelled letter w h in (s.0, ap plain_word s.1, s.3)
+fills operand (plain_word w) usual good h = let s = operand_spelled w h in (s.0, ap plain_word s.1, s.2)
+fills (number low high) (plain_word w) usual good h = let s = number_spelled low high w usual (told_unless-none _ _ h) in (s.0, ap plain_word s.1, (s.2, s.3))
+fills signed (plain_word w) usual good h = let s = signed_spelled w (told_unless-none _ _ h) in (s.0, ap plain_word s.1, s.2)
 fills text (literal_word w) usual good h = (w, refl, good)
 fills (loop name) (plain_word w) usual good h = let s = name_spelled name w h in (tt, ap plain_word s.1, s.0)
 fills list (plain_word w) usual good h = let s = list_spelled w (told_unless-none _ _ h) in (s.0, ap plain_word s.1, tt)
 fills identifier (plain_word w) usual good h = (w, refl, told_unless-none _ _ h)
 fills file_name (plain_word w) usual good h = (w, refl, told_unless-none _ _ h)
-fills column (plain_word w) usual good h = let s = column_spelled w h in (s.column, ap plain_word s.spelled, s.fits)
+fills column (plain_word w) usual good h = let s = column_spelled w h in (s.0, ap plain_word s.1, s.2)
 fills slot word usual good h = absurd cc
 
 fine_record : (from : Rec) → IsSpelledRecord from → is_fine_word (record_word from) ≡ true

@@ -1,20 +1,19 @@
 -- Words of letters, digits and signs, and literals: some line has them, and no line feed stands in them.
-use Rattle.std.proofs.Common.{◌≡◌, ◌<◌, ◌^◌, ◌==◌, ◌&&◌, ◌+◌, ◌*◌, ◌%◌, ℕ, suc, ℤ, pos, negsuc, Bool, true, false, nat_lt, nat_le, List, [], ◌∷◌, ◌++◌, map, flat_map, replicate, zero, length, IsUtf8, FitsSigned, w64, decimal, refl, arith}
+use Rattle.std.proofs.Common.{◌≡◌, ◌<◌, ◌^◌, ◌==◌, ◌&&◌, ◌+◌, ◌%◌, ℕ, suc, ℤ, pos, negsuc, Bool, true, false, nat_lt, nat_le, List, [], ◌∷◌, ◌++◌, flat_map, length, IsUtf8, FitsSigned, w64, decimal, refl, arith}
 use Rattle.std.specs.Fmt.{signed_decimal}
 use Rattle.std.specs.List.{AllByRecursion}
 use Rattle.std.proofs.lemmas.Bool.{and_from, and_parts, lt-ltb, ltb-true, ne_eqb}
 use Rattle.std.proofs.lemmas.Fmt.{decimal_by_steps}
 use Rattle.std.proofs.lemmas.Str.{IsUtf8-nil}
+use Rattle.pact_record.proofs.Lists.{AllByRecursion-weaker}
 use Rattle.tac_syntax.specs.Grammar.{IsLiteral}
 use Rattle.std.proofs.lemmas.Bool.Decides.{nat_tests}
 use Rattle.tac_syntax.specs.Names.{is_file_byte, is_file_name, all_bytes, is_small_letter, is_name_byte, is_name}
-use Rattle.text_lines.specs.CanonicalLines.{IsLineWord, AreLineWords, canonical_line, escaped, spaced, word_text}
-use Rattle.text_lines.specs.LineGrammar.{ends_word, has_return}
-use Rattle.text_lines.specs.declared.line_words.LineWord.{LineWord}
-use Rattle.text_lines.specs.declared.line_words.LineWord.TheVariants.{Plain as plain_word, Literal as literal_word}
-use Rattle.text_lines.proofs.FirstLines.{has_feed}
-use Rattle.text_lines.proofs.WrittenLines.{has_feed-append, has_feed-escaped}
-use Rattle.text_lines.proofs.Utf8Cuts.{IsUtf8-around_ascii}
+use Rattle.text_lines.specs.CanonicalLines.{IsLineWord, AreLineWords, canonical_line, escaped, word_text}
+use Rattle.text_lines.specs.LineGrammar.{LineWord, plain_word, literal_word, ends_word, has_return}
+use Rattle.text_lines.proofs.TextLines.{has_feed}
+use Rattle.text_lines.proofs.CanonicalLines.{OfTexts, has_feed-append, has_feed-escaped, of_line}
+use Rattle.text_lines.proofs.Utf8Texts.{IsUtf8-around_ascii}
 
 -- ---- words of letters, digits and signs
 
@@ -76,8 +75,7 @@ IsLineWord-fine (plain_word bytes) h = IsLineWord-plain bytes h
 IsLineWord-fine (literal_word bytes) h = h
 
 pub AreLineWords-fine : (words : List LineWord) → AreFine words → AreLineWords words
-AreLineWords-fine [] h = tt
-AreLineWords-fine (word ∷ words) h = (IsLineWord-fine word h.0, AreLineWords-fine words h.1)
+AreLineWords-fine words h = AllByRecursion-weaker IsFine IsLineWord words IsLineWord-fine h
 
 -- ---- parts of words
 
@@ -143,17 +141,7 @@ has_feed-word_text : (word : LineWord) → IsFine word → has_feed (word_text w
 has_feed-word_text (plain_word bytes) h = (fine_bytes bytes (are_fine-word bytes h)).no_feed
 has_feed-word_text (literal_word bytes) h = has_feed-append (flat_map escaped bytes) (34 ∷ []) (has_feed-escaped bytes) refl
 
-has_feed-more : (words : List LineWord) → AreFine words → has_feed (flat_map (λ v. 32 ∷ v) (map word_text words)) ≡ false
-has_feed-more [] h = refl
-has_feed-more (word ∷ words) h = has_feed-append (word_text word) (flat_map (λ v. 32 ∷ v) (map word_text words)) (has_feed-word_text word h.0) (has_feed-more words h.1)
-
-has_feed-spaced : (words : List LineWord) → AreFine words → has_feed (spaced (map word_text words)) ≡ false
-has_feed-spaced [] h = refl
-has_feed-spaced (word ∷ words) h = has_feed-append (word_text word) (flat_map (λ v. 32 ∷ v) (map word_text words)) (has_feed-word_text word h.0) (has_feed-more words h.1)
-
-has_feed-spaces : (n : ℕ) → has_feed (replicate n 32) ≡ false
-has_feed-spaces zero = refl
-has_feed-spaces (suc n) = has_feed-spaces n
-
 pub has_feed-canonical_line : (depth : ℕ) (words : List LineWord) → AreFine words → has_feed (canonical_line depth words) ≡ false
-has_feed-canonical_line depth words h = has_feed-append (replicate (2 * depth) 32) (spaced (map word_text words)) (has_feed-spaces (2 * depth)) (has_feed-spaced words h)
+has_feed-canonical_line depth words h =
+    let no_feed : OfTexts (λ x. has_feed x ≡ false) = record { nothing = refl; space = refl; both = has_feed-append } in
+    of_line (λ (x : List ℕ). has_feed x ≡ false) no_feed depth words (AllByRecursion-weaker IsFine (λ (w : LineWord). has_feed (word_text w) ≡ false) words has_feed-word_text h)

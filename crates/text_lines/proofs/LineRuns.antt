@@ -1,11 +1,15 @@
 -- The lines of a text take a reader through one run, and what it has come to tells the first fault.
-use Rattle.std.proofs.Common.{◌≡◌, ◌≢◌, inl, inr, ℕ, ◌+◌, max, List, [], ◌∷◌, ◌++◌, map, length, Option, Some, None, refl, sym, subst, ◌∙◌, append_assoc}
+use Rattle.std.proofs.Common.{◌≡◌, ◌≢◌, inl, inr, ℕ, ◌+◌, max, List, [], ◌∷◌, ◌++◌, map, length, Option, Some, None, refl, sym, subst, ◌∙◌, append_assoc, append-nil}
+use Rattle.text_lines.specs.CanonicalLines.{AreLineWords, canonical_line}
+use Rattle.text_lines.specs.declared.faults.NotRead.{NotRead}
+use Rattle.text_lines.specs.declared.faults.NotRead.TheVariants.{Fault, Memory}
 use Rattle.text_lines.specs.LineGrammar.{LineWord}
 use Rattle.text_lines.specs.TextLines.{HasWords, Say, trimmed}
-use Rattle.text_lines.specs.FirstFaults.{IsStart, IsFaultless, HasFault, IsPlaceBehind, IsFaultyLine, EndsEarly}
+use Rattle.text_lines.specs.FirstFaults.{IsStart, IsFaultless, HasFault, IsPlaceBehind, IsFaultyLine, EndsEarly, IsLineFault, told_at, TellsFirst}
+use Rattle.text_lines.specs.LineReading.{HasCause}
 use Rattle.text_lines.specs.Runs.{Steps, Runs, AreSayings, TellsFaults}
-use Rattle.text_lines.proofs.LineFaults.{IsLine-unique, ¬HasLineFault-IsLine}
-use Rattle.text_lines.proofs.ReadWords.{AreLineWords-IsLine}
+use Rattle.text_lines.proofs.FoundWords.{IsLine-unique, ¬HasLineFault-IsLine}
+use Rattle.text_lines.proofs.CanonicalLines.{AreLineWords-IsLine, HasWords-canonical_line}
 
 -- ---- runs
 
@@ -64,6 +68,31 @@ pub Steps-append : {State Saying : Type 0} (May : State → Saying → Type 0) (
 Steps-append May step s t u [] b p q = subst (λ (x : _). Steps May step x b u) (sym p) q
 Steps-append May step s t u (l ∷ a) b p q = (p.0, Steps-append May step (step s l) t u a b p.1 q)
 
+-- what holds of the steps so far holds of one more, and so of all
+pub Steps-kept : {State Saying : Type 0} (May : State → Saying → Type 0) (step : State → Saying → State) (P : State → List Saying → Type 0)
+    → ((s : State) (l : Saying) (ls : List Saying) → P s ls → May s l → P (step s l) (ls ++ l ∷ [])) → (s t : State) (ls more : List Saying) → P s ls → Steps May step s more t → P t (ls ++ more)
+Steps-kept May step P on s t ls [] h p = subst (P t) (sym (append-nil ls)) (subst (λ (x : _). P x ls) p h)
+Steps-kept May step P on s t ls (l ∷ more) h p = subst (P t) (append_assoc ls (l ∷ []) more) (Steps-kept May step P on (step s l) t (ls ++ l ∷ []) more (on s l ls h p.0) p.1)
+
+-- what may be said can stand in a text
+written_steps : {State Saying : Type 0} (words : Saying → List LineWord) (May : State → Saying → Type 0) (step : State → Saying → State) → ((s : State) (l : Saying) → May s l → AreLineWords (words l))
+    → (s t : State) (ls : List Saying) → Steps May step s ls t → (lines : List (List ℕ)) × Runs words May step s lines t
+written_steps words May step good s t [] p = ([], p)
+written_steps words May step good s t (l ∷ ls) p =
+    let rest = written_steps words May step good (step s l) t ls p.1 in
+    (canonical_line 0 (words l) ∷ rest.0, inr (l, HasWords-canonical_line 0 (words l) (good s l p.0), p.0, rest.1))
+
+-- lines begin a whole text where steps to some whole one can follow theirs
+pub IsStart-run : {State Saying : Type 0} (Whole : List (List ℕ) → Type 0) (words : Saying → List LineWord) (May : State → Saying → Type 0) (step : State → Saying → State) (start : State)
+    → AreSayings words May → ((s : State) (l : Saying) → May s l → AreLineWords (words l))
+    → ((s : State) (ls : List Saying) → Steps May step start ls s → (more : List Saying) × (t : State) × Steps May step s more t × ((text : List (List ℕ)) → Runs words May step start text t → Whole text))
+    → (front : List (List ℕ)) (s : State) → Runs words May step start front s → IsStart Whole front
+IsStart-run Whole words May step start h good finish front s run =
+    let said = said_by_run words May step h start s front run in
+    let rest = finish s said.0 said.2 in
+    let more = written_steps words May step good s rest.1 rest.0 rest.2 in
+    (more.0, rest.3 (front ++ more.0) (Runs-append words May step start s rest.1 front more.0 run more.1))
+
 -- ---- faults
 
 -- A grammar and a reader of it: each whole text takes the reader somewhere, and each text that takes it somewhere can become whole.
@@ -99,6 +128,11 @@ place_behind Whole words May step start fault h f r front s run line = (
       r.begins (front ++ line ∷ []) more.0 (Runs-append words May step start s more.0 front (line ∷ []) run more.1),
 )
 
+-- what is told of a line that has no words
+pub IsLineFault-HasCause : (fault : List LineWord → Option ℕ) (e : NotRead) (bytes line : List ℕ) → bytes ≡ trimmed line → HasCause e bytes → IsLineFault fault e line
+IsLineFault-HasCause fault (Fault what) bytes line same h = inl (subst (HasCause (Fault what)) same h)
+IsLineFault-HasCause fault Memory bytes line same h = tt
+
 both_not : (what : ℕ) (told : Option ℕ) → told ≡ Some what → told ≡ None → ⊥
 both_not what told p q = cc
 
@@ -109,7 +143,7 @@ pub ¬HasFault-IsFaultless : (fault : List LineWord → Option ℕ) (line : List
     let told : fault h.0 ≡ Some what = subst (λ (ws : List LineWord). fault ws ≡ Some what) same p.2 in
     both_not what (fault h.0) told h.2
 
-pub IsFaultyLine-run : {State Saying Place : Type 0} (Whole : List (List ℕ) → Type 0) (words : Saying → List LineWord) (May : State → Saying → Type 0) (step : State → Saying → State) (start : State) (place_of : State → Place) (fault : Place → List LineWord → Option ℕ)
+IsFaultyLine-run : {State Saying Place : Type 0} (Whole : List (List ℕ) → Type 0) (words : Saying → List LineWord) (May : State → Saying → Type 0) (step : State → Saying → State) (start : State) (place_of : State → Place) (fault : Place → List LineWord → Option ℕ)
     → AreSayings words May → TellsFaults words May (λ x. fault (place_of x)) → Reads Whole words May step start
     → (text front later : List (List ℕ)) (line : List ℕ) (number what : ℕ) (s : State) → Runs words May step start front s → text ≡ front ++ line ∷ later → number ≡ length front + 1
     → HasFault (fault (place_of s)) line what → IsFaultyLine Whole fault text number what
@@ -127,6 +161,15 @@ IsFaultyLine-run Whole words May step start place_of fault h f r text front late
       place_behind = place;
       told = told;
     }
+
+-- what is told of the line behind a run
+pub TellsFirst-line : {State Saying Place : Type 0} (Whole : List (List ℕ) → Type 0) (words : Saying → List LineWord) (May : State → Saying → Type 0) (step : State → Saying → State) (start : State) (place_of : State → Place) (fault : Place → List LineWord → Option ℕ) (missing : Place → Option ℕ)
+    → AreSayings words May → TellsFaults words May (λ x. fault (place_of x)) → Reads Whole words May step start
+    → (text front later : List (List ℕ)) (line : List ℕ) (number : ℕ) (s : State) (why : NotRead) → Runs words May step start front s → text ≡ front ++ line ∷ later → number ≡ length front + 1
+    → IsLineFault (fault (place_of s)) why line → TellsFirst Whole fault missing (told_at number why) text
+TellsFirst-line Whole words May step start place_of fault missing h f r text front later line number s (Fault what) run lines numbered told =
+    inl (IsFaultyLine-run Whole words May step start place_of fault h f r text front later line number what s run lines numbered told)
+TellsFirst-line Whole words May step start place_of fault missing h f r text front later line number s Memory run lines numbered told = tt
 
 pub EndsEarly-run : {State Saying Place : Type 0} (Whole : List (List ℕ) → Type 0) (words : Saying → List LineWord) (May : State → Saying → Type 0) (step : State → Saying → State) (start : State) (place_of : State → Place) (fault : Place → List LineWord → Option ℕ) (missing : Place → Option ℕ)
     → AreSayings words May → TellsFaults words May (λ x. fault (place_of x)) → Reads Whole words May step start

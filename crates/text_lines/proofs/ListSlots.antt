@@ -43,20 +43,21 @@ list_fits slot e spelled Good items limit [] more some few good ended = absurd (
 list_fits slot e spelled Good items limit (x ∷ xs) more some few good ended =
     rw (items.faultless x good.0) (items_fit slot e spelled Good items (limit - 1) xs more (omega (arith, few)) good.1 ended)
 
-pub record SpellsList {X : Type 0} (e : ListEnd) (spelled : X → LineWord) (Good : X → Type 0) (limit : ℕ) (words : List LineWord) : Type 0 where
+pub record SpellsList {X : Type 0} (e : ListEnd) (spelled : X → LineWord) (Good : X → Type 0) (least limit : ℕ) (words : List LineWord) : Type 0 where
   pub items : List X
   pub more : List LineWord
   pub parts : words ≡ map spelled items ++ more
+  pub some : least ≤ length items
   pub few : length items ≤ limit
   pub good : AllByRecursion Good items
   pub words_good : AreLineWords more
   pub ended : IsEnded e more
 
 spells_items : {X : Type 0} (slot : Slot) (e : ListEnd) (spelled : X → LineWord) (Good : X → Type 0) → AreItems slot e spelled Good
-    → (room : ℕ) (words : List LineWord) → AreLineWords words → items_fault slot e room words ≡ None → SpellsList e spelled Good room words
-spells_items slot e spelled Good items room [] line h = record { items = []; more = []; parts = refl; few = omega arith; good = tt; words_good = tt; ended = h }
+    → (room : ℕ) (words : List LineWord) → AreLineWords words → items_fault slot e room words ≡ None → SpellsList e spelled Good 0 room words
+spells_items slot e spelled Good items room [] line h = record { items = []; more = []; parts = refl; some = omega arith; few = omega arith; good = tt; words_good = tt; ended = h }
 spells_items slot e spelled Good items room (word ∷ words) line h = by_cases (e.ends word) _ _
-    (λ ends told. record { items = []; more = word ∷ words; parts = refl; few = omega arith; good = tt; words_good = line; ended = (ends, told) })
+    (λ ends told. record { items = []; more = word ∷ words; parts = refl; some = omega arith; few = omega arith; good = tt; words_good = line; ended = (ends, told) })
     (λ _ told.
     let both = or_else-none (slot_fault slot word) _ told in
     let first = items.fills word line.0 both.0 in
@@ -67,18 +68,15 @@ spells_items slot e spelled Good items room (word ∷ words) line h = by_cases (
       items = first.0 ∷ rest.items;
       more = rest.more;
       parts = λ i. first.1 i ∷ rest.parts i;
+      some = omega arith;
       few = some_room room (length rest.items) more rest.few;
       good = (first.2, rest.good);
       words_good = rest.words_good;
       ended = rest.ended;
     }) both.1) h
 
-pub record SpellsSome {X : Type 0} (e : ListEnd) (spelled : X → LineWord) (Good : X → Type 0) (limit : ℕ) (words : List LineWord) : Type 0 where
-  pub list : SpellsList e spelled Good limit words
-  pub some : 1 ≤ length list.items
-
 pub spells_list : {X : Type 0} (slot : Slot) (e : ListEnd) (spelled : X → LineWord) (Good : X → Type 0) → AreItems slot e spelled Good
-    → (limit : ℕ) (words : List LineWord) → 1 ≤ limit → AreLineWords words → list_fault slot e limit words ≡ None → SpellsSome e spelled Good limit words
+    → (limit : ℕ) (words : List LineWord) → 1 ≤ limit → AreLineWords words → list_fault slot e limit words ≡ None → SpellsList e spelled Good 1 limit words
 spells_list slot e spelled Good items limit [] room line h = absurd cc
 spells_list slot e spelled Good items limit (word ∷ words) room line h =
     let both = or_else-none (slot_fault slot word) _ h in
@@ -86,16 +84,14 @@ spells_list slot e spelled Good items limit (word ∷ words) room line h =
     let rest = spells_items slot e spelled Good items (limit - 1) words line.1 both.1 in
     let few = rest.few in
     record {
-      list = record {
-        items = first.0 ∷ rest.items;
-        more = rest.more;
-        parts = λ i. first.1 i ∷ rest.parts i;
-        few = omega (arith, few, room);
-        good = (first.2, rest.good);
-        words_good = rest.words_good;
-        ended = rest.ended;
-      };
+      items = first.0 ∷ rest.items;
+      more = rest.more;
+      parts = λ i. first.1 i ∷ rest.parts i;
       some = omega arith;
+      few = omega (arith, few, room);
+      good = (first.2, rest.good);
+      words_good = rest.words_good;
+      ended = rest.ended;
     }
 
 -- ---- a list up to the line's end
@@ -105,23 +101,17 @@ pub line_fits : {X : Type 0} (slot : Slot) (spelled : X → LineWord) (Good : X 
 line_fits slot spelled Good items limit xs some few good =
     ap (list_fault slot line_end limit) (sym (append-nil (map spelled xs))) ∙ list_fits slot line_end spelled Good items limit xs [] some few good refl
 
-pub record SpellsLine {X : Type 0} (spelled : X → LineWord) (Good : X → Type 0) (limit : ℕ) (words : List LineWord) : Type 0 where
-  pub items : List X
-  pub parts : words ≡ map spelled items
-  pub some : 1 ≤ length items
-  pub few : length items ≤ limit
-  pub good : AllByRecursion Good items
-
 none_behind : (more : List LineWord) → IsEnded line_end more → more ≡ []
 none_behind [] h = refl
 none_behind (word ∷ words) h = let e = h.0 in absurd cc
 
 pub spells_line : {X : Type 0} (slot : Slot) (spelled : X → LineWord) (Good : X → Type 0) → AreItems slot line_end spelled Good
-    → (limit : ℕ) (words : List LineWord) → 1 ≤ limit → AreLineWords words → list_fault slot line_end limit words ≡ None → SpellsLine spelled Good limit words
+    → (limit : ℕ) (words : List LineWord) → 1 ≤ limit → AreLineWords words → list_fault slot line_end limit words ≡ None
+    → (xs : List X) × (words ≡ map spelled xs) × (1 ≤ length xs) × (length xs ≤ limit) × AllByRecursion Good xs
 spells_line slot spelled Good items limit words room line h =
     let s = spells_list slot line_end spelled Good items limit words room line h in
-    let all = s.list.parts ∙ ap (λ (more : List LineWord). map spelled s.list.items ++ more) (none_behind s.list.more s.list.ended) ∙ append-nil (map spelled s.list.items) in
-    record { items = s.list.items; parts = all; some = s.some; few = s.list.few; good = s.list.good }
+    let all = s.parts ∙ ap (λ (more : List LineWord). map spelled s.items ++ more) (none_behind s.more s.ended) ∙ append-nil (map spelled s.items) in
+    (s.items, all, s.some, s.few, s.good)
 
 -- ---- a list as far as its words were read
 

@@ -1,8 +1,8 @@
--- The words that fill slots.
-use Rattle.std.proofs.Common.{◌≡◌, ◌≤◌, ◌<◌, ◌^◌, ◌==◌, ◌&&◌, ◌++◌, ◌⊎◌, inr, Bool, false, ℕ, take, drop, zero, suc, nat_le, nat_lt, ◌-◌, ℤ, pos, negsuc, true, List, [], ◌∷◌, None, FitsSigned, w64, codes, bytes_eq, decimal, take-append-drop, refl, ap, sym, ◌∙◌, arith}
+-- The words that fill slots, and operands that are read from them.
+use Rattle.std.proofs.Common.{◌≡◌, ◌≤◌, ◌<◌, ◌^◌, ◌==◌, ◌++◌, ◌⊎◌, inr, Bool, false, ℕ, take, drop, zero, suc, if◌then◌else◌, ◌-◌, ℤ, pos, negsuc, true, List, [], ◌∷◌, None, FitsSigned, w64, codes, bytes_eq, decimal, take-append-drop, refl, ap, sym, ◌∙◌, arith, ◌≢◌, ◌+◌, ◌-ℤ◌, to_z, of_z, to_z-of_z, Some}
 use Rattle.std.specs.Fmt.{signed_decimal}
 use Rattle.std.specs.Str.Parse.{AllDigits, digits_value}
-use Rattle.std.proofs.lemmas.Bool.{and_from, and_parts, eq-eqb, eqb-true, le-leb, ltb-true}
+use Rattle.std.proofs.lemmas.Bool.{and_parts, eq-eqb, eqb-true}
 use Rattle.std.proofs.lemmas.Bool.Decides.{nat_tests}
 use Rattle.std.proofs.lemmas.Fmt.{decimal_is_IsNumeral}
 use Rattle.std.proofs.lemmas.Str.Parse.{digit_from_value}
@@ -14,9 +14,10 @@ use Rattle.tac_syntax.specs.Grammar.{IsNumber, IsLoopName, IsTurnCount, IsSpelle
 use Rattle.pact_record.specs.declared.columns.Column.{Column}
 use Rattle.text_lines.specs.OperandWords.{column_text, record_word, list_word}
 use Rattle.text_lines.specs.Slots.{begins_with, column_fault, numbered_fault, register_fault, is_fixed_record, operand_fault, name_fault, is_list_word}
-use Rattle.text_lines.specs.Digits.{is_in_form, is_in_range, is_number_word, is_signed_word}
+use Rattle.text_lines.specs.Digits.{is_in_form, is_in_range, is_signed_word, told_unless}
 use Rattle.text_lines.proofs.Faultless.{by_cases, named, same_word, told_unless-none}
-use Rattle.text_lines.proofs.DigitWords.{are_digits-decimal, is_in_range-decimal, number_spelled}
+use Rattle.text_lines.proofs.DigitWords.{are_digits-decimal, is_in_range-decimal, number_read, number_spelled, is_signed_word-signed_decimal}
+use Rattle.std.proofs.lemmas.Int.{to_z_pos}
 
 -- ---- words that are no numbers
 
@@ -73,68 +74,38 @@ name_fault-loop_name n h =
 -- ---- what has no fault fills its slot
 
 -- a number behind a letter
-pub record Numbered (letter low high : ℕ) (word : List ℕ) : Type 0 where
-  pub number : ℕ
-  pub above : low ≤ number
-  pub below : number ≤ high
-  pub spelled : word ≡ letter ∷ decimal number
+abbrev pub Numbered : (letter low high : ℕ) → List ℕ → Type 0
+Numbered letter low high word = (n : ℕ) × (word ≡ letter ∷ decimal n) × (low ≤ n) × (n ≤ high)
 
-pub numbered_spelled : (letter low high : ℕ) (word : List ℕ) → high < 2 ^ 64 → is_in_form letter word ≡ true → numbered_fault low high word ≡ None → Numbered letter low high word
+numbered_spelled : (letter low high : ℕ) (word : List ℕ) → high < 2 ^ 64 → is_in_form letter word ≡ true → numbered_fault low high word ≡ None → Numbered letter low high word
 numbered_spelled letter low high [] small form h = absurd cc
 numbered_spelled letter low high (b ∷ bytes) small form h =
     let same = eqb-true b letter (and_parts (b == letter) _ form).0 in
     let n = number_spelled low high bytes small (told_unless-none _ _ h) in
-    record { number = n.number; above = n.above; below = n.below; spelled = λ i. same i ∷ n.spelled i }
+    (n.0, (λ i. same i ∷ n.1 i), n.2, n.3)
 
 pub register_spelled : (letter : ℕ) (word : List ℕ) → register_fault letter word ≡ None → Numbered letter 0 255 word
 register_spelled letter word h = by_cases (is_in_form letter word) _ _
     (λ form rest. numbered_spelled letter 0 255 word (omega arith) form rest) (λ _ e. absurd cc) h
 
--- a word of the kind, with what it stands for
-pub record RecordSpelled (word : List ℕ) : Type 0 where
-  pub from : Rec
-  pub fits : IsSpelledRecord from
-  pub spelled : word ≡ record_word from
-
-fixed_spelled : (word : List ℕ) → is_fixed_record word ≡ true → RecordSpelled word
-fixed_spelled word h =
-    let n = named record_word IsSpelledRecord (Input ∷ Left ∷ Right ∷ Join ∷ First ∷ []) word (tt, (tt, (tt, (tt, (tt, tt))))) h in
-    record { from = n.0; fits = n.2; spelled = n.1 }
-
-pub operand_spelled : (word : List ℕ) → operand_fault word ≡ None → RecordSpelled word
-operand_spelled word h = by_cases (is_fixed_record word) _ _ (λ e _. fixed_spelled word e)
-    (λ _ next. by_cases (is_in_form 114 word) _ _
-    (λ form rest. let n = numbered_spelled 114 0 255 word (omega arith) form rest in record { from = Reg n.number; fits = n.below; spelled = n.spelled })
-    (λ _ last. by_cases (is_in_form 120 word) _ _
-    (λ form rest. let n = numbered_spelled 120 1 64 word (omega arith) form rest in record { from = Loop n.number; fits = (n.above, n.below); spelled = n.spelled })
+pub operand_spelled : (word : List ℕ) → operand_fault word ≡ None → (from : Rec) × (word ≡ record_word from) × IsSpelledRecord from
+operand_spelled word h = by_cases (is_fixed_record word) _ _ (λ e _. named record_word IsSpelledRecord (Input ∷ Left ∷ Right ∷ Join ∷ First ∷ []) word (tt, (tt, (tt, (tt, (tt, tt))))) e)
+    (λ _ next. by_cases (is_in_form 114 word) _ _ (λ form rest. let n = numbered_spelled 114 0 255 word (omega arith) form rest in (Reg n.0, n.1, n.3))
+    (λ _ last. by_cases (is_in_form 120 word) _ _ (λ form rest. let n = numbered_spelled 120 1 64 word (omega arith) form rest in (Loop n.0, n.1, (n.2, n.3)))
     (λ _ e. absurd cc) last) next) h
 
-pub record SignedSpelled (word : List ℕ) : Type 0 where
-  pub value : ℤ
-  pub fits : FitsSigned w64 value
-  pub spelled : word ≡ signed_decimal value
-
-minus_spelled : (word : List ℕ) (n : ℕ) → 1 ≤ n → n ≤ 2 ^ 63 → word ≡ 45 ∷ decimal n → SignedSpelled word
+minus_spelled : (word : List ℕ) (n : ℕ) → 1 ≤ n → n ≤ 2 ^ 63 → word ≡ 45 ∷ decimal n → (z : ℤ) × (word ≡ signed_decimal z) × FitsSigned w64 z
 minus_spelled word zero above below e = absurd (omega (arith, above))
-minus_spelled word (suc n) above below e = record { value = negsuc n; fits = omega (arith, below); spelled = e }
+minus_spelled word (suc n) above below e = (negsuc n, e, omega (arith, below))
 
-bare_spelled : (word : List ℕ) → (is_number_word word && nat_lt (digits_value 10 word) (2 ^ 63)) ≡ true → SignedSpelled word
-bare_spelled word h =
-    let parts = and_parts (is_number_word word) _ h in
-    let below = ltb-true (digits_value 10 word) (2 ^ 63) parts.1 in
-    let lower = and_from (is_number_word word) _ parts.0 (le-leb 0 (digits_value 10 word) (omega arith)) in
-    let fits = and_from (is_number_word word && nat_le 0 (digits_value 10 word)) _ lower (le-leb (digits_value 10 word) (2 ^ 63 - 1) (omega (arith, below))) in
-    let n = number_spelled 0 (2 ^ 63 - 1) word (omega arith) fits in
-    record { value = pos n.number; fits = omega (arith, n.below); spelled = n.spelled }
-
-pub signed_spelled : (word : List ℕ) → is_signed_word word ≡ true → SignedSpelled word
+pub signed_spelled : (word : List ℕ) → is_signed_word word ≡ true → (z : ℤ) × (word ≡ signed_decimal z) × FitsSigned w64 z
 signed_spelled [] h = absurd cc
 signed_spelled (b ∷ bytes) h = by_cases (b == 45) _ _
     (λ minus rest.
     let sign = eqb-true b 45 minus in
     let n = number_spelled 1 (2 ^ 63) bytes (omega arith) rest in
-    minus_spelled (b ∷ bytes) n.number n.above n.below (λ i. sign i ∷ n.spelled i))
-    (λ _ rest. bare_spelled (b ∷ bytes) rest) h
+    minus_spelled (b ∷ bytes) n.0 n.2 n.3 (λ i. sign i ∷ n.1 i))
+    (λ _ rest. let n = number_spelled 0 (2 ^ 63 - 1) (b ∷ bytes) (omega arith) rest in (pos n.0, n.1, omega (arith, n.3))) h
 
 pub list_spelled : (word : List ℕ) → is_list_word word ≡ true → (list : LoopList) × (word ≡ list_word list) × Unit {0}
 list_spelled word h = named list_word (λ _. Unit {0}) (Group ∷ LeftGroup ∷ RightGroup ∷ []) word (tt, (tt, (tt, tt))) h
@@ -145,30 +116,59 @@ name_spelled name (b ∷ bytes) h = by_cases (is_in_form 120 (b ∷ bytes)) _ _
     (λ form rest. by_cases (is_in_range 1 64 bytes) _ _
     (λ fits last.
     let letter = eqb-true b 120 (and_parts (b == 120) _ form).0 in
-    let n = number_spelled 1 64 bytes (omega arith) fits in
     let told = eqb-true (digits_value 10 bytes) name (told_unless-none _ _ last) in
-    let value = (decimal_is_IsNumeral n.number (omega (arith, n.below))).1 in
-    let same : n.number ≡ name = sym (ap (digits_value 10) n.spelled ∙ value) ∙ told in
-    ((omega (arith, n.above, same), omega (arith, n.below, same)), λ i. letter i ∷ (n.spelled ∙ ap decimal same) i))
+    let n = number_read 1 64 name bytes (omega arith) (sym told) fits in
+    ((n.1, n.2), λ i. letter i ∷ n.0 i))
     (λ _ e. absurd cc) rest)
     (λ _ e. absurd cc) h
-
-pub record ColumnSpelled (word : List ℕ) : Type 0 where
-  pub column : Column
-  pub fits : IsNumber column.field
-  pub spelled : word ≡ column_text column
 
 -- what stands behind the bytes that a word begins with
 split_at : (front word : List ℕ) (n : ℕ) → bytes_eq (take n word) front ≡ true → word ≡ front ++ drop n word
 split_at front word n h = sym (take-append-drop n word) ∙ ap (λ (x : List ℕ). x ++ drop n word) (same_word (take n word) front h)
 
-pub column_spelled : (word : List ℕ) → column_fault word ≡ None → ColumnSpelled word
-column_spelled word h = by_cases (begins_with (codes "text:") word) _ _
-    (λ begins told.
-    let n = number_spelled 0 255 (drop 5 word) (omega arith) (told_unless-none _ _ told) in
-    record { column = record { field = n.number; text = true }; fits = n.below; spelled = split_at (codes "text:") word 5 begins ∙ ap (λ (digits : List ℕ). codes "text:" ++ digits) n.spelled })
-    (λ _ other. by_cases (begins_with (codes "int:") word) _ _
-    (λ begins told.
-    let n = number_spelled 0 255 (drop 4 word) (omega arith) (told_unless-none _ _ told) in
-    record { column = record { field = n.number; text = false }; fits = n.below; spelled = split_at (codes "int:") word 4 begins ∙ ap (λ (digits : List ℕ). codes "int:" ++ digits) n.spelled })
-    (λ _ e. absurd cc) other) h
+column_behind : (front word : List ℕ) (n : ℕ) (text : Bool) → (if text then codes "text:" else codes "int:") ≡ front → bytes_eq (take n word) front ≡ true → told_unless (is_in_range 0 255 (drop n word)) 7 ≡ None
+    → (c : Column) × (word ≡ column_text c) × IsNumber c.field
+column_behind front word n text kind begins told =
+    let s = number_spelled 0 255 (drop n word) (omega arith) (told_unless-none _ _ told) in
+    (record { field = s.0; text = text }, split_at front word n begins ∙ (λ i. sym kind i ++ s.1 i), s.3)
+
+pub column_spelled : (word : List ℕ) → column_fault word ≡ None → (c : Column) × (word ≡ column_text c) × IsNumber c.field
+column_spelled word h = by_cases (begins_with (codes "text:") word) _ _ (λ begins told. column_behind (codes "text:") word 5 true refl begins told)
+    (λ _ other. by_cases (begins_with (codes "int:") word) _ _ (λ begins told. column_behind (codes "int:") word 4 false refl begins told) (λ _ e. absurd cc) other) h
+
+-- ---- numbers with a sign
+
+below_minus_one : (n : ℕ) → negsuc 0 -ℤ pos n ≡ negsuc n
+below_minus_one zero = refl
+below_minus_one (suc n) = let same : 0 + n ≡ n = omega arith in ap (λ (m : ℕ). negsuc (suc m)) same
+
+-- one less than the size goes into 63 bits
+minus : (n : ℕ) → 1 ≤ n → n ≤ 2 ^ 63 → to_z w64 (of_z w64 (negsuc 0 -ℤ to_z w64 (n - 1))) ≡ negsuc (n - 1)
+minus n some high =
+    let fits : FitsSigned w64 (negsuc (n - 1)) = omega (arith, some, high) in
+    let size : to_z w64 (n - 1) ≡ pos (n - 1) = to_z_pos w64 (n - 1) (omega (arith, some, high)) in
+    ap (λ (z : ℤ). to_z w64 (of_z w64 (negsuc 0 -ℤ z))) size
+    ∙ ap (λ (z : ℤ). to_z w64 (of_z w64 z)) (below_minus_one (n - 1))
+    ∙ to_z-of_z {w = w64} fits
+
+pub signed_minus : (word digits : List ℕ) (n : ℕ) → word ≡ 45 ∷ digits → digits ≡ decimal n → 1 ≤ n → n ≤ 2 ^ 63 → is_in_range 1 (2 ^ 63) digits ≡ true
+    → (word ≡ signed_decimal (to_z w64 (of_z w64 (negsuc 0 -ℤ to_z w64 (n - 1))))) × FitsSigned w64 (to_z w64 (of_z w64 (negsuc 0 -ℤ to_z w64 (n - 1)))) × (told_unless (is_signed_word word) 7 ≡ None)
+signed_minus word digits n e d some high h =
+    let size : n ≡ suc (n - 1) = omega (arith, some) in
+    rw (minus n some high) (e ∙ ap (λ (x : List ℕ). 45 ∷ x) (d ∙ ap decimal size), omega (arith, some, high), rw (e, h) refl)
+
+pub signed_bare : (word : List ℕ) (n : ℕ) → word ≡ decimal n → n ≤ 2 ^ 63 - 1 → (word ≡ signed_decimal (to_z w64 n)) × FitsSigned w64 (to_z w64 n) × (told_unless (is_signed_word word) 7 ≡ None)
+signed_bare word n e high =
+    let fits : FitsSigned w64 (pos n) = omega (arith, high) in
+    rw (to_z_pos w64 n (omega (arith, high))) (e, fits, rw (e, is_signed_word-signed_decimal (pos n) fits) refl)
+
+-- ---- names of loops
+
+pub name_reads : (name n : ℕ) (word : List ℕ) → word ≡ 120 ∷ decimal n → n ≡ name → 1 ≤ n → n ≤ 64 → name_fault name word ≡ None
+name_reads name n word e same low high = rw (e, ← same) (name_fault-loop_name n (low, high))
+
+pub name_told : (name n : ℕ) (word : List ℕ) → word ≡ 120 ∷ decimal n → n ≢ name → 1 ≤ n → n ≤ 64 → name_fault name word ≡ Some 11
+name_told name n word e other low high =
+    let small : n < 2 ^ 64 = omega (arith, high) in
+    let differ : (n == name) ≡ false = grind (arith, nat_tests) in
+    rw (e, is_in_range-decimal 1 64 n low high small, are_digits-decimal n small, (decimal_is_IsNumeral n small).1, differ) refl

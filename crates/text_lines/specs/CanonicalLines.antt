@@ -6,19 +6,14 @@ use Rattle.text_lines.specs.LineGrammar.{LineWord, plain_word, literal_word, IsP
 
 -- ---- lines of words
 
--- a line: how many blocks are open, and its words
-pub record TextLine : Type 0 where
-  pub depth : ℕ
-  pub words : List (List ℕ)
-
 -- one space between words
 abbrev pub spaced : List (List ℕ) → List ℕ
 spaced [] = []
 spaced (w ∷ ws) = w ++ flat_map (λ v. 32 ∷ v) ws
 
 -- two spaces for each block that is open, and a line feed behind the words
-abbrev pub line_text : TextLine → List ℕ
-line_text l = replicate (2 * l.depth) 32 ++ (spaced l.words ++ 10 ∷ [])
+abbrev pub line_text : ℕ → List (List ℕ) → List ℕ
+line_text depth words = (replicate (2 * depth) 32 ++ spaced words) ++ 10 ∷ []
 
 -- A byte of a literal: a backslash, a quotation mark, a line feed, a carriage return and a tab are two bytes, each other byte stands
 -- for itself.
@@ -43,6 +38,10 @@ word_text (literal_word bytes) = literal bytes
 -- two spaces for each block that is open, and one between words, without the line feed
 abbrev pub canonical_line : ℕ → List LineWord → List ℕ
 canonical_line depth words = replicate (2 * depth) 32 ++ spaced (map word_text words)
+
+-- with it
+abbrev pub line_spelling : ℕ → List LineWord → List ℕ
+line_spelling depth words = line_text depth (map word_text words)
 
 -- a word that some line has
 abbrev pub IsLineWord : LineWord → Type 0

@@ -1,5 +1,5 @@
 -- Words of digits, and what is told of a word.
-use Rattle.std.specs.Prelude.{ℕ, ◌^◌, ◌==◌, Bool, false, not, ◌&&◌, ◌||◌, if◌then◌else◌, nat_le, nat_lt, Option, Some, None, List, [], ◌∷◌, length, get_or}
+use Rattle.std.specs.Prelude.{ℕ, ◌^◌, ◌-◌, ◌==◌, Bool, false, not, ◌&&◌, ◌||◌, if◌then◌else◌, nat_le, Option, Some, None, List, [], ◌∷◌, length, get_or}
 use Rattle.std.specs.List.{list_any}
 use Rattle.std.specs.Str.Parse.{digits_value}
 
@@ -19,8 +19,7 @@ is_in_range low high bytes = is_number_word bytes && nat_le low (digits_value 10
 -- with or without a sign; there is no `-0`
 abbrev pub is_signed_word : List ℕ → Bool
 is_signed_word [] = false
-is_signed_word (b ∷ bytes) =
-    if b == 45 then is_in_range 1 (2 ^ 63) bytes else is_number_word (b ∷ bytes) && nat_lt (digits_value 10 (b ∷ bytes)) (2 ^ 63)
+is_signed_word (b ∷ bytes) = if b == 45 then is_in_range 1 (2 ^ 63) bytes else is_in_range 0 (2 ^ 63 - 1) (b ∷ bytes)
 
 -- the letter and one or more digits
 abbrev pub is_in_form : ℕ → List ℕ → Bool

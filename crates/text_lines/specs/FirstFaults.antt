@@ -1,6 +1,10 @@
 -- What is wrong with a text: its first faulty line, and that line's first fault. A grammar is given as the texts that are whole in it, and
 -- for each place of a text as what is wrong with the words of a line there.
 use Rattle.std.specs.Prelude.{◌≡◌, ◌⊎◌, ◌↔◌, ℕ, ◌+◌, max, List, [], ◌∷◌, ◌++◌, length, Option, Some, None}
+use Rattle.text_lines.specs.declared.faults.NotRead.{NotRead}
+use Rattle.text_lines.specs.declared.faults.NotRead.TheVariants.{Fault, Memory}
+use Rattle.text_lines.specs.declared.lines.TextFault.{TextFault}
+use Rattle.text_lines.specs.declared.lines.TextFault.TheVariants.{At, Memory as NoMemory}
 use Rattle.text_lines.specs.LineGrammar.{LineWord, HasLineFault}
 use Rattle.text_lines.specs.TextLines.{HasWords, trimmed}
 
@@ -44,3 +48,19 @@ pub record EndsEarly {Place : Type 0} (Whole : List (List ℕ) → Type 0) (faul
 
 abbrev pub IsFirstFault : {Place : Type 0} → (List (List ℕ) → Type 0) → (Place → List LineWord → Option ℕ) → (Place → Option ℕ) → List (List ℕ) → ℕ → ℕ → Type 0
 IsFirstFault Whole fault missing text number what = IsFaultyLine Whole fault text number what ⊎ EndsEarly Whole fault missing text number what
+
+-- ---- what a reader tells
+
+-- of a line: its own fault, and want of memory tells nothing
+abbrev pub IsLineFault : (List LineWord → Option ℕ) → NotRead → List ℕ → Type 0
+IsLineFault fault (Fault what) line = HasFault fault line what
+IsLineFault fault Memory line = Unit {0}
+
+abbrev pub told_at : ℕ → NotRead → TextFault
+told_at number (Fault what) = At number what
+told_at number Memory = NoMemory
+
+-- of a text
+abbrev pub TellsFirst : {Place : Type 0} → (List (List ℕ) → Type 0) → (Place → List LineWord → Option ℕ) → (Place → Option ℕ) → TextFault → List (List ℕ) → Type 0
+TellsFirst Whole fault missing (At number what) text = IsFirstFault Whole fault missing text number what
+TellsFirst Whole fault missing NoMemory text = Unit {0}

@@ -8,4 +8,3 @@ pub mod FirstFaults
 pub mod Runs
 pub mod OperandWords
 pub mod Slots
-pub mod Cursors

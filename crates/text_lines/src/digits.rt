@@ -1,8 +1,8 @@
 //! Numbers as words, whether a word is one.
 
-ghost use Rattle.std.specs.Prelude.{◌≡◌, ◌≤◌, ◌<◌, ◌^◌, false, true, IfNone, IfSome, Some, None};
+ghost use Rattle.std.specs.Prelude.{◌≡◌, ◌≤◌, ◌<◌, ◌^◌, false, true, IfNone, IfSome, Some, None, decimal};
 ghost use Rattle.std.specs.Str.Parse.{digits_value};
-ghost use Rattle.text_lines.specs.Digits.{are_digits, is_digit, is_in_form, is_in_range, is_number_word, is_signed_word};
+ghost use Rattle.text_lines.specs.Digits.{are_digits, is_digit, is_in_form, is_in_range, is_number_word};
 
 use std::str;
 
@@ -43,7 +43,7 @@ fn number_of(word: &[u8]) -> Option<u64>
 
 /// The number that a word in a range spells.
 pub fn number_between(low: u64, high: u64, word: &[u8]) -> Option<u64>
-    ensures some { IfSome result (λ n. (n ≡ digits_value 10 word.now) × (is_in_range low high word.now ≡ true)) }
+    ensures some { IfSome result (λ n. (word.now ≡ decimal n) × (low ≤ n) × (n ≤ high) × (is_in_range low high word.now ≡ true)) }
     ensures none { IfNone result (is_in_range low high word.now ≡ false) }
 {
     if !is_number_word(word) {
@@ -59,16 +59,6 @@ pub fn is_in_range(low: u64, high: u64, word: &[u8]) -> bool
     ensures { result ≡ is_in_range low high word.now }
 {
     number_between(low, high, word).is_some()
-}
-
-// With or without a sign; there is no `-0`.
-pub fn is_signed_word(word: &[u8]) -> bool
-    ensures { result ≡ is_signed_word word.now }
-{
-    match word.split_first() {
-        Some((b'-', digits)) => is_in_range(1, 1 << 63, digits),
-        _ => is_in_range(0, (1 << 63) - 1, word),
-    }
 }
 
 /// Whether a word is a letter with one or more digits behind it.

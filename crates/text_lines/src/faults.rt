@@ -2,8 +2,10 @@
 
 ghost use Rattle.std.specs.Prelude.{◌≡◌};
 ghost use Rattle.text_lines.specs.declared.faults.NotRead.TheVariants.{Fault};
+ghost use Rattle.text_lines.specs.FirstFaults.{told_at};
 ghost use Rattle.text_lines.specs.LineReading.{IsTold};
 
+use crate::lines::TextFault;
 use pact_record::OutOfMemory;
 
 /// Why a line, or a part of one, isn't read.
@@ -23,6 +25,16 @@ impl NotRead {
         match self {
             NotRead::Fault { what } => what,
             NotRead::Memory => unreachable!(),
+        }
+    }
+
+    /// Why a text isn't read, where this is why its line of that number isn't.
+    pub fn at_line(self, line: u64) -> TextFault
+        ensures { result ≡ told_at line self }
+    {
+        match self {
+            NotRead::Fault { what } => TextFault::At { line, what },
+            NotRead::Memory => TextFault::Memory,
         }
     }
 }

@@ -11,7 +11,6 @@ mod digits;
 pub mod faults;
 pub mod line_words;
 pub mod lines;
-mod numbers;
 mod operands;
 mod scanning;
 pub mod word_reading;

@@ -3,9 +3,8 @@
 ghost use Rattle.std.specs.Prelude.{◌≡◌, ◌≤◌, ◌∷◌, FitsSigned, IfErr, IfNone, IfSome, None, Some, decimal, false, if◌then◌else◌, true};
 ghost use Rattle.std.specs.Fmt.{signed_decimal};
 ghost use Rattle.tac_syntax.specs.Grammar.{IsLoopName, IsNumber, IsSpelledRecord};
-ghost use Rattle.text_lines.specs.Cursors.{ReadsPlain};
+ghost use Rattle.text_lines.specs.LineReading.{ReadsPlain, IsTold};
 ghost use Rattle.text_lines.specs.Digits.{is_in_form, is_in_range, is_signed_word, told_unless};
-ghost use Rattle.text_lines.specs.LineReading.{IsTold};
 ghost use Rattle.text_lines.specs.OperandWords.{column_text, fixed_record, list_word, loop_name, record_register, record_word, value_register};
 ghost use Rattle.text_lines.specs.Slots.{column_fault, is_list_word, name_fault, numbered_fault, operand_fault, register_fault};
 ghost use mir.Syntax.{w64};
@@ -13,28 +12,16 @@ ghost use mir.Syntax.{w64};
 use crate::digits::{is_in_form, number_between};
 use crate::faults::NotRead;
 use crate::line_words::is_word;
-use crate::numbers::read_signed;
 use pact_record::Column;
 use tac_syntax::{LoopList, Rec};
-
-// A number in a range, if the word is one.
-fn number_within(low: u32, high: u32, word: &[u8]) -> Option<u32>
-    ensures some { IfSome result (λ n. (word.now ≡ decimal n) × (low ≤ n) × (n ≤ high) × (is_in_range low high word.now ≡ true)) }
-    ensures none { IfNone result (is_in_range low high word.now ≡ false) }
-{
-    match number_between(u64::from(low), u64::from(high), word) {
-        Some(number) => Some(number as u32),
-        None => None,
-    }
-}
 
 /// A number in a range.
 pub fn number_in(low: u32, high: u32, word: &[u8]) -> Result<u32, NotRead>
     ensures read { ReadsPlain (told_unless (is_in_range low high word.now) 7) (λ n. (low ≤ n) × (n ≤ high)) decimal result word.now }
     ensures told { IfErr result IsTold }
 {
-    match number_within(low, high, word) {
-        Some(number) => Ok(number),
+    match number_between(u64::from(low), u64::from(high), word) {
+        Some(number) => Ok(number as u32),
         None => Err(NotRead::Fault { what: 7 }),
     }
 }
@@ -43,8 +30,14 @@ pub fn number_in(low: u32, high: u32, word: &[u8]) -> Result<u32, NotRead>
 pub fn signed_in(word: &[u8]) -> Result<i64, NotRead>
     ensures { ReadsPlain (told_unless (is_signed_word word.now) 7) (FitsSigned w64) signed_decimal result word.now }
 {
-    match read_signed(word) {
-        Some(number) => Ok(number),
+    if let Some((b'-', digits)) = word.split_first() {
+        return match number_between(1, 1 << 63, digits) {
+            Some(size) => Ok(-1 - (size - 1) as i64),
+            None => Err(NotRead::Fault { what: 7 }),
+        };
+    }
+    match number_between(0, (1 << 63) - 1, word) {
+        Some(number) => Ok(number as i64),
         None => Err(NotRead::Fault { what: 7 }),
     }
 }
@@ -57,10 +50,7 @@ fn numbered(letter: u8, low: u32, high: u32, word: &[u8]) -> Result<u32, NotRead
     if !is_in_form(letter, word) {
         return Err(NotRead::Fault { what: 8 });
     }
-    match number_within(low, high, &word[1..]) {
-        Some(number) => Ok(number),
-        None => Err(NotRead::Fault { what: 7 }),
-    }
+    number_in(low, high, &word[1..])
 }
 
 /// A value register, as its number.

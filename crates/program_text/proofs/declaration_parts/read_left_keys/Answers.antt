@@ -1,7 +1,7 @@
 use Rattle.std.proofs.Common.{codes, rules, sym, subst, ◌∙◌}
 use Rattle.tac_syntax.specs.Functions.{key_limit}
 use Rattle.tac_syntax.specs.Grammar.{IsNumber}
-use Rattle.text_lines.specs.Cursors.{IsOther}
+use Rattle.text_lines.specs.LineReading.{IsOther}
 use Rattle.text_lines.specs.Slots.{equals_then, number}
 use Rattle.text_lines.proofs.ListSlots.{list_goes_on}
 use Rattle.program_text.specs.DeclarationFaults.{numbers_fault}

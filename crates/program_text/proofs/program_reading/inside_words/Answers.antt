@@ -1,4 +1,4 @@
-use Rattle.program_text.proofs.ReadSteps.{ended_words, inner_words}
+use Rattle.program_text.proofs.ReadLoop.{ended_words, inner_words}
 use Rattle.program_text.proofs.program_reading.inside_words.Goals as goal
 
 pub returns-then-ended-clause-leads : goal.returns-then-ended-clause-leads

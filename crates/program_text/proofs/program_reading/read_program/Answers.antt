@@ -1,6 +1,6 @@
 use Rattle.std.proofs.Common.{◌≡◌, [], arith}
 use Rattle.std.proofs.lemmas.List.{nil_from_length}
-use Rattle.program_text.specs.ProgramReading.{state_of}
+use Rattle.program_text.specs.ProgramStates.{state_of}
 use Rattle.program_text.proofs.ReadLoop.{reached_start, reached_on, told_fault, not_given, read_so}
 use Rattle.program_text.proofs.program_reading.read_program.Goals as goal
 
@@ -9,8 +9,7 @@ loop-rest-init c = reached_start c.args.text.now
 
 pub returns-in-Err-clause-fault : goal.returns-in-Err-clause-fault
 returns-in-Err-clause-fault c =
-    told_fault c.args.text.now c.loop-rest.rest.now c.first_line.result.1.now c.first_line.result.0.now c.loop-rest.lines (state_of c.loop-rest.state) c.in-Err.not c.at_line.result c.loop-rest.invariant c.first_line.ensures.lines c.in-Err.ensures.fault
-    c.at_line.ensures
+    rw c.at_line.ensures (told_fault c.args.text.now c.loop-rest.rest.now c.first_line.result.1.now c.first_line.result.0.now c.loop-rest.lines (state_of c.loop-rest.state) c.in-Err.not c.loop-rest.invariant c.first_line.ensures.lines c.in-Err.ensures.fault)
 
 pub returns-in-Err-clause-draft_always : goal.returns-in-Err-clause-draft_always
 returns-in-Err-clause-draft_always c d text = not_given _ c.at_line.result d (returns-in-Err-clause-fault c) text

@@ -1,5 +1,5 @@
 use Rattle.std.proofs.Common.{length}
-use Rattle.program_text.specs.ProgramReading.{state_of}
+use Rattle.program_text.specs.ProgramStates.{state_of}
 use Rattle.program_text.proofs.ReadLoop.{Reached}
 use Rattle.program_text.proofs.program_reading.read_program.Given as goal
 

@@ -1,7 +1,6 @@
 use Rattle.std.proofs.Common.{◌≡◌, ◌++◌, flat_map, drop}
 use Rattle.std.specs.List.{AllByRecursion}
-use Rattle.program_text.specs.ProgramTexts.{decl_spelling, program_spelling}
-use Rattle.program_text.specs.ProgramWriting.{CanWrite}
+use Rattle.program_text.specs.ProgramTexts.{decl_spelling, program_spelling, CanWrite}
 use Rattle.program_text.proofs.program_writing.write_program.Given as goal
 
 abbrev pub invariant-loop-decl : goal.invariant-loop-decl

@@ -1,8 +1,7 @@
 use Rattle.std.proofs.Common.{Bool, Err, sym, subst}
 use Rattle.text_lines.specs.declared.lines.TextFault.{TextFault}
 use Rattle.tac_text.specs.FunctionLines.{FunctionAt}
-use Rattle.tac_text.specs.FunctionReading.{GivesFunction}
-use Rattle.tac_text.specs.FunctionStates.{LeadsLine}
+use Rattle.tac_text.specs.FunctionStates.{GivesFunction, LeadsLine}
 use Rattle.tac_text.proofs.FunctionReads.{FunctionAt-read, FunctionAt-unique, HasRead-line, IsFunctionFault-read, IsFunctionFault-end, GivesFunction-fault, GivesFunction-end}
 use Rattle.tac_text.proofs.function_reading.read_function.Goals as goal
 
@@ -33,11 +32,11 @@ pub returns-in-Err-clause-function_always : goal.returns-in-Err-clause-function_
 returns-in-Err-clause-function_always c f behind h =
     let told = GivesFunction-fault c.args.text.now c.args.at c.loop-behind.behind c.line_at-next.result.1 c.loop-behind.number c.line_at-next.result.0.now c.loop-behind.begun c.in-Err.why
     c.loop-behind.invariant c.line_at-next.ensures.lines c.in-Err.ensures.fault f behind h in
-    subst (λ (e : TextFault). GivesFunction (Err e) f behind) (sym c.fault_at.ensures) told
+    subst (λ (e : TextFault). GivesFunction (Err e) f behind) (sym c.at_line.ensures) told
 
 pub returns-in-Err-clause-fault : goal.returns-in-Err-clause-fault
 returns-in-Err-clause-fault c =
-    rw c.fault_at.ensures (IsFunctionFault-read c.args.text.now c.args.at c.loop-behind.behind c.line_at-next.result.1 c.loop-behind.number c.line_at-next.result.0.now c.loop-behind.begun c.in-Err.why
+    rw c.at_line.ensures (IsFunctionFault-read c.args.text.now c.args.at c.loop-behind.behind c.line_at-next.result.1 c.loop-behind.number c.line_at-next.result.0.now c.loop-behind.begun c.in-Err.why
     c.loop-behind.invariant c.line_at-next.ensures.lines c.in-Err.ensures.fault)
 
 pub returns-clause-function_always : goal.returns-clause-function_always

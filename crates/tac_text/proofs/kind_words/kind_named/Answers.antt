@@ -1,7 +1,7 @@
 use Rattle.std.proofs.Common.{bytes_eq, ap, sym, ◌∙◌}
 use Rattle.tac_syntax.specs.declared.functions.Kind.TheVariants.{Map}
 use Rattle.text_lines.proofs.Faultless.{named_in-next}
-use Rattle.tac_text.specs.Spelling.{kind_word}
+use Rattle.tac_text.specs.FunctionLines.{kind_word}
 use Rattle.tac_text.specs.declared.kind_words.TheConstants.{KINDS}
 use Rattle.tac_text.proofs.kind_words.kind_named.Goals as goal
 

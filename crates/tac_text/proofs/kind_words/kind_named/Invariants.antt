@@ -1,6 +1,6 @@
 use Rattle.std.proofs.Common.{◌≡◌, drop}
 use Rattle.text_lines.specs.OperandWords.{named_in}
-use Rattle.tac_text.specs.Spelling.{kind_word}
+use Rattle.tac_text.specs.FunctionLines.{kind_word}
 use Rattle.tac_text.specs.declared.kind_words.TheConstants.{KINDS}
 use Rattle.tac_text.proofs.kind_words.kind_named.Given as goal
 

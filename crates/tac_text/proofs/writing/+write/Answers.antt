@@ -5,7 +5,7 @@ use Rattle.tac_syntax.specs.Coding.{tall}
 use Rattle.tac_syntax.specs.Trees.{only}
 use Rattle.tac_syntax.proofs.Bodies.{tall-only-le, nesting-only-le}
 use Rattle.tac_text.specs.Spelling.{deepest}
-use Rattle.tac_text.proofs.WrittenBodies.{written_more}
+use Rattle.tac_text.proofs.WrittenFunctions.{written_more}
 use Rattle.tac_text.proofs.writing.+write.Goals as goal
 
 pub write_lines-write_stmt-requires : goal.write_lines-write_stmt-requires
@@ -24,5 +24,5 @@ write_lines-write_stmt-requires t c =
 
 pub write_lines-loop-stmt-preserved : goal.write_lines-loop-stmt-preserved
 write_lines-loop-stmt-preserved t c =
-    written_more c.args.out.now c.loop-stmt.out c.write_stmt.new.out c.args.depth c.stmts-stmt-items.result.now c.loop-stmt.stmt-index c.stmt-item.result
+    written_more c.loop-stmt.out c.write_stmt.new.out _ c.args.depth c.stmts-stmt-items.result.now c.loop-stmt.stmt-index c.stmt-item.result
     c.loop-stmt-test.true c.stmt-item.is c.loop-stmt.invariant c.in_ok-write_stmt.ensures

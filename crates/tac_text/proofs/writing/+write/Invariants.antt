@@ -1,8 +1,7 @@
-use Rattle.std.proofs.Common.{◌≡◌, ◌++◌, ◌+◌, ◌*◌, flat_map, take}
+use Rattle.std.proofs.Common.{◌≡◌, ◌++◌, ◌+◌, ◌*◌, drop}
 use Rattle.tac_syntax.specs.Coding.{tall}
 use Rattle.tac_syntax.specs.Trees.{code_of, only}
 use Rattle.tac_text.specs.Spelling.{body_text}
-use Rattle.text_lines.specs.CanonicalLines.{line_text}
 use Rattle.tac_text.proofs.writing.+write.Given as goal
 
 abbrev pub decreases-write_lines : goal.decreases-write_lines
@@ -12,4 +11,4 @@ abbrev pub decreases-write_stmt : goal.decreases-write_stmt
 decreases-write_stmt l = 2 * tall (only l.stmt.now)
 
 abbrev pub invariant-write_lines-loop-stmt : goal.invariant-write_lines-loop-stmt
-invariant-write_lines-loop-stmt l = l.out ≡ l.fn.out ++ flat_map line_text (body_text l.depth (code_of (take l.stmt-index l.stmt-items)))
+invariant-write_lines-loop-stmt l = l.out ++ body_text l.depth (code_of (drop l.stmt-index l.stmt-items)) ≡ l.fn.out ++ body_text l.depth l.body

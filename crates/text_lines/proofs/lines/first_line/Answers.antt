@@ -1,7 +1,7 @@
 use Rattle.std.proofs.Common.{rules, ap, ◌∙◌, ◌∷◌, List, ℕ, sym, subst, false, ◌≡◌, arith}
 use Rattle.std.proofs.lemmas.List.{drop_all, take_all}
 use Rattle.text_lines.specs.TextLines.{lines_of}
-use Rattle.text_lines.proofs.FirstLines.{has_feed, first_at_feed, lines_of-last}
+use Rattle.text_lines.proofs.TextLines.{has_feed, first_at_feed, lines_of-last}
 use Rattle.text_lines.proofs.lines.first_line.Goals as goal
 
 pub returns-then-text-at-eq10-clause-lines : goal.returns-then-text-at-eq10-clause-lines

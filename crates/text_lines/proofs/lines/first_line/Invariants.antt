@@ -1,5 +1,5 @@
 use Rattle.std.proofs.Common.{◌≡◌, false, take}
-use Rattle.text_lines.proofs.FirstLines.{has_feed}
+use Rattle.text_lines.proofs.TextLines.{has_feed}
 use Rattle.text_lines.proofs.lines.first_line.Given as goal
 
 abbrev pub invariant-loop-at : goal.invariant-loop-at

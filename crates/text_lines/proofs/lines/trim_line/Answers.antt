@@ -1,6 +1,6 @@
 use Rattle.std.proofs.Common.{sym}
 use Rattle.std.proofs.lemmas.Bool.{ne_eqb}
-use Rattle.text_lines.proofs.FirstLines.{trimmed-return, trimmed-other}
+use Rattle.text_lines.proofs.TextLines.{trimmed-return, trimmed-other}
 use Rattle.text_lines.proofs.lines.trim_line.Goals as goal
 
 pub returns-then-last-eq13 : goal.returns-then-last-eq13

@@ -1,8 +1,7 @@
 use Rattle.std.proofs.Common.{◌∙◌, inr, refl, sym}
 use Rattle.text_lines.specs.LineGrammar.{IsLine, IsUnspelled}
-use Rattle.text_lines.proofs.LineFaults.{IsLine-unique, IsLine-words_in, IsUnspelled-words_in, ¬HasLineFault-IsLine, ¬IsGarbled-clean}
-use Rattle.text_lines.proofs.ReadWords.{AreLineWords-IsLine}
-use Rattle.text_lines.proofs.WrittenLines.{IsLine-written}
+use Rattle.text_lines.proofs.FoundWords.{IsLine-unique, IsLine-words_in, IsUnspelled-words_in, ¬HasLineFault-IsLine, ¬IsGarbled-clean}
+use Rattle.text_lines.proofs.CanonicalLines.{AreLineWords-IsLine, IsLine-written}
 use Rattle.text_lines.proofs.word_reading.read_words.Goals as goal
 
 is_line : (c : goal.In-Some) → IsLine c.args.line.now c.in-Some.words

@@ -1,16 +1,16 @@
--- A canonical line is read as the words that it was made of.
-use Rattle.std.proofs.Common.{◌≡◌, ◌==◌, ◌*◌, inl, inr, ℕ, zero, suc, Bool, true, false, List, [], ◌∷◌, ◌++◌, map, flat_map, replicate, IsUtf8, refl, ap, sym, subst, ◌∙◌, arith}
+-- A canonical line is read as the words that it was made of, and the words that are read of a line can be written again.
+use Rattle.std.proofs.Common.{◌≡◌, ◌==◌, ◌*◌, inl, inr, ℕ, zero, suc, Bool, true, false, List, [], ◌∷◌, ◌++◌, map, flat_map, replicate, IsUtf8, refl, ap, sym, subst, ◌∙◌, arith, ◌<◌, append-nil}
+use Rattle.std.specs.List.{AllByRecursion}
 use Rattle.std.proofs.lemmas.Bool.{eqb-true, or_parts}
 use Rattle.std.proofs.lemmas.Bool.Decides.{nat_tests}
 use Rattle.std.proofs.lemmas.List.Folds.{list_any-append}
 use Rattle.std.proofs.lemmas.Str.{IsUtf8-nil, IsUtf8-append}
-use Rattle.text_lines.specs.CanonicalLines.{word_text, canonical_line, IsLineWord, AreLineWords}
-use Rattle.text_lines.specs.LineGrammar.{LineWord, plain_word, literal_word, needs_escape, SpellsByte, SpellsBytes, SpellsWord, SpellsWords, IsGap, IsWordEnd, IsLine, has_return}
-use Rattle.text_lines.specs.CanonicalLines.{escaped, literal, spaced}
+use Rattle.pact_record.proofs.Lists.{AllByRecursion-weaker}
+use Rattle.text_lines.specs.CanonicalLines.{word_text, canonical_line, IsLineWord, AreLineWords, escaped, literal, spaced}
+use Rattle.text_lines.specs.LineGrammar.{LineWord, plain_word, literal_word, needs_escape, SpellsByte, SpellsBytes, SpellsWord, SpellsWords, IsGap, IsWordEnd, IsLine, has_return, is_blank, ends_word}
 use Rattle.text_lines.specs.TextLines.{HasWords, trimmed}
-use Rattle.text_lines.proofs.FirstLines.{has_feed}
-use Rattle.text_lines.proofs.LiteralTexts.{IsUtf8-spelling}
-use Rattle.text_lines.proofs.Utf8Cuts.{IsUtf8-around_ascii}
+use Rattle.text_lines.proofs.TextLines.{has_feed}
+use Rattle.text_lines.proofs.Utf8Texts.{IsUtf8-spelling, IsUtf8-around_ascii, IsUtf8-ascii, IsUtf8-meaning, IsUtf8-before_ascii, IsUtf8-behind_ascii}
 
 -- ---- literals
 
@@ -73,16 +73,6 @@ IsClean-literal bytes h =
       no_return = has_return-append inside (34 ∷ []) (clean_escapes bytes).0 refl;
     }
 
-IsClean-space : (bytes : List ℕ) → IsClean bytes → IsClean (32 ∷ bytes)
-IsClean-space bytes h = record { utf8 = IsUtf8-around_ascii [] 32 bytes (omega arith) IsUtf8-nil h.utf8; no_return = h.no_return }
-
-clean_nothing : IsClean []
-clean_nothing = record { utf8 = IsUtf8-nil; no_return = refl }
-
-IsClean-spaces : (n : ℕ) → IsClean (replicate n 32)
-IsClean-spaces zero = clean_nothing
-IsClean-spaces (suc n) = IsClean-space (replicate n 32) (IsClean-spaces n)
-
 IsClean-word_text : (word : LineWord) → IsLineWord word → IsClean (word_text word)
 IsClean-word_text (plain_word bytes) h = record { utf8 = h.1; no_return = h.2 }
 IsClean-word_text (literal_word bytes) h = IsClean-literal bytes h.1
@@ -91,14 +81,31 @@ IsClean-word_text (literal_word bytes) h = IsClean-literal bytes h.1
 abbrev more_text : List LineWord → List ℕ
 more_text words = flat_map (λ v. 32 ∷ v) (map word_text words)
 
-IsClean-more_text : (words : List LineWord) → AreLineWords words → IsClean (more_text words)
-IsClean-more_text [] h = clean_nothing
-IsClean-more_text (word ∷ words) h =
-    IsClean-append (32 ∷ word_text word) (more_text words) (IsClean-space (word_text word) (IsClean-word_text word h.0)) (IsClean-more_text words h.1)
+-- what holds of spaces, and of two texts together, holds of a line where it holds of its words
+pub record OfTexts (P : List ℕ → Type 0) : Type 0 where
+  pub nothing : P []
+  pub space : P (32 ∷ [])
+  pub both : (x y : List ℕ) → P x → P y → P (x ++ y)
 
-IsClean-spaced : (words : List LineWord) → AreLineWords words → IsClean (spaced (map word_text words))
-IsClean-spaced [] h = clean_nothing
-IsClean-spaced (word ∷ words) h = IsClean-append (word_text word) (more_text words) (IsClean-word_text word h.0) (IsClean-more_text words h.1)
+of_spaces : (P : List ℕ → Type 0) → OfTexts P → (n : ℕ) → P (replicate n 32)
+of_spaces P o zero = o.nothing
+of_spaces P o (suc n) = o.both (32 ∷ []) (replicate n 32) o.space (of_spaces P o n)
+
+of_more : (P : List ℕ → Type 0) → OfTexts P → (words : List LineWord) → AllByRecursion (λ w. P (word_text w)) words → P (more_text words)
+of_more P o [] h = o.nothing
+of_more P o (word ∷ words) h = o.both (32 ∷ word_text word) (more_text words) (o.both (32 ∷ []) (word_text word) o.space h.0) (of_more P o words h.1)
+
+pub of_line : (P : List ℕ → Type 0) → OfTexts P → (depth : ℕ) (words : List LineWord) → AllByRecursion (λ w. P (word_text w)) words → P (canonical_line depth words)
+of_line P o depth [] h = o.both (replicate (2 * depth) 32) [] (of_spaces P o (2 * depth)) o.nothing
+of_line P o depth (word ∷ words) h =
+    o.both (replicate (2 * depth) 32) (word_text word ++ more_text words) (of_spaces P o (2 * depth)) (o.both (word_text word) (more_text words) h.0 (of_more P o words h.1))
+
+clean_texts : OfTexts IsClean
+clean_texts = record {
+  nothing = record { utf8 = IsUtf8-nil; no_return = refl };
+  space = record { utf8 = IsUtf8-ascii 32 (omega arith); no_return = refl };
+  both = IsClean-append;
+}
 
 -- ---- words
 
@@ -128,7 +135,7 @@ IsGap-spaces (suc n) = (refl, IsGap-spaces n)
 
 pub IsLine-canonical_line : (depth : ℕ) (words : List LineWord) → AreLineWords words → IsLine (canonical_line depth words) words
 IsLine-canonical_line depth words h =
-    let clean = IsClean-append (replicate (2 * depth) 32) (spaced (map word_text words)) (IsClean-spaces (2 * depth)) (IsClean-spaced words h) in
+    let clean = of_line IsClean clean_texts depth words (AllByRecursion-weaker IsLineWord (λ (w : LineWord). IsClean (word_text w)) words IsClean-word_text h) in
     (clean.utf8, clean.no_return, SpellsWords-spaced (replicate (2 * depth) 32) words (IsGap-spaces (2 * depth)) h)
 
 pub IsLine-written : (line : List ℕ) (depth : ℕ) (words : List LineWord) → AreLineWords words → line ≡ canonical_line depth words → IsLine line words
@@ -146,3 +153,46 @@ pub HasWords-canonical_line : (depth : ℕ) (words : List LineWord) → AreLineW
 HasWords-canonical_line depth words h =
     let line = IsLine-canonical_line depth words h in
     subst (λ (x : List ℕ). IsLine x words) (sym (trimmed-no_return (canonical_line depth words) line.1)) line
+
+-- ---- words that were read
+
+ends_word-ascii : (b : ℕ) → ends_word b ≡ true → b < 128
+ends_word-ascii b h = grind (arith, nat_tests)
+
+is_blank-ends_word : (b : ℕ) → is_blank b ≡ true → ends_word b ≡ true
+is_blank-ends_word b h = rw h refl
+
+IsUtf8-behind_gap : (gap rest : List ℕ) → IsGap gap → IsUtf8 (gap ++ rest) → IsUtf8 rest
+IsUtf8-behind_gap [] rest g h = h
+IsUtf8-behind_gap (b ∷ gap) rest g h =
+    IsUtf8-behind_gap gap rest g.1 (IsUtf8-behind_ascii [] b (gap ++ rest) (ends_word-ascii b (is_blank-ends_word b g.0)) h)
+
+IsUtf8-before_end : (text rest : List ℕ) → IsWordEnd rest → IsUtf8 (text ++ rest) → IsUtf8 text
+IsUtf8-before_end text [] end h = subst IsUtf8 (append-nil text) h
+IsUtf8-before_end text (b ∷ rest) end h = IsUtf8-before_ascii text b rest (ends_word-ascii b end) h
+
+IsUtf8-at_end : (text rest : List ℕ) → IsWordEnd rest → IsUtf8 (text ++ rest) → IsUtf8 rest
+IsUtf8-at_end text [] end h = IsUtf8-nil
+IsUtf8-at_end text (b ∷ rest) end h =
+    let ascii = ends_word-ascii b end in
+    IsUtf8-around_ascii [] b rest ascii IsUtf8-nil (IsUtf8-behind_ascii text b rest ascii h)
+
+has_return-parts : (x y : List ℕ) → has_return (x ++ y) ≡ false → (has_return x ≡ false) × (has_return y ≡ false)
+has_return-parts x y h = or_parts (has_return x) (has_return y) (sym (list_any-append (λ (b : ℕ). b == 13) x y) ∙ h)
+
+IsLineWord-spelled : (text : List ℕ) (word : LineWord) → SpellsWord text word → IsUtf8 text → has_return text ≡ false → IsLineWord word
+IsLineWord-spelled text (plain_word bytes) h utf8 return = (h.1, subst IsUtf8 h.0 utf8, subst (λ (x : List ℕ). has_return x ≡ false) h.0 return)
+IsLineWord-spelled text (literal_word bytes) h utf8 return =
+    let opened = IsUtf8-behind_ascii [] 34 (h.0 ++ 34 ∷ []) (omega arith) (subst IsUtf8 h.1 utf8) in
+    let inside = IsUtf8-before_ascii h.0 34 [] (omega arith) opened in
+    (h.3, IsUtf8-meaning [] h.0 bytes h.2 inside)
+
+AreLineWords-spelled : (line : List ℕ) (words : List LineWord) → SpellsWords line words → IsUtf8 line → has_return line ≡ false → AreLineWords words
+AreLineWords-spelled line [] h utf8 return = tt
+AreLineWords-spelled line (word ∷ words) h utf8 return =
+    let behind = IsUtf8-behind_gap h.0 (h.1 ++ h.2) h.4 (subst IsUtf8 h.3 utf8) in
+    let parts = has_return-parts h.1 h.2 (has_return-parts h.0 (h.1 ++ h.2) (subst (λ (x : List ℕ). has_return x ≡ false) h.3 return)).1 in
+    (IsLineWord-spelled h.1 word h.5 (IsUtf8-before_end h.1 h.2 h.6 behind) parts.0, AreLineWords-spelled h.2 words h.7 (IsUtf8-at_end h.1 h.2 h.6 behind) parts.1)
+
+pub AreLineWords-IsLine : (line : List ℕ) (words : List LineWord) → IsLine line words → AreLineWords words
+AreLineWords-IsLine line words h = AreLineWords-spelled line words h.2 h.0 h.1
