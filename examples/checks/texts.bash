@@ -85,7 +85,7 @@ repeated() {
     done
 }
 
-# 64 blocks stand inside each other, and no more.
+# A text has 64 blocks inside each other, and no more; so many branches no valid function has.
 for blocks in 64 65; do
     {
         printf 'pact 1\nfields 1\nsource s s.csv int:0\nfunction f map\nv0 = int 1\n'
@@ -94,7 +94,7 @@ for blocks in 64 65; do
         printf 'end\nmap m f s\nsink m 0\n'
     } >"$scratch/nested$blocks.pact"
 done
-count gives 0 'm map reads {} writes {} control {} touched {} emit 0..0 anchor none order yes\n' '' sets nested64.pact
+count gives 6 '' 'function f: V5 at statement 9\n' sets nested64.pact
 count gives 5 '' 'nested65.pact:70: text fault 10\n' sets nested65.pact
 
 # Each row has the kind of a function of records with four fields, what follows its statements 0 to 3, the rule that is broken, and the statement that breaks it.

@@ -55,6 +55,3 @@ pub moved_width : (whole old rest : List StationData) (s : StationData) (rows pl
 moved_width whole old rest s rows placed h m e p =
     let next = moved-next whole old rest s rows placed (rows ++ placed) m e p refl in
     front_width (rows ++ placed) (all_of (length rest) (placed_by whole)) (subst HaveOneWidth next.all h)
-
-pub all_moved : (whole rest : List StationData) (rows : Bag) → IsMoved whole rest rows → length rest ≡ 0 → rows ≡ all_of (length whole) (placed_by whole)
-all_moved whole rest rows m e = sym (m.all ∙ ap (λ (n : ℕ). rows ++ all_of n (placed_by whole)) e ∙ append-nil rows)

@@ -21,9 +21,6 @@ runs-last g depth [] e w u v h more r can step =
     (v, subst (λ (x : World). enabled g.physical depth x e ≡ true) r.0 can, subst (λ (x : World). Steps g x e v) r.0 step, (refl, λ i. noted (r.0 i) e (r.1 i)))
 runs-last g depth (x ∷ es) e w u v h more r can step = (r.0, r.1, r.2, runs-last g depth es e r.0 u v (noted w x h) more r.3 can step)
 
-pub none_replayed : (w : WorldData) → StandsForSome w → IsReplayed w [] w
-none_replayed w s = record { runs = λ g h st. (h, (refl, refl), st); physical = refl; depth = refl; stands = s }
-
 pub replayed-last : (w u v : WorldData) (es : List Event) (e : Event) → IsReplayed w es u → enabled u.physical u.depth (seen u) e ≡ true
     → ((g : Setting) (h : History) → IsStanding g u h → Steps g (seen u) e (seen v)) → ((g : Setting) (h : History) → IsStanding g u h → IsStanding g v (noted (seen u) e h))
     → v.physical ≡ u.physical → v.depth ≡ u.depth → StandsForSome v → IsReplayed w (es ++ e ∷ []) v

@@ -29,9 +29,6 @@ stowed fields to done held old before after some e c = record {
   wide = tt;
 }
 
-pub none_yet : (fields to : ℕ) (old : List Parcel) → AreCarriedBut fields to [] old old []
-none_yet fields to old = record { more = []; behind = sym (append-nil old); batches = tt; carried = refl; wide = tt }
-
 -- all are held
 pub all_held : (fields to : ℕ) (rows : Bag) (old : List Parcel) → AreWide fields rows → AreCarriedBut fields to rows old old rows
 all_held fields to rows old wide = record { more = []; behind = sym (append-nil old); batches = tt; carried = refl; wide = wide }

@@ -187,9 +187,6 @@ took_map rows keys is_sealed s t f batch out ready k e o frame counted given fro
 
 -- ---- a Match or a Cross
 
-key_none : (kind : OpKind) (keys : ℕ) (left right : List ℕ) → kind ≡ Cross → HasKeyLists kind keys left right → (left ≡ []) × (right ≡ [])
-key_none kind keys left right e h = subst (λ (k : OpKind). HasKeyLists k keys left right) e h
-
 gives_pair : (p : Part) (ops : PlanOps) (kept : Bag) (kind : OpKind) (keys : ℕ) (batch out : Bag) → is_pair_kind kind ≡ true → HasKeyLists kind keys p.left_keys p.right_keys → ops.left_keys p.at ≡ p.left_keys → ops.right_keys p.at ≡ p.right_keys
     → out ≡ crossed (matched (ops.of_pair p.at) p.left_keys p.right_keys) kept batch → GivesAtOnce (spot_of (part_of p) ops) kind 1 kept (Batch batch) out
 gives_pair p ops kept Match keys batch out k h l r e = e ∙ (λ i. crossed (matched (ops.of_pair p.at) (sym l i) (sym r i)) kept batch)

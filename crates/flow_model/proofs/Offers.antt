@@ -12,7 +12,7 @@ use Rattle.flow_model.specs.Local.{IsLocal, IsReceiver, IsWaiting, IsGiven, Gave
 use Rattle.plan_trees.proofs.EachWorker.{none_each}
 use Rattle.flow_model.specs.Notes.{AreNotes, IsNote, has_end, rows_of}
 use Rattle.flow_model.specs.Spots.{Spot, has_out, sent}
-use Rattle.flow_model.specs.Steps.{AddedTo, Started, finish, is_end, later, later_marks, next_note, next_receiver, note_rows, offered, returned}
+use Rattle.flow_model.specs.Steps.{AddedTo, Started, finish, is_end, later, later_marks, next_note, note_rows, offered}
 use Rattle.flow_model.proofs.Bags.{are_notes-last, has_end-last, is_same, joined, rows_of-last}
 use Rattle.flow_model.proofs.Sums.{at_most}
 
@@ -127,16 +127,6 @@ offered_local s worker i taken put new a l wanted below more =
     }
 
 -- ---- a note comes back
-
-returned_by : (i : Instance) (ws : List (ℕ × Bag)) (ms : List ℕ) (a : ℕ) → IsPutting ws ms a
-    → returned (offered (record i { waiting = ws; marks = ms })) (next_note ws) ≡ record i { waiting = ws; marks = ms; receiver = next_receiver ws ms }
-returned_by i (w ∷ ws) ms a batch = refl
-returned_by i [] (m ∷ ms) a mark = refl
-returned_by i [] [] a p = elim p [ ]
-
--- it is the instance before, but for the receiver that it remembers
-pub returned_same : (i : Instance) (a : ℕ) → want i ≡ Put a → returned (offered i) (next_note i.waiting) ≡ record i { receiver = (offered i).receiver }
-returned_same i a wanted = returned_by i i.waiting i.marks a (putting_by i.waiting i.marks (port_ended i 0) (port_ended i 1) i.finished a wanted)
 
 pub returned_local : (s : Spot) (worker r : ℕ) (i : Instance) (taken : ℕ → ℕ → List Note) (put : ℕ → List Note) → IsLocal s worker i taken put → IsLocal s worker (record i { receiver = r }) taken put
 returned_local s worker r i taken put l = record {

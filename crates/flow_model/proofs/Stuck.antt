@@ -5,7 +5,6 @@ use Rattle.std.specs.Prelude.{nat_lt}
 use Rattle.plan_trees.specs.Distinct.{AreDifferent}
 use Rattle.plan_trees.specs.Plans.{PlanTree, leaf, over, both, has, nodes, root_of, subtree_of}
 use Rattle.plan_trees.specs.Physicals.{has_edge, ship_at}
-use Rattle.plan_trees.specs.declared.physicals.Ship.{Ship}
 use Rattle.plan_trees.specs.declared.physicals.Ship.TheVariants.{Forward}
 use Rattle.flow_model.specs.declared.notes.Note.{Note}
 use Rattle.flow_model.specs.declared.notes.Want.{Want}
@@ -25,11 +24,6 @@ use Rattle.plan_trees.proofs.SubtreesOfPlans.{has-root}
 -- the edge that comes in at a port
 abbrev pub edge_at : Spot → ℕ → ℕ
 edge_at s port = (get_or s.ports port (record { edge = s.at; ship = Forward })).edge
-
--- an edge has the pipes of its ship
-pub out_pipe : (b : Bool) (ship : Ship) (from to : ℕ) → has_out (cond b (Some ship) None) from to ≡ true → has_pipe ship from to ≡ true
-out_pipe true ship from to h = h
-out_pipe false ship from to h = absurd (cc)
 
 -- what is empty has no end mark
 not_ended : (fields : ℕ) (put taken queue : List Note) → put ≡ taken ++ queue → AreNotes fields put → 1 ≤ length queue → has_end taken ≡ true → ⊥

@@ -1,6 +1,6 @@
 -- The first row of each key value.
-use Rattle.std.proofs.Common.{◌≡◌, ◌<◌, ◌+◌, ◌||◌, ℕ, zero, suc, Bool, true, false, List, [], ◌∷◌, ◌++◌, length, map, take, drop, get_or, refl, ap, sym, ◌∙◌, subst, arith}
-use Rattle.std.proofs.lemmas.List.{drop_more, take_more, map-append}
+use Rattle.std.proofs.Common.{◌≡◌, ◌<◌, ◌+◌, ◌||◌, ℕ, zero, suc, Bool, true, false, List, [], ◌∷◌, ◌++◌, length, map, take, get_or, refl, ap, sym, ◌∙◌, subst, arith}
+use Rattle.std.proofs.lemmas.List.{take_more, map-append}
 use Rattle.std.proofs.lemmas.List.Elements.{All-get_or, All-take, recursion_from_All}
 use Rattle.std.specs.List.{AllByRecursion, list_any}
 use Rattle.pact_bag.specs.Groups.{group_of_key, is_same_key}
@@ -12,13 +12,6 @@ use Rattle.pact_record.proofs.Lists.{AllByRecursion-filter, AllByRecursion-last}
 use Rattle.local_strategy.specs.Listed.{IsNumbered, key_at}
 
 -- ---- one of the numbers at a time
-
-pub any-here : (test : ℕ → Bool) (ns : List ℕ) (i n : ℕ) (b : Bool) → i < length ns → n ≡ get_or ns i n → b ≡ test n → b ≡ true → list_any test ns ≡ list_any test (drop i ns) → true ≡ list_any test ns
-any-here test ns i n b lt e s t h = sym (h ∙ ap (list_any test) (drop_more ns i n lt) ∙ ap (λ (m : ℕ). test m || list_any test (drop (i + 1) ns)) (sym e) ∙ ap (λ (c : Bool). c || list_any test (drop (i + 1) ns)) (sym s ∙ t))
-
-pub any-later : (test : ℕ → Bool) (ns : List ℕ) (i n : ℕ) (b : Bool) → i < length ns → n ≡ get_or ns i n → b ≡ test n → b ≡ false → list_any test ns ≡ list_any test (drop i ns)
-    → list_any test ns ≡ list_any test (drop (i + 1) ns)
-any-later test ns i n b lt e s t h = h ∙ ap (list_any test) (drop_more ns i n lt) ∙ ap (λ (m : ℕ). test m || list_any test (drop (i + 1) ns)) (sym e) ∙ ap (λ (c : Bool). c || list_any test (drop (i + 1) ns)) (sym s ∙ t)
 
 -- ---- one row more
 

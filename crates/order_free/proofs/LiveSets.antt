@@ -1,8 +1,8 @@
 -- Laws of liveness. Whether a register is live before a body is one of three functions of whether it is live behind it, so few facts are needed.
-use Rattle.std.proofs.Common.{◌≡◌, ◌==◌, ◌⊎◌, inl, inr, ℕ, Bool, true, false, not, ◌&&◌, ◌||◌, refl, subst}
-use Rattle.std.proofs.lemmas.Bool.{cases_Bool, or_cases, or_left, or_right, and_parts, and_from, eq-eqb}
-use Rattle.tac_syntax.specs.Code.{Code, stop, plain, branch, again, each}
-use Rattle.order_free.specs.Registers.{Register, value_at, RegisterSet, is_value, has_operand, assigns}
+use Rattle.std.proofs.Common.{◌≡◌, ◌==◌, ◌⊎◌, inl, inr, ℕ, Bool, true, false, ◌||◌, refl, subst}
+use Rattle.std.proofs.lemmas.Bool.{cases_Bool, or_cases, or_left, or_right, eq-eqb}
+use Rattle.tac_syntax.specs.Code.{Code, branch}
+use Rattle.order_free.specs.Registers.{Register, value_at, RegisterSet, is_value}
 use Rattle.order_free.specs.Liveness.{is_live, live, live_at_end}
 
 pub or_weaker : (x y z w : Bool) → (x ≡ true → z ≡ true) → (y ≡ true → w ≡ true) → (x || y) ≡ true → (z || w) ≡ true
@@ -10,29 +10,6 @@ or_weaker x y z w f g h = elim (or_cases x y h) as (λ _. (z || w) ≡ true) [
   | inl e ↦ or_left z w (f e)
   | inr e ↦ or_right z w (g e)
 ]
-
-and_weaker : (x y z w : Bool) → (x ≡ true → z ≡ true) → (y ≡ true → w ≡ true) → (x && y) ≡ true → (z && w) ≡ true
-and_weaker x y z w f g h = let p = and_parts x y h in and_from z w (f p.0) (g p.1)
-
--- where more is live behind a body, more is live before it
-is_live-more : (c : Code) (r : Register) (a b : Bool) → (a ≡ true → b ≡ true) → is_live c r a ≡ true → is_live c r b ≡ true
-is_live-more stop r a b f h = f h
-is_live-more (plain s next) r a b f h =
-    let kept = not (assigns s r) in
-    or_weaker (has_operand s r) (is_live next r a && kept) (has_operand s r) (is_live next r b && kept) (λ e. e)
-    (and_weaker (is_live next r a) kept (is_live next r b) kept (is_live-more next r a b f) (λ e. e)) h
-is_live-more (branch on body other next) r a b f h =
-    let p = is_live next r a in
-    let q = is_live next r b in
-    let more = is_live-more next r a b f in
-    or_weaker (is_value on r) (is_live body r p || is_live other r p) (is_value on r) (is_live body r q || is_live other r q) (λ e. e)
-    (or_weaker (is_live body r p) (is_live other r p) (is_live body r q) (is_live other r q) (is_live-more body r p q more) (is_live-more other r p q more)) h
-is_live-more (again count body next) r a b f h = is_live-more body r (is_live next r a) (is_live next r b) (is_live-more next r a b f) h
-is_live-more (each name list body next) r a b f h =
-    let p = is_live next r a in
-    let q = is_live next r b in
-    let more = is_live-more next r a b f in
-    or_weaker p (is_live body r p) q (is_live body r q) more (is_live-more body r p q more) h
 
 -- what is live before a body is so whatever is live behind it, or else is live behind it
 pub is_live-from : (c : Code) (r : Register) (b : Bool) → is_live c r b ≡ true → (is_live c r false ≡ true) ⊎ (b ≡ true)

@@ -1,5 +1,5 @@
 -- Rows of one width, however they are made.
-use Rattle.std.proofs.Common.{◌≡◌, ℕ, List, [], ◌∷◌, ◌++◌, length, map, refl, sym, ◌∙◌, subst}
+use Rattle.std.proofs.Common.{◌≡◌, ℕ, List, [], ◌∷◌, ◌++◌, length, map, sym, ◌∙◌, subst}
 use Rattle.std.specs.List.{All, AllByRecursion}
 use Rattle.std.specs.List.Sorted.{IsPermutation}
 use Rattle.std.proofs.lemmas.List.{length-map}
@@ -8,17 +8,11 @@ use Rattle.std.proofs.lemmas.List.Sorted.{All-permutation}
 use Rattle.pact_record.specs.declared.values.Value.{Value}
 use Rattle.pact_bag.specs.Rows.{HaveOneWidth, cut}
 use Rattle.pact_record.specs.Record.{at_field}
-use Rattle.pact_record.proofs.Lists.{AllByRecursion-append, AllByRecursion-last}
+use Rattle.pact_record.proofs.Lists.{AllByRecursion-append}
 
 pub All-from_recursion : {X : Type 0} (P : X → Type 0) (xs : List X) → AllByRecursion P xs → All P xs
 All-from_recursion P [] h = All-nil P
 All-from_recursion P (x ∷ xs) h = All-cons P x xs h.0 (All-from_recursion P xs h.1)
-
-pub HaveOneWidth-nil : HaveOneWidth []
-HaveOneWidth-nil = record { width = 0; all = All-nil (λ (row : List Value). length row ≡ 0) }
-
-pub HaveOneWidth-last : (rows : List (List Value)) (row : List Value) → AllByRecursion (λ held. length held ≡ length row) rows → HaveOneWidth (rows ++ row ∷ [])
-HaveOneWidth-last rows row h = record { width = length row; all = All-from_recursion (λ (held : List Value). length held ≡ length row) (rows ++ row ∷ []) (AllByRecursion-last (λ (held : List Value). length held ≡ length row) rows row h refl) }
 
 pub HaveOneWidth-append : (width : ℕ) (xs ys : List (List Value)) → AllByRecursion (λ row. length row ≡ width) xs → AllByRecursion (λ row. length row ≡ width) ys → HaveOneWidth (xs ++ ys)
 HaveOneWidth-append width xs ys h k =

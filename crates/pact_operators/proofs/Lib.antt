@@ -20,7 +20,6 @@ pub mod BelowFields
 pub mod PlanOfProgram
 pub mod OperatorsOfKind
 pub mod ProgramsFromRules
-pub mod Validated
 pub mod RefusedOrKept
 pub mod PlanContexts
 pub mod KeptInPlace

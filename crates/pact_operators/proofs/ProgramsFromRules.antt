@@ -42,9 +42,6 @@ keeps-all c h WrongField = h WrongField (omega arith)
 keeps-all c h NoAttribute = h NoAttribute (omega arith)
 keeps-all c h SharedAttribute = h SharedAttribute (omega arith)
 
-pub keeps-fewer : (c : CandidateData) (m n : ℕ) → m ≤ n → KeepsBefore n c → KeepsBefore m c
-keeps-fewer c m n le h other lt = h other (omega (arith, lt, le))
-
 -- ---- before the attributes are asked for
 
 pub few-names : (c : CandidateData) → KeepsBefore (order_of NoAttribute) c → IsSpelledDraft c.draft → length (function_names c.draft.functions) ≤ function_limit

@@ -76,9 +76,6 @@ keeps-one rule c before h other lt = elim (cases_eq (order_of other) (order_of r
   | inr e ↦ before other (omega (arith, lt, e))
 ]
 
-pub keeps-next : (rule : ProgramRule) (c : CandidateData) → rule ≢ NoSingleSink → KeepsBefore (order_of rule) c → NoneBreaks rule c.draft c.valids [] c.draft.decls → KeepsBefore (order_of rule + 1) c
-keeps-next rule c other before h = keeps-one rule c before (h, λ e. absurd (other e))
-
 none_at_sinks : (d : DraftData) (v : List WithFields) (front decls : List Decl) → NoneBreaks NoSingleSink d v front decls
 none_at_sinks d v front [] = tt
 none_at_sinks d v front (decl ∷ decls) = (λ b. b, none_at_sinks d v (front ++ decl ∷ []) decls)

@@ -14,7 +14,6 @@ use Rattle.pact_operators.specs.Programs.{ProgramData, fields_of, source_fields}
 use Rattle.pact_operators.proofs.SourceRows.{sources_of-next}
 use Rattle.pact_outside.specs.declared.files.NamedFile.{NamedFile}
 use Rattle.pact_outside.specs.Outside.{Feeding}
-use Rattle.pact_record.specs.declared.values.Value.{Value}
 use Rattle.pact_top.specs.declared.refusals.Refusal.{Refusal}
 use Rattle.pact_top.specs.Refusal.{Comes}
 use Rattle.pact_top.specs.Stages.{Reading, Stage, each, gives}
@@ -59,13 +58,6 @@ columns_below bound [] n op l e h = absurd (omega arith)
 columns_below bound (o ∷ ops) zero op l e h =
     subst (λ (x : Op). AllByRecursion (λ c. c.field < bound) x.columns) (sym e) (columns_in_list bound o.columns (parts_of bound (fields_of o.columns) (source_fields ops) h).0)
 columns_below bound (o ∷ ops) (suc n) op l e h = columns_below bound ops n op (omega arith) e (parts_of bound (fields_of o.columns) (source_fields ops) h).1
-
-fields_within : (width n : ℕ) (fields : List ℕ) → n ≡ width → AllByRecursion (λ k. k < width) fields → AllByRecursion (λ k. k < n) fields
-fields_within width n fields e h = subst (λ (m : ℕ). AllByRecursion (λ k. k < m) fields) (sym e) h
-
-pub sink_within : (width : ℕ) (fields : List ℕ) (bag : List (List Value)) → AllByRecursion (λ k. k < width) fields → AllByRecursion (λ row. length row ≡ width) bag → AllByRecursion (λ row. AllByRecursion (λ field. field < length row) fields) bag
-sink_within width fields [] h k = tt
-sink_within width fields (row ∷ bag) h k = (fields_within width (length row) fields k.0 h, sink_within width fields bag h k.1)
 
 -- ---- the rows of sources
 

@@ -1,8 +1,7 @@
 -- What the parts of a plan tell of its tree.
-use Rattle.std.proofs.Common.{◌≡◌, ◌<◌, ℕ, ap, arith}
+use Rattle.std.proofs.Common.{◌≡◌, ℕ}
 use Rattle.plan_trees.specs.Plans.{PlanTree, leaf, over, both}
 use Rattle.plan_trees.specs.PlanParts.{parts_of}
-use Rattle.plan_trees.specs.Preorders.{count_of}
 use Rattle.plan_trees.specs.declared.plans.Parts.TheVariants.{Alone, OverOne, OverTwo}
 
 pub is_leaf : (s : PlanTree) (n : ℕ) → Alone n ≡ parts_of s → s ≡ leaf n
@@ -19,10 +18,3 @@ pub is_both : (s t u : PlanTree) (n : ℕ) → OverTwo n t u ≡ parts_of s → 
 is_both (leaf m) t u n e = absurd (let h : OverTwo n t u ≡ Alone m = e in cc)
 is_both (over m a) t u n e = absurd (let h : OverTwo n t u ≡ OverOne m a = e in cc)
 is_both (both m a b) t u n e = let h : OverTwo n t u ≡ OverTwo m a b = e in cc
-
--- the trees of two inputs are smaller
-pub count_of-left : (s t u : PlanTree) (n : ℕ) → s ≡ both n t u → count_of t < count_of s
-count_of-left s t u n e = omega (arith, ap count_of e)
-
-pub count_of-right : (s t u : PlanTree) (n : ℕ) → s ≡ both n t u → count_of u < count_of s
-count_of-right s t u n e = omega (arith, ap count_of e)

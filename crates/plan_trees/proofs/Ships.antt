@@ -1,10 +1,9 @@
 -- Ships by the number of the node that an edge leaves.
-use Rattle.std.proofs.Common.{◌≡◌, ◌≢◌, ◌<◌, ◌==◌, inl, inr, ℕ, zero, suc, true, false, List, [], ◌∷◌, length, get_or, replicate, refl, ap, sym, subst, ◌∙◌, arith}
+use Rattle.std.proofs.Common.{◌≡◌, ◌≢◌, ◌<◌, ◌==◌, inl, inr, ℕ, zero, suc, true, false, List, [], ◌∷◌, length, get_or, replicate, refl, ap, sym, subst, arith}
 use Rattle.std.specs.Prelude.{Some}
 use Rattle.std.specs.List.{AllByRecursion}
-use Rattle.std.proofs.lemmas.Bool.{cases_Bool}
 use Rattle.std.proofs.lemmas.Bool.Decides.{nat_tests}
-use Rattle.std.proofs.lemmas.List.{get_or_default, get_or-set_same, ext_get_or}
+use Rattle.std.proofs.lemmas.List.{get_or_default, get_or-set_same}
 use Rattle.plan_trees.specs.declared.physicals.Ship.{Ship}
 use Rattle.plan_trees.specs.declared.physicals.Ship.TheVariants.{Forward}
 use Rattle.plan_trees.specs.Plans.{PlanTree, node_limit, nodes, root_of, has, IsPlan}
@@ -43,16 +42,3 @@ ship_set p at ship h there edge =
     let test = is_edge at p.tree there edge in
     let below : at < length p.ships = let b = below_limit at p.tree h.plan there in omega (arith, h.long) in
     rw test (ap (λ (s : Ship). Some s) (get_or-set_same p.ships at ship Forward below))
-
-ships_alike : (p q : PhysicalData) (at : ℕ) → IsPhysical p → IsPhysical q → p.tree ≡ q.tree → ship_at p at ≡ ship_at q at
-    → get_or p.ships at Forward ≡ get_or q.ships at Forward
-ships_alike p q at h k tree alike = elim (cases_Bool (has_edge at p.tree)) as (λ _. get_or p.ships at Forward ≡ get_or q.ships at Forward) [
-  | inl e ↦ (let f : has_edge at q.tree ≡ true = ap (has_edge at) (sym tree) ∙ e in let told = simp (e, f) at alike in cc)
-  | inr e ↦ h.rest at e ∙ sym (k.rest at (ap (has_edge at) (sym tree) ∙ e))
-]
-
--- two physical plans that run one plan with as many workers, and ship alike on each edge, are the same
-pub same_physical : (p q : PhysicalData) → IsPhysical p → IsPhysical q → p.tree ≡ q.tree → p.workers ≡ q.workers → ((at : ℕ) → ship_at p at ≡ ship_at q at) → p ≡ q
-same_physical p q h k tree workers alike =
-    let same : p.ships ≡ q.ships = ext_get_or Forward p.ships q.ships (h.long ∙ sym k.long) (λ at _. ships_alike p q at h k tree (alike at)) in
-    λ i. record { tree = tree i; workers = workers i; ships = same i }

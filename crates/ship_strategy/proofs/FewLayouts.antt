@@ -25,10 +25,6 @@ count-power : (ops : List Op) → layout_count ops ≤ power_of_three (times_of_
 count-power [] = omega arith
 count-power (op ∷ ops) = pairs_more op.kind op ops refl (count-power ops)
 
-some_power : (n : ℕ) → 1 ≤ power_of_three n
-some_power zero = omega arith
-some_power (suc n) = omega (arith, some_power n)
-
 power_rises : (m n : ℕ) → power_of_three n ≤ power_of_three (m + n)
 power_rises zero n =
     let same : n ≡ zero + n = omega arith in

@@ -150,6 +150,3 @@ laid_legal f w (both n t u) p q h long a k =
 
 pub laid_itself : (f : Facts) (w : ℕ → Way) (t : PlanTree) (q : PhysicalData) → IsPlan t → length q.ships ≡ node_limit → HasShape f w t → IsLegal f (laid f w t q) t
 laid_itself f w t q h long k = laid_legal f w t (laid f w t q) q h long (agree_self (laid f w t q) t) k
-
-pub placed_itself : (f : Facts) (w : ℕ → Way) (t : PlanTree) (q : PhysicalData) → IsPlan t → length q.ships ≡ node_limit → placement f (laid f w t q) t ≡ planned f w t
-placed_itself f w t q h long = laid_placed f w t (laid f w t q) q h long (agree_self (laid f w t q) t)

@@ -3,7 +3,6 @@ pub mod AllowedShips
 pub mod LaidPlacements
 pub mod LaidShips
 pub mod LaidSteps
-pub mod PlannedSame
 pub mod TestsOfEdges
 pub mod FewLayouts
 pub mod ChosenWays

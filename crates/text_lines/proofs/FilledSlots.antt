@@ -17,7 +17,7 @@ use Rattle.text_lines.specs.OperandWords.{column_text, list_word, record_word}
 use Rattle.text_lines.specs.Slots.{Slot, fixed, register, operand, number, signed, text, loop, list, identifier, file_name, column, slot_fault, nothing_left, fault_then, first_fault}
 use Rattle.text_lines.proofs.DigitWords.{is_in_range-decimal, is_signed_word-signed_decimal, number_spelled}
 use Rattle.text_lines.proofs.Faultless.{or_else-none, same_word, told_unless-none}
-use Rattle.text_lines.proofs.FineWords.{AreFine, IsFine, are_fine-word, fine_decimal, fine_file_name, fine_name, fine_numbered, fine_signed, is_fine, is_fine_word, is_fine_word-append}
+use Rattle.text_lines.proofs.FineWords.{IsFine, are_fine-word, fine_decimal, fine_file_name, fine_name, fine_numbered, fine_signed, is_fine, is_fine_word, is_fine_word-append}
 use Rattle.text_lines.proofs.SlotWords.{column_fault-column_text, column_spelled, is_list_word-list_word, list_spelled, name_fault-loop_name, name_spelled, operand_fault-record_word, operand_spelled, register_fault-letter, register_spelled, signed_spelled}
 
 -- ---- one slot
@@ -142,10 +142,6 @@ AllFit (slot ∷ slots) xs = Fits slot xs.0 × AllFit slots xs.1
 abbrev pub AreUsual : List Slot → Type 0
 AreUsual slots = AllByRecursion IsUsual slots
 
-pub fault_then-words_then : (behind : List LineWord → Option ℕ) (slots : List Slot) (xs : Values slots) (more : List LineWord) → AreUsual slots → AllFit slots xs → fault_then behind slots (words_then slots xs more) ≡ behind more
-fault_then-words_then behind [] xs more usual h = refl
-fault_then-words_then behind (slot ∷ slots) xs more usual h = rw (fits_slot slot xs.0 usual.0 h.0) (fault_then-words_then behind slots xs.1 more usual.1 h.1)
-
 pub record Filled (behind : List LineWord → Option ℕ) (slots : List Slot) (words : List LineWord) : Type 0 where
   pub values : Values slots
   pub more : List LineWord
@@ -162,10 +158,6 @@ filled behind (slot ∷ slots) (word ∷ words) usual good h =
     let first = fills slot word usual.0 good.0 both.0 in
     let rest = filled behind slots words usual.1 good.1 both.1 in
     record { values = (first.0, rest.values); more = rest.more; parts = λ i. first.1 i ∷ rest.parts i; fit = (first.2, rest.fit); good = rest.good; faultless = rest.faultless }
-
-pub AreFine-words_then : (slots : List Slot) (xs : Values slots) (more : List LineWord) → AreUsual slots → AllFit slots xs → AreFine more → AreFine (words_then slots xs more)
-AreFine-words_then [] xs more usual h fine = fine
-AreFine-words_then (slot ∷ slots) xs more usual h fine = (fine_slot slot xs.0 usual.0 h.0, AreFine-words_then slots xs.1 more usual.1 h.1 fine)
 
 pub none_left : (words : List LineWord) → nothing_left words ≡ None → words ≡ []
 none_left [] h = refl
