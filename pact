@@ -8,14 +8,19 @@ program=$out/pact_program
 # Made before a build, so that a source edited while it runs is newer than it.
 marker=$out/sources.marker
 
-# Whether the program was built of the sources that are there. The times of changes are compared, which no copy
-# keeps; a folder has changed where something in it was made, deleted or renamed.
+# Whether the program was built of the sources that are there, by the toolchain that is there, if there is one. The times of
+# changes are compared, which no copy keeps; a folder has changed where something in it was made, deleted or renamed.
 is_current() {
     [ -x "$program" ] && [ -f "$program.stamp" ] && [ -f "$marker" ] || return 1
-    local changed
-    changed=$(find "$root/crates.txt" "$root/crates" "$root"/crates/* -maxdepth 0 -cnewer "$marker" -print -quit) || return 1
+    local changed folder toolchain
+    local places=("$root/crates.txt" "$root/crates" "$root"/crates/*) folders=()
+    toolchain=$(command -v rt) && places+=("$toolchain")
+    changed=$(find -L "${places[@]}" -maxdepth 0 -cnewer "$marker" -print -quit) || return 1
     [ -z "$changed" ] || return 1
-    changed=$(find "$root"/crates/*/src "$root"/crates/*/specs "$root"/crates/*/proofs -cnewer "$marker" -print -quit 2>/dev/null)
+    for folder in "$root"/crates/*/{src,specs,proofs}; do
+        [ ! -d "$folder" ] || folders+=("$folder")
+    done
+    changed=$(find -L "${folders[@]}" -cnewer "$marker" -print -quit) || return 1
     [ -z "$changed" ]
 }
 
@@ -55,12 +60,12 @@ build() {
     fi
     local log=$out/build.log folder
     # What an older build left may not pass for what this one makes.
-    rm -f "$program" "$program.stamp" "$marker"
+    rm -f "$program" "$program.stamp" "$marker" "$marker".*
     # The build makes these folders; made here, they are older than the marker.
     for folder in "$root"/crates/*/; do
         mkdir -p "$folder/out"
     done
-    touch "$marker.new"
+    touch "$marker.$$"
     echo "pact: building; every proof is checked first, which takes some minutes (log: $log)" >&2
     # rt runs what it built; with no words that does nothing but tell the usage.
     (cd "$root/crates/pact_program" && rt run) </dev/null 2>&1 | tee "$log" | tell_crates
@@ -70,7 +75,7 @@ build() {
         echo 'pact: the build failed' >&2
         return 1
     fi
-    mv "$marker.new" "$marker"
+    mv "$marker.$$" "$marker"
     echo 'pact: built' >&2
 }
 

@@ -65,13 +65,32 @@ count runs_build 9
 rm "$tree/hurried"
 count runs_build 10
 count runs_build 10
+# So is what has an older time, another name, or stands in another folder; what a link leads to; and what another toolchain made.
+echo older >"$tree/older"
+touch -d 2001-01-01 "$tree/older"
+cp -p "$tree/older" "$tree/crates/low/src/lib.rt"
+count runs_build 11
+mv "$tree/crates/low/src/lib.rt" "$tree/crates/low/src/other.rt"
+count runs_build 12
+mkdir "$tree/crates/low/proofs"
+echo four >"$tree/crates/low/proofs/Lib.antt"
+count runs_build 13
+echo more >>"$tree/crates/low/proofs/Lib.antt"
+count runs_build 14
+ln -s "$tree/older" "$tree/crates/low/src/lib.rt"
+count runs_build 15
+echo more >>"$tree/older"
+count runs_build 16
+touch "$tree/bin/rt"
+count runs_build 17
+count runs_build 17
 # A build that fails leaves nothing that passes for a program.
 touch "$tree/broken"
 echo more >>"$tree/crates/low/src/lib.rt"
 count fails_with '^pact: the build failed$' "$tree/bin:$PATH"
 count fails_with '^pact: the build failed$' "$tree/bin:$PATH"
 rm "$tree/broken"
-count runs_build 13
+count runs_build 20
 # A program that is current needs no toolchain, and another does.
 empty=$scratch/commands
 mkdir -p "$empty"

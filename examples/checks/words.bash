@@ -58,6 +58,8 @@ run sum.pact --counts --counts
 cert sum.pact --plans=1 --plans=1
 run sum.pact --counts=true
 END
+count writes 2 /dev/null "$scratch/usage" run $'\xFF'
+count writes 2 /dev/null "$scratch/usage" run sum.pact $'--workers=\xFF'
 # Words that are taken: numbers as clap reads them, options in any order and before the program, `--` before a program that begins like one.
 while IFS= read -r words; do
     # shellcheck disable=SC2086
