@@ -44,6 +44,13 @@ echo 1 >"$scratch/s.csv"
 } >"$scratch/text.pact"
 count gives 0 '"# \\ "" \n \r \t\t\xC3\xA9"\n' '' run text.pact
 
+# A literal stands for 4,096 bytes at most, counted after the pairs.
+longest_literal=$(printf '%4095s' '' | tr ' ' 'a')
+printf 'pact 1\nfields 1\nsource s s.csv int:0\nfunction f map\nv0 = text "%s\\n"\nend\nmap m f s\nsink m 0\n' "$longest_literal" >"$scratch/text.pact"
+count gives 0 'm map reads {} writes {} control {} touched {} emit 0..0 anchor none order yes\n' '' sets text.pact
+printf 'pact 1\nfields 1\nsource s s.csv int:0\nfunction f map\nv0 = text "%s\\na"\nend\nmap m f s\nsink m 0\n' "$longest_literal" >"$scratch/text.pact"
+count gives 5 '' 'text.pact:5: text fault 2\n' sets text.pact
+
 # Names of a function and an operator.
 while IFS= read -r name; do
     printf 'pact 1\nfields 1\nsource s s.csv int:0\nfunction %s map\nend\nmap %s %s s\nsink %s 0\n' "$name" "$name" "$name" "$name" >"$scratch/text.pact"
@@ -105,6 +112,7 @@ done <<END
 map|if v0\nv0 = null\nelse\nemit r8\nend|1|6
 map|r0 = copy left|2|4
 map|set r0 4 v0|3|4
+map|v0 = get in 4|3|4
 reduce 1|v0 = key 1|4|4
 map|$(repeated 9 'if v0\n')v0 = null\n$(repeated 9 'else\nv0 = null\nend\n')|5|12
 reduce 1|repeat 1\neach x1 of group\nrepeat 1\nrepeat 1\nend\nend\nend\nend|6|7
