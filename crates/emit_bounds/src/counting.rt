@@ -9,7 +9,7 @@ use tac_syntax::{Body, LoopList, Stmt, Valid};
 /// All numbers of records stop here: as the greatest number of a call it says "many".
 pub const MANY: u32 = 1_000_000;
 
-#[derive(Clone, Copy, Debug)]
+#[derive(Clone, Copy)]
 struct Emits {
     least: u32,
     most: u32,

@@ -21,7 +21,7 @@ use Rattle.flow_model.proofs.Counting.{step_counted}
 use Rattle.flow_model.proofs.DividedRuns.{divided}
 use Rattle.flow_core.specs.Replays.{IsReached}
 use Rattle.flow_core.specs.Worlds.{IsStanding, StandsForSome, WorldData, seen}
-use Rattle.flow_core.proofs.Finishing.{done_if_stuck, length-stations}
+use Rattle.flow_core.proofs.FinishedWorlds.{done_if_stuck, length-stations}
 
 -- what a world that is done spreads, at the world that a run came to
 abbrev pub Spreads : WorldData → Bag → List ℕ → Type 0

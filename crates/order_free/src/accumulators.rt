@@ -13,7 +13,7 @@ use pact_record::Op2;
 use tac_syntax::{Body, Stmt};
 
 // What an accumulator holds of its operands. The operation of each takes them in any order.
-#[derive(Clone, Copy, Debug)]
+#[derive(Clone, Copy)]
 enum Accumulation {
     Sum,
     Least,

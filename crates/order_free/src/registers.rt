@@ -8,7 +8,7 @@ ghost use Rattle.order_free.specs.Views.{registers_of};
 use pact_record::Fields;
 
 /// A set of registers. `Fields` serves for any set of small numbers.
-#[derive(Clone, Copy, Debug)]
+#[derive(Clone, Copy)]
 pub(crate) struct Registers {
     values: Fields,
     records: Fields,

@@ -13,7 +13,7 @@ use Rattle.pact_top.specs.Refusal.{Answers, Comes, Says}
 use Rattle.pact_top.specs.RefusalLines.{long_line}
 use Rattle.pact_top.specs.Transfer.{ReadsRest, RestEnds, behind}
 use Rattle.pact_top.specs.Work.{file}
-use Rattle.pact_top.proofs.Comings.{rose_later}
+use Rattle.pact_top.proofs.AnswersOfStages.{rose_later}
 
 -- ---- opened and read
 

@@ -1,12 +1,12 @@
-pub mod Comings
-pub mod Decided
+pub mod AnswersOfStages
+pub mod DecidedStages
 pub mod Files
 pub mod StagesOfItems
 pub mod NumberedTwice
 pub mod OnlyBag
 pub mod FilesInPieces
-pub mod Progress
-pub mod Running
+pub mod PartsReadAndWritten
+pub mod CommandsRun
 pub mod Sources
 pub mod SourceNames
 pub mod StageLaws

@@ -18,7 +18,7 @@ use Rattle.pact_top.specs.declared.refusals.Refusal.{Refusal}
 use Rattle.pact_top.specs.Refusal.{Comes}
 use Rattle.pact_top.specs.Stages.{Reading, Stage, each, gives}
 use Rattle.pact_top.specs.Work.{file, rows, source_file, source_limit, sources}
-use Rattle.pact_top.proofs.Comings.{comes_more, comes_stop}
+use Rattle.pact_top.proofs.AnswersOfStages.{comes_more, comes_stop}
 use Rattle.pact_top.proofs.StageLaws.{gave_cons, gave_then}
 
 -- ---- a source among others

@@ -4,7 +4,7 @@ use Rattle.std.proofs.lemmas.List.{take_more}
 use Rattle.pact_top.specs.declared.refusals.Refusal.{Refusal}
 use Rattle.pact_top.specs.Refusal.{Decides}
 use Rattle.pact_top.specs.Stages.{Stage, each, gives}
-use Rattle.pact_top.proofs.Comings.{decides_stop}
+use Rattle.pact_top.proofs.AnswersOfStages.{decides_stop}
 use Rattle.pact_top.proofs.StageLaws.{each_more}
 
 -- what follows an item among the items

@@ -10,7 +10,7 @@ use Rattle.pact_top.specs.CommandTexts.{Ready}
 use Rattle.pact_top.specs.Work.{ready, work}
 use Rattle.pact_top.specs.declared.texts.Texts.{Texts}
 use Rattle.pact_words.specs.Words.{AreRefused, AreRefusedBy, AreUnnamed}
-use Rattle.pact_top.proofs.Decided.{ready_agrees, work_decided}
+use Rattle.pact_top.proofs.DecidedStages.{ready_agrees, work_decided}
 
 pub line_is : (words : List (List ℕ)) (before now : Feeding) (r : Refusal) → IsRefused words before now r → status_of r ≤ 3 → refusal_line r ≡ line_of (status_of r) now.opened
 line_is words before now OutOfMemory h few = refl

@@ -49,6 +49,19 @@ pub record AreCountsCut (t : Texts) (old new told_old told_new : Option (List �
   pub rose : Rose told_first told_last
   pub told : TellsBehind told_old told_new told_first told_last counts (line_of 4 [])
 
+-- what telling counts comes to, where there are any: 0, or 4 where the sink failed behind a front of them
+pub record TellsCounts (counts old new : Option (List ℕ)) (before now : ℕ) (answer : ℕ) : Type 0 where
+  pub status : (answer ≡ 0) ⊎ (answer ≡ 4)
+  pub whole : answer ≡ 0 → GainsCounts old new counts
+  pub rose : answer ≡ 4 → Rose before now
+  pub cut : answer ≡ 4 → (text : List ℕ) × (counts ≡ Some text) × TellsBehind old new before now text (line_of 4 [])
+
+-- what writing the text, and behind it telling the counts, comes to
+pub record WritesTexts (t : Texts) (old new told_old told_new : Option (List ℕ)) (first last told_first told_last : ℕ) (answer : ℕ) : Type 0 where
+  pub status : (answer ≡ 0) ⊎ (answer ≡ 4)
+  pub whole : answer ≡ 0 → Gains old new t.out × GainsCounts told_old told_new t.counts
+  pub cut : answer ≡ 4 → IsTextCut t old new told_old told_new first last told_first told_last ⊎ AreCountsCut t old new told_old told_new told_first told_last
+
 abbrev pub AreCut : List (List ℕ) → Feeding → Feeding → (old new told_old told_new : Option (List ℕ)) → (first last told_first told_last : ℕ) → Type 0
 AreCut words before now old new told_old told_new first last told_first told_last =
     (texts : Texts) × ComesTo (work words before.files) before now (gives texts)

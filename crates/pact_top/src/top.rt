@@ -1,12 +1,11 @@
 //! The call that the program makes.
 
-ghost use Rattle.std.specs.Prelude.{◌≡◌, ◌≢◌, ◌≤◌, ◌⊎◌, ℕ, List, [], Some, false};
+ghost use Rattle.std.specs.Prelude.{◌≡◌, ◌≢◌, ◌≤◌, false};
 ghost use Rattle.pact_outside.specs.Outside.{Rose};
 ghost use Rattle.pact_top.specs.Headline.{Answered, AnsweredQuietly, Complete, MissingFile, NoOther, NothingWritten, Refused, RefusedAlways, Told, UnreadName, UnreadOpened, Unwritten, UnwrittenCause, Usage, UsageAlways, UsageUnnamed};
 ghost use Rattle.pact_top.specs.Refusal.{status_of, refusal_line};
-ghost use Rattle.pact_top.specs.RefusalLines.{line_of};
-ghost use Rattle.pact_top.specs.Statuses.{AreCountsCut, IsTextCut};
-ghost use Rattle.pact_top.specs.Transfer.{Gains, GainsCounts, Tells, TellsBehind};
+ghost use Rattle.pact_top.specs.Statuses.{TellsCounts, WritesTexts};
+ghost use Rattle.pact_top.specs.Transfer.{Tells};
 ghost use Rattle.pact_words.specs.Words.{AreRefused, texts_of};
 
 use crate::answering::answer;
@@ -28,10 +27,7 @@ fn refuse<E: Sink>(err: &mut E, refusal: &Refusal) -> u8
 
 // Tells the counts where there are any.
 fn write_counts<E: Sink>(err: &mut E, counts: &Option<Bytes>) -> u8
-    ensures status { (result ≡ 0) ⊎ (result ≡ 4) }
-    ensures whole { result ≡ 0 → GainsCounts (E.taken err.old) (E.taken err.new) counts.now }
-    ensures rose { result ≡ 4 → Rose (E.faults err.old) (E.faults err.new) }
-    ensures cut { result ≡ 4 → (text : List ℕ) × (counts.now ≡ Some text) × TellsBehind (E.taken err.old) (E.taken err.new) (E.faults err.old) (E.faults err.new) text (line_of 4 []) }
+    ensures { TellsCounts counts.now (E.taken err.old) (E.taken err.new) (E.faults err.old) (E.faults err.new) result }
 {
     match counts {
         None => 0,
@@ -44,10 +40,7 @@ fn write_counts<E: Sink>(err: &mut E, counts: &Option<Bytes>) -> u8
 
 // Writes the text, and then tells the counts.
 fn write_texts<O: Sink, E: Sink>(out: &mut O, err: &mut E, texts: &Texts) -> u8
-    ensures status { (result ≡ 0) ⊎ (result ≡ 4) }
-    ensures whole { result ≡ 0 → Gains (O.taken out.old) (O.taken out.new) texts.now.out × GainsCounts (E.taken err.old) (E.taken err.new) texts.now.counts }
-    ensures cut { result ≡ 4 → IsTextCut texts.now (O.taken out.old) (O.taken out.new) (E.taken err.old) (E.taken err.new) (O.faults out.old) (O.faults out.new) (E.faults err.old) (E.faults err.new)
-        ⊎ AreCountsCut texts.now (O.taken out.old) (O.taken out.new) (E.taken err.old) (E.taken err.new) (E.faults err.old) (E.faults err.new) }
+    ensures { WritesTexts texts.now (O.taken out.old) (O.taken out.new) (E.taken err.old) (E.taken err.new) (O.faults out.old) (O.faults out.new) (E.faults err.old) (E.faults err.new) result }
 {
     match write_all(out, texts.out.bytes()) {
         Ok(()) => write_counts(err, &texts.counts),

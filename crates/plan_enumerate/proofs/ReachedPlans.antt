@@ -8,7 +8,7 @@ use Rattle.plan_enumerate.specs.declared.entries.Entry.{Entry}
 use Rattle.plan_enumerate.specs.Listing.{AreEntries, ComesFrom, Ends, Grows, IsClosed, IsListed, IsListing, IsOpen, ListedPlans, begins, entry_limit, first_entry, goes_on}
 use Rattle.reorder_pair.specs.Reach.{Reach, as_written, exchanged}
 use Rattle.reorder_pair.specs.ToldExchanges.{after}
-use Rattle.plan_enumerate.specs.Walks.{IsFull, IsWalked}
+use Rattle.plan_enumerate.specs.Walks.{GoesTo, IsFull, IsWalked}
 use Rattle.plan_enumerate.proofs.LongerLists.{IsAt-within, IsListed-one_more, length-one_more, old_or_last_entry, old_or_last_plan}
 use Rattle.plan_enumerate.proofs.PastExchanges.{past_entries}
 
@@ -86,3 +86,12 @@ module _ (p : ProgramData) (limit : ℕ) where
 
   pub walked-IsListing : (l : ListedPlans) (es : List Entry) (n : ℕ) → l ≡ record { entries = es; complete = true } → length es ≤ n → IsWalked p limit es n 0 0 → IsListing p limit l
   walked-IsListing l es n is all h = subst (IsListing p limit) (sym is) (record { grows = h.grows; ends = past_entries p limit es n all h })
+
+  -- by what the walk answers
+  pub GoesTo-Grows : (es : List Entry) (complete : Bool) → GoesTo p limit es (length es) 0 0 complete → Grows p limit es
+  GoesTo-Grows es true h = h.grows
+  GoesTo-Grows es false h = h.grows
+
+  pub GoesTo-IsListing : (l : ListedPlans) (es : List Entry) (complete : Bool) → l ≡ record { entries = es; complete = complete } → GoesTo p limit es (length es) 0 0 complete → IsListing p limit l
+  GoesTo-IsListing l es true is h = walked-IsListing l es (length es) is (omega arith) h
+  GoesTo-IsListing l es false is h = full-IsListing l es is h

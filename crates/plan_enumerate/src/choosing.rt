@@ -33,7 +33,7 @@ pub struct Chosen {
 }
 
 // A layout of a plan, and what it costs.
-#[derive(Clone, Copy, Debug)]
+#[derive(Clone, Copy)]
 struct Least {
     layout: u32,
     cost: u64,

@@ -22,7 +22,7 @@ pub struct Entry {
 }
 
 /// Where a plan comes from.
-#[derive(Clone, Copy, Debug, Drop)]
+#[derive(Clone, Copy, Drop)]
 struct Origin {
     from: u32,
     by: Option<Condition>,

@@ -149,22 +149,39 @@ fn add_neighbours(
     Ok(true)
 }
 
-// Goes from entry to entry, until there is none left whose exchanges are to be looked at or no room for what one gives.
-fn walk(alloc: Global, program: &Program, limit: u32) -> Result<Listed, OutOfMemory>
+// Goes from entry to entry, until there is none left whose exchanges are to be looked at; false where there is no room for what one gives.
+fn walk(
+    program: &Program,
+    findings: &mut Findings,
+    entries: &mut Entries,
+    limit: u32,
+) -> Result<bool, OutOfMemory>
+    requires some { 1 ≤ limit }
+    requires few { limit ≤ entry_limit }
+    requires findings { AreFindings program.now findings.old }
+    requires begun { IsWalked program.now limit entries.old 0 0 0 }
+    ensures { IfOk result (GoesTo program.now limit entries.new (length entries.new) 0 0) }
+{
+    let mut from = 0;
+    while (from as usize) < entries.len() {
+        if !add_neighbours(program, findings, entries, from, limit)? {
+            return Ok(false);
+        }
+        from += 1;
+    }
+    Ok(true)
+}
+
+// The list from the plan as written on.
+fn list_plans(alloc: Global, program: &Program, limit: u32) -> Result<Listed, OutOfMemory>
     requires some { 1 ≤ limit }
     requires few { limit ≤ entry_limit }
     ensures { IfOk result (IsListing program.now limit) }
 {
     let mut findings = Findings::new(alloc);
     let mut entries = Entries::of(alloc, *program.plan())?;
-    let mut from = 0;
-    while (from as usize) < entries.len() {
-        if !add_neighbours(program, &mut findings, &mut entries, from, limit)? {
-            return Ok(Listed::of(entries, false));
-        }
-        from += 1;
-    }
-    Ok(Listed::of(entries, true))
+    let complete = walk(program, &mut findings, &mut entries, limit)?;
+    Ok(Listed::of(entries, complete))
 }
 
 /// The plans that legal exchanges lead to from the plan as written, as many as there is room for: from 1 to 1,000. Want of memory is the only error,
@@ -184,5 +201,5 @@ pub fn enumerate(alloc: Global, program: &Program, limit: u32) -> Result<Listed,
 {
     // Its clause says that the program keeps every rule.
     let _fields = program.fields();
-    walk(alloc, program, limit)
+    list_plans(alloc, program, limit)
 }

@@ -14,7 +14,7 @@ use std::marker::Model;
 use tac_syntax::Context;
 
 /// An operator by its number, in a context.
-#[derive(Clone, Copy, Debug, PartialEq, Eq, Hash)]
+#[derive(Clone, Copy, PartialEq, Eq, Hash)]
 struct OperatorIn {
     at: u32,
     context: Context,

@@ -14,14 +14,14 @@ use pact_operators::{MAX_NODES, Parts, Plan, Program};
 use ship_strategy::{OpFacts, Table};
 
 /// An input of an operator: the row of its root, and how many records it is expected to give.
-#[derive(Clone, Copy, Debug)]
+#[derive(Clone, Copy)]
 pub(crate) struct Input {
     pub row: u32,
     pub records: u64,
 }
 
 /// What an operator reads. A source reads nothing.
-#[derive(Clone, Copy, Debug)]
+#[derive(Clone, Copy)]
 pub(crate) enum Reads {
     Nothing,
     One(Input),
@@ -29,7 +29,7 @@ pub(crate) enum Reads {
 }
 
 /// A source or operator of a plan.
-#[derive(Clone, Copy, Debug)]
+#[derive(Clone, Copy)]
 pub(crate) struct Row {
     pub at: u32,
     pub facts: OpFacts,
@@ -37,7 +37,7 @@ pub(crate) struct Row {
 }
 
 /// The sources and operators of a plan, each operator behind its inputs.
-#[derive(Clone, Copy, Debug)]
+#[derive(Clone, Copy)]
 pub(crate) struct Rows {
     pub held: [Row; MAX_NODES],
     pub count: u32,

@@ -14,7 +14,7 @@ use ship_strategy::{
 };
 
 /// Where the records of a tree's root lie, and what its operators and edges cost.
-#[derive(Clone, Copy, Debug)]
+#[derive(Clone, Copy)]
 pub(crate) struct Weight {
     pub placement: Option<Keys>,
     pub cost: u64,

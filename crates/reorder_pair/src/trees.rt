@@ -10,7 +10,7 @@ use crate::rules::Rule;
 use pact_operators::{OpKind, Plan, Program};
 
 // The tree of an operator that changes places with the one below it, before and after.
-#[derive(Clone, Copy, Debug)]
+#[derive(Clone, Copy)]
 pub(crate) struct Trees {
     pub before: Plan,
     pub after: Plan,

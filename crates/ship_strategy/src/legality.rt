@@ -23,7 +23,7 @@ use pact_operators::{OpKind, Parts, Physical, Plan, Program, Ship};
 use pact_record::Keys;
 
 // Where the records of a tree's root lie, and whether every edge of the tree is legal.
-#[derive(Clone, Copy, Debug)]
+#[derive(Clone, Copy)]
 struct Looked {
     placement: Option<Keys>,
     legal: bool,

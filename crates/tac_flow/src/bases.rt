@@ -7,7 +7,7 @@ ghost use Rattle.tac_flow.specs.Known.{same_base, same_origin, side_of, names_on
 use tac_syntax::Side;
 
 /// The record that a register's record began as.
-#[derive(Clone, Copy, Debug, PartialEq, Eq)]
+#[derive(Clone, Copy, PartialEq, Eq)]
 pub(crate) enum Base {
     /// The first record. Where there are no groups it is the only one.
     First,
@@ -19,7 +19,7 @@ pub(crate) enum Base {
 }
 
 /// What a value is known to equal.
-#[derive(Clone, Copy, Debug, PartialEq, Eq)]
+#[derive(Clone, Copy, PartialEq, Eq)]
 pub(crate) enum Origin {
     Field { base: Base, field: u32 },
     Key { at: u32 },

@@ -13,7 +13,7 @@ use pact_record::Fields;
 use tac_syntax::{RECORD_REGISTERS, VALUE_REGISTERS};
 
 /// Of a value: the fields that it depends on, and what it is known to equal.
-#[derive(Clone, Copy, Debug)]
+#[derive(Clone, Copy)]
 pub(crate) struct ValueFacts {
     pub(crate) deps: Fields,
     pub(crate) origin: Origin,
@@ -21,7 +21,7 @@ pub(crate) struct ValueFacts {
 
 /// Of a record: what it began as, the fields in which it may differ from that, and the fields
 /// that those depend on.
-#[derive(Clone, Copy, Debug)]
+#[derive(Clone, Copy)]
 pub(crate) struct RecordFacts {
     pub(crate) base: Base,
     pub(crate) changed: Fields,
@@ -29,7 +29,7 @@ pub(crate) struct RecordFacts {
 }
 
 /// Of each register.
-#[derive(Clone, Copy, Debug)]
+#[derive(Clone, Copy)]
 pub(crate) struct Facts {
     values: [ValueFacts; VALUE_REGISTERS as usize],
     records: [RecordFacts; RECORD_REGISTERS as usize],

@@ -15,7 +15,7 @@ use tac_syntax::Side;
 /// What branches were decided by, and of the records that were emitted: the fields in which one
 /// may differ from its base, those in which each may, what these depend on, and whether each base
 /// is on the left, and on the right.
-#[derive(Clone, Copy, Debug)]
+#[derive(Clone, Copy)]
 pub(crate) struct Noted {
     pub(crate) writes: Fields,
     pub(crate) common: Fields,

@@ -13,7 +13,7 @@ use pact_record::{Fields, Keys};
 use tac_syntax::{Context, Kind, Side};
 
 /// A function's kind and number of fields, in a context.
-#[derive(Clone, Copy, Debug)]
+#[derive(Clone, Copy)]
 pub(crate) struct Scope {
     pub(crate) kind: Kind,
     pub(crate) fields: u32,

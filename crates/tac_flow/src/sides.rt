@@ -8,7 +8,7 @@ ghost use Rattle.tac_flow.specs.Views.{sides_of};
 use tac_syntax::{MAX_LOOPS, Side};
 
 /// The side of each loop around a statement, the outermost first.
-#[derive(Clone, Copy, Debug)]
+#[derive(Clone, Copy)]
 pub(crate) struct Sides {
     held: [Side; MAX_LOOPS as usize],
     count: usize,

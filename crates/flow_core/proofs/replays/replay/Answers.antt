@@ -2,7 +2,7 @@ use Rattle.std.proofs.Common.{◌≡◌, List, arith, rules, subst, sym, take, t
 use Rattle.std.proofs.lemmas.List.{take_all}
 use Rattle.flow_model.specs.declared.notes.Event.{Event}
 use Rattle.flow_core.specs.Replays.{IsReplayed}
-use Rattle.flow_core.proofs.Replaying.{replayed-next, replayed_short}
+use Rattle.flow_core.proofs.ReplayedEvents.{replayed-next, replayed_short}
 use Rattle.flow_core.proofs.WorldLaws.{laws_hold}
 use Rattle.flow_core.proofs.replays.replay.Goals as goal
 

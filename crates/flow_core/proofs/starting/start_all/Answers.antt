@@ -2,7 +2,7 @@ use Rattle.std.proofs.Common.{◌+◌, ◌∷◌, [], length-append, rules, subs
 use Rattle.flow_model.specs.Spots.{setting}
 use Rattle.flow_core.specs.Starting.{AreStarted, AreStartedAt}
 use Rattle.flow_core.specs.Worlds.{StationData}
-use Rattle.flow_core.proofs.Dealing.{each_last, has_taken, op_at, some_left}
+use Rattle.flow_core.proofs.SharesOfRows.{each_last, has_taken, op_at, some_left}
 use Rattle.plan_trees.proofs.Ships.{below_limit}
 use Rattle.flow_core.proofs.starting.start_all.Goals as goal
 

@@ -8,7 +8,7 @@ use Rattle.flow_model.specs.Spots.{setting}
 use Rattle.flow_instance.specs.Starting.{IsShareOf}
 use Rattle.flow_core.specs.Starting.{AreBelow, IsStarted}
 use Rattle.flow_core.specs.Worlds.{StationData, no_station}
-use Rattle.flow_core.proofs.Dealing.{each_last, own_share, share-each}
+use Rattle.flow_core.proofs.SharesOfRows.{each_last, own_share, share-each}
 use Rattle.flow_core.proofs.starting.start_row.Goals as goal
 
 pub start-requires-clause-widths : goal.start-requires-clause-widths

@@ -1,7 +1,7 @@
 use Rattle.std.proofs.Common.{None, rules}
 use Rattle.plan_trees.specs.Plans.{node_limit}
 use Rattle.flow_core.specs.Wired.{input_in}
-use Rattle.flow_core.proofs.Tables.{all_set, no_input_beyond, set_next}
+use Rattle.flow_core.proofs.TablesByNumber.{all_set, no_input_beyond, set_next}
 use Rattle.flow_core.proofs.wirings.inputs_of.Goals as goal
 
 pub loop-at-preserved : goal.loop-at-preserved

@@ -1,6 +1,6 @@
 use Rattle.std.proofs.Common.{false, rules}
 use Rattle.plan_trees.specs.Plans.{has, node_limit}
-use Rattle.flow_core.proofs.Tables.{all_set, beyond, set_next}
+use Rattle.flow_core.proofs.TablesByNumber.{all_set, beyond, set_next}
 use Rattle.flow_core.proofs.wirings.nodes_of.Goals as goal
 
 pub loop-at-preserved : goal.loop-at-preserved

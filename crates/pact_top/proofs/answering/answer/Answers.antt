@@ -2,8 +2,8 @@ use Rattle.std.proofs.Common.{refl, rules}
 use Rattle.pact_words.proofs.OneAsked.{never_both}
 use Rattle.pact_words.specs.Words.{asked, texts_of}
 use Rattle.pact_top.specs.Work.{command, texts_for}
-use Rattle.pact_top.proofs.Comings.{comes_in, comes_in_err}
-use Rattle.pact_top.proofs.Running.{answered}
+use Rattle.pact_top.proofs.AnswersOfStages.{comes_in, comes_in_err}
+use Rattle.pact_top.proofs.CommandsRun.{answered}
 use Rattle.pact_top.proofs.answering.answer.Goals as goal
 
 pub returns-in-Err-Usage : goal.returns-in-Err-Usage

@@ -1,7 +1,7 @@
 use Rattle.std.proofs.Common.{refl}
 use Rattle.std.proofs.lemmas.Result.{err_from_is_err_and}
-use Rattle.pact_top.proofs.Decided.{file-NamesDiffer}
-use Rattle.pact_top.proofs.Running.{check_certificate, check_program, check_refused, check_told}
+use Rattle.pact_top.proofs.DecidedStages.{file-NamesDiffer}
+use Rattle.pact_top.proofs.CommandsRun.{check_certificate, check_program, check_refused, check_told}
 use Rattle.pact_top.proofs.answering.check.Goals as goal
 
 pub returns-in_err-program : goal.returns-in_err-program

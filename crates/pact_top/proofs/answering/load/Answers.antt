@@ -1,5 +1,5 @@
 use Rattle.std.proofs.lemmas.Result.{err_from_is_err_and}
-use Rattle.pact_top.proofs.Running.{load_both, load_inputs, load_program}
+use Rattle.pact_top.proofs.CommandsRun.{load_both, load_inputs, load_program}
 use Rattle.pact_top.proofs.answering.load.Goals as goal
 
 pub returns-in_err-program : goal.returns-in_err-program

@@ -1,6 +1,6 @@
 use Rattle.std.proofs.lemmas.Result.{err_from_is_err_and}
 use Rattle.pact_top.specs.Work.{rows, source_limit}
-use Rattle.pact_top.proofs.Comings.{comes_decided, comes_err}
+use Rattle.pact_top.proofs.AnswersOfStages.{comes_decided, comes_err}
 use Rattle.pact_top.proofs.Files.{comes_named}
 use Rattle.pact_top.proofs.answering.load_rows.Goals as goal
 

@@ -1,6 +1,6 @@
 use Rattle.std.proofs.lemmas.Result.{err_from_is_err_and}
 use Rattle.pact_top.specs.CommandTexts.{to_evaluate}
-use Rattle.pact_top.proofs.Running.{is_loaded, made_err, made_texts}
+use Rattle.pact_top.proofs.CommandsRun.{is_loaded, made_err, made_texts}
 use Rattle.pact_top.proofs.answering.run.Goals as goal
 
 pub returns-in_err-loaded : goal.returns-in_err-loaded

@@ -1,6 +1,6 @@
 use Rattle.std.proofs.Common.{refl}
 use Rattle.std.proofs.lemmas.Result.{err_from_is_err_and}
-use Rattle.pact_top.proofs.Running.{sets_program, sets_told}
+use Rattle.pact_top.proofs.CommandsRun.{sets_program, sets_told}
 use Rattle.pact_top.proofs.answering.sets.Goals as goal
 
 pub returns-in_err-program : goal.returns-in_err-program

@@ -1,5 +1,5 @@
 use Rattle.pact_top.proofs.ChosenTexts.{told-AreCounts}
-use Rattle.pact_top.proofs.Running.{is_answer}
+use Rattle.pact_top.proofs.CommandsRun.{is_answer}
 use Rattle.pact_top.proofs.choosing.run_texts.Goals as goal
 
 pub returns : goal.returns

@@ -2,8 +2,8 @@ use Rattle.std.proofs.Common.{[], Err}
 use Rattle.std.proofs.lemmas.Result.{err_from_is_err_and}
 use Rattle.pact_top.specs.Stages.{and_then}
 use Rattle.pact_top.specs.Work.{draft, program, valids}
-use Rattle.pact_top.proofs.Comings.{decides_err, decides_then}
-use Rattle.pact_top.proofs.Decided.{are_validated}
+use Rattle.pact_top.proofs.AnswersOfStages.{decides_err, decides_then}
+use Rattle.pact_top.proofs.DecidedStages.{are_validated}
 use Rattle.pact_top.proofs.programs.program_of.Goals as goal
 
 pub returns-in_err-draft : goal.returns-in_err-draft

@@ -2,7 +2,7 @@ use Rattle.std.proofs.Common.{◌≡◌, ◌<◌, ap, arith, get_or, length, ◌
 use Rattle.std.proofs.lemmas.List.{get_or_default}
 use Rattle.flow_core.specs.Stations.{given_by}
 use Rattle.flow_core.specs.Worlds.{StationData, no_station}
-use Rattle.flow_core.proofs.Leaving.{sum_more}
+use Rattle.flow_core.proofs.PlacedRows.{sum_more}
 use Rattle.flow_core.proofs.stations.Row.given.Goals as goal
 
 pub loop-station-preserved : goal.loop-station-preserved

@@ -1,7 +1,7 @@
 use Rattle.std.proofs.Common.{List, [], subst, sym}
 use Rattle.pact_operators.specs.Allowed.{Bag}
 use Rattle.flow_core.specs.Worlds.{StationData}
-use Rattle.flow_core.proofs.Leaving.{IsMoved, moved-next, moved_width, none_moved}
+use Rattle.flow_core.proofs.PlacedRows.{IsMoved, moved-next, moved_width, none_moved}
 use Rattle.flow_core.proofs.stations.Row.into_placed.Goals as goal
 
 pub loop-station-init : goal.loop-station-init

@@ -1,5 +1,5 @@
 use Rattle.std.proofs.Common.{length}
-use Rattle.flow_core.proofs.Leaving.{IsMoved}
+use Rattle.flow_core.proofs.PlacedRows.{IsMoved}
 use Rattle.flow_core.proofs.stations.Row.into_placed.Given as goal
 
 abbrev pub invariant-loop-station : goal.invariant-loop-station

@@ -1,6 +1,6 @@
 use Rattle.std.proofs.Common.{arith}
 use Rattle.flow_core.specs.Worlds.{seen}
-use Rattle.flow_core.proofs.Idle.{all_idle}
+use Rattle.flow_core.proofs.EventsOfWants.{all_idle}
 use Rattle.flow_core.proofs.worlds.World.any_event.Goals as goal
 
 pub returns-clause-none : goal.returns-clause-none

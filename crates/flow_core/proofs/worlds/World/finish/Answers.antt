@@ -5,7 +5,7 @@ use Rattle.plan_trees.specs.Plans.{root_of}
 use Rattle.plan_trees.specs.Sending.{all_of}
 use Rattle.flow_core.specs.Stations.{placed_by, total_given}
 use Rattle.flow_core.specs.Worlds.{StationData, WorldData}
-use Rattle.flow_core.proofs.Finishing.{one_width, placed_widths, root_below, spread_of, taken_row}
+use Rattle.flow_core.proofs.FinishedWorlds.{one_width, placed_widths, root_below, spread_of, taken_row}
 use Rattle.flow_core.proofs.worlds.World.finish.Goals as goal
 
 pub swap_remove-requires : goal.swap_remove-requires

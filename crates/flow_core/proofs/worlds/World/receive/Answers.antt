@@ -4,7 +4,7 @@ use Rattle.flow_model.specs.Instances.{Instance}
 use Rattle.flow_model.specs.Local.{IsLocal}
 use Rattle.flow_model.specs.Steps.{Took}
 use Rattle.flow_core.specs.Worlds.{StationData, WorldData, instance_in, station_in}
-use Rattle.flow_core.proofs.Places.{station_at, station_set}
+use Rattle.flow_core.proofs.StationsAtPlaces.{station_at, station_set}
 use Rattle.flow_core.proofs.worlds.World.receive.Goals as goal
 
 pub returns-clause-took : goal.returns-clause-took

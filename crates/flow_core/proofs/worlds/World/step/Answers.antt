@@ -4,7 +4,7 @@ use Rattle.flow_model.specs.Spots.{setting}
 use Rattle.flow_core.specs.Worlds.{seen}
 use Rattle.flow_instance.proofs.Results.{on_ok_two}
 use Rattle.flow_core.proofs.WorldLaws.{laws_hold}
-use Rattle.flow_core.proofs.Stepping.{parts_kept, some_after, standing_after}
+use Rattle.flow_core.proofs.WorldsAfterEvents.{parts_kept, some_after, standing_after}
 use Rattle.flow_core.proofs.worlds.World.step.Goals as goal
 
 pub returns-clause-standing : goal.returns-clause-standing

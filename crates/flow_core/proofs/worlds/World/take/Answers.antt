@@ -9,7 +9,7 @@ use Rattle.flow_model.specs.declared.notes.Note.{Note}
 use Rattle.flow_core.specs.Stations.{IsReadyFor}
 use Rattle.flow_core.specs.Worlds.{WorldData, instance_in, queue_in}
 use Rattle.flow_core.proofs.EnabledEvents.{can_take_at}
-use Rattle.flow_core.proofs.Stepping.{take_steps}
+use Rattle.flow_core.proofs.WorldsAfterEvents.{take_steps}
 use Rattle.flow_core.proofs.worlds.World.take.Goals as goal
 
 pub give-note-requires-clause-some : goal.give-note-requires-clause-some

@@ -2,7 +2,7 @@ use Rattle.std.proofs.Common.{sym, ◌∙◌}
 use Rattle.flow_model.specs.declared.notes.Event.TheVariants as events
 use Rattle.flow_model.specs.Worlds.{enabled}
 use Rattle.flow_core.specs.Worlds.{seen}
-use Rattle.flow_core.proofs.Idle.{idle_beside, idle_starved, idle_unread, input_reads, none_if}
+use Rattle.flow_core.proofs.EventsOfWants.{idle_beside, idle_starved, idle_unread, input_reads, none_if}
 use Rattle.flow_core.proofs.worlds.World.take_at.Goals as goal
 
 pub returns-in_err-edge-clause-none : goal.returns-in_err-edge-clause-none

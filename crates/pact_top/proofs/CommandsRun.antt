@@ -20,8 +20,8 @@ use Rattle.pact_top.specs.RefusalLines.{usage_line}
 use Rattle.pact_top.specs.Work.{accepted, certificate_file, command, loaded, program_file, ready_for, rechecked, sources, texts_for, work}
 use Rattle.pact_words.specs.declared.commands.Options.{Options}
 use Rattle.pact_words.specs.Words.{AreRefused, Asked, IsAsked, to_certify, to_check, to_plan, to_run, to_tell_sets}
-use Rattle.pact_top.proofs.Comings.{comes_decided, comes_err, comes_then, decides_err, decides_then}
-use Rattle.pact_top.proofs.Decided.{IsKnown, file-AreNames, work_known}
+use Rattle.pact_top.proofs.AnswersOfStages.{comes_decided, comes_err, comes_then, decides_err, decides_then}
+use Rattle.pact_top.proofs.DecidedStages.{IsKnown, file-AreNames, work_known}
 use Rattle.pact_top.proofs.OnlyBag.{one_text, only_bag}
 use Rattle.pact_top.proofs.SourceNames.{work_fails}
 use Rattle.pact_top.proofs.Sources.{are_inputs}
