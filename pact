@@ -8,13 +8,26 @@ program=$out/pact_program
 # Made before a build, so that a source edited while it runs is newer than it.
 marker=$out/sources.marker
 
+# Where the toolchain's command stands, if it is there, whatever links lead to it.
+toolchain_at() {
+    local command
+    command=$(command -v rt) && readlink -f "$command"
+}
+
 # Whether the program was built of the sources that are there, by the toolchain that is there, if there is one. The times of
 # changes are compared, which no copy keeps; a folder has changed where something in it was made, deleted or renamed.
 is_current() {
     [ -x "$program" ] && [ -f "$program.stamp" ] && [ -f "$marker" ] || return 1
-    local changed folder toolchain
+    local changed folder part toolchain
     local places=("$root/crates.txt" "$root/crates" "$root"/crates/*) folders=()
-    toolchain=$(command -v rt) && places+=("$toolchain")
+    if toolchain=$(toolchain_at); then
+        [ "$toolchain" = "$(<"$marker")" ] || return 1
+        # the command, and the compiler and its parts that stand beside it
+        places+=("$(command -v rt)")
+        for part in "${toolchain%/*}"/{rt,rattle}*; do
+            [ ! -e "$part" ] || places+=("$part")
+        done
+    fi
     changed=$(find -L "${places[@]}" -maxdepth 0 -cnewer "$marker" -print -quit) || return 1
     [ -z "$changed" ] || return 1
     for folder in "$root"/crates/*/{src,specs,proofs}; do
@@ -65,7 +78,7 @@ build() {
     for folder in "$root"/crates/*/; do
         mkdir -p "$folder/out"
     done
-    touch "$marker.$$"
+    toolchain_at >"$marker.$$"
     echo "pact: building; every proof is checked first, which takes some minutes (log: $log)" >&2
     # rt runs what it built; with no words that does nothing but tell the usage.
     (cd "$root/crates/pact_program" && rt run) </dev/null 2>&1 | tee "$log" | tell_crates

@@ -81,16 +81,26 @@ ln -s "$tree/older" "$tree/crates/low/src/lib.rt"
 count runs_build 15
 echo more >>"$tree/older"
 count runs_build 16
+mkdir "$tree/front"
+cp "$tree/bin/rt" "$tree/front/rt"
 touch "$tree/bin/rt"
 count runs_build 17
 count runs_build 17
+echo part >"$tree/bin/rattle"
+count runs_build 18
+echo part >"$tree/bin/other"
+count runs_build 18
+# Another toolchain in front of it, that was there before the build.
+PATH="$tree/front:$tree/bin:$PATH" "$tree/pact" run >"$scratch/out" 2>"$scratch/err"
+count grep -q '^build 19 of run$' "$scratch/out"
+count runs_build 20
 # A build that fails leaves nothing that passes for a program.
 touch "$tree/broken"
 echo more >>"$tree/crates/low/src/lib.rt"
 count fails_with '^pact: the build failed$' "$tree/bin:$PATH"
 count fails_with '^pact: the build failed$' "$tree/bin:$PATH"
 rm "$tree/broken"
-count runs_build 20
+count runs_build 23
 # A program that is current needs no toolchain, and another does.
 empty=$scratch/commands
 mkdir -p "$empty"

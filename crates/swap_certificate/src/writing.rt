@@ -1,6 +1,6 @@
 //! From a certificate to its text.
 
-ghost use Rattle.std.specs.Prelude.{◌≡◌, ◌++◌, IfOk, codes, map};
+ghost use Rattle.std.specs.Prelude.{◌≡◌, ◌++◌, IfOk, IsUtf8, codes, map};
 ghost use Rattle.std.specs.List.{AllByRecursion};
 ghost use Rattle.serde_json.specs.Data.{array};
 ghost use Rattle.serde_json.specs.View.{items_of, view};
@@ -14,6 +14,7 @@ use plan_printer::anchor_word;
 use reorder_pair::Found;
 use serde_json::{Value, json};
 use std::alloc::Global;
+use std::str;
 
 fn set_value(alloc: Global, set: Fields) -> Result<Value, OutOfMemory>
     ensures { IfOk result (λ value. view value ≡ set_data set) }
@@ -41,12 +42,23 @@ fn found_value(alloc: Global, found: &Found) -> Result<Value, OutOfMemory>
     })
 }
 
+// Bytes that are UTF-8, as text.
+fn text_of(bytes: &[u8]) -> &str
+    requires { IsUtf8 bytes.now }
+    ensures { result.now ≡ bytes.now }
+{
+    match str::from_utf8(bytes) {
+        Ok(text) => text,
+        Err(_) => unreachable!(),
+    }
+}
+
 fn step_value(alloc: Global, step: &Step) -> Result<Value, OutOfMemory>
     requires { MayBeStep step.now }
     ensures { IfOk result (λ value. view value ≡ step_data step.now) }
 {
-    let at = std::str::from_utf8(step.at.bytes()).unwrap();
-    let rule = std::str::from_utf8(step.rule.bytes()).unwrap();
+    let at = text_of(step.at.bytes());
+    let rule = text_of(step.rule.bytes());
     let lower = found_value(alloc, &step.lower)?;
     let upper = found_value(alloc, &step.upper)?;
     json!(in alloc; {"at": at, "lower": lower, "rule": rule, "upper": upper})
@@ -67,7 +79,7 @@ fn certificate_value(alloc: Global, c: &Certificate) -> Result<Value, OutOfMemor
     requires { MayBeStated c.now }
     ensures { IfOk result (λ value. view value ≡ certificate_data c.now) }
 {
-    let plan = std::str::from_utf8(c.plan.bytes()).unwrap();
+    let plan = text_of(c.plan.bytes());
     let steps = steps_value(alloc, c.steps.steps())?;
     json!(in alloc; {"plan": plan, "steps": steps, "version": VERSION})
 }
