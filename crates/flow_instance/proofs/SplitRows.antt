@@ -1,5 +1,5 @@
 -- Rows that are split among workers.
-use Rattle.std.proofs.Common.{◌≡◌, ◌<◌, ◌==◌, inl, inr, ℕ, zero, suc, Bool, cond, List, [], ◌∷◌, ◌++◌, Some, length, get_or, slice_get, slice_set, ap, sym, ◌∙◌, subst, arith, append-nil}
+use Rattle.std.proofs.Common.{◌≡◌, ◌<◌, ◌==◌, inl, inr, ℕ, zero, suc, Bool, cond, List, [], ◌∷◌, ◌++◌, Some, length, replicate, get_or, refl, slice_get, slice_set, ap, sym, ◌∙◌, subst, arith, append-nil}
 use Rattle.std.specs.List.{AllByRecursion}
 use Rattle.std.proofs.lemmas.Bool.{cases_eq, eq-eqb, ne_eqb}
 use Rattle.std.proofs.lemmas.List.{length-set}
@@ -16,6 +16,11 @@ use Rattle.plan_trees.specs.Sending.{goes, sent}
 use Rattle.plan_trees.specs.declared.physicals.Ship.TheVariants.{Partition}
 use Rattle.flow_instance.proofs.CarriedBatches.{IsNext, next_width}
 use Rattle.flow_instance.specs.Sending.{IsSplit}
+
+pub slice_get-none : (n to : ℕ) → to < n → slice_get (replicate {A = Bag} n []) to ≡ Some []
+slice_get-none zero to h = absurd (omega (arith, h))
+slice_get-none (suc n) zero h = refl
+slice_get-none (suc n) (suc to) h = slice_get-none n to (omega (arith, h))
 
 pub read : {X : Type 0} (xs : List X) (n : ℕ) (x y : X) → slice_get xs n ≡ Some x → y ≡ get_or xs n y → y ≡ x
 read [] n x y e f = absurd (cc)

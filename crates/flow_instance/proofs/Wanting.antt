@@ -7,7 +7,7 @@ use Rattle.flow_model.specs.Notes.{AreNotes, IsNote, all_below}
 use Rattle.flow_model.specs.Spots.{is_edge}
 use Rattle.flow_model.specs.declared.notes.Note.{Note}
 use Rattle.flow_model.specs.declared.notes.Note.TheVariants as notes
-use Rattle.flow_model.specs.declared.notes.Want.TheVariants.{Take}
+use Rattle.flow_model.specs.declared.notes.Want.TheVariants.{Done, End, Take}
 use Rattle.pact_operators.specs.Allowed.{Bag}
 use Rattle.flow_instance.specs.Sending.{batches_in, marks_in, with_batch, with_mark}
 use Rattle.flow_instance.specs.States.{AreOrderly, IsReady, IsWhole, part_of, port_of, seen}
@@ -39,6 +39,12 @@ wants_left i w m e = λ x. want_by (sym w x) (sym m x) (sym e x) (port_ended i 1
 
 pub wants_right : (i : Instance) → i.waiting ≡ [] → i.marks ≡ [] → port_ended i 0 ≡ true → port_ended i 1 ≡ false → Take 1 ≡ want i
 wants_right i w m e f = λ x. want_by (sym w x) (sym m x) (sym e x) (sym f x) i.finished
+
+pub wants_end : (i : Instance) → i.waiting ≡ [] → i.marks ≡ [] → port_ended i 0 ≡ true → port_ended i 1 ≡ true → i.finished ≡ false → End ≡ want i
+wants_end i w m e f n = λ x. want_by (sym w x) (sym m x) (sym e x) (sym f x) (sym n x)
+
+pub wants_none : (i : Instance) → i.waiting ≡ [] → i.marks ≡ [] → port_ended i 0 ≡ true → port_ended i 1 ≡ true → i.finished ≡ true → Done ≡ want i
+wants_none i w m e f n = λ x. want_by (sym w x) (sym m x) (sym e x) (sym f x) (sym n x)
 
 -- ---- a note that is taken
 

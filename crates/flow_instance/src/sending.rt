@@ -16,11 +16,12 @@ use plan_trees::Ship;
 use std::alloc::Global;
 use std::collections::VecDeque;
 
-// Puts the rows away as a batch where they are enough.
+// Puts the rows away as a batch where they are enough. So many more come behind them, for which the next one has room.
 fn stow(
     alloc: Global,
     to: u32,
     least: u32,
+    more: usize,
     rows: Rows,
     queue: &mut VecDeque<Parcel>,
 ) -> Result<Rows, OutOfMemory>
@@ -36,7 +37,7 @@ fn stow(
         to,
         note: Note::Batch(rows),
     })?;
-    Ok(Rows::new(alloc))
+    Rows::with_capacity(alloc, more.min(least as usize))
 }
 
 // Puts the rows behind the queue in batches of at most so many.
@@ -53,12 +54,14 @@ fn cut(
 {
     // they have one width
     let _same = rows.rows();
-    let mut held = Rows::new(alloc);
+    let mut more = rows.len();
+    let mut held = Rows::with_capacity(alloc, more.min(batch as usize))?;
     for row in rows.into_records() {
         held.push(row)?;
-        held = stow(alloc, to, batch, held, queue)?;
+        more -= 1;
+        held = stow(alloc, to, batch, more, held, queue)?;
     }
-    let _none = stow(alloc, to, 1, held, queue)?;
+    let _none = stow(alloc, to, 1, 0, held, queue)?;
     Ok(())
 }
 
@@ -77,7 +80,7 @@ fn send_to(
     if rows.len() > batch as usize {
         return cut(alloc, to, batch, rows, queue);
     }
-    let _none = stow(alloc, to, 1, rows, queue)?;
+    let _none = stow(alloc, to, 1, 0, rows, queue)?;
     Ok(())
 }
 
@@ -129,23 +132,25 @@ fn send_parts(
     Ok(())
 }
 
-// Each worker has them all.
+// Each worker has them all, the last one the rows themselves.
 fn send_all(
     alloc: Global,
     workers: u32,
     batch: u32,
-    rows: &Rows,
+    rows: Rows,
     queue: &mut VecDeque<Parcel>,
 ) -> Result<(), OutOfMemory>
     requires some { 1 ≤ batch }
+    requires workers { 1 ≤ workers }
     requires none { queue.old.items ≡ [] }
-    ensures sent { OnOk result ((fields from : ℕ) → AreWide fields rows.now → AreSent fields workers Ship.Broadcast from workers rows.now queue.new.items) }
+    ensures sent { OnOk result ((fields from : ℕ) → AreWide fields rows → AreSent fields workers Ship.Broadcast from workers rows queue.new.items) }
     ensures batches { OnOk result (AreFew batch queue.new.items) }
 {
-    for to in 0..workers {
+    let last = workers - 1;
+    for to in 0..last {
         send_to(alloc, to, batch, rows.copy(alloc)?, queue)?;
     }
-    Ok(())
+    send_to(alloc, last, batch, rows, queue)
 }
 
 /// Puts the records into the queue, in batches of at most so many, for all workers to which an edge takes them.
@@ -170,7 +175,7 @@ pub(crate) fn send(
             let parts = split(alloc, keys, workers, rows)?;
             send_parts(alloc, batch, parts, queue)
         }
-        Ship::Broadcast => send_all(alloc, workers, batch, &rows, queue),
+        Ship::Broadcast => send_all(alloc, workers, batch, rows, queue),
     }
 }
 

@@ -105,8 +105,3 @@ get_or-unset n at blank other xs lt h = get_or-filled n at blank other xs lt ∙
 
 pub get_or-held : {A : Type 0} (n at : ℕ) (blank other x : A) (xs : List A) → at < n → at < length xs → x ≡ get_or xs at x → x ≡ get_or (filled n blank xs) at other
 get_or-held n at blank other x xs lt h e = e ∙ get_or-within xs at x blank h ∙ sym (get_or-filled n at blank other xs lt)
-
--- the one that is set, behind the filling
-pub get_or-reached : {A : Type 0} (n m at : ℕ) (blank other x : A) (xs ys : List A) → m ≡ at + 1 → at < n → ys ≡ filled m blank xs → x ≡ get_or ys at x → x ≡ get_or (filled n blank xs) at other
-get_or-reached n m at blank other x xs ys e lt f g =
-    g ∙ ap (λ l. get_or l at x) f ∙ get_or-filled m at blank x xs (omega (arith, e)) ∙ sym (get_or-filled n at blank other xs lt)

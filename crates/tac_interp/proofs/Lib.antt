@@ -2,3 +2,4 @@ pub mod Loops
 pub mod Starts
 pub mod InputRecords
 pub mod Filled
+pub mod HeldRecords

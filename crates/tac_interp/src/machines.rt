@@ -226,7 +226,7 @@ impl<'a> Machine<'a> {
         ensures { OnOk result (self.new ≡ after (code.new_record to) self.old) }
     {
         let row = Record::empty(alloc, self.records.fields())?;
-        self.records.set(alloc, to, row)
+        self.records.set(to, row)
     }
 
     pub(crate) fn copy_record(
@@ -239,7 +239,7 @@ impl<'a> Machine<'a> {
         ensures { OnOk result (self.new ≡ after (code.copy_record to from) self.old) }
     {
         let row = self.copy_of(alloc, from)?;
-        self.records.set(alloc, to, row)
+        self.records.set(to, row)
     }
 
     pub(crate) fn set_field(

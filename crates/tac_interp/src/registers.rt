@@ -1,13 +1,12 @@
-//! The registers of a call. One that nothing was put into yet, and none was put behind it, takes no room.
+//! The registers of a call. They take room up to the greatest one that was set, and a record register has a record only once something was
+//! put into it.
 
-ghost use Rattle.std.specs.Prelude.{◌≡◌, ◌≤◌, ◌<◌, ◌+◌, [], length, replicate, get_or, slice_set, vec_len, OnOk, IfOk};
+ghost use Rattle.std.specs.Prelude.{◌≡◌, ◌≤◌, ◌<◌, ◌+◌, ℕ, [], None, length, replicate, get_or, slice_set, vec_len, IfOk, OnOk};
 ghost use Rattle.pact_record.specs.declared.records.TheConstants.{MAX_FIELDS};
 ghost use Rattle.pact_record.specs.declared.values.Value.TheVariants.{Null};
 ghost use Rattle.pact_record.specs.Record.{at_field};
-ghost use Rattle.pact_record.specs.Widths.{AreWide};
 ghost use Rattle.tac_syntax.specs.Limits.{value_registers, record_registers};
-ghost use Rattle.tac_syntax.specs.Call.{empty_record};
-ghost use Rattle.tac_interp.specs.Registers.{filled, new_records, with_record};
+ghost use Rattle.tac_interp.specs.Registers.{AreAsWide, IsAsWide, filled, new_records, row_of, with_record};
 
 use pact_record::{OutOfMemory, Record, Value};
 use std::alloc::Global;
@@ -83,9 +82,9 @@ impl ValueRegisters {
 #[derive(Drop)]
 pub(crate) struct RecordRegisters {
     fields: u32,
-    // up to the greatest one that was set
-    held: Vec<Record>,
-    // what each field of every other one has
+    // up to the greatest one that was set; none where nothing was put into one yet
+    held: Vec<Option<Record>>,
+    // what each field has where there is none
     null: Value,
 }
 
@@ -101,23 +100,41 @@ impl Model for RecordRegisters {
     ghost invariant = { AreKept };
 }
 
-// Puts empty records behind the others, so that there is one at the place.
-fn reach_record(
-    alloc: Global,
-    held: &mut Vec<Record>,
-    fields: u32,
-    at: u32,
-) -> Result<(), OutOfMemory>
-    requires place { at < record_registers }
-    requires fields { fields ≤ MAX_FIELDS }
-    ensures reached { OnOk result (held.new.items ≡ filled (at + 1) (empty_record fields) held.old.items) }
+// Makes a place, without a record in it.
+fn reach_record(held: &mut Vec<Option<Record>>, at: u32) -> Result<(), OutOfMemory>
+    requires { at < record_registers }
+    ensures reached { OnOk result (held.new.items ≡ filled (at + 1) None held.old.items) }
     ensures there { OnOk result (at < vec_len held.new) }
     ensures few { length held.old.items ≤ record_registers → length held.new.items ≤ record_registers }
-    ensures widths { AreWide fields held.old.items → AreWide fields held.new.items }
+    ensures widths { (fields : ℕ) → AreAsWide fields held.old.items → AreAsWide fields held.new.items }
 {
     for _ in held.len()..at as usize + 1 {
-        held.push(Record::empty(alloc, fields)?)?;
+        held.push(None)?;
     }
+    Ok(())
+}
+
+// Sets a field of a register's record, and makes the record where there is none yet.
+fn set_in(
+    alloc: Global,
+    held: &mut Option<Record>,
+    fields: u32,
+    field: u32,
+    value: Value,
+) -> Result<(), OutOfMemory>
+    requires fields { fields ≤ MAX_FIELDS }
+    requires field { field < fields }
+    requires width { IsAsWide fields held.old }
+    ensures set { OnOk result (row_of fields held.new ≡ slice_set (row_of fields held.old) field value) }
+    ensures width { IsAsWide fields held.new }
+{
+    if let Some(row) = held {
+        row.set(field, value);
+        return Ok(());
+    }
+    let mut row = Record::empty(alloc, fields)?;
+    row.set(field, value);
+    *held = Some(row);
     Ok(())
 }
 
@@ -149,7 +166,10 @@ impl RecordRegisters {
         if at as usize >= self.held.len() {
             return &self.null;
         }
-        self.held[at as usize].get(field)
+        match &self.held[at as usize] {
+            Some(row) => row.get(field),
+            None => &self.null,
+        }
     }
 
     pub(crate) fn copy(&self, alloc: Global, at: u32) -> Result<Record, OutOfMemory>
@@ -160,17 +180,20 @@ impl RecordRegisters {
         if at as usize >= self.held.len() {
             return Record::empty(alloc, self.fields);
         }
-        self.held[at as usize].copy(alloc)
+        match &self.held[at as usize] {
+            Some(row) => row.copy(alloc),
+            None => Record::empty(alloc, self.fields),
+        }
     }
 
-    pub(crate) fn set(&mut self, alloc: Global, at: u32, row: Record) -> Result<(), OutOfMemory>
+    pub(crate) fn set(&mut self, at: u32, row: Record) -> Result<(), OutOfMemory>
         requires place { at < record_registers }
         requires width { length row ≡ self.old.fields }
         ensures set { OnOk result (self.new ≡ with_record self.old at row) }
         ensures fields { self.new.fields ≡ self.old.fields }
     {
-        reach_record(alloc, &mut self.held, self.fields, at)?;
-        self.held[at as usize] = row;
+        reach_record(&mut self.held, at)?;
+        self.held[at as usize] = Some(row);
         Ok(())
     }
 
@@ -186,8 +209,13 @@ impl RecordRegisters {
         ensures set { OnOk result (self.new ≡ with_record self.old at (slice_set (get_or self.old.records at []) field value)) }
         ensures fields { self.new.fields ≡ self.old.fields }
     {
-        reach_record(alloc, &mut self.held, self.fields, at)?;
-        self.held[at as usize].set(field, value);
-        Ok(())
+        reach_record(&mut self.held, at)?;
+        set_in(
+            alloc,
+            &mut self.held[at as usize],
+            self.fields,
+            field,
+            value,
+        )
     }
 }

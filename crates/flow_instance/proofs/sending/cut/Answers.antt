@@ -14,6 +14,13 @@ push-requires c =
     let t = YieldsList-turn (YieldsList-from_vec {s = c.into_iter-row-iterator.result} c.args.rows (gives.0 ∙ items.ensures) (gives.1 ∙ items.result.ok.0 ∙ ap length items.ensures)) c.loop-row.yielded c.loop-row.row-iterator c.loop-row.yielded_by c.next.result c.next.new.self c.in-Some.row c.in-Some.is c.next.ensures.steps in
     held_width c.args.to c.loop-row.yielded c.args.rows c.in-Some.row c.args.queue.now.items c.loop-row.queue.items c.loop-row.held c.rows-same.ensures.one_width t c.loop-row.invariant.0
 
+pub overflow_sub-more : goal.overflow_sub-more
+overflow_sub-more c =
+    let gives = c.into_iter-row-iterator.ensures.into_iter_gives in
+    let items = c.into_records-row-items in
+    let t = YieldsList-turn (YieldsList-from_vec {s = c.into_iter-row-iterator.result} c.args.rows (gives.0 ∙ items.ensures) (gives.1 ∙ items.result.ok.0 ∙ ap length items.ensures)) c.loop-row.yielded c.loop-row.row-iterator c.loop-row.yielded_by c.next.result c.next.new.self c.in-Some.row c.in-Some.is c.next.ensures.steps in
+    omega (arith, c.loop-row.invariant.2, t.0)
+
 pub loop-row-preserved : goal.loop-row-preserved
 loop-row-preserved c =
     let gives = c.into_iter-row-iterator.ensures.into_iter_gives in
@@ -21,11 +28,12 @@ loop-row-preserved c =
     let t = YieldsList-turn (YieldsList-from_vec {s = c.into_iter-row-iterator.result} c.args.rows (gives.0 ∙ items.ensures) (gives.1 ∙ items.result.ok.0 ∙ ap length items.ensures)) c.loop-row.yielded c.loop-row.row-iterator c.loop-row.yielded_by c.next.result c.next.new.self c.in-Some.row c.in-Some.is c.next.ensures.steps in
     let old = c.args.queue.now.items in
     let longer : length c.push.new.self ≡ length c.loop-row.held + 1 = ap length c.in_ok-push.ensures.ok ∙ length-append c.loop-row.held (c.in-Some.row ∷ []) in (
-      λ fields wide. c.in_ok-held.ensures.stowed fields (c.loop-row.yielded ++ c.in-Some.row ∷ []) old
+      λ fields wide. c.in_ok-held-2.ensures.stowed fields (c.loop-row.yielded ++ c.in-Some.row ∷ []) old
           (subst (λ (held : Bag). AreCarriedBut fields c.args.to (c.loop-row.yielded ++ c.in-Some.row ∷ []) old c.loop-row.queue.items held) (sym c.in_ok-push.ensures.ok)
           (one_more fields c.args.to c.loop-row.yielded c.in-Some.row old c.loop-row.queue.items c.loop-row.held (next_width fields c.loop-row.yielded c.args.rows c.in-Some.row wide t) (c.loop-row.invariant.0 fields wide))),
-      c.in_ok-held.ensures.few,
-      λ few. c.in_ok-held.ensures.batches c.args.batch (omega (arith, longer, c.loop-row.invariant.1)) (c.loop-row.invariant.2 few),
+      c.in_ok-held-2.ensures.few,
+      omega (arith, c.loop-row.invariant.2, t.0, length-append c.loop-row.yielded (c.in-Some.row ∷ [])),
+      λ few. c.in_ok-held-2.ensures.batches c.args.batch (omega (arith, longer, c.loop-row.invariant.1)) (c.loop-row.invariant.3 few),
     )
 
 pub returns-clause-carried : goal.returns-clause-carried
@@ -39,4 +47,4 @@ returns-clause-carried c = λ fields wide.
     (all_carried fields c.args.to c.loop-row.yielded old c.stow-2.new.queue.items c.in_ok-_none._none c.in_ok-_none.ensures.few (c.in_ok-_none.ensures.stowed fields c.loop-row.yielded old (c.loop-row.invariant.0 fields wide)))
 
 pub returns-clause-batches : goal.returns-clause-batches
-returns-clause-batches c = λ few. c.in_ok-_none.ensures.batches c.args.batch (omega (arith, c.loop-row.invariant.1)) (c.loop-row.invariant.2 few)
+returns-clause-batches c = λ few. c.in_ok-_none.ensures.batches c.args.batch (omega (arith, c.loop-row.invariant.1)) (c.loop-row.invariant.3 few)

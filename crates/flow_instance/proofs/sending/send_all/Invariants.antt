@@ -6,5 +6,5 @@ use Rattle.flow_instance.proofs.sending.send_all.Given as goal
 
 abbrev pub invariant-loop-to : goal.invariant-loop-to
 invariant-loop-to l =
-    ((fields from : ℕ) → AreWide fields l.rows → AreSent fields l.workers Broadcast from l.to l.rows l.queue.items)
+    ((fields from : ℕ) → AreWide fields l.fn.rows → AreSent fields l.workers Broadcast from l.to l.fn.rows l.queue.items)
     × AreFew l.batch l.queue.items

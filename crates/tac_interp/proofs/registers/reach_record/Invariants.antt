@@ -1,6 +1,6 @@
-use Rattle.tac_syntax.specs.Call.{empty_record}
+use Rattle.std.proofs.Common.{None}
 use Rattle.tac_interp.proofs.Filled.{FillsTo}
 use Rattle.tac_interp.proofs.registers.reach_record.Given as goal
 
 abbrev pub invariant-loop : goal.invariant-loop
-invariant-loop l = FillsTo (empty_record l.fields) l.fn.held.items l.held.items l.counter l.end
+invariant-loop l = FillsTo None l.fn.held.items l.held.items l.counter l.end

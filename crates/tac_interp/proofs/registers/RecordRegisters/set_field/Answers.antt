@@ -1,21 +1,47 @@
-use Rattle.std.proofs.Common.{◌≡◌, ◌+◌, List, [], get_or, slice_set, ap, ◌∙◌, arith}
+use Rattle.std.proofs.Common.{◌≡◌, List, [], get_or, slice_set, ap, ◌∙◌, arith}
+use Rattle.std.proofs.lemmas.List.{length-set}
+use Rattle.std.proofs.lemmas.Result.{IfOk-weaker}
 use Rattle.pact_record.specs.declared.values.Value.{Value}
-use Rattle.tac_syntax.specs.Call.{empty_record}
-use Rattle.tac_syntax.specs.Limits.{record_registers}
-use Rattle.tac_interp.specs.Registers.{RecordsData, filled, with_record}
-use Rattle.tac_interp.proofs.Filled.{get_or-reached, set-filled}
+use Rattle.tac_interp.specs.Registers.{RecordsData, row_of, with_record}
+use Rattle.tac_interp.proofs.HeldRecords.{AreAsWide-set, IsAsWide-held, row-reached, rows_of, rows-set}
 use Rattle.tac_interp.proofs.registers.RecordRegisters.set_field.Goals as goal
+
+pub invariant_of-self : goal.invariant_of-self
+invariant_of-self c = record {
+  fields_fit = c.self.invariant.fields_fit;
+  few = c.in_err-reach_record.ensures.few c.self.invariant.few;
+  widths = c.in_err-reach_record.ensures.widths c.self.inside.fields c.self.invariant.widths;
+  blank = c.self.invariant.blank;
+}
+
+pub set_in-requires-clause-width : goal.set_in-requires-clause-width
+set_in-requires-clause-width c =
+    let s = c.self.inside in
+    let reached = c.reach_record.new.held in
+    IsAsWide-held s.fields c.args.at c.index_mut.result.now reached.items (omega (arith, c.in_ok-reach_record.ensures.there, reached.ok.0)) c.index_mut.ensures.value
+    (c.in_ok-reach_record.ensures.widths s.fields c.self.invariant.widths)
+
+pub invariant_of-self-2 : goal.invariant_of-self-2
+invariant_of-self-2 c =
+    let s = c.self.inside in
+    let reached = c.reach_record.new.held.items in
+    record {
+      fields_fit = c.self.invariant.fields_fit;
+      few = omega (arith, length-set reached c.args.at c.set_in.new.held, c.in_ok-reach_record.ensures.few c.self.invariant.few);
+      widths = AreAsWide-set s.fields c.args.at c.set_in.new.held reached (c.in_ok-reach_record.ensures.widths s.fields c.self.invariant.widths) c.set_in.ensures.width;
+      blank = c.self.invariant.blank;
+    }
 
 pub returns-clause-set : goal.returns-clause-set
 returns-clause-set c =
-    let fields = c.self.inside.fields in
+    let s = c.self.inside in
     let at = c.args.at in
-    let items = c.self.inside.held.items in
-    let told : List (List Value) → RecordsData = λ l. record { fields = fields; records = l } in
-    let before : c.index_mut.result.now ≡ get_or (filled record_registers (empty_record fields) items) at [] =
-    get_or-reached record_registers (at + 1) at (empty_record fields) [] c.index_mut.result.now items c.reach_record.new.held.items (omega arith) c.requires.place c.in_ok-reach_record.ensures.reached c.index_mut.ensures.value in
-    let row = c.set.ensures ∙ ap (λ (r : List Value). slice_set r c.args.field c.args.value) before in
-    ap (λ (l : List (List Value)). told (filled record_registers (empty_record fields) (slice_set l at c.set.new.self))) c.in_ok-reach_record.ensures.reached
-    ∙ ap told (set-filled record_registers (at + 1) at (empty_record fields) c.set.new.self items (omega arith) c.requires.place)
-    ∙ ap (λ (r : List Value). told (slice_set (filled record_registers (empty_record fields) items) at r)) row
-    ∙ ap (λ (r : RecordsData). with_record r at (slice_set (get_or r.records at []) c.args.field c.args.value)) c.self.view_is
+    let reached = c.reach_record.new.held.items in
+    let before : row_of s.fields c.index_mut.result.now ≡ get_or (rows_of s.fields s.held.items) at [] =
+    row-reached s.fields at c.index_mut.result.now s.held.items reached c.requires.place c.in_ok-reach_record.ensures.reached c.index_mut.ensures.value in
+    IfOk-weaker c.set_in.result _ _ (λ u e.
+    ap (λ (l : List (List Value)). record { fields = s.fields; records = l })
+    (rows-set s.fields at c.set_in.new.held (slice_set (get_or (rows_of s.fields s.held.items) at []) c.args.field c.args.value) s.held.items reached c.requires.place c.in_ok-reach_record.ensures.reached
+    (e ∙ ap (λ (r : List Value). slice_set r c.args.field c.args.value) before))
+    ∙ ap (λ (r : RecordsData). with_record r at (slice_set (get_or r.records at []) c.args.field c.args.value)) c.self.view_is)
+    c.set_in.ensures.set
