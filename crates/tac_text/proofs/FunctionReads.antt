@@ -6,7 +6,7 @@ use Rattle.tac_syntax.specs.Code.{close}
 use Rattle.text_lines.specs.FirstFaults.{HasFault, IsLineFault, told_at}
 use Rattle.text_lines.specs.TextLines.{HasWords, lines_of, trimmed}
 use Rattle.text_lines.specs.declared.lines.TextFault.TheVariants.{At}
-use Rattle.text_lines.proofs.FoundWords.{IsLine-unique}
+use Rattle.text_lines.proofs.WordReading.{IsLine-unique}
 use Rattle.text_lines.proofs.TextLines.{one_place}
 use Rattle.text_lines.proofs.LineRuns.{Runs-append, Runs-parts, Runs-unique, one_line, ¬HasFault-IsFaultless, TellsFirst-line, EndsEarly-run}
 use Rattle.text_lines.specs.declared.faults.NotRead.{NotRead}

@@ -1,6 +1,5 @@
 pub mod Faultless
-pub mod SpelledWords
-pub mod FoundWords
+pub mod WordReading
 pub mod Utf8Texts
 pub mod CanonicalLines
 pub mod DigitWords

@@ -8,7 +8,7 @@ use Rattle.text_lines.specs.TextLines.{HasWords, Say, trimmed}
 use Rattle.text_lines.specs.FirstFaults.{IsStart, IsFaultless, HasFault, IsPlaceBehind, IsFaultyLine, EndsEarly, IsLineFault, told_at, TellsFirst}
 use Rattle.text_lines.specs.LineReading.{HasCause}
 use Rattle.text_lines.specs.Runs.{Steps, Runs, AreSayings, TellsFaults}
-use Rattle.text_lines.proofs.FoundWords.{IsLine-unique, ¬HasLineFault-IsLine}
+use Rattle.text_lines.proofs.WordReading.{IsLine-unique, ¬HasLineFault-IsLine}
 use Rattle.text_lines.proofs.CanonicalLines.{AreLineWords-IsLine, HasWords-canonical_line}
 
 -- ---- runs

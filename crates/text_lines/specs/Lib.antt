@@ -1,5 +1,5 @@
 pub mod LineGrammar
-pub mod Scans
+pub mod WordReading
 pub mod LineReading
 pub mod CanonicalLines
 pub mod Digits

@@ -1,169 +1,15 @@
-//! The words of a line, found byte by byte.
+//! The words of a line, read one behind the other.
 
-ghost use Rattle.std.specs.Prelude.{◌≡◌, ◌++◌, ◌∷◌, IfOk, OnOk};
-ghost use Rattle.text_lines.specs.LineGrammar.{escaped_byte, literal_word, plain_word};
+ghost use Rattle.std.specs.Prelude.{◌≡◌, ◌<◌, ◌≤◌, ◌∷◌, List, ℕ, IfNone, IfOk, IfSome, None, Some, length};
+ghost use Rattle.std.specs.Bool.{OnFalse, OnTrue};
+ghost use Rattle.text_lines.specs.LineGrammar.{IsWordEnd, escaped_byte};
 ghost use Rattle.text_lines.specs.LineGrammar as grammar;
-ghost use Rattle.text_lines.specs.Scans.{behind_step, escape_step, gap_step, literal_ended, literal_step, plain_step, scan_end, scan_start, scan_step, with_byte, with_word, words_in};
+ghost use Rattle.text_lines.specs.WordReading.{Chain, HasFound, IsByte, IsStuck, IsWordAt, IsWordStart, byte_at, literal_byte, plain_byte};
+ghost use Rattle.text_lines.specs.WordReading as reading;
 
 use crate::line_words::{LineWord, LineWords};
 use pact_record::{Bytes, MAX_TEXT, OutOfMemory};
 use std::alloc::Global;
-use std::marker::Model;
-use std::mem;
-
-// Where in a line the next byte stands.
-#[derive(Clone, Copy, Debug, PartialEq, Eq)]
-enum Place {
-    // between words
-    Gap,
-    Plain,
-    Literal,
-    // in a literal, behind a backslash
-    Escape,
-    // behind a literal's closing quotation mark
-    Behind,
-    Comment,
-    // behind what no line has; nothing that follows mends it
-    Fault,
-}
-
-// A line as far as it was read.
-#[derive(Debug, Drop)]
-struct Scanner {
-    words: LineWords,
-    word: Bytes,
-    place: Place,
-}
-
-impl Model for Scanner {
-    ghost use Rattle.text_lines.specs.Scans.{Scan};
-
-    ghost Value = { Scan };
-
-    ghost view = { λ s. record { words = s.words; word = s.word; place = s.place } };
-}
-
-impl Scanner {
-    fn new(alloc: Global) -> Scanner
-        ensures { result ≡ scan_start }
-    {
-        Scanner {
-            words: LineWords::new(alloc),
-            word: Bytes::new(alloc),
-            place: Place::Gap,
-        }
-    }
-
-    fn add(&mut self, byte: u8, place: Place) -> Result<(), OutOfMemory>
-        ensures { OnOk result (self.new ≡ with_byte self.old byte place) }
-    {
-        self.word.push(byte)?;
-        self.place = place;
-        Ok(())
-    }
-
-    fn end_plain(&mut self, alloc: Global) -> Result<(), OutOfMemory>
-        ensures { OnOk result (self.new ≡ with_word self.old (plain_word self.old.word) Place.Gap) }
-    {
-        let word = mem::replace(&mut self.word, Bytes::new(alloc));
-        self.words.push(LineWord::Plain(word))?;
-        self.place = Place::Gap;
-        Ok(())
-    }
-
-    fn end_literal(&mut self, alloc: Global) -> Result<(), OutOfMemory>
-        ensures { OnOk result (self.new ≡ literal_ended self.old) }
-    {
-        if self.word.len() > MAX_TEXT {
-            self.place = Place::Fault;
-            return Ok(());
-        }
-        let word = mem::replace(&mut self.word, Bytes::new(alloc));
-        self.words.push(LineWord::Literal(word))?;
-        self.place = Place::Behind;
-        Ok(())
-    }
-
-    fn step_gap(&mut self, byte: u8) -> Result<(), OutOfMemory>
-        ensures { OnOk result (self.new ≡ gap_step self.old byte) }
-    {
-        match byte {
-            b' ' | b'\t' => self.place = Place::Gap,
-            b'#' => self.place = Place::Comment,
-            b'"' => self.place = Place::Literal,
-            _ => self.add(byte, Place::Plain)?,
-        }
-        Ok(())
-    }
-
-    fn step_plain(&mut self, alloc: Global, byte: u8) -> Result<(), OutOfMemory>
-        ensures { OnOk result (self.new ≡ plain_step self.old byte) }
-    {
-        if !ends_word(byte) {
-            return self.add(byte, Place::Plain);
-        }
-        self.end_plain(alloc)?;
-        self.step_gap(byte)
-    }
-
-    // No carriage return comes here: a line with one is refused before it is scanned.
-    fn step_literal(&mut self, alloc: Global, byte: u8) -> Result<(), OutOfMemory>
-        ensures { OnOk result (self.new ≡ literal_step self.old byte) }
-    {
-        match byte {
-            b'\\' => self.place = Place::Escape,
-            b'"' => self.end_literal(alloc)?,
-            _ => self.add(byte, Place::Literal)?,
-        }
-        Ok(())
-    }
-
-    fn step_escape(&mut self, byte: u8) -> Result<(), OutOfMemory>
-        ensures { OnOk result (self.new ≡ escape_step self.old (escaped_byte byte)) }
-    {
-        match meaning(byte) {
-            Some(meant) => self.add(meant, Place::Literal)?,
-            None => self.place = Place::Fault,
-        }
-        Ok(())
-    }
-
-    fn step_behind(&mut self, byte: u8) -> Result<(), OutOfMemory>
-        ensures { OnOk result (self.new ≡ behind_step self.old byte) }
-    {
-        if ends_word(byte) {
-            return self.step_gap(byte);
-        }
-        self.place = Place::Fault;
-        Ok(())
-    }
-
-    fn step(&mut self, alloc: Global, byte: u8) -> Result<(), OutOfMemory>
-        ensures { OnOk result (self.new ≡ scan_step self.old byte) }
-    {
-        match self.place {
-            Place::Gap => self.step_gap(byte),
-            Place::Plain => self.step_plain(alloc, byte),
-            Place::Literal => self.step_literal(alloc, byte),
-            Place::Escape => self.step_escape(byte),
-            Place::Behind => self.step_behind(byte),
-            Place::Comment | Place::Fault => Ok(()),
-        }
-    }
-
-    fn end(mut self, alloc: Global) -> Result<Option<LineWords>, OutOfMemory>
-        ensures { IfOk result (λ found. found ≡ scan_end self) }
-    {
-        match self.place {
-            Place::Literal | Place::Escape | Place::Fault => Ok(None),
-            Place::Plain => {
-                self.end_plain(alloc)?;
-                Ok(Some(self.words))
-            }
-            Place::Gap | Place::Behind | Place::Comment => Ok(Some(self.words)),
-        }
-    }
-}
 
 fn ends_word(byte: u8) -> bool
     ensures { result ≡ grammar.ends_word byte }
@@ -185,13 +31,127 @@ fn meaning(byte: u8) -> Option<u8>
     }
 }
 
-/// The words that spell a line without carriage returns, if any do.
-pub fn scan(alloc: Global, line: &[u8]) -> Result<Option<LineWords>, OutOfMemory>
-    ensures { IfOk result (λ found. found ≡ words_in line.now) }
+// What stands behind the blanks that a line begins with.
+fn behind_gap(line: &[u8]) -> &[u8]
+    ensures { result.now ≡ reading.behind_gap line.now }
 {
-    let mut scanner = Scanner::new(alloc);
-    for byte in line {
-        scanner.step(alloc, *byte)?;
+    let mut rest = line;
+    while let Some((b' ' | b'\t', behind)) = rest.split_first() {
+        rest = behind;
     }
-    scanner.end(alloc)
+    rest
+}
+
+fn is_word_end(line: &[u8]) -> bool
+    ensures yes { OnTrue result (IsWordEnd line.now) }
+    ensures no { OnFalse result (IsWordStart line.now) }
+{
+    match line.first() {
+        Some(byte) => ends_word(*byte),
+        None => true,
+    }
+}
+
+// The next byte of a plain word, and what follows it.
+fn plain_byte(line: &[u8]) -> Option<(u8, &[u8])>
+    ensures some { IfSome result (λ r. plain_byte line.now ≡ Some (r.0, r.1.now)) }
+    ensures none { IfNone result (plain_byte line.now ≡ None) }
+    ensures shorter { IfSome result (λ r. length r.1.now < length line.now) }
+{
+    match line.split_first() {
+        Some((first, rest)) if !ends_word(*first) => Some((*first, rest)),
+        _ => None,
+    }
+}
+
+// The next byte that a literal stands for, and what follows its spelling.
+fn literal_byte(line: &[u8]) -> Option<(u8, &[u8])>
+    ensures some { IfSome result (λ r. literal_byte line.now ≡ Some (r.0, r.1.now)) }
+    ensures none { IfNone result (literal_byte line.now ≡ None) }
+    ensures shorter { IfSome result (λ r. length r.1.now < length line.now) }
+{
+    let (first, rest) = line.split_first()?;
+    match *first {
+        b'\\' => {
+            let (escape, rest) = rest.split_first()?;
+            Some((meaning(*escape)?, rest))
+        }
+        b'"' | b'\r' => None,
+        byte => Some((byte, rest)),
+    }
+}
+
+fn next_byte(is_literal: bool, line: &[u8]) -> Option<(u8, &[u8])>
+    ensures some { IfSome result (λ r. IsByte is_literal line.now r.0 r.1.now) }
+    ensures none { IfNone result (byte_at is_literal line.now ≡ None) }
+    ensures shorter { IfSome result (λ r. length r.1.now < length line.now) }
+{
+    if is_literal {
+        literal_byte(line)
+    } else {
+        plain_byte(line)
+    }
+}
+
+// As many bytes of a word as there are, and what follows them.
+fn word_bytes(alloc: Global, is_literal: bool, line: &[u8]) -> Result<(Bytes, &[u8]), OutOfMemory>
+    ensures bytes { IfOk result (λ r. Chain (IsByte is_literal) line.now r.0 r.1.now) }
+    ensures no_more { IfOk result (λ r. byte_at is_literal r.1.now ≡ None) }
+{
+    let mut bytes = Bytes::new(alloc);
+    let mut rest = line;
+    loop {
+        let Some((byte, behind)) = next_byte(is_literal, rest) else {
+            return Ok((bytes, rest));
+        };
+        bytes.push(byte)?;
+        rest = behind;
+    }
+}
+
+// What stands behind a literal's closing quotation mark.
+fn behind_literal(line: &[u8]) -> Option<&[u8]>
+    ensures some { IfSome result (λ rest. (line.now ≡ 34 ∷ rest.now) × IsWordEnd rest.now) }
+    ensures none { IfNone result ((rest : List ℕ) → line.now ≡ 34 ∷ rest → IsWordStart rest) }
+{
+    match line.split_first() {
+        Some((b'"', rest)) if is_word_end(rest) => Some(rest),
+        _ => None,
+    }
+}
+
+// The word that a line begins with, and what stands behind it.
+fn next_word(alloc: Global, line: &[u8]) -> Result<Option<(LineWord, &[u8])>, OutOfMemory>
+    requires { IsWordStart line.now }
+    ensures word { IfOk result (λ found. IfSome found (λ r. IsWordAt line.now r.0 r.1.now)) }
+    ensures none { IfOk result (λ found. IfNone found (IsStuck IsWordAt line.now)) }
+{
+    if line[0] != b'"' {
+        let (bytes, rest) = word_bytes(alloc, false, line)?;
+        return Ok(Some((LineWord::Plain(bytes), rest)));
+    }
+    let (bytes, rest) = word_bytes(alloc, true, &line[1..])?;
+    match behind_literal(rest) {
+        Some(behind) if bytes.len() <= MAX_TEXT => Ok(Some((LineWord::Literal(bytes), behind))),
+        _ => Ok(None),
+    }
+}
+
+/// The words that spell a line, if any do.
+pub fn scan(alloc: Global, line: &[u8]) -> Result<Option<LineWords>, OutOfMemory>
+    ensures { IfOk result (λ found. HasFound found line.now) }
+{
+    let mut words = LineWords::new(alloc);
+    let mut rest = line;
+    loop {
+        let next = behind_gap(rest);
+        if is_word_end(next) {
+            return Ok(Some(words));
+        }
+        let Some((word, behind)) = next_word(alloc, next)? else {
+            return Ok(None);
+        };
+        words.push(word)?;
+        rest = behind;
+    }
 }

@@ -1,6 +1,9 @@
-use Rattle.std.proofs.Common.{◌≡◌, drop}
-use Rattle.text_lines.specs.Scans.{scan_on, scan_start}
+use Rattle.std.proofs.Common.{length}
+use Rattle.text_lines.specs.WordReading.{Chain, NextWord}
 use Rattle.text_lines.proofs.scanning.scan.Given as goal
 
-abbrev pub invariant-loop-byte : goal.invariant-loop-byte
-invariant-loop-byte l = scan_on l.scanner (drop l.byte-index l.line) ≡ scan_on scan_start l.line
+abbrev pub invariant-loop-next : goal.invariant-loop-next
+invariant-loop-next l = Chain NextWord l.line l.words l.rest
+
+abbrev pub decreases-loop-next : goal.decreases-loop-next
+decreases-loop-next l = length l.rest

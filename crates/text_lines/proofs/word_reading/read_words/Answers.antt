@@ -1,18 +1,16 @@
-use Rattle.std.proofs.Common.{◌∙◌, inr, refl, sym}
+use Rattle.std.proofs.Common.{inr, refl}
 use Rattle.text_lines.specs.LineGrammar.{IsLine, IsUnspelled}
-use Rattle.text_lines.proofs.FoundWords.{IsLine-unique, IsLine-words_in, IsUnspelled-words_in, ¬HasLineFault-IsLine, ¬IsGarbled-clean}
+use Rattle.text_lines.proofs.WordReading.{IsLine-unique, ¬HasLineFault-IsLine, ¬IsGarbled-clean}
 use Rattle.text_lines.proofs.CanonicalLines.{AreLineWords-IsLine, IsLine-written}
 use Rattle.text_lines.proofs.word_reading.read_words.Goals as goal
 
 is_line : (c : goal.In-Some) → IsLine c.args.line.now c.in-Some.words
-is_line c =
-    let clean = c.if-is_garbled.ensures.clean in
-    IsLine-words_in c.args.line.now c.in-Some.words clean.0 clean.1 (sym c.in_ok-words.ensures ∙ c.in-Some.is)
+is_line c = (c.if-is_garbled.ensures.clean.0, c.if-is_garbled.ensures.clean.1, rw c.in-Some.is at c.in_ok-words.ensures)
 
 is_unspelled : (c : goal.In-None) → IsUnspelled c.args.line.now
 is_unspelled c =
     let clean = c.if-is_garbled.ensures.clean in
-    IsUnspelled-words_in c.args.line.now clean.0 clean.1 (sym c.in_ok-words.ensures ∙ c.in-None.is)
+    (¬IsGarbled-clean c.args.line.now clean.0 clean.1, rw c.in-None.is at c.in_ok-words.ensures)
 
 pub returns-then-is_garbled-clause-words_always : goal.returns-then-is_garbled-clause-words_always
 returns-then-is_garbled-clause-words_always c words h = absurd (¬IsGarbled-clean c.args.line.now h.0 h.1 c.if-is_garbled.ensures.garbled)
