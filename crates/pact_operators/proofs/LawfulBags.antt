@@ -58,14 +58,14 @@ IsCallOf-groups kind ks js key l r e some h j =
 
 module _ (fields : ℕ) (v : List WithFields) (ops : List Op) (o : PlanOps) (good : AreOpsOf fields v ops o) where
   -- the fields of an operator, and those of its one input or of its two
-  abbrev Over : ℕ → (ℕ → Type 0) → ℕ → Type 0
+  abbrev pub Over : ℕ → (ℕ → Type 0) → ℕ → Type 0
   Over n s k = Owns v ops n k ⊎ s k
 
-  abbrev OverBoth : ℕ → (ℕ → Type 0) → (ℕ → Type 0) → ℕ → Type 0
+  abbrev pub OverBoth : ℕ → (ℕ → Type 0) → (ℕ → Type 0) → ℕ → Type 0
   OverBoth n s t k = Owns v ops n k ⊎ s k ⊎ t k
 
   pub call_fits : (n : ℕ) (s t : ℕ → Type 0) (x : CallInput) → IsCallOf (o.kind n) (o.left_keys n) (o.right_keys n) x → AllByRecursion (IsWithin fields s) (left_records x)
-      → AllByRecursion (IsWithin fields t) (right_records x) → AllByRecursion (IsWithin fields (λ k. Owns v ops n k ⊎ s k ⊎ t k)) (called o n x)
+      → AllByRecursion (IsWithin fields t) (right_records x) → AllByRecursion (IsWithin fields (OverBoth n s t)) (called o n x)
   call_fits n s t x c h j =
       all_within_larger fields (λ k. InputHasValue k x ⊎ Owns v ops n k) (OverBoth n s t) (called o n x)
       (λ k out p. elim p as (λ _. ⊥) [
@@ -76,19 +76,19 @@ module _ (fields : ℕ) (v : List WithFields) (ops : List Op) (o : PlanOps) (goo
 
   -- of one input
   pub call_fits_one : (n : ℕ) (s : ℕ → Type 0) (x : CallInput) → IsCallOf (o.kind n) (o.left_keys n) (o.right_keys n) x → AllByRecursion (IsWithin fields s) (left_records x)
-      → AllByRecursion (IsWithin fields (λ k. ⊥)) (right_records x) → AllByRecursion (IsWithin fields (λ k. Owns v ops n k ⊎ s k)) (called o n x)
+      → AllByRecursion (IsWithin fields (λ k. ⊥)) (right_records x) → AllByRecursion (IsWithin fields (Over n s)) (called o n x)
   call_fits_one n s x c h j =
       all_within_larger fields (OverBoth n s (λ k. ⊥)) (Over n s) (called o n x)
       (λ k out p. elim p as (λ _. ⊥) [ inl own ↦ out (inl own) | inr q ↦ elim q as (λ _. ⊥) [ inl a ↦ out (inr a) | inr b ↦ b ] ])
       (call_fits n s (λ k. ⊥) x c h j)
 
-  pub map_fits : (n : ℕ) (s : ℕ → Type 0) → o.kind n ≡ Map → (row : List Value) → IsWithin fields s row → AllByRecursion (IsWithin fields (λ k. Owns v ops n k ⊎ s k)) (o.of_record n row)
+  pub map_fits : (n : ℕ) (s : ℕ → Type 0) → o.kind n ≡ Map → (row : List Value) → IsWithin fields s row → AllByRecursion (IsWithin fields (Over n s)) (o.of_record n row)
   map_fits n s e row h = call_fits_one n s (of_record row) (IsCallOf-record (o.kind n) (o.left_keys n) (o.right_keys n) row e) (h, tt) tt
 
-  pub match_fits : (n : ℕ) (s t : ℕ → Type 0) → o.kind n ≡ Match → (l r : List Value) → IsWithin fields s l → IsWithin fields t r → AllByRecursion (IsWithin fields (λ k. Owns v ops n k ⊎ s k ⊎ t k)) (o.of_pair n l r)
+  pub match_fits : (n : ℕ) (s t : ℕ → Type 0) → o.kind n ≡ Match → (l r : List Value) → IsWithin fields s l → IsWithin fields t r → AllByRecursion (IsWithin fields (OverBoth n s t)) (o.of_pair n l r)
   match_fits n s t e l r h j = call_fits n s t (of_pair l r) (IsCallOf-match (o.kind n) (o.left_keys n) (o.right_keys n) l r e) (h, tt) (j, tt)
 
-  pub cross_fits : (n : ℕ) (s t : ℕ → Type 0) → o.kind n ≡ Cross → (l r : List Value) → IsWithin fields s l → IsWithin fields t r → AllByRecursion (IsWithin fields (λ k. Owns v ops n k ⊎ s k ⊎ t k)) (o.of_pair n l r)
+  pub cross_fits : (n : ℕ) (s t : ℕ → Type 0) → o.kind n ≡ Cross → (l r : List Value) → IsWithin fields s l → IsWithin fields t r → AllByRecursion (IsWithin fields (OverBoth n s t)) (o.of_pair n l r)
   cross_fits n s t e l r h j = call_fits n s t (of_pair l r) (IsCallOf-cross (o.kind n) (o.left_keys n) (o.right_keys n) l r e) (h, tt) (j, tt)
 
   -- ---- what an operator gives
