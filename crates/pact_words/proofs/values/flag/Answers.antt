@@ -1,4 +1,3 @@
-use Rattle.std.proofs.Common.{sym}
 use Rattle.clap.specs.Words.{found_of}
 use Rattle.pact_words.specs.FoundValues.{flag_said}
 use Rattle.pact_words.proofs.SaidValues.{parsed_flag, read-said}
