@@ -51,6 +51,13 @@ pub record HasLimits (rows : List Row) : Type 0 where
   pub workers : HasNumber (codes "workers") rows 1 16
   pub plans : HasNumber (codes "plans") rows 1 1000
 
+has_limits : (rows : List Row) (workers plans : Rule) → workers.parser ≡ Some (vp.Signed (pos 1) (pos 16)) → plans.parser ≡ Some (vp.Signed (pos 1) (pos 1000)) → Holds rows (codes "workers") workers
+    → Holds rows (codes "plans") plans → HasLimits rows
+has_limits rows workers plans w p h k = record {
+  workers = has_number (codes "workers") rows workers 1 16 (omega arith) w h;
+  plans = has_number (codes "plans") rows plans 1 1000 (omega arith) p k;
+}
+
 in_range : (rows : List Row) (h : HasLimits rows) → AreInRange h.workers.number h.plans.number
 in_range rows h = record { least_workers = h.workers.least_of; most_workers = h.workers.most_of; least_plans = h.plans.least_of; most_plans = h.plans.most_of }
 
@@ -59,13 +66,6 @@ pub record Asks (k : Kind) (words : List Text) : Type 0 where
   pub command : Asked
   pub values : asked_of k (matches_of (app_for k) words) ≡ Some command
   pub in_range : IsInRange command
-
-has_limits : (rows : List Row) (workers plans : Rule) → workers.parser ≡ Some (vp.Signed (pos 1) (pos 16)) → plans.parser ≡ Some (vp.Signed (pos 1) (pos 1000)) → Holds rows (codes "workers") workers
-    → Holds rows (codes "plans") plans → HasLimits rows
-has_limits rows workers plans w p h k = record {
-  workers = has_number (codes "workers") rows workers 1 16 (omega arith) w h;
-  plans = has_number (codes "plans") rows plans 1 1000 (omega arith) p k;
-}
 
 -- a command that takes a program, workers and plans
 asks_limited : (k : Kind) (words : List Text) (to : List ℕ → ℕ → ℕ → Asked)
