@@ -1,4 +1,3 @@
-pub mod NoFunction
 pub mod NumbersApart
 pub mod InnerEdges
 pub mod WholeSums

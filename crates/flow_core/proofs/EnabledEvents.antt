@@ -14,7 +14,7 @@ use Rattle.flow_model.specs.Notes.{AreNotes, IsNote, has_end}
 use Rattle.flow_model.specs.Spots.{Port, Setting, is_edge, ports_of, setting}
 use Rattle.flow_model.specs.Worlds.{can_take, does_want, enabled, lists_at, reader_of}
 use Rattle.flow_model.proofs.Events.{receiver_below, wants_end, wants_put, wants_take}
-use Rattle.flow_model.proofs.Preserved.{can_be_taken}
+use Rattle.flow_model.proofs.StandsAfterEvents.{can_be_taken}
 use Rattle.flow_core.specs.Stations.{IsReadyFor}
 use Rattle.flow_core.specs.Worlds.{StandsForSome, WorldData, instance_in, queue_in, seen}
 

@@ -18,7 +18,7 @@ use Rattle.flow_model.specs.Spots.{Setting}
 use Rattle.flow_model.specs.Spread.{Spread, placed_in, sum_below}
 use Rattle.flow_model.specs.Worlds.{AreDone, History, IsStuck, LocalAt}
 use Rattle.flow_model.proofs.Bags.{is_same}
-use Rattle.flow_model.proofs.Ended.{spread}
+use Rattle.flow_model.proofs.AllPutIsTaken.{spread}
 use Rattle.flow_model.proofs.Stuck.{stuck_is_done}
 use Rattle.flow_core.specs.Stations.{given_by, placed_by, total_given}
 use Rattle.flow_core.specs.Worlds.{IsStanding, IsWhole, StandsForSome, StationData, WorldData, seen}

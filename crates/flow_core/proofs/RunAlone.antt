@@ -15,7 +15,7 @@ use Rattle.flow_model.specs.Most.{events, most, program_turns}
 use Rattle.flow_model.specs.Spots.{Setting, setting}
 use Rattle.flow_model.specs.Spread.{Spread}
 use Rattle.flow_model.specs.Worlds.{AreDone, History, IsStuck, enabled}
-use Rattle.flow_model.proofs.Bound.{bound}
+use Rattle.flow_model.proofs.EventsWithinMost.{bound}
 use Rattle.flow_model.proofs.CallTurns.{bounded_program}
 use Rattle.flow_model.proofs.Counting.{step_counted}
 use Rattle.flow_model.proofs.DividedRuns.{divided}

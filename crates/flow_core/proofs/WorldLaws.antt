@@ -5,9 +5,9 @@ use Rattle.plan_trees.specs.Plans.{has}
 use Rattle.flow_model.specs.Most.{program_turns}
 use Rattle.flow_model.specs.Spots.{setting}
 use Rattle.flow_model.specs.Worlds.{enabled}
-use Rattle.flow_model.proofs.Bound.{bound}
+use Rattle.flow_model.proofs.EventsWithinMost.{bound}
 use Rattle.flow_model.proofs.CallTurns.{bounded_program}
-use Rattle.flow_model.proofs.Ended.{put_is_taken, spread}
+use Rattle.flow_model.proofs.AllPutIsTaken.{put_is_taken, spread}
 use Rattle.flow_model.proofs.Runs.{some_event}
 use Rattle.flow_core.specs.Laws.{ObeysLaws}
 use Rattle.flow_core.specs.Worlds.{StandsForSome, WorldData, seen}

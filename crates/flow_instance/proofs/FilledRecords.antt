@@ -1,7 +1,7 @@
 -- A record with Null in the fields that it lacks has the key values of the record itself.
 use Rattle.std.proofs.Common.{◌≡◌, ◌<◌, ◌≤◌, ◌+◌, ◌-◌, ◌++◌, ℕ, zero, suc, List, [], ◌∷◌, length, map, take, set, replicate, refl, ap, sym, ◌∙◌, arith, length-append}
 use Rattle.std.proofs.lemmas.List.{length-replicate, length-take-le, take_more}
-use Rattle.pact_bag.proofs.Fronts.{set_next}
+use Rattle.pact_bag.proofs.FilledFromLeft.{set_next}
 use Rattle.pact_record.specs.Hash as hash
 use Rattle.pact_record.specs.declared.values.Value.{Value}
 use Rattle.pact_record.specs.declared.values.Value.TheVariants.{Null}

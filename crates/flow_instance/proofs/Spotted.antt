@@ -1,8 +1,8 @@
 -- What an instance keeps is what its program and plan say, and so what it owes follows.
 use Rattle.std.proofs.Common.{◌≡◌, ◌<◌, ◌||◌, not, ℕ, Bool, true, false, List, [], ◌∷◌, slice_get, refl, ap, sym, ◌∙◌, subst}
 use Rattle.std.specs.List.{AllByRecursion}
-use Rattle.flow_model.proofs.Locals.{took_local}
-use Rattle.flow_model.proofs.Offers.{IsPutting, batch, mark, putting_by, offered_local}
+use Rattle.flow_model.proofs.LocalAfterTakes.{took_local}
+use Rattle.flow_model.proofs.LocalAfterPuts.{IsPutting, batch, mark, putting_by, offered_local}
 use Rattle.flow_model.specs.Instances.{Instance, Part, ended_at, port_ended, want}
 use Rattle.flow_model.specs.Local.{Calls, IsLocal, IsPartOf, IsReceiver, IsWaiting, works_at_once}
 use Rattle.flow_model.specs.Notes.{AreNotes, has_end}

@@ -5,7 +5,7 @@ use Rattle.std.proofs.lemmas.Bool.{and_left, and_parts, and_right, eq-eqb}
 use Rattle.std.proofs.lemmas.List.{length-map}
 use Rattle.std.proofs.lemmas.List.Sorted.{IsPermutation-refl}
 use Rattle.flow_model.proofs.Bags.{is_same}
-use Rattle.flow_model.proofs.Marks.{all_below_from, all_below_none}
+use Rattle.flow_model.proofs.EndMarksAndWants.{all_below_from, all_below_none}
 use Rattle.flow_model.specs.Instances.{all_ended, ended_at, kept_at, port_ended}
 use Rattle.flow_model.specs.Local.{Calls, Gave, IsGiven, IsPartOf, KeepsRows, Placed, sender_ended, works_at_once}
 use Rattle.flow_model.specs.Spots.{Port as PortData, Spot, is_edge, ports_of, setting, spot}

@@ -1,7 +1,7 @@
 -- What an instance wants, and when it may take a note.
 use Rattle.std.proofs.Common.{◌≡◌, ◌<◌, ◌≤◌, ◌+◌, ◌-◌, ◌&&◌, ◌⊎◌, inl, inr, ℕ, zero, suc, Bool, true, false, Option, Some, None, List, [], ◌∷◌, length, map, get_or, slice_get, refl, ap, sym, ◌∙◌, subst, arith}
 use Rattle.std.specs.Prelude.{IsSome, ◌↔◌}
-use Rattle.flow_model.proofs.Locals.{IsTaking, not_all, taking_by}
+use Rattle.flow_model.proofs.LocalAfterTakes.{IsTaking, not_all, taking_by}
 use Rattle.flow_model.specs.Instances.{Instance, all_ended, port_ended, want, want_by}
 use Rattle.flow_model.specs.Notes.{AreNotes, IsNote, all_below}
 use Rattle.flow_model.specs.Spots.{is_edge}

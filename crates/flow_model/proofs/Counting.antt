@@ -1,7 +1,7 @@
 -- Each event is counted once.
-use Rattle.std.proofs.Common.{◌≡◌, ◌≢◌, ◌<◌, inl, inr, ◌&&◌, ◌||◌, ◌+◌, ◌==◌, ℕ, zero, suc, Bool, true, false, Option, Some, None, List, [], ◌∷◌, ◌++◌, length, refl, ap, sym, ◌∙◌, subst, arith, length-append}
+use Rattle.std.proofs.Common.{◌≡◌, ◌≢◌, ◌<◌, inl, inr, ◌||◌, ◌+◌, ◌==◌, ℕ, zero, suc, Bool, true, false, Option, Some, None, List, [], ◌∷◌, ◌++◌, length, refl, ap, sym, ◌∙◌, subst, arith, length-append}
 use Rattle.std.specs.Prelude.{nat_lt}
-use Rattle.std.proofs.lemmas.Bool.{and_parts, cases_eq, eqb-true, ltb-true, or_cases, false_from_ne_true}
+use Rattle.std.proofs.lemmas.Bool.{and_parts, cases_eq, eqb-true, or_cases, false_from_ne_true}
 use Rattle.pact_operators.specs.Allowed.{Bag}
 use Rattle.plan_trees.specs.Distinct.{AreDifferent}
 use Rattle.plan_trees.specs.Plans.{PlanTree, leaf, over, both, has, nodes}
@@ -21,10 +21,10 @@ use Rattle.flow_model.specs.Spread.{sum_below}
 use Rattle.flow_model.specs.Steps.{finish, next_note}
 use Rattle.flow_model.specs.Events.{Ends, OthersSame, Puts, Steps, Takes, TakesBy, added, first_note, noted}
 use Rattle.flow_model.specs.Worlds.{History, Stands, World, can_take, does_want, enabled, reader_of}
-use Rattle.flow_model.proofs.Events.{receiver_below, wants_end, wants_put, wants_take}
-use Rattle.flow_model.proofs.Offers.{ending_by, not_finished, putting_by}
-use Rattle.flow_model.proofs.Locals.{not_all, taking_by}
-use Rattle.flow_model.proofs.Preserved.{added_elsewhere, added_here, other_edge, other_from, other_to}
+use Rattle.flow_model.proofs.Events.{may_end, may_put, may_take, receiver_below, wants_take}
+use Rattle.flow_model.proofs.LocalAfterPuts.{ending_by, not_finished, putting_by}
+use Rattle.flow_model.proofs.LocalAfterTakes.{not_all, taking_by}
+use Rattle.flow_model.proofs.StandsAfterEvents.{added_elsewhere, added_here, other_edge, other_from, other_to}
 use Rattle.flow_model.proofs.Readers.{found}
 use Rattle.plan_trees.proofs.NodesOfTrees.{nodes-has}
 
@@ -181,21 +181,15 @@ take_counted g w v h p (Some x) d st r from to can step =
 pub step_counted : (g : Setting) (depth : ℕ) (w v : World) (h : History) (e : Event) → AreDifferent (nodes g.physical.tree) → Stands g w h → enabled g.physical depth w e ≡ true → Steps g w e v
     → mosts.events g v (noted w e h) ≡ mosts.events g w h + 1
 step_counted g depth w v h (events.Put p) d st e step =
-    let parts = and_parts (has p.edge g.physical.tree && nat_lt p.from g.physical.workers) _ e in
-    let place = and_parts (has p.edge g.physical.tree) (nat_lt p.from g.physical.workers) parts.0 in
-    let can = and_parts (does_want (want (w.instance p.edge p.from)) (Put p.to)) (nat_lt (length (w.queue p.edge p.from p.to)) depth) parts.1 in
-    let from_below = ltb-true p.from g.physical.workers place.1 in
+    let m = may_put g.physical depth w p e in
     let i = w.instance p.edge p.from in
-    let l = st.instances p.edge p.from place.0 from_below in
-    let wanted = wants_put (want i) p.to can.0 in
-    let putting = putting_by i.waiting i.marks (port_ended i 0) (port_ended i 1) i.finished p.to wanted in
-    count_put g w v h p d place.0 from_below (receiver_below g w h p st place.0 from_below wanted)
+    let l = st.instances p.edge p.from m.there m.from_below in
+    let putting = putting_by i.waiting i.marks (port_ended i 0) (port_ended i 1) i.finished p.to m.wanted in
+    count_put g w v h p d m.there m.from_below (receiver_below g w h p st m.there m.from_below m.wanted)
     (false_from_ne_true i.finished (λ f. not_finished i.waiting i.marks p.to putting (l.finished f).0 (l.finished f).1)) step
 step_counted g depth w v h (events.Take p) d st e step =
-    let parts = and_parts (nat_lt p.from g.physical.workers && nat_lt p.to g.physical.workers) _ e in
-    let below = and_parts (nat_lt p.from g.physical.workers) (nat_lt p.to g.physical.workers) parts.0 in
-    take_counted g w v h p (reader_of p.edge g.physical.tree) d st refl (ltb-true p.from g.physical.workers below.0) (ltb-true p.to g.physical.workers below.1) parts.1 step
+    let m = may_take g.physical depth w p e in
+    take_counted g w v h p (reader_of p.edge g.physical.tree) d st refl m.from_below m.to_below m.can step
 step_counted g depth w v h (events.End at k) d st e step =
-    let parts = and_parts (has at g.physical.tree && nat_lt k g.physical.workers) _ e in
-    let place = and_parts (has at g.physical.tree) (nat_lt k g.physical.workers) parts.0 in
-    count_end g w v h at k d place.0 (ltb-true k g.physical.workers place.1) (wants_end (want (w.instance at k)) parts.1) step
+    let m = may_end g.physical depth w at k e in
+    count_end g w v h at k d m.there m.below m.wanted step

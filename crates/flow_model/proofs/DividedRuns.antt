@@ -25,7 +25,7 @@ use Rattle.flow_model.specs.Spots.{Setting, Spot, ports_of, sent, setting, spot}
 use Rattle.flow_model.specs.Spread.{Spread, given_in, sum_below}
 use Rattle.flow_model.specs.Worlds.{lists_at}
 use Rattle.flow_model.proofs.Bags.{is_same, joined, turned}
-use Rattle.flow_model.proofs.Marks.{finished_by}
+use Rattle.flow_model.proofs.EndMarksAndWants.{finished_by}
 use Rattle.plan_trees.proofs.EverySubtree.{AllBelow, all_below-at, all_below-root}
 use Rattle.flow_model.proofs.Trees.{HasEdge, Inside, edges, inside_of}
 

@@ -3,6 +3,7 @@ use Rattle.std.proofs.Common.{◌≡◌, ◌<◌, ◌&&◌, ◌+◌, ℕ, true, 
 use Rattle.std.proofs.lemmas.Bool.{eqb-true, and_parts, ltb-true}
 use Rattle.std.specs.Prelude.{nat_lt}
 use Rattle.plan_trees.specs.Distinct.{AreDifferent}
+use Rattle.plan_trees.specs.Physicals.{PhysicalData}
 use Rattle.plan_trees.specs.Plans.{has, nodes, subtree_of}
 use Rattle.flow_model.specs.declared.notes.PipeId.{PipeId}
 use Rattle.flow_model.specs.declared.notes.Event.{Event}
@@ -15,9 +16,9 @@ use Rattle.flow_model.specs.Spots.{Port, Setting, ports_of, spot}
 use Rattle.flow_model.specs.Steps.{next_note}
 use Rattle.flow_model.specs.Events.{IsStart, KeepsDepth, Steps, TakesBy, no_history, noted}
 use Rattle.flow_model.specs.Worlds.{World, History, Stands, can_take, does_want, enabled, reader_of, lists_at}
-use Rattle.flow_model.proofs.Marks.{put_to}
-use Rattle.flow_model.proofs.Offers.{started_local}
-use Rattle.flow_model.proofs.Preserved.{end_stands, local_same, put_stands, take_stands}
+use Rattle.flow_model.proofs.EndMarksAndWants.{put_to}
+use Rattle.flow_model.proofs.LocalAfterPuts.{started_local}
+use Rattle.flow_model.proofs.StandsAfterEvents.{end_stands, local_same, put_stands, take_stands}
 
 -- ---- what is wanted
 
@@ -39,6 +40,50 @@ wants_end (Put p) e = absurd (cc)
 wants_end End e = refl
 wants_end Done e = absurd (cc)
 
+-- ---- what an enabled event tells
+
+pub record MayPut (p : PhysicalData) (depth : ℕ) (w : World) (pipe : PipeId) : Type 0 where
+  pub there : has pipe.edge p.tree ≡ true
+  pub from_below : pipe.from < p.workers
+  pub wanted : want (w.instance pipe.edge pipe.from) ≡ Put pipe.to
+  pub room : length (w.queue pipe.edge pipe.from pipe.to) < depth
+
+pub may_put : (p : PhysicalData) (depth : ℕ) (w : World) (pipe : PipeId) → enabled p depth w (events.Put pipe) ≡ true → MayPut p depth w pipe
+may_put p depth w pipe e =
+    let parts = and_parts (has pipe.edge p.tree && nat_lt pipe.from p.workers) _ e in
+    let place = and_parts (has pipe.edge p.tree) (nat_lt pipe.from p.workers) parts.0 in
+    let can = and_parts (does_want (want (w.instance pipe.edge pipe.from)) (Put pipe.to)) (nat_lt (length (w.queue pipe.edge pipe.from pipe.to)) depth) parts.1 in
+    record {
+      there = place.0;
+      from_below = ltb-true pipe.from p.workers place.1;
+      wanted = wants_put (want (w.instance pipe.edge pipe.from)) pipe.to can.0;
+      room = ltb-true (length (w.queue pipe.edge pipe.from pipe.to)) depth can.1;
+    }
+
+pub record MayTake (p : PhysicalData) (w : World) (pipe : PipeId) : Type 0 where
+  pub from_below : pipe.from < p.workers
+  pub to_below : pipe.to < p.workers
+  pub can : can_take w pipe (reader_of pipe.edge p.tree) ≡ true
+
+pub may_take : (p : PhysicalData) (depth : ℕ) (w : World) (pipe : PipeId) → enabled p depth w (events.Take pipe) ≡ true → MayTake p w pipe
+may_take p depth w pipe e =
+    let parts = and_parts (nat_lt pipe.from p.workers && nat_lt pipe.to p.workers) _ e in
+    let below = and_parts (nat_lt pipe.from p.workers) (nat_lt pipe.to p.workers) parts.0 in
+    record { from_below = ltb-true pipe.from p.workers below.0; to_below = ltb-true pipe.to p.workers below.1; can = parts.1 }
+
+pub record MayEnd (p : PhysicalData) (w : World) (at worker : ℕ) : Type 0 where
+  pub there : has at p.tree ≡ true
+  pub below : worker < p.workers
+  pub wanted : want (w.instance at worker) ≡ End
+
+pub may_end : (p : PhysicalData) (depth : ℕ) (w : World) (at worker : ℕ) → enabled p depth w (events.End at worker) ≡ true → MayEnd p w at worker
+may_end p depth w at worker e =
+    let parts = and_parts (has at p.tree && nat_lt worker p.workers) _ e in
+    let place = and_parts (has at p.tree) (nat_lt worker p.workers) parts.0 in
+    record { there = place.0; below = ltb-true worker p.workers place.1; wanted = wants_end (want (w.instance at worker)) parts.1 }
+
+-- ---- an event keeps a world standing
+
 take_by : (g : Setting) (w v : World) (h : History) (p : PipeId) (o : Option (ℕ × ℕ)) → AreDifferent (nodes g.physical.tree) → Stands g w h → reader_of p.edge g.physical.tree ≡ o
     → p.from < g.physical.workers → p.to < g.physical.workers → can_take w p o ≡ true → TakesBy g w p o v → Stands g v (noted w (events.Take p) h)
 take_by g w v h p None d st r from to can step = absurd (cc)
@@ -56,25 +101,16 @@ receiver_below g w h p st there below wanted =
 
 pub step_stands : (g : Setting) (depth : ℕ) (w v : World) (h : History) (e : Event) → AreDifferent (nodes g.physical.tree) → Stands g w h → enabled g.physical depth w e ≡ true → Steps g w e v → Stands g v (noted w e h)
 step_stands g depth w v h (events.Put p) d st e step =
-    let parts = and_parts (has p.edge g.physical.tree && nat_lt p.from g.physical.workers) _ e in
-    let place = and_parts (has p.edge g.physical.tree) (nat_lt p.from g.physical.workers) parts.0 in
-    let can = and_parts (does_want (want (w.instance p.edge p.from)) (Put p.to)) (nat_lt (length (w.queue p.edge p.from p.to)) depth) parts.1 in
-    let from_below = ltb-true p.from g.physical.workers place.1 in
-    let wanted = wants_put (want (w.instance p.edge p.from)) p.to can.0 in
-    put_stands g w v h p st wanted from_below (receiver_below g w h p st place.0 from_below wanted) step
+    let m = may_put g.physical depth w p e in
+    put_stands g w v h p st m.wanted m.from_below (receiver_below g w h p st m.there m.from_below m.wanted) step
 step_stands g depth w v h (events.Take p) d st e step =
-    let parts = and_parts (nat_lt p.from g.physical.workers && nat_lt p.to g.physical.workers) _ e in
-    let below = and_parts (nat_lt p.from g.physical.workers) (nat_lt p.to g.physical.workers) parts.0 in
-    take_by g w v h p (reader_of p.edge g.physical.tree) d st refl (ltb-true p.from g.physical.workers below.0) (ltb-true p.to g.physical.workers below.1) parts.1 step
-step_stands g depth w v h (events.End at k) d st e step =
-    let parts = and_parts (has at g.physical.tree && nat_lt k g.physical.workers) _ e in
-    end_stands g w v h at k st (wants_end (want (w.instance at k)) parts.1) step
+    let m = may_take g.physical depth w p e in
+    take_by g w v h p (reader_of p.edge g.physical.tree) d st refl m.from_below m.to_below m.can step
+step_stands g depth w v h (events.End at k) d st e step = end_stands g w v h at k st (may_end g.physical depth w at k e).wanted step
 
 pub step_depth : (g : Setting) (depth : ℕ) (w v : World) (e : Event) → enabled g.physical depth w e ≡ true → Steps g w e v → KeepsDepth depth w e v
 step_depth g depth w v (events.Put p) e step =
-    let parts = and_parts (has p.edge g.physical.tree && nat_lt p.from g.physical.workers) _ e in
-    let can = and_parts (does_want (want (w.instance p.edge p.from)) (Put p.to)) (nat_lt (length (w.queue p.edge p.from p.to)) depth) parts.1 in
-    let less = ltb-true (length (w.queue p.edge p.from p.to)) depth can.1 in
+    let less = (may_put g.physical depth w p e).room in
     let long : length (v.queue p.edge p.from p.to) ≡ length (w.queue p.edge p.from p.to) + 1 =
     ap length step.queue.here ∙ length-append (w.queue p.edge p.from p.to) (next_note (w.instance p.edge p.from).waiting ∷ []) in
     omega arith

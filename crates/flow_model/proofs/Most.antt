@@ -1,11 +1,13 @@
 -- The events of a run are at most `most`.
-use Rattle.std.proofs.Common.{◌≡◌, ◌<◌, ◌≤◌, inl, inr, ◌||◌, ◌+◌, ◌*◌, ℕ, Bool, true, false, Option, Some, None, [], ◌∷◌, ◌++◌, length, slice_get, refl, ap, sym, ◌∙◌, subst, arith, length-append}
+use Rattle.std.proofs.Common.{◌≡◌, ◌<◌, ◌≤◌, inl, inr, ◌||◌, ◌+◌, ◌*◌, ℕ, Bool, true, false, Option, Some, None, List, [], ◌∷◌, ◌++◌, length, slice_get, refl, ap, sym, ◌∙◌, subst, arith, length-append}
 use Rattle.std.proofs.Math.Nat.{mul-le-mul, le_refl, mul-zero}
 use Rattle.std.proofs.lemmas.Bool.{cases_lt}
+use Rattle.std.specs.List.Sorted.{IsPermutation}
 use Rattle.std.proofs.lemmas.List.Sorted.{length_permutation}
 use Rattle.tac_syntax.specs.declared.declarations.OpKind.{OpKind}
 use Rattle.tac_syntax.specs.declared.declarations.OpKind.TheVariants.{Source, Map, Reduce, Match, Cross, CoGroup}
-use Rattle.pact_operators.specs.Allowed.{Bag, matched}
+use Rattle.pact_record.specs.declared.values.Value.{Value}
+use Rattle.pact_operators.specs.Allowed.{Bag, crossed, matched}
 use Rattle.plan_trees.specs.Plans.{PlanTree, leaf, over, both, root_of}
 use Rattle.flow_model.specs.declared.notes.Want.TheVariants.{Done}
 use Rattle.flow_model.specs.Instances.{all_ended, want}
@@ -18,7 +20,7 @@ use Rattle.flow_model.specs.Spots.{Port, Setting, Spot, has_out, port_from, port
 use Rattle.flow_model.specs.Spread.{sum_below}
 use Rattle.flow_model.specs.Worlds.{History, World, does_want, lists_at}
 use Rattle.flow_model.proofs.Bags.{rows_of-append}
-use Rattle.flow_model.proofs.Preserved.{nothing_put}
+use Rattle.flow_model.proofs.StandsAfterEvents.{nothing_put}
 use Rattle.flow_model.proofs.Stuck.{StandsAt}
 use Rattle.flow_model.proofs.Sums.{at_most, cogroup_length, crossed_length, distributes, few_notes, flat_length, kept-le, length-all_of, matched_length, reduce_length, shares, sum-const, sum-le, sum-plus, sum-times}
 use Rattle.plan_trees.proofs.EverySubtree.{AllBelow, all_below-root}
@@ -88,29 +90,22 @@ one_gives turns s Match p worker rows true given x bounded small e = absurd e.ma
 one_gives turns s Cross p worker rows true given x bounded small e = absurd e.may
 one_gives turns s CoGroup p worker rows true given x bounded small e = absurd e.may
 
+-- of calls for pairs of records
+pairs_give : (f : List Value → List Value → Bag) (turn x y : ℕ) (rows : ℕ → Bag) (ls rs out given : Bag) → length (rows 0) ≤ x → length (rows 1) ≤ y → IsPermutation (rows 0) ls → IsPermutation (rows 1) rs
+    → out ≡ crossed f ls rs → IsPermutation out given → ((l r : List Value) → length (f l r) ≤ turn) → length given ≤ (x * y) * turn
+pairs_give f turn x y rows ls rs out given small few of_left of_right e permuted bounded =
+    let left : length ls ≤ x = omega (arith, length_permutation (rows 0) ls of_left) in
+    let right : length rs ≤ y = omega (arith, length_permutation (rows 1) rs of_right) in
+    omega (arith, length_permutation out given permuted, ap length e, crossed_length f turn ls rs bounded, three (length ls) (length rs) x y turn left right)
+
 two_give : (turns : ℕ → ℕ → ℕ) (s : Spot) (kind : OpKind) (p q : Port) (worker : ℕ) (rows : ℕ → Bag) (b : Bool) (given : Bag) (x y : ℕ) → AreCallsBounded s.ops turns → length (rows 0) ≤ x → length (rows 1) ≤ y
     → Gave b (IsGiven s kind (p ∷ q ∷ []) worker rows) given → length given ≤ two_bound kind x y (turns s.at)
 two_give turns s kind p q worker rows false given x y bounded small few e = omega (arith, ap length e)
 two_give turns s Match p q worker rows true given x y bounded small few e =
-    let left : length e.left ≤ x = omega (arith, length_permutation (rows 0) e.left e.of_left) in
-    let right : length e.right ≤ y = omega (arith, length_permutation (rows 1) e.right e.of_right) in
-    omega (
-      arith,
-      length_permutation e.out given e.permuted,
-      ap length e.may,
-      crossed_length (matched (s.ops.of_pair s.at) (s.ops.left_keys s.at) (s.ops.right_keys s.at)) (turns s.at 0) e.left e.right (λ l t. matched_length (s.ops.of_pair s.at) (s.ops.left_keys s.at) (s.ops.right_keys s.at) (turns s.at 0) l t (bounded.of_pair s.at l t)),
-      three (length e.left) (length e.right) x y (turns s.at 0) left right,
-    )
+    pairs_give (matched (s.ops.of_pair s.at) (s.ops.left_keys s.at) (s.ops.right_keys s.at)) (turns s.at 0) x y rows e.left e.right e.out given small few e.of_left e.of_right e.may e.permuted
+    (λ l t. matched_length (s.ops.of_pair s.at) (s.ops.left_keys s.at) (s.ops.right_keys s.at) (turns s.at 0) l t (bounded.of_pair s.at l t))
 two_give turns s Cross p q worker rows true given x y bounded small few e =
-    let left : length e.left ≤ x = omega (arith, length_permutation (rows 0) e.left e.of_left) in
-    let right : length e.right ≤ y = omega (arith, length_permutation (rows 1) e.right e.of_right) in
-    omega (
-      arith,
-      length_permutation e.out given e.permuted,
-      ap length e.may,
-      crossed_length (s.ops.of_pair s.at) (turns s.at 0) e.left e.right (bounded.of_pair s.at),
-      three (length e.left) (length e.right) x y (turns s.at 0) left right,
-    )
+    pairs_give (s.ops.of_pair s.at) (turns s.at 0) x y rows e.left e.right e.out given small few e.of_left e.of_right e.may e.permuted (bounded.of_pair s.at)
 two_give turns s CoGroup p q worker rows true given x y bounded small few e =
     let left : length e.left ≤ x = omega (arith, length_permutation (rows 0) e.left e.of_left) in
     let right : length e.right ≤ y = omega (arith, length_permutation (rows 1) e.right e.of_right) in

@@ -15,10 +15,10 @@ use Rattle.flow_model.specs.Most.{AreCallsBounded, most}
 use Rattle.flow_model.specs.Spots.{Setting, ports_of, spot}
 use Rattle.flow_model.specs.Events.{Runs, noted}
 use Rattle.flow_model.specs.Worlds.{History, LocalAt, Stands, World, does_want, enabled, reader_of}
-use Rattle.flow_model.proofs.Bound.{bound}
+use Rattle.flow_model.proofs.EventsWithinMost.{bound}
 use Rattle.flow_model.proofs.Counting.{step_counted}
 use Rattle.flow_model.proofs.Events.{step_stands}
-use Rattle.flow_model.proofs.Marks.{eq_or}
+use Rattle.flow_model.proofs.EndMarksAndWants.{eq_or}
 use Rattle.flow_model.proofs.Stuck.{AreIdle, IsIdle, IsReader, StandsAt, drained, edge_at, fed_whole, is_reader, nothing_there, root_putless}
 use Rattle.plan_trees.proofs.EverySubtree.{AllBelow, all_below, all_below-root}
 use Rattle.flow_model.proofs.Trees.{Reads, each_below, edges, read, within}

@@ -16,7 +16,7 @@ use Rattle.plan_trees.specs.Sending.{has_pipe}
 use Rattle.flow_model.specs.Spots.{Port, Setting, Spot, has_out, port_from, ports_of, spot}
 use Rattle.flow_model.specs.declared.notes.Event.TheVariants as events
 use Rattle.flow_model.specs.Worlds.{World, History, LocalAt, IsStuck, AreDone, does_want, reader_of, lists_at}
-use Rattle.flow_model.proofs.Marks.{nothing_behind, all_below_none, all_below_from, takes_first, takes_second, ends, finished_by, put_to}
+use Rattle.flow_model.proofs.EndMarksAndWants.{nothing_behind, all_below_none, all_below_from, takes_first, takes_second, ends, finished_by, put_to}
 use Rattle.plan_trees.proofs.EverySubtree.{AllBelow, all_below, all_below-root}
 use Rattle.flow_model.proofs.Trees.{Inside, HasEdge, Reads, each_below, edges, inside_of, read, within}
 use Rattle.plan_trees.proofs.SubtreesOfPlans.{has-root}

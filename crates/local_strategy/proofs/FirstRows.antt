@@ -1,11 +1,11 @@
 -- The first row of each key value.
 use Rattle.std.proofs.Common.{◌≡◌, ◌<◌, ◌+◌, ◌||◌, ℕ, zero, suc, Bool, true, false, List, [], ◌∷◌, ◌++◌, length, map, take, get_or, refl, ap, sym, ◌∙◌, subst, arith}
-use Rattle.std.proofs.lemmas.List.{take_more, map-append}
+use Rattle.std.proofs.lemmas.List.{map-append}
 use Rattle.std.proofs.lemmas.List.Elements.{All-get_or, All-take, recursion_from_All}
 use Rattle.std.specs.List.{AllByRecursion, list_any}
 use Rattle.pact_bag.specs.Groups.{group_of_key, is_same_key}
 use Rattle.pact_bag.specs.Rows.{HaveOneWidth}
-use Rattle.pact_bag.proofs.KeyGroups.{distinct_keys-known, distinct_keys-new}
+use Rattle.pact_bag.proofs.KeyGroups.{distinct_keys-known, distinct_keys-new, keys-take_more}
 use Rattle.pact_record.specs.declared.values.Value.{Value}
 use Rattle.pact_record.specs.Record.{key_of}
 use Rattle.pact_record.proofs.Lists.{AllByRecursion-filter, AllByRecursion-last}
@@ -24,9 +24,6 @@ key_at-row keys [] n row lt e = absurd (omega (arith, lt))
 key_at-row keys (r ∷ rows) zero row lt e = ap (key_of keys) (sym e)
 key_at-row keys (r ∷ rows) (suc n) row lt e = key_at-row keys rows n row (omega (arith, lt)) e
 
-front-more : (keys : List ℕ) (rows : List (List Value)) (n : ℕ) (row : List Value) → n < length rows → row ≡ get_or rows n row → map (key_of keys) (take (n + 1) rows) ≡ map (key_of keys) (take n rows) ++ key_of keys row ∷ []
-front-more keys rows n row lt e = ap (map (key_of keys)) (take_more rows n row lt ∙ ap (λ (r : List Value). take n rows ++ r ∷ []) (sym e)) ∙ map-append (key_of keys) (take n rows) (row ∷ [])
-
 abbrev knows : List ℕ → List (List Value) → List ℕ → List Value → Bool
 knows keys rows firsts row = list_any (λ m. is_same_key (key_at keys rows m) (key_of keys row)) firsts
 
@@ -35,7 +32,7 @@ pub numbered-known : (keys : List ℕ) (rows : List (List Value)) (n : ℕ) (row
 numbered-known keys rows n row firsts same b lt e k t s h = record {
   numbers = subst (AllByRecursion (λ (m : ℕ). m < length rows)) (sym s) h.numbers;
   each_once = ap (map (key_at keys rows)) s
-      ∙ distinct_keys-known (map (key_of keys) (take n rows)) (map (key_of keys) (take (n + 1) rows)) (map (key_at keys rows) firsts) (key_of keys row) b (front-more keys rows n row lt e) h.each_once
+      ∙ distinct_keys-known (map (key_of keys) (take n rows)) (map (key_of keys) (take (n + 1) rows)) (map (key_at keys rows) firsts) (key_of keys row) b (keys-take_more keys rows n row lt e) h.each_once
       (k ∙ sym (any-map (key_at keys rows) (λ j. is_same_key j (key_of keys row)) firsts)) t;
 }
 
@@ -43,7 +40,7 @@ pub numbered-new : (keys : List ℕ) (rows : List (List Value)) (n : ℕ) (row :
     → more ≡ firsts ++ n ∷ [] → IsNumbered keys rows (take n rows) firsts → IsNumbered keys rows (take (n + 1) rows) more
 numbered-new keys rows n row firsts more b lt e k t s h = record {
   numbers = subst (AllByRecursion (λ (m : ℕ). m < length rows)) (sym s) (AllByRecursion-last (λ (m : ℕ). m < length rows) firsts n h.numbers lt);
-  each_once = distinct_keys-new (map (key_of keys) (take n rows)) (map (key_of keys) (take (n + 1) rows)) (map (key_at keys rows) firsts) (map (key_at keys rows) more) (key_of keys row) b (front-more keys rows n row lt e)
+  each_once = distinct_keys-new (map (key_of keys) (take n rows)) (map (key_of keys) (take (n + 1) rows)) (map (key_at keys rows) firsts) (map (key_at keys rows) more) (key_of keys row) b (keys-take_more keys rows n row lt e)
       h.each_once (k ∙ sym (any-map (key_at keys rows) (λ j. is_same_key j (key_of keys row)) firsts)) t
       (ap (map (key_at keys rows)) s ∙ map-append (key_at keys rows) firsts (n ∷ []) ∙ ap (λ (j : List Value). map (key_at keys rows) firsts ++ j ∷ []) (key_at-row keys rows n row lt e));
 }

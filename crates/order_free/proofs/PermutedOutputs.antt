@@ -14,7 +14,7 @@ use Rattle.tac_syntax.specs.Code.{Code}
 use Rattle.tac_syntax.specs.Call.{CallInput, of_record, of_pair, of_group, of_groups, start_store, empty_record, Out}
 use Rattle.tac_syntax.specs.Valid.{IsValid}
 use Rattle.tac_syntax.specs.WellFormed.{IsWellFormed}
-use Rattle.tac_syntax.proofs.Leads.{Out-exec}
+use Rattle.tac_syntax.proofs.StepsAsRecursion.{Out-exec}
 use Rattle.tac_syntax.proofs.WellFormed.{valid_is_well_formed}
 use Rattle.order_free.specs.Registers.{RegisterSet, no_registers}
 use Rattle.order_free.specs.Liveness.{live}

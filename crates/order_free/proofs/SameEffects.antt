@@ -8,7 +8,7 @@ use Rattle.tac_syntax.specs.Limits.{value_registers}
 use Rattle.tac_syntax.specs.Code.{Simple, apply_two}
 use Rattle.tac_syntax.specs.Call.{Store, value_in, put_value, after}
 use Rattle.tac_syntax.specs.WellFormed.{IsWellFormedSimple}
-use Rattle.tac_syntax.proofs.Leads.{input-after}
+use Rattle.tac_syntax.proofs.StepsAsRecursion.{input-after}
 use Rattle.order_free.specs.declared.accumulators.Accumulation.{Accumulation}
 use Rattle.order_free.specs.Registers.{Register, value_at, record_at, RegisterSet, has_operand, assigns, occurs, reads_first}
 use Rattle.order_free.specs.Accumulators.{op_of, accumulates, is_used_otherwise}

@@ -8,7 +8,7 @@ use Rattle.tac_syntax.specs.Code.{Code}
 use Rattle.tac_syntax.specs.Call.{Store, value_in, bind}
 use Rattle.tac_syntax.specs.Exec.{exec}
 use Rattle.tac_syntax.specs.WellFormed.{IsWellFormed}
-use Rattle.tac_syntax.proofs.Leads.{input-exec}
+use Rattle.tac_syntax.proofs.StepsAsRecursion.{input-exec}
 use Rattle.order_free.specs.declared.accumulators.Accumulation.{Accumulation}
 use Rattle.order_free.specs.declared.accumulators.Accumulation.TheVariants.{Sum, Least, Greatest}
 use Rattle.order_free.specs.Registers.{Register, value_at, record_at, RegisterSet, no_registers, is_assigned, has_first}

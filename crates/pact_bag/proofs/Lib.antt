@@ -1,4 +1,4 @@
-pub mod Fronts
+pub mod FilledFromLeft
 pub mod KeyGroups
 pub mod KeyLists
 pub mod KeysOfBags

@@ -9,7 +9,7 @@ use Rattle.pact_operators.specs.declared.operators.Op.{Op}
 use Rattle.pact_operators.specs.PlanOps.{body_at, function_in, kind_at, kind_in}
 use Rattle.pact_operators.specs.Programs.{HasKeyLists, IsKindFor, IsOpOf, IsOperatorOf, IsProgram, ProgramData, body_of}
 use Rattle.pact_operators.specs.SoundOps.{function_kind}
-use Rattle.pact_operators.proofs.OwnFields.{body_at as body_of_function}
+use Rattle.pact_operators.proofs.OwnFields.{body_of-some}
 use Rattle.pact_operators.proofs.SoundPrograms.{function_kind-for}
 
 pub record IsCalled (p : ProgramData) (at : ℕ) (op : Op) (v : WithFields) : Type 0 where
@@ -51,7 +51,7 @@ module _ (p : ProgramData) (program : IsProgram p) (at : ℕ) (op : Op) (operato
         below = slice_get_within p.functions op.function v function;
         valid = AllByRecursion-slice_get (λ (w : WithFields). IsValid w.function w.fields) p.functions op.function v program.valid function;
         fields = fields;
-        body = sym (body_of_function p.functions op.function v function) ∙ ap (λ (o : Option Op). body_of p.functions (function_in o)) (sym found);
+        body = sym (body_of-some p.functions op.function v function) ∙ ap (λ (o : Option Op). body_of p.functions (function_in o)) (sym found);
         kind = subst (λ (w : WithFields). IsKindFor op.kind w.function.kind) same h.kind;
         keys = subst (λ (w : WithFields). HasKeyLists op.kind w.function.keys op.left_keys op.right_keys) same h.keys;
         left_below = subst (λ (n : ℕ). AreBelow n op.left_keys) (sym fields) h.left_below;

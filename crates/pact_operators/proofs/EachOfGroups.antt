@@ -1,9 +1,9 @@
 -- What holds of what is given for each group, or for each pair, holds of all that an operator gives.
-use Rattle.std.proofs.Common.{◌≡◌, ◌<◌, ◌+◌, ℕ, List, [], ◌∷◌, ◌++◌, length, map, sym, subst, arith}
+use Rattle.std.proofs.Common.{◌≡◌, ◌<◌, ◌+◌, ◌⊎◌, inl, inr, ℕ, List, [], ◌∷◌, length, sym, subst, arith}
 use Rattle.std.specs.Prelude.{flat_map}
 use Rattle.std.specs.List.{AllByRecursion}
 use Rattle.pact_bag.specs.Groups.{group_of_key, is_same_key}
-use Rattle.pact_bag.proofs.KeyGroups.{all-distinct, group_keys, keys_have_groups}
+use Rattle.pact_bag.proofs.KeyGroups.{distinct_keys_have_either, distinct_keys_have_groups, group_keys}
 use Rattle.pact_record.specs.declared.values.Value.{Value}
 use Rattle.pact_record.specs.Record.{key_of}
 use Rattle.pact_record.proofs.Lists.{AllByRecursion-append, AllByRecursion-filter, AllByRecursion-flat_map, AllByRecursion-weaker}
@@ -43,22 +43,17 @@ cogrouped_for P Q R keys others f ls rs h j e (k ∷ ks) some out p =
 
 -- ---- the keys of bags have records
 
-keys_some : (keys : List ℕ) (rows : Bag) → AllByRecursion (λ k. 0 < length (group_of_key keys rows k)) (keys_in keys rows)
-keys_some keys rows = all-distinct (λ k. 0 < length (group_of_key keys rows k)) (map (key_of keys) rows) (keys_have_groups keys rows)
-
 either_some : (keys others : List ℕ) (ls rs : Bag) → AllByRecursion (λ k. 0 < length (group_of_key keys ls k) + length (group_of_key others rs k)) (keys_in_either keys others ls rs)
 either_some keys others ls rs =
-    let P = λ (k : List Value). 0 < length (group_of_key keys ls k) + length (group_of_key others rs k) in
-    all-distinct P (map (key_of keys) ls ++ map (key_of others) rs) (AllByRecursion-append P (map (key_of keys) ls) (map (key_of others) rs)
-    (AllByRecursion-weaker (λ k. 0 < length (group_of_key keys ls k)) P (map (key_of keys) ls) (λ k h. omega (arith, h)) (keys_have_groups keys ls))
-    (AllByRecursion-weaker (λ k. 0 < length (group_of_key others rs k)) P (map (key_of others) rs) (λ k h. omega (arith, h)) (keys_have_groups others rs)))
+    AllByRecursion-weaker (λ k. (0 < length (group_of_key keys ls k)) ⊎ (0 < length (group_of_key others rs k))) (λ k. 0 < length (group_of_key keys ls k) + length (group_of_key others rs k)) (keys_in_either keys others ls rs)
+    (λ k some. elim some as (λ _. 0 < length (group_of_key keys ls k) + length (group_of_key others rs k)) [ inl l ↦ omega (arith, l) | inr r ↦ omega (arith, r) ]) (distinct_keys_have_either keys others ls rs)
 
 -- ---- all groups
 
 pub grouped_each : (P R : List Value → Type 0) (keys : List ℕ) (f : List Value → Bag → Bag) (rows : Bag) → AllByRecursion P rows
     → ((k : List Value) (group : Bag) → AllByRecursion P group → HaveKey keys k group → 0 < length group → AllByRecursion R (f k group))
     → (out : Bag) → Grouped f keys rows (keys_in keys rows) out → AllByRecursion R out
-grouped_each P R keys f rows h e out p = grouped_for P R keys f rows h e (keys_in keys rows) (keys_some keys rows) out p
+grouped_each P R keys f rows h e out p = grouped_for P R keys f rows h e (keys_in keys rows) (distinct_keys_have_groups keys rows) out p
 
 pub cogrouped_each : (P Q R : List Value → Type 0) (keys others : List ℕ) (f : List Value → Bag → Bag → Bag) (ls rs : Bag) → AllByRecursion P ls → AllByRecursion Q rs
     → ((k : List Value) (left right : Bag) → AllByRecursion P left → AllByRecursion Q right → HaveKey keys k left → HaveKey others k right → 0 < length left + length right → AllByRecursion R (f k left right))

@@ -56,18 +56,18 @@ pub IsCallOf-groups : (kind : OpKind) (ks js : List ℕ) (key : List Value) (l r
 IsCallOf-groups kind ks js key l r e some h j =
     subst (λ (q : OpKind). IsCallOf q ks js (of_groups key l r)) (sym e) (record { operator = no_source CoGroup refl; called = tt; some = some; keyed = (h, j) })
 
+-- the fields of an operator, and those of its one input or of its two
+abbrev pub Over : List WithFields → List Op → ℕ → (ℕ → Type 0) → ℕ → Type 0
+Over v ops n s k = Owns v ops n k ⊎ s k
+
+abbrev pub OverBoth : List WithFields → List Op → ℕ → (ℕ → Type 0) → (ℕ → Type 0) → ℕ → Type 0
+OverBoth v ops n s t k = Owns v ops n k ⊎ s k ⊎ t k
+
 module _ (fields : ℕ) (v : List WithFields) (ops : List Op) (o : PlanOps) (good : AreOpsOf fields v ops o) where
-  -- the fields of an operator, and those of its one input or of its two
-  abbrev Over : ℕ → (ℕ → Type 0) → ℕ → Type 0
-  Over n s k = Owns v ops n k ⊎ s k
-
-  abbrev OverBoth : ℕ → (ℕ → Type 0) → (ℕ → Type 0) → ℕ → Type 0
-  OverBoth n s t k = Owns v ops n k ⊎ s k ⊎ t k
-
   pub call_fits : (n : ℕ) (s t : ℕ → Type 0) (x : CallInput) → IsCallOf (o.kind n) (o.left_keys n) (o.right_keys n) x → AllByRecursion (IsWithin fields s) (left_records x)
-      → AllByRecursion (IsWithin fields t) (right_records x) → AllByRecursion (IsWithin fields (λ k. Owns v ops n k ⊎ s k ⊎ t k)) (called o n x)
+      → AllByRecursion (IsWithin fields t) (right_records x) → AllByRecursion (IsWithin fields (OverBoth v ops n s t)) (called o n x)
   call_fits n s t x c h j =
-      all_within_larger fields (λ k. InputHasValue k x ⊎ Owns v ops n k) (OverBoth n s t) (called o n x)
+      all_within_larger fields (λ k. InputHasValue k x ⊎ Owns v ops n k) (OverBoth v ops n s t) (called o n x)
       (λ k out p. elim p as (λ _. ⊥) [
         | inl has ↦ input_has_none fields s t k (λ a. out (inr (inl a))) (λ b. out (inr (inr b))) x h j has
         | inr own ↦ out (inl own)
@@ -76,43 +76,43 @@ module _ (fields : ℕ) (v : List WithFields) (ops : List Op) (o : PlanOps) (goo
 
   -- of one input
   pub call_fits_one : (n : ℕ) (s : ℕ → Type 0) (x : CallInput) → IsCallOf (o.kind n) (o.left_keys n) (o.right_keys n) x → AllByRecursion (IsWithin fields s) (left_records x)
-      → AllByRecursion (IsWithin fields (λ k. ⊥)) (right_records x) → AllByRecursion (IsWithin fields (λ k. Owns v ops n k ⊎ s k)) (called o n x)
+      → AllByRecursion (IsWithin fields (λ k. ⊥)) (right_records x) → AllByRecursion (IsWithin fields (Over v ops n s)) (called o n x)
   call_fits_one n s x c h j =
-      all_within_larger fields (OverBoth n s (λ k. ⊥)) (Over n s) (called o n x)
+      all_within_larger fields (OverBoth v ops n s (λ k. ⊥)) (Over v ops n s) (called o n x)
       (λ k out p. elim p as (λ _. ⊥) [ inl own ↦ out (inl own) | inr q ↦ elim q as (λ _. ⊥) [ inl a ↦ out (inr a) | inr b ↦ b ] ])
       (call_fits n s (λ k. ⊥) x c h j)
 
-  pub map_fits : (n : ℕ) (s : ℕ → Type 0) → o.kind n ≡ Map → (row : List Value) → IsWithin fields s row → AllByRecursion (IsWithin fields (λ k. Owns v ops n k ⊎ s k)) (o.of_record n row)
+  pub map_fits : (n : ℕ) (s : ℕ → Type 0) → o.kind n ≡ Map → (row : List Value) → IsWithin fields s row → AllByRecursion (IsWithin fields (Over v ops n s)) (o.of_record n row)
   map_fits n s e row h = call_fits_one n s (of_record row) (IsCallOf-record (o.kind n) (o.left_keys n) (o.right_keys n) row e) (h, tt) tt
 
-  pub match_fits : (n : ℕ) (s t : ℕ → Type 0) → o.kind n ≡ Match → (l r : List Value) → IsWithin fields s l → IsWithin fields t r → AllByRecursion (IsWithin fields (λ k. Owns v ops n k ⊎ s k ⊎ t k)) (o.of_pair n l r)
+  pub match_fits : (n : ℕ) (s t : ℕ → Type 0) → o.kind n ≡ Match → (l r : List Value) → IsWithin fields s l → IsWithin fields t r → AllByRecursion (IsWithin fields (OverBoth v ops n s t)) (o.of_pair n l r)
   match_fits n s t e l r h j = call_fits n s t (of_pair l r) (IsCallOf-match (o.kind n) (o.left_keys n) (o.right_keys n) l r e) (h, tt) (j, tt)
 
-  pub cross_fits : (n : ℕ) (s t : ℕ → Type 0) → o.kind n ≡ Cross → (l r : List Value) → IsWithin fields s l → IsWithin fields t r → AllByRecursion (IsWithin fields (λ k. Owns v ops n k ⊎ s k ⊎ t k)) (o.of_pair n l r)
+  pub cross_fits : (n : ℕ) (s t : ℕ → Type 0) → o.kind n ≡ Cross → (l r : List Value) → IsWithin fields s l → IsWithin fields t r → AllByRecursion (IsWithin fields (OverBoth v ops n s t)) (o.of_pair n l r)
   cross_fits n s t e l r h j = call_fits n s t (of_pair l r) (IsCallOf-cross (o.kind n) (o.left_keys n) (o.right_keys n) l r e) (h, tt) (j, tt)
 
   -- ---- what an operator gives
 
-  gives_fits : (n : ℕ) (s : ℕ → Type 0) (kind : OpKind) → o.kind n ≡ kind → (ls out : Bag) → AllByRecursion (IsWithin fields s) ls → Gives o kind n ls out → AllByRecursion (IsWithin fields (Over n s)) out
+  gives_fits : (n : ℕ) (s : ℕ → Type 0) (kind : OpKind) → o.kind n ≡ kind → (ls out : Bag) → AllByRecursion (IsWithin fields s) ls → Gives o kind n ls out → AllByRecursion (IsWithin fields (Over v ops n s)) out
   gives_fits n s Map e ls out h p =
-      subst (AllByRecursion (IsWithin fields (Over n s))) (sym p) (AllByRecursion-flat_map (IsWithin fields s) (IsWithin fields (Over n s)) (o.of_record n) ls h (λ r fr. map_fits n s e r fr))
+      subst (AllByRecursion (IsWithin fields (Over v ops n s))) (sym p) (AllByRecursion-flat_map (IsWithin fields s) (IsWithin fields (Over v ops n s)) (o.of_record n) ls h (λ r fr. map_fits n s e r fr))
   gives_fits n s Reduce e ls out h p =
-      grouped_each (IsWithin fields s) (IsWithin fields (Over n s)) (o.left_keys n) (o.of_group n) ls h
+      grouped_each (IsWithin fields s) (IsWithin fields (Over v ops n s)) (o.left_keys n) (o.of_group n) ls h
       (λ k group fg kg some. call_fits_one n s (of_group k group) (IsCallOf-group (o.kind n) (o.left_keys n) (o.right_keys n) k group e some kg) fg tt) out p
   gives_fits n s kind e ls out h p = absurd p
 
   both_fits : (n : ℕ) (s t : ℕ → Type 0) (kind : OpKind) → o.kind n ≡ kind → (ls rs out : Bag) → AllByRecursion (IsWithin fields s) ls → AllByRecursion (IsWithin fields t) rs → GivesBoth o kind n ls rs out
-      → AllByRecursion (IsWithin fields (OverBoth n s t)) out
+      → AllByRecursion (IsWithin fields (OverBoth v ops n s t)) out
   both_fits n s t Source e ls rs out h j p = absurd p
   both_fits n s t Map e ls rs out h j p = absurd p
   both_fits n s t Reduce e ls rs out h j p = absurd p
   both_fits n s t Match e ls rs out h j p =
-      subst (AllByRecursion (IsWithin fields (OverBoth n s t))) (sym p) (crossed_each (IsWithin fields s) (IsWithin fields t) (IsWithin fields (OverBoth n s t)) (matched (o.of_pair n) (o.left_keys n) (o.right_keys n)) ls rs h j
-      (λ l r fl fr. AllByRecursion-cond (IsWithin fields (OverBoth n s t)) (is_same_key (key_of (o.left_keys n) l) (key_of (o.right_keys n) r)) (o.of_pair n l r) [] (match_fits n s t e l r fl fr) tt))
+      subst (AllByRecursion (IsWithin fields (OverBoth v ops n s t))) (sym p) (crossed_each (IsWithin fields s) (IsWithin fields t) (IsWithin fields (OverBoth v ops n s t)) (matched (o.of_pair n) (o.left_keys n) (o.right_keys n)) ls rs h j
+      (λ l r fl fr. AllByRecursion-cond (IsWithin fields (OverBoth v ops n s t)) (is_same_key (key_of (o.left_keys n) l) (key_of (o.right_keys n) r)) (o.of_pair n l r) [] (match_fits n s t e l r fl fr) tt))
   both_fits n s t Cross e ls rs out h j p =
-      subst (AllByRecursion (IsWithin fields (OverBoth n s t))) (sym p) (crossed_each (IsWithin fields s) (IsWithin fields t) (IsWithin fields (OverBoth n s t)) (o.of_pair n) ls rs h j (λ l r fl fr. cross_fits n s t e l r fl fr))
+      subst (AllByRecursion (IsWithin fields (OverBoth v ops n s t))) (sym p) (crossed_each (IsWithin fields s) (IsWithin fields t) (IsWithin fields (OverBoth v ops n s t)) (o.of_pair n) ls rs h j (λ l r fl fr. cross_fits n s t e l r fl fr))
   both_fits n s t CoGroup e ls rs out h j p =
-      cogrouped_each (IsWithin fields s) (IsWithin fields t) (IsWithin fields (OverBoth n s t)) (o.left_keys n) (o.right_keys n) (o.of_groups n) ls rs h j
+      cogrouped_each (IsWithin fields s) (IsWithin fields t) (IsWithin fields (OverBoth v ops n s t)) (o.left_keys n) (o.right_keys n) (o.of_groups n) ls rs h j
       (λ k left right fl fr kl kr some. call_fits n s t (of_groups k left right) (IsCallOf-groups (o.kind n) (o.left_keys n) (o.right_keys n) k left right e some kl kr) fl fr) out p
 
   pub lawful_bags : (t : PlanTree) (bag : Bag) → Allows o t bag → AllByRecursion (IsWithin fields (HasAttribute v ops t)) bag

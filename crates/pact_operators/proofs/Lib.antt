@@ -1,8 +1,8 @@
 pub mod FlowsMakeTrees
 pub mod NamedInputs
 pub mod WrittenPlans
-pub mod Reaching
-pub mod Gathered
+pub mod ReachedByReaders
+pub mod NamedByDeclarations
 pub mod OwnFields
 pub mod OnePlan
 pub mod OneProgram

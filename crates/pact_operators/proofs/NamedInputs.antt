@@ -12,9 +12,6 @@ use Rattle.pact_operators.proofs.FlowsMakeTrees.{IsInput, Reads}
 
 -- ---- names
 
-pub eq_names : (a b : List ℕ) → bytes_eq a b ≡ true → a ≡ b
-eq_names a b e = (bytes_eq-Decides a b).0 e
-
 pub same_name : (a : List ℕ) → bytes_eq a a ≡ true
 same_name a = (bytes_eq-Decides a a).1 refl
 
@@ -42,7 +39,7 @@ times_later name n names e = rw e refl
 pub placed : (name : List ℕ) (names : List (List ℕ)) → is_among name names ≡ true → slice_get names (place_among name names) ≡ Some name
 placed name [] h = absurd (both_ways false refl h)
 placed name (n ∷ names) h = elim (cases_Bool (bytes_eq name n)) as (λ _. slice_get (n ∷ names) (place_among name (n ∷ names)) ≡ Some name) [
-  | inl e ↦ rw (place_here name n names e) (ap (λ (x : List ℕ). Some x) (sym (eq_names name n e)))
+  | inl e ↦ rw (place_here name n names e) (ap (λ (x : List ℕ). Some x) (sym ((bytes_eq-Decides name n).0 e)))
   | inr e ↦ rw (place_later name n names e) (placed name names (sym (among_later name n names e) ∙ h))
 ]
 
@@ -114,16 +111,16 @@ named names (Sink input fields ∷ decls) p m h = named names decls p m h
 
 read_two : (names : List (List ℕ)) (left right name : List ℕ) → is_among name (left ∷ right ∷ []) ≡ true → (place_among name names ≡ place_among left names) ⊎ (place_among name names ≡ place_among right names)
 read_two names left right name h = elim (or_cases (bytes_eq name left) (bytes_eq name right || false) h) [
-  | inl e ↦ inl (ap (λ (x : List ℕ). place_among x names) (eq_names name left e))
+  | inl e ↦ inl (ap (λ (x : List ℕ). place_among x names) ((bytes_eq-Decides name left).0 e))
   | inr other ↦ elim (or_cases (bytes_eq name right) false other) [
-    | inl e ↦ inr (ap (λ (x : List ℕ). place_among x names) (eq_names name right e))
+    | inl e ↦ inr (ap (λ (x : List ℕ). place_among x names) ((bytes_eq-Decides name right).0 e))
     | inr bad ↦ absurd (both_ways false refl bad)
   ]
 ]
 
 read_one : (names : List (List ℕ)) (left name : List ℕ) → is_among name (left ∷ []) ≡ true → place_among name names ≡ place_among left names
 read_one names left name h = elim (or_cases (bytes_eq name left) false h) as (λ _. place_among name names ≡ place_among left names) [
-  | inl e ↦ ap (λ (x : List ℕ). place_among x names) (eq_names name left e)
+  | inl e ↦ ap (λ (x : List ℕ). place_among x names) ((bytes_eq-Decides name left).0 e)
   | inr bad ↦ absurd (both_ways false refl bad)
 ]
 

@@ -6,7 +6,7 @@ use Rattle.std.proofs.lemmas.List.{drop_more}
 use Rattle.std.proofs.lemmas.Option.{slice_get_read, slice_get_past}
 use Rattle.pact_record.specs.declared.columns.Column.{Column}
 use Rattle.pact_record.specs.FieldSets.{has_field}
-use Rattle.tac_syntax.specs.Bounded.{Names}
+use Rattle.tac_syntax.specs.Code.{stop}
 use Rattle.tac_syntax.specs.Valid.{WithFields}
 use Rattle.pact_operators.specs.declared.operators.Op.{Op}
 use Rattle.pact_bag.specs.SourceRows.{IsColumnField}
@@ -48,15 +48,16 @@ column_more found more k columns n d lt e before =
 
 -- ---- functions and operators by their numbers
 
-pub body_at : (valids : List WithFields) (n : ℕ) (v : WithFields) → slice_get valids n ≡ Some v → body_of valids n ≡ v.function.body
-body_at [] n v e = let bad : None ≡ Some v = e in absurd cc
-body_at (w ∷ valids) zero v e = let same : w ≡ v = cc in ap (λ (x : WithFields). x.function.body) same
-body_at (w ∷ valids) (suc n) v e = body_at valids n v e
+pub body_of-some : (valids : List WithFields) (n : ℕ) (v : WithFields) → slice_get valids n ≡ Some v → body_of valids n ≡ v.function.body
+body_of-some [] n v e = let bad : None ≡ Some v = e in absurd cc
+body_of-some (w ∷ valids) zero v e = let same : w ≡ v = cc in ap (λ (x : WithFields). x.function.body) same
+body_of-some (w ∷ valids) (suc n) v e = body_of-some valids n v e
 
-pub none_named : (valids : List WithFields) (n k : ℕ) → slice_get valids n ≡ None → Names k (body_of valids n) → ⊥
-none_named [] n k e named = named
-none_named (w ∷ valids) zero k e named = let bad : Some w ≡ None = e in cc
-none_named (w ∷ valids) (suc n) k e named = none_named valids n k e named
+-- where there is no function of a number, its body has no statement
+pub body_of-none : (valids : List WithFields) (n : ℕ) → slice_get valids n ≡ None → body_of valids n ≡ stop
+body_of-none [] n e = refl
+body_of-none (v ∷ valids) zero e = let bad : Some v ≡ None = e in absurd cc
+body_of-none (v ∷ valids) (suc n) e = body_of-none valids n e
 
 pub owned_at : (valids : List WithFields) (ops : List Op) (n k : ℕ) (op : Op) → slice_get ops n ≡ Some op → Owns valids ops n k ↔ OwnsBy op.kind valids op k
 owned_at valids [] n k op e = let bad : None ≡ Some op = e in absurd cc

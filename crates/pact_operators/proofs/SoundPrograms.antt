@@ -25,7 +25,7 @@ use Rattle.pact_operators.specs.Inputs.{HaveRows, AreInputsOf}
 use Rattle.pact_operators.specs.PlanOps.{plan_ops, kind_in, kind_at, function_in, left_keys_in, right_keys_in, body_at, is_source_kind, sources_of, source_place}
 use Rattle.pact_operators.specs.Programs.{HasKeyLists, IsKindFor, IsOpOf, IsProgram, Owns, OwnsBy, ProgramData, body_of}
 use Rattle.pact_operators.specs.SoundOps.{AreOpsOf, IsCallOf, called, function_kind, keyed_by}
-use Rattle.pact_operators.proofs.OwnFields.{body_at as body_of_function, owned_at}
+use Rattle.pact_operators.proofs.OwnFields.{body_of-some, owned_at}
 
 -- ---- what the operator of a number gives is the meaning of a call
 
@@ -121,7 +121,7 @@ module _ (p : ProgramData) (inputs : List Bag) (program : IsProgram p) where
       let f = a.called in
       let valid = AllByRecursion-slice_get (λ (w : WithFields). IsValid w.function w.fields) p.functions op.function f program.valid a.function in
       let fields = AllByRecursion-slice_get (λ (w : WithFields). w.fields ≡ p.fields) p.functions op.function f program.functions a.function in
-      let body = body_of_function p.functions op.function f a.function in
+      let body = body_of-some p.functions op.function f a.function in
       let bounded = AreBounded-Out f.function p.fields x (subst (IsValid f.function) fields valid) (subst (λ (q : Kind). IsInputOf q x) (function_kind-for op.kind f.function.kind a.kind) c.called)
       (keys_are f.function.keys op.kind op.left_keys op.right_keys x a.keys c.called c.some c.keyed) (width_is p.fields x c.some h j) in
       subst (λ (q : Code). AllByRecursion (IsWithin p.fields (Mine n x)) (Out p.fields q x)) (sym body)

@@ -1,8 +1,9 @@
 -- A draft that keeps the rules on names, numbers and the tree has a plan as written.
-use Rattle.std.proofs.Common.{◌≡◌, ◌≤◌, ◌<◌, ◌+◌, ◌&&◌, ◌==◌, not, nat_le, inl, inr, ℕ, zero, suc, Bool, true, false, Some, None, List, [], ◌∷◌, ◌++◌, length, map, slice_get, bytes_eq, refl, ap, sym, subst, ◌∙◌, arith}
+use Rattle.std.proofs.Common.{◌≡◌, ◌≤◌, ◌<◌, ◌&&◌, ◌==◌, not, nat_le, inl, inr, ℕ, zero, suc, Bool, true, false, Some, None, List, [], ◌∷◌, ◌++◌, length, map, slice_get, bytes_eq, refl, ap, sym, subst, ◌∙◌, arith}
 use Rattle.std.specs.List.{AllByRecursion, list_any}
 use Rattle.std.proofs.lemmas.Bool.{and_parts, both_ways, eqb-true, false_from_ne_true, leb-false, not-false, or_cases, or_parts}
 use Rattle.std.proofs.lemmas.Option.{slice_get_within}
+use Rattle.std.proofs.lemmas.Slice.Eq.{bytes_eq-Decides}
 use Rattle.tac_syntax.specs.Valid.{WithFields}
 use Rattle.tac_syntax.specs.declared.declarations.OpKind.{OpKind}
 use Rattle.tac_syntax.specs.declared.declarations.OpKind.TheVariants.{Source as SourceKind, Map, Reduce, Match, Cross, CoGroup}
@@ -17,7 +18,7 @@ use Rattle.pact_operators.specs.Resolved.{Inputs, two_inputs, function_names, in
 use Rattle.plan_trees.proofs.DifferentNumbers.{IsIn}
 use Rattle.pact_operators.proofs.FewDeclarations.{declared-operators}
 use Rattle.pact_operators.proofs.FlowsMakeTrees.{At, IsFlow, Reads, readers_from, whole_tree}
-use Rattle.pact_operators.proofs.NamedInputs.{AllDeclared, ReadsName, eq_names, length-inputs_of, named, numbered, one_reader, only_place, placed, same_name, sink_and_reader, some_place, twice_read}
+use Rattle.pact_operators.proofs.NamedInputs.{AllDeclared, ReadsName, length-inputs_of, named, numbered, one_reader, only_place, placed, same_name, sink_and_reader, some_place, twice_read}
 
 -- ---- what the rules say of each name
 
@@ -52,7 +53,7 @@ none_missing name [] declared h i = absurd (both_ways false refl i)
 none_missing name (n ∷ names) declared h i =
     let parts = or_parts (not (is_among n declared)) (some_missing names declared) h in
     elim (or_cases (bytes_eq name n) (is_among name names) i) as (λ _. is_among name declared ≡ true) [
-      | inl e ↦ subst (λ (x : List ℕ). is_among x declared ≡ true) (sym (eq_names name n e)) (not-false (is_among n declared) parts.0)
+      | inl e ↦ subst (λ (x : List ℕ). is_among x declared ≡ true) (sym ((bytes_eq-Decides name n).0 e)) (not-false (is_among n declared) parts.0)
       | inr more ↦ none_missing name names declared parts.1 more
     ]
 
@@ -75,7 +76,7 @@ sinks_declared d v front (FunctionDecl number ∷ decls) name h i = sinks_declar
 sinks_declared d v front (OpDecl own kind function left right left_keys right_keys ∷ decls) name h i =
     sinks_declared d v (front ++ OpDecl own kind function left right left_keys right_keys ∷ []) decls name h.1 i
 sinks_declared d v front (Sink input fields ∷ decls) name h i = elim (or_cases (bytes_eq name input) (is_among name (sink_inputs decls)) i) as (λ _. is_among name (node_names d.decls) ≡ true) [
-  | inl e ↦ subst (λ (x : List ℕ). is_among x (node_names d.decls) ≡ true) (sym (eq_names name input e)) (not-false (is_among input (node_names d.decls)) (false_from_ne_true _ h.0))
+  | inl e ↦ subst (λ (x : List ℕ). is_among x (node_names d.decls) ≡ true) (sym ((bytes_eq-Decides name input).0 e)) (not-false (is_among input (node_names d.decls)) (false_from_ne_true _ h.0))
   | inr more ↦ sinks_declared d v (front ++ Sink input fields ∷ []) decls name h.1 more
 ]
 
@@ -100,7 +101,7 @@ at_root : (d : DraftData) (input : List ℕ) → sink_inputs d.decls ≡ input �
 at_root d input one only m name e h =
     let named : is_among name (input ∷ []) ≡ true = subst (λ (x : List (List ℕ)). is_among name x ≡ true) one h in
     elim (or_cases (bytes_eq name input) false named) as (λ _. m ≡ place_among input (node_names d.decls)) [
-      | inl same ↦ sym (only m name e) ∙ ap (λ (x : List ℕ). place_among x (node_names d.decls)) (eq_names name input same)
+      | inl same ↦ sym (only m name e) ∙ ap (λ (x : List ℕ). place_among x (node_names d.decls)) ((bytes_eq-Decides name input).0 same)
       | inr bad ↦ absurd (both_ways false refl bad)
     ]
 

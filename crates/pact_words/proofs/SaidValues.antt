@@ -13,9 +13,11 @@ use Rattle.clap.specs.Values.{IsSignedIn, reading_of, refused_kind, read_as}
 use Rattle.clap.specs.Lexer.{without_minus}
 use Rattle.clap.specs.ValueTests.{accepts, is_numeral}
 use Rattle.clap.specs.Walk.{Row, Rule, Text, first_of, one_of}
+use Rattle.clap.specs.Words.{one_text, rows_of}
+use Rattle.clap.specs.declared.parser.matches.Found.{Found}
 use Rattle.clap.specs.declared.builder.value_parser.ValueParser.{ValueParser}
 use Rattle.clap.specs.declared.builder.value_parser.ValueParser.TheVariants as vp
-use Rattle.clap.proofs.WalkLemmas.{both}
+use Rattle.clap.proofs.WalkLemmas.{both, one_text-rows}
 use Rattle.clap.proofs.ValueTestLemmas.{accepts-Accepts}
 use Rattle.clap.proofs.CallerReads.{signed_reads}
 use Rattle.pact_words.specs.FoundValues.{flag_of, flag_said, number_of, number_said}
@@ -27,6 +29,23 @@ accepted i p t e = go (accepts i p t) e
     go : (b : Bool) → (if b then [] else refused_kind p ∷ []) ≡ [] → b ≡ true
     go true e = refl
     go false e = cc
+
+-- the one value of an argument with this parser, which takes it
+taken : (name : Text) (rows : List Row) (a : Rule) (p : ValueParser) → a.parser ≡ Some p → (h : Holds rows name a)
+    → (accepts a.ignore_case p h.text ≡ true) × (one_of name rows ≡ Some (read_as (reading_of p) h.text))
+taken name rows a p is h = (
+  accepted a.ignore_case p h.text (subst (λ (o : Option ValueParser). value_kinds a.ignore_case (parser_of_value o) h.text ≡ []) is h.passes),
+  subst (λ (o : Option ValueParser). one_of name rows ≡ Some (read_as (reading_of (parser_of_value o)) h.text)) is h.one,
+)
+
+-- what is read of the text that was found, where it is what the text says
+pub read-said : {A : Type 0} (said : Text → Option A) (found : Found) (name : Text) (r : Option A) → (one_text found name ≡ None → r ≡ None) → ((t : Text) → one_text found name ≡ Some t → said t ≡ r)
+    → r ≡ option_and_then said (one_of name (rows_of found))
+read-said said found name r missing says = go (one_text found name) refl
+  where
+    go : (o : Option Text) → one_text found name ≡ o → r ≡ option_and_then said (one_of name (rows_of found))
+    go None e = missing e ∙ sym (ap (option_and_then said) (sym (one_text-rows found name) ∙ e))
+    go (Some t) e = sym (says t e) ∙ sym (ap (option_and_then said) (sym (one_text-rows found name) ∙ e))
 
 -- ---- numbers
 
@@ -87,13 +106,11 @@ pub has_number : (name : Text) (rows : List Row) (a : Rule) (least most : ℕ) �
     → a.parser ≡ Some (vp.Signed (pos least) (pos most)) → Holds rows name a → HasNumber name rows least most
 has_number name rows a least most small is h =
     let parser = vp.Signed (pos least) (pos most) in
-    let passes : value_kinds a.ignore_case parser h.text ≡ [] =
-    subst (λ (o : Option ValueParser). value_kinds a.ignore_case (parser_of_value o) h.text ≡ []) is h.passes in
-    let signed : IsSignedIn (pos least) (pos most) h.text = accepts-Accepts a.ignore_case parser h.text (accepted a.ignore_case parser h.text passes) in
+    let value = taken name rows a parser is h in
+    let signed : IsSignedIn (pos least) (pos most) h.text = accepts-Accepts a.ignore_case parser h.text value.0 in
     let text = without_minus h.text in
     let got = signed_reads (Unit {0}) Parses 32 least most h.text (number_said text) (said_parses text) (λ u x g. g) small signed in
-    let one : one_of name rows ≡ Some text =
-    subst (λ (o : Option ValueParser). one_of name rows ≡ Some (read_as (reading_of (parser_of_value o)) h.text)) is h.one in
+    let one : one_of name rows ≡ Some text = value.1 in
     record { number = got.0; is = ap (option_and_then number_said) one ∙ got.1; least_of = got.2; most_of = got.3 }
 
 -- ---- flags
@@ -123,11 +140,9 @@ some_flag t e = go (bytes_eq t (codes "true")) (bytes_eq t (codes "false")) e
 
 pub has_flag : (name : Text) (rows : List Row) (a : Rule) → a.parser ≡ Some vp.Bool → Holds rows name a → HasFlag name rows
 has_flag name rows a is h =
-    let passes : value_kinds a.ignore_case vp.Bool h.text ≡ [] =
-    subst (λ (o : Option ValueParser). value_kinds a.ignore_case (parser_of_value o) h.text ≡ []) is h.passes in
-    let one : one_of name rows ≡ Some h.text =
-    subst (λ (o : Option ValueParser). one_of name rows ≡ Some (read_as (reading_of (parser_of_value o)) h.text)) is h.one in
-    let got = some_flag h.text (accepted a.ignore_case vp.Bool h.text passes) in
+    let value = taken name rows a vp.Bool is h in
+    let one : one_of name rows ≡ Some h.text = value.1 in
+    let got = some_flag h.text value.0 in
     record { flag = got.0; is = ap (option_and_then flag_said) one ∙ got.1 }
 
 -- ---- texts

@@ -1,17 +1,18 @@
 -- Words that clap takes ask for a command, with its numbers in their ranges.
-use Rattle.std.proofs.Common.{◌≡◌, inl, inr, refl, ap, subst, arith, List, [], drop, Option, Some, None, option_map, codes}
-use Rattle.clap.specs.Walk.{Row, Rule, Text, arg_by_id}
+use Rattle.std.proofs.Common.{◌≡◌, ◌∙◌, inl, inr, refl, ap, subst, arith, ℕ, List, [], drop, pos, Option, Some, None, option_map, codes}
+use Rattle.clap.specs.Walk.{Row, Rule, Text, arg_by_id, first_of}
 use Rattle.clap.specs.Simple.{built, matches_of}
 use Rattle.clap.specs.Faults.{fault_of}
+use Rattle.clap.specs.declared.builder.value_parser.ValueParser.TheVariants as vp
 use Rattle.pact_words.specs.declared.commands.Kind.{Kind}
 use Rattle.pact_words.specs.declared.commands.Kind.TheVariants.{Run, Plan, Cert, Check, Sets}
 use Rattle.pact_words.specs.Definitions.{app_for}
-use Rattle.pact_words.specs.FoundValues.{all_four, all_three, all_two}
+use Rattle.pact_words.specs.FoundValues.{all_four, all_three, all_two, number_of}
 use Rattle.pact_words.specs.Words.{AreInRange, AreOptionsInRange, Asked, IsInRange, asked_of, options, to_certify, to_check, to_plan, to_run, to_tell_sets}
 use Rattle.pact_words.proofs.FittingRows.{AllKnown}
 use Rattle.pact_words.proofs.GivenValues.{Holds, IsSure, held}
 use Rattle.pact_words.proofs.OneAsked.{not_both, one_of}
-use Rattle.pact_words.proofs.SaidValues.{HasNumber, has_flag, has_number, has_text}
+use Rattle.pact_words.proofs.SaidValues.{HasNumber, HasText, has_flag, has_number, has_text}
 
 -- ---- what each command has
 
@@ -50,6 +51,13 @@ pub record HasLimits (rows : List Row) : Type 0 where
   pub workers : HasNumber (codes "workers") rows 1 16
   pub plans : HasNumber (codes "plans") rows 1 1000
 
+has_limits : (rows : List Row) (workers plans : Rule) → workers.parser ≡ Some (vp.Signed (pos 1) (pos 16)) → plans.parser ≡ Some (vp.Signed (pos 1) (pos 1000)) → Holds rows (codes "workers") workers
+    → Holds rows (codes "plans") plans → HasLimits rows
+has_limits rows workers plans w p h k = record {
+  workers = has_number (codes "workers") rows workers 1 16 (omega arith) w h;
+  plans = has_number (codes "plans") rows plans 1 1000 (omega arith) p k;
+}
+
 in_range : (rows : List Row) (h : HasLimits rows) → AreInRange h.workers.number h.plans.number
 in_range rows h = record { least_workers = h.workers.least_of; most_workers = h.workers.most_of; least_plans = h.plans.least_of; most_plans = h.plans.most_of }
 
@@ -59,23 +67,35 @@ pub record Asks (k : Kind) (words : List Text) : Type 0 where
   pub values : asked_of k (matches_of (app_for k) words) ≡ Some command
   pub in_range : IsInRange command
 
+-- a command that takes a program, workers and plans
+asks_limited : (k : Kind) (words : List Text) (to : List ℕ → ℕ → ℕ → Asked)
+    → ((rows : List Row) → asked_of k rows ≡ all_three to (first_of (codes "program") rows) (number_of (codes "workers") rows) (number_of (codes "plans") rows))
+    → ((program : List ℕ) (workers plans : ℕ) → AreInRange workers plans → IsInRange (to program workers plans))
+    → HasText (codes "program") (matches_of (app_for k) words) → HasLimits (matches_of (app_for k) words) → Asks k words
+asks_limited k words to is ranged program limits =
+    let rows = matches_of (app_for k) words in
+    record {
+      command = to program.text limits.workers.number limits.plans.number;
+      values = is rows ∙ three_are to _ _ _ program.text limits.workers.number limits.plans.number program.is limits.workers.is limits.plans.is;
+      in_range = ranged program.text limits.workers.number limits.plans.number (in_range rows limits);
+    }
+
 pub asks : (k : Kind) (words : List Text) → fault_of (app_for k) words ≡ [] → Asks k words
 asks Run words e =
     let rows = matches_of (app_for Run) words in
     let at = each_holds Run words e in
     let program = has_text (codes "program") rows _ (at (codes "program") _ refl (inl refl)) in
-    let workers = has_number (codes "workers") rows _ 1 16 (omega arith) refl (at (codes "workers") _ refl (inr (_, _, refl))) in
-    let plans = has_number (codes "plans") rows _ 1 1000 (omega arith) refl (at (codes "plans") _ refl (inr (_, _, refl))) in
+    let limits = has_limits rows _ _ refl refl (at (codes "workers") _ refl (inr (_, _, refl))) (at (codes "plans") _ refl (inr (_, _, refl))) in
     let batch = has_number (codes "batch") rows _ 1 1024 (omega arith) refl (at (codes "batch") _ refl (inr (_, _, refl))) in
     let depth = has_number (codes "depth") rows _ 1 64 (omega arith) refl (at (codes "depth") _ refl (inr (_, _, refl))) in
     let counts = has_flag (codes "counts") rows _ refl (at (codes "counts") _ refl (inr (_, _, refl))) in
-    let chosen = options workers.number plans.number batch.number depth.number in
+    let chosen = options limits.workers.number limits.plans.number batch.number depth.number in
     record {
       command = to_run program.text chosen counts.flag;
       values = three_are to_run _ _ _ program.text chosen counts.flag program.is
-          (four_are options _ _ _ _ workers.number plans.number batch.number depth.number workers.is plans.is batch.is depth.is) counts.is;
+          (four_are options _ _ _ _ limits.workers.number limits.plans.number batch.number depth.number limits.workers.is limits.plans.is batch.is depth.is) counts.is;
       in_range = record {
-        limits = in_range rows (record { workers = workers; plans = plans });
+        limits = in_range rows limits;
         least_batch = batch.least_of;
         most_batch = batch.most_of;
         least_depth = depth.least_of;
@@ -86,24 +106,14 @@ asks Plan words e =
     let rows = matches_of (app_for Plan) words in
     let at = each_holds Plan words e in
     let program = has_text (codes "program") rows _ (at (codes "program") _ refl (inl refl)) in
-    let workers = has_number (codes "workers") rows _ 1 16 (omega arith) refl (at (codes "workers") _ refl (inr (_, _, refl))) in
-    let plans = has_number (codes "plans") rows _ 1 1000 (omega arith) refl (at (codes "plans") _ refl (inr (_, _, refl))) in
-    record {
-      command = to_plan program.text workers.number plans.number;
-      values = three_are to_plan _ _ _ program.text workers.number plans.number program.is workers.is plans.is;
-      in_range = in_range rows (record { workers = workers; plans = plans });
-    }
+    let limits = has_limits rows _ _ refl refl (at (codes "workers") _ refl (inr (_, _, refl))) (at (codes "plans") _ refl (inr (_, _, refl))) in
+    asks_limited Plan words to_plan (λ found. refl) (λ name workers plans h. h) program limits
 asks Cert words e =
     let rows = matches_of (app_for Cert) words in
     let at = each_holds Cert words e in
     let program = has_text (codes "program") rows _ (at (codes "program") _ refl (inl refl)) in
-    let workers = has_number (codes "workers") rows _ 1 16 (omega arith) refl (at (codes "workers") _ refl (inr (_, _, refl))) in
-    let plans = has_number (codes "plans") rows _ 1 1000 (omega arith) refl (at (codes "plans") _ refl (inr (_, _, refl))) in
-    record {
-      command = to_certify program.text workers.number plans.number;
-      values = three_are to_certify _ _ _ program.text workers.number plans.number program.is workers.is plans.is;
-      in_range = in_range rows (record { workers = workers; plans = plans });
-    }
+    let limits = has_limits rows _ _ refl refl (at (codes "workers") _ refl (inr (_, _, refl))) (at (codes "plans") _ refl (inr (_, _, refl))) in
+    asks_limited Cert words to_certify (λ found. refl) (λ name workers plans h. h) program limits
 asks Check words e =
     let rows = matches_of (app_for Check) words in
     let at = each_holds Check words e in

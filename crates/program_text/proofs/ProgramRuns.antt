@@ -7,7 +7,7 @@ use Rattle.tac_syntax.specs.declared.declarations.Decl.{Decl}
 use Rattle.tac_syntax.specs.declared.declarations.Decl.TheVariants.{Function as FunctionDecl}
 use Rattle.tac_syntax.specs.Declarations.{IsSpelledDecl}
 use Rattle.tac_syntax.specs.Drafts.{AreDeclared, DraftData}
-use Rattle.tac_syntax.proofs.Declared.{IsSpelledDraft-decl, IsSpelledDraft-function}
+use Rattle.tac_syntax.proofs.SpelledDrafts.{IsSpelledDraft-decl, IsSpelledDraft-function}
 use Rattle.tac_syntax.specs.declared.functions.Function.{Function}
 use Rattle.tac_syntax.specs.Code.{Line, close, nesting}
 use Rattle.tac_syntax.specs.Functions.{IsSpelledFunction}

@@ -1,8 +1,8 @@
 -- Keys that are among others, and a key more behind others.
 use Rattle.std.proofs.Common.{◌≡◌, ◌<◌, ◌+◌, ℕ, Bool, true, false, ◌||◌, List, [], ◌∷◌, ◌++◌, length, map, take, drop, get_or, refl, ap, sym, ◌∙◌, subst, append_assoc}
-use Rattle.std.proofs.lemmas.List.{drop_more, take_more, map-append}
+use Rattle.std.proofs.lemmas.List.{drop_more}
 use Rattle.pact_bag.specs.Groups.{is_same_key}
-use Rattle.pact_bag.proofs.KeyGroups.{key_itself, occurs, same_keys}
+use Rattle.pact_bag.proofs.KeyGroups.{key_itself, keys-take_more, occurs, same_keys}
 use Rattle.pact_record.specs.declared.values.Value.{Value}
 use Rattle.pact_record.specs.Record.{key_of}
 
@@ -26,10 +26,8 @@ pub known-later : (k : List Value) (found : List (List Value)) (n : ℕ) (key : 
 known-later k found n key b lt e s t h =
     h ∙ step k found n key lt e ∙ ap (λ (c : Bool). c || occurs k (drop (n + 1) found)) (is_same_key-flipped key k ∙ sym s ∙ t)
 
--- the keys of one record more
+-- the keys of one record more, behind others
 pub keys-more : (before : List (List Value)) (keys : List ℕ) (rows : List (List Value)) (n : ℕ) (row : List Value) → n < length rows → row ≡ get_or rows n row
     → before ++ map (key_of keys) (take (n + 1) rows) ≡ (before ++ map (key_of keys) (take n rows)) ++ key_of keys row ∷ []
 keys-more before keys rows n row lt e =
-    ap (λ (l : List (List Value)). before ++ map (key_of keys) l) (take_more rows n row lt ∙ ap (λ (r : List Value). take n rows ++ r ∷ []) (sym e))
-    ∙ ap (λ (l : List (List Value)). before ++ l) (map-append (key_of keys) (take n rows) (row ∷ []))
-    ∙ sym (append_assoc before (map (key_of keys) (take n rows)) (key_of keys row ∷ []))
+    ap (λ (l : List (List Value)). before ++ l) (keys-take_more keys rows n row lt e) ∙ sym (append_assoc before (map (key_of keys) (take n rows)) (key_of keys row ∷ []))

@@ -1,4 +1,3 @@
-pub mod KeyGroups
 pub mod CallsOfOperators
 pub mod PlanCounts
 pub mod KnownKeys

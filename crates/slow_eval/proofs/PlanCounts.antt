@@ -3,13 +3,14 @@ use Rattle.std.proofs.Common.{◌≡◌, ◌<◌, ◌-◌, ◌^◌, ℕ, List, [
 use Rattle.std.specs.List.{AllByRecursion}
 use Rattle.std.specs.List.Sorted.{IsPermutation}
 use Rattle.std.proofs.lemmas.List.Sorted.{IsPermutation-refl}
-use Rattle.pact_operators.specs.Allowed.{Allows, Bag, Counted, Gives, GivesBoth, count_of}
+use Rattle.pact_operators.specs.Allowed.{Bag, Counted, Gives, GivesBoth, count_of}
 use Rattle.plan_trees.specs.Distinct.{AreDifferent, IsAbsent}
 use Rattle.pact_operators.specs.PlanOps.{PlanOps}
+use Rattle.pact_operators.proofs.PermutedEvaluations.{evaluates_told}
 use Rattle.plan_trees.specs.Plans.{PlanTree, leaf, over, both, nodes}
 use Rattle.tac_syntax.specs.declared.declarations.OpKind.TheVariants.{Source}
 use Rattle.plan_trees.proofs.DifferentNumbers.{AreDifferent-absent, IsAbsent-left, IsAbsent-right}
-use Rattle.pact_record.proofs.Lists.{AllByRecursion-left, AllByRecursion-right, slice_get-set_other, slice_get-set_same}
+use Rattle.pact_record.proofs.Lists.{AllByRecursion-weaker, slice_get-set_other, slice_get-set_same}
 
 -- ---- counts that are set
 
@@ -26,23 +27,10 @@ same_set (m ∷ ns) n v cs h = (sym (slice_get-set_other cs n m v (λ e. h.0 (sy
 
 -- the same evaluation, with counts that are the same at its nodes
 recounted : (o : PlanOps) (t : PlanTree) (bag : Bag) (cs ds : List ℕ) → SameAt (nodes t) cs ds → Counted o t bag cs → Counted o t bag ds
-recounted o (leaf n) bag cs ds e h = (h.0, sym e.0 ∙ h.1)
-recounted o (over n t) bag cs ds e h =
-    let a = h.0 in
-    (record { rows = a.rows; out = a.out; below = recounted o t a.rows cs ds e.1 a.below; given = a.given; permuted = a.permuted }, sym e.0 ∙ h.1)
-recounted o (both n t u) bag cs ds e h =
-    let a = h.0 in (
-      record {
-        left_rows = a.left_rows;
-        right_rows = a.right_rows;
-        out = a.out;
-        left_below = recounted o t a.left_rows cs ds (AllByRecursion-left (λ k. slice_get cs k ≡ slice_get ds k) (nodes t) (nodes u) e.1) a.left_below;
-        right_below = recounted o u a.right_rows cs ds (AllByRecursion-right (λ k. slice_get cs k ≡ slice_get ds k) (nodes t) (nodes u) e.1) a.right_below;
-        given = a.given;
-        permuted = a.permuted;
-      },
-      sym e.0 ∙ h.1,
-    )
+recounted o t bag cs ds e h =
+    let P = λ (n k : ℕ). slice_get cs n ≡ Some (count_of k) in
+    let Q = λ (n k : ℕ). slice_get ds n ≡ Some (count_of k) in
+    evaluates_told P Q o t bag (AllByRecursion-weaker (λ n. slice_get cs n ≡ slice_get ds n) (λ n. (k : ℕ) → P n k → Q n k) (nodes t) (λ n same k is. sym same ∙ is) e) h
 
 told : (cs : List ℕ) (n len : ℕ) (bag : Bag) → n < length cs → len ≡ length bag → len < 2 ^ 64 → slice_get (slice_set cs n len) n ≡ Some (count_of (length bag))
 told cs n len bag h e b = slice_get-set_same cs n len h ∙ ap Some ((let f : len ≡ min len (2 ^ 64 - 1) = omega arith in f) ∙ ap count_of e)
@@ -81,23 +69,3 @@ pub others-both : (n m len : ℕ) (t u : PlanTree) (es cs ds : List ℕ) → ((k
     → IsAbsent m (nodes (both n t u)) → slice_get (slice_set ds n len) m ≡ slice_get es m
 others-both n m len t u es cs ds f g a =
     slice_get-set_other ds n m len a.0 ∙ g m (IsAbsent-right m (nodes t) (nodes u) a.1) ∙ f m (IsAbsent-left m (nodes t) (nodes u) a.1)
-
--- counts are of an evaluation
-pub Allows-counted : (o : PlanOps) (t : PlanTree) (bag : Bag) (counts : List ℕ) → Counted o t bag counts → Allows o t bag
-Allows-counted o (leaf n) bag counts h = (h.0, tt)
-Allows-counted o (over n t) bag counts h =
-    let a = h.0 in
-    (record { rows = a.rows; out = a.out; below = Allows-counted o t a.rows counts a.below; given = a.given; permuted = a.permuted }, tt)
-Allows-counted o (both n t u) bag counts h =
-    let a = h.0 in (
-      record {
-        left_rows = a.left_rows;
-        right_rows = a.right_rows;
-        out = a.out;
-        left_below = Allows-counted o t a.left_rows counts a.left_below;
-        right_below = Allows-counted o u a.right_rows counts a.right_below;
-        given = a.given;
-        permuted = a.permuted;
-      },
-      tt,
-    )

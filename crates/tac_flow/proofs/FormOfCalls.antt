@@ -13,7 +13,7 @@ use Rattle.tac_syntax.specs.Limits.{value_registers, record_registers}
 use Rattle.tac_syntax.specs.Code.{Code}
 use Rattle.tac_syntax.specs.Call.{CallInput, of_record, of_pair, of_group, of_groups, start_store, empty_record, Out}
 use Rattle.tac_syntax.specs.Exec.{exec}
-use Rattle.tac_syntax.proofs.Leads.{Out-exec}
+use Rattle.tac_syntax.proofs.StepsAsRecursion.{Out-exec}
 use Rattle.tac_flow.specs.Known.{FieldSet, fields_below, Side, left, right}
 use Rattle.tac_flow.specs.Steps.{Scope, fresh, constant, start_state}
 use Rattle.tac_flow.specs.Walks.{Note}

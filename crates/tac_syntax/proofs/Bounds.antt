@@ -26,7 +26,7 @@ use Rattle.tac_syntax.specs.InRange.{IsInRange, AreInRange}
 use Rattle.tac_syntax.specs.Ready.{Fits, FitsStore, HasRecord}
 use Rattle.tac_syntax.proofs.Fitting.{CanAct-fits, next_name-over, Fits-bind, Fits-out_of_each}
 use Rattle.tac_syntax.proofs.KeptByBodies.{IsKept, exec-kept}
-use Rattle.tac_syntax.proofs.Leads.{Out-exec}
+use Rattle.tac_syntax.proofs.StepsAsRecursion.{Out-exec}
 use Rattle.tac_syntax.proofs.Ranges.{AreInRange-valid}
 
 -- ---- the input's records

@@ -12,7 +12,7 @@ use Rattle.tac_syntax.specs.Code.{Code, stop, plain, branch, again, each}
 use Rattle.tac_syntax.specs.Call.{CallInput, of_record, of_pair, of_group, of_groups, Store, value_in, rows_of, after, bind, start_store}
 use Rattle.tac_syntax.specs.Exec.{times, for_each, exec}
 use Rattle.tac_syntax.proofs.EmitsOfSteps.{count, count_after}
-use Rattle.tac_syntax.proofs.Leads.{Out-exec, input-after, input-exec}
+use Rattle.tac_syntax.proofs.StepsAsRecursion.{Out-exec, input-after, input-exec}
 use Rattle.tac_syntax.specs.CallInputs.{IsInputOf, HasSome}
 use Rattle.tac_syntax.specs.EmitBounds.{many, at_least_one, least_emits, most_emits, AreBounds}
 use Rattle.tac_syntax.specs.WellFormed.{HasList, IsWellFormed}

@@ -1,5 +1,5 @@
 pub mod Bodies
-pub mod Leads
+pub mod StepsAsRecursion
 pub mod Naming
 pub mod Ranges
 pub mod KeptByBodies
@@ -10,4 +10,4 @@ pub mod WellFormed
 pub mod EmitsOfSteps
 pub mod EmitCounts
 pub mod LawfulExamples
-pub mod Declared
+pub mod SpelledDrafts

@@ -1,5 +1,6 @@
 -- Names and names of files.
 use Rattle.std.specs.Prelude.{ℕ, Bool, true, false, ◌&&◌, ◌||◌, ◌==◌, nat_le, List, [], ◌∷◌, length}
+use Rattle.pact_record.specs.Limits.{word_limit}
 
 abbrev pub all_bytes : (ℕ → Bool) → List ℕ → Bool
 all_bytes test [] = true
@@ -28,4 +29,4 @@ abbrev pub is_file_byte : ℕ → Bool
 is_file_byte b = is_small_letter b || is_capital_letter b || is_digit b || (b == 46) || (b == 95) || (b == 45) || (b == 47)
 
 abbrev pub is_file_name : List ℕ → Bool
-is_file_name name = nat_le 1 (length name) && nat_le (length name) 200 && all_bytes is_file_byte name
+is_file_name name = nat_le 1 (length name) && nat_le (length name) word_limit && all_bytes is_file_byte name

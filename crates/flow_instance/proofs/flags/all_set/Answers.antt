@@ -1,5 +1,5 @@
 use Rattle.std.proofs.Common.{◌<◌, true, length, get_or, sym, arith}
-use Rattle.flow_model.proofs.Marks.{all_below_none}
+use Rattle.flow_model.proofs.EndMarksAndWants.{all_below_none}
 use Rattle.flow_instance.proofs.EndedSenders.{unset}
 use Rattle.flow_instance.proofs.flags.all_set.Goals as goal
 

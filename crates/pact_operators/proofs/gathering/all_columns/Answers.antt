@@ -1,5 +1,5 @@
 use Rattle.pact_operators.specs.ProgramRules.{all_columns as listed}
-use Rattle.pact_operators.proofs.Gathered.{joined_more, all_columns-append}
+use Rattle.pact_operators.proofs.NamedByDeclarations.{joined_more, all_columns-append}
 use Rattle.pact_operators.proofs.gathering.all_columns.Goals as goal
 
 pub loop-decl-preserved : goal.loop-decl-preserved

@@ -1,7 +1,7 @@
 use Rattle.std.proofs.Common.{◌++◌, ℕ, List, ap, sym, ◌∙◌, append-nil}
 use Rattle.pact_operators.specs.ProgramRules.{all_inputs as listed}
 use Rattle.pact_operators.specs.Resolved.{inputs_named}
-use Rattle.pact_operators.proofs.Gathered.{joined_more, all_inputs-append}
+use Rattle.pact_operators.proofs.NamedByDeclarations.{joined_more, all_inputs-append}
 use Rattle.pact_operators.proofs.gathering.all_inputs.Goals as goal
 
 pub loop-decl-preserved : goal.loop-decl-preserved

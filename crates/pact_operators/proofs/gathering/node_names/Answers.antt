@@ -1,5 +1,5 @@
 use Rattle.pact_operators.specs.Resolved.{node_names as listed}
-use Rattle.pact_operators.proofs.Gathered.{joined_more, node_names-append}
+use Rattle.pact_operators.proofs.NamedByDeclarations.{joined_more, node_names-append}
 use Rattle.pact_operators.proofs.gathering.node_names.Goals as goal
 
 pub loop-decl-preserved : goal.loop-decl-preserved

@@ -1,5 +1,5 @@
 use Rattle.pact_operators.specs.Resolved.{sink_inputs as listed}
-use Rattle.pact_operators.proofs.Gathered.{joined_more, sink_inputs-append}
+use Rattle.pact_operators.proofs.NamedByDeclarations.{joined_more, sink_inputs-append}
 use Rattle.pact_operators.proofs.gathering.sink_inputs.Goals as goal
 
 pub loop-decl-preserved : goal.loop-decl-preserved

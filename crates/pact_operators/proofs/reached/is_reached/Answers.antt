@@ -1,6 +1,6 @@
 use Rattle.std.proofs.Common.{◌≡◌, false}
 use Rattle.pact_operators.specs.Resolved.{is_among, sink_inputs}
-use Rattle.pact_operators.proofs.Reaching.{reached_by}
+use Rattle.pact_operators.proofs.ReachedByReaders.{reached_by}
 use Rattle.pact_operators.proofs.reached.is_reached.Goals as goal
 
 pub returns-else-is_among : goal.returns-else-is_among

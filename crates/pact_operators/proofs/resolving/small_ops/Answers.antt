@@ -2,7 +2,7 @@ use Rattle.std.proofs.Common.{List, map}
 use Rattle.tac_syntax.specs.declared.declarations.Decl.{Decl}
 use Rattle.pact_operators.specs.Resolved.{ops_of}
 use Rattle.pact_operators.specs.WrittenOps.{with_small_keys}
-use Rattle.pact_operators.proofs.Gathered.{joined_more}
+use Rattle.pact_operators.proofs.NamedByDeclarations.{joined_more}
 use Rattle.pact_operators.proofs.OpsOfDeclarations.{small-append}
 use Rattle.pact_operators.proofs.resolving.small_ops.Goals as goal
 

@@ -1,7 +1,7 @@
 use Rattle.std.proofs.Common.{map}
 use Rattle.pact_operators.specs.PlanReads.{inputs_as}
 use Rattle.pact_operators.specs.Resolved.{inputs_of}
-use Rattle.pact_operators.proofs.Gathered.{joined_more}
+use Rattle.pact_operators.proofs.NamedByDeclarations.{joined_more}
 use Rattle.pact_operators.proofs.OpsOfDeclarations.{inputs_of-append}
 use Rattle.pact_operators.proofs.written_plans.all_reads.Goals as goal
 

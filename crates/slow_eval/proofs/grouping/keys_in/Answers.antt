@@ -1,8 +1,7 @@
-use Rattle.std.proofs.Common.{[], map, subst, sym}
+use Rattle.std.proofs.Common.{[], subst, sym}
 use Rattle.std.proofs.lemmas.Result.{IfOk-weaker}
 use Rattle.std.specs.List.{AllByRecursion}
-use Rattle.pact_bag.proofs.KeyGroups.{all-distinct, keys_have_groups}
-use Rattle.pact_record.specs.Record.{key_of}
+use Rattle.pact_bag.proofs.KeyGroups.{distinct_keys_have_groups}
 use Rattle.slow_eval.specs.Keyed.{HasGroup}
 use Rattle.slow_eval.proofs.grouping.keys_in.Goals as goal
 
@@ -13,5 +12,5 @@ pub returns-clause-groups : goal.returns-clause-groups
 returns-clause-groups c =
     let keys = c.args.keys.now in
     let rows = c.args.rows.now in
-    IfOk-weaker c.with_keys.result _ _ (λ found e. subst (AllByRecursion (HasGroup keys rows)) (sym e) (all-distinct (HasGroup keys rows) (map (key_of keys) rows) (keys_have_groups keys rows)))
+    IfOk-weaker c.with_keys.result _ _ (λ found e. subst (AllByRecursion (HasGroup keys rows)) (sym e) (distinct_keys_have_groups keys rows))
     (c.with_keys.ensures.keys [] c.new.ensures)

@@ -1,10 +1,9 @@
-use Rattle.std.proofs.Common.{◌++◌, [], map, subst, sym}
+use Rattle.std.proofs.Common.{[], map, subst, sym}
 use Rattle.std.proofs.lemmas.Result.{IfOk-weaker}
 use Rattle.std.specs.List.{AllByRecursion}
-use Rattle.pact_bag.proofs.KeyGroups.{all-distinct}
+use Rattle.pact_bag.proofs.KeyGroups.{distinct_keys_have_either}
 use Rattle.pact_record.specs.Record.{key_of}
 use Rattle.slow_eval.specs.Keyed.{HasEitherGroup}
-use Rattle.slow_eval.proofs.KeyGroups.{keys_have_either}
 use Rattle.slow_eval.proofs.grouping.keys_in_either.Goals as goal
 
 pub returns-clause-keys : goal.returns-clause-keys
@@ -16,6 +15,5 @@ returns-clause-groups c =
     let right_keys = c.args.right_keys.now in
     let ls = c.args.lefts.now in
     let rs = c.args.rights.now in
-    let P = HasEitherGroup left_keys right_keys ls rs in
-    IfOk-weaker c.with_keys-2.result _ _ (λ found e. subst (AllByRecursion P) (sym e) (all-distinct P (map (key_of left_keys) ls ++ map (key_of right_keys) rs) (keys_have_either left_keys right_keys ls rs)))
+    IfOk-weaker c.with_keys-2.result _ _ (λ found e. subst (AllByRecursion (HasEitherGroup left_keys right_keys ls rs)) (sym e) (distinct_keys_have_either left_keys right_keys ls rs))
     (c.with_keys-2.ensures.keys (map (key_of left_keys) ls) (c.in_ok-found.ensures.keys [] c.new.ensures))

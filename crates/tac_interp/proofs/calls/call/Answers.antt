@@ -2,7 +2,7 @@ use Rattle.std.proofs.Common.{◌≡◌, ap, sym, ◌∙◌, subst, ℕ, arith}
 use Rattle.tac_syntax.specs.Call.{start_store}
 use Rattle.tac_syntax.specs.Exec.{exec}
 use Rattle.tac_syntax.specs.Bounded.{AreBounded}
-use Rattle.tac_syntax.proofs.Leads.{Out-exec}
+use Rattle.tac_syntax.proofs.StepsAsRecursion.{Out-exec}
 use Rattle.tac_interp.specs.Machine.{input_of}
 use Rattle.tac_syntax.proofs.Bounds.{AreBounded-Out, Fits-start, widths-bounded}
 use Rattle.tac_interp.proofs.Starts.{IsReady-start, emitted-exec}

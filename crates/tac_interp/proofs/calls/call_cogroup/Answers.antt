@@ -1,5 +1,5 @@
 use Rattle.tac_syntax.specs.Call.{of_groups}
-use Rattle.tac_syntax.proofs.Leads.{end_state-items}
+use Rattle.tac_syntax.proofs.StepsAsRecursion.{end_state-items}
 use Rattle.tac_interp.proofs.calls.call_cogroup.Goals as goal
 
 pub returns-clause-ends : goal.returns-clause-ends

@@ -1,5 +1,5 @@
 use Rattle.std.proofs.Common.{rules, sym, subst}
-use Rattle.flow_model.proofs.Offers.{returned_local}
+use Rattle.flow_model.proofs.LocalAfterPuts.{returned_local}
 use Rattle.flow_model.specs.Instances.{Instance}
 use Rattle.flow_model.specs.Local.{IsLocal}
 use Rattle.flow_instance.proofs.instances.Instance.back.Goals as goal

@@ -1,5 +1,5 @@
 use Rattle.std.proofs.Common.{sym, subst}
-use Rattle.flow_model.proofs.Offers.{finish_local}
+use Rattle.flow_model.proofs.LocalAfterPuts.{finish_local}
 use Rattle.flow_model.specs.Instances.{Instance}
 use Rattle.flow_model.specs.Local.{IsLocal}
 use Rattle.flow_model.specs.Steps.{finish}

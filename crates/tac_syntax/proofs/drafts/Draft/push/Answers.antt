@@ -2,7 +2,7 @@ use Rattle.std.proofs.Common.{sym, subst, List}
 use Rattle.std.specs.Result.{is_ok}
 use Rattle.tac_syntax.specs.declared.declarations.Decl.{Decl}
 use Rattle.tac_syntax.specs.Drafts.{DraftData, IsSpelledDraft}
-use Rattle.tac_syntax.proofs.Declared.{IsSpelledDraft-decl}
+use Rattle.tac_syntax.proofs.SpelledDrafts.{IsSpelledDraft-decl}
 use Rattle.tac_syntax.proofs.drafts.Draft.push.Goals as goal
 
 pub invariant_of-self-2 : goal.invariant_of-self-2

@@ -1,7 +1,7 @@
 use Rattle.std.proofs.Common.{rules, ◌≡◌, ◌++◌, ◌∷◌, [], length}
 use Rattle.tac_syntax.specs.declared.declarations.Decl.TheVariants.{Function as FunctionDecl}
 use Rattle.tac_syntax.specs.Drafts.{DraftData}
-use Rattle.tac_syntax.proofs.Declared.{IsSpelledDraft-function}
+use Rattle.tac_syntax.proofs.SpelledDrafts.{IsSpelledDraft-function}
 use Rattle.tac_syntax.proofs.drafts.Draft.push_function.Goals as goal
 
 pub invariant_of-self-2 : goal.invariant_of-self-2

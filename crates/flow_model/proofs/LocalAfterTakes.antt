@@ -16,7 +16,7 @@ use Rattle.plan_trees.specs.Sending.{goes}
 use Rattle.flow_model.specs.Notes.{AreNotes, IsNote, has_end, rows_of}
 use Rattle.flow_model.specs.Spots.{Spot, Port, has_out, is_edge, sent}
 use Rattle.flow_model.specs.Steps.{Added, Took, GivesNow, is_end, kept_with, note_rows}
-use Rattle.flow_model.proofs.Marks.{all_below_from, all_below_at}
+use Rattle.flow_model.proofs.EndMarksAndWants.{all_below_from, all_below_at}
 use Rattle.plan_trees.proofs.EachWorker.{none_each, same_each}
 use Rattle.flow_model.proofs.Bags.{are_notes-last, beside, all_of-grown, has_end-last, is_same, joined, rows_of-last}
 use Rattle.flow_model.proofs.GivenForNotes.{Grown, given_last, given_more, kept_more}

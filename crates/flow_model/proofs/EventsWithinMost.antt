@@ -6,7 +6,7 @@ use Rattle.plan_trees.specs.Plans.{nodes, root_of, subtree_of}
 use Rattle.flow_model.specs.Most.{AreCallsBounded, events, most}
 use Rattle.flow_model.specs.Spots.{Setting}
 use Rattle.flow_model.specs.Worlds.{History, LocalAt, Stands, World}
-use Rattle.flow_model.proofs.Ended.{no_edge}
+use Rattle.flow_model.proofs.AllPutIsTaken.{no_edge}
 use Rattle.flow_model.proofs.Most.{all_few}
 use Rattle.flow_model.proofs.Stuck.{StandsAt}
 use Rattle.plan_trees.proofs.EverySubtree.{all_below}

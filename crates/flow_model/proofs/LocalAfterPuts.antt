@@ -126,10 +126,12 @@ offered_local s worker i taken put new a l wanted below more =
       counted = l.counted;
     }
 
--- ---- a note comes back
+-- ---- a note comes back, and the end
 
-pub returned_local : (s : Spot) (worker r : ℕ) (i : Instance) (taken : ℕ → ℕ → List Note) (put : ℕ → List Note) → IsLocal s worker i taken put → IsLocal s worker (record i { receiver = r }) taken put
-returned_local s worker r i taken put l = record {
+-- another receiver of the last note, or an end, changes nothing else
+with_state : (s : Spot) (worker r : ℕ) (f : Bool) (i : Instance) (taken : ℕ → ℕ → List Note) (put : ℕ → List Note) → IsLocal s worker i taken put
+    → (f ≡ true → (i.waiting ≡ []) × (i.marks ≡ []) × (all_ended i ≡ true)) → IsLocal s worker (record i { receiver = r; finished = f }) taken put
+with_state s worker r f i taken put l finished = record {
   given = l.given;
   part = l.part;
   taken_notes = l.taken_notes;
@@ -144,14 +146,15 @@ returned_local s worker r i taken put l = record {
   marked = l.marked;
   marked_last = l.marked_last;
   in_order = l.in_order;
-  finished = l.finished;
+  finished = finished;
   ended = l.ended;
   kept = l.kept;
   kept_wide = l.kept_wide;
   counted = l.counted;
 }
 
--- ---- the end
+pub returned_local : (s : Spot) (worker r : ℕ) (i : Instance) (taken : ℕ → ℕ → List Note) (put : ℕ → List Note) → IsLocal s worker i taken put → IsLocal s worker (record i { receiver = r }) taken put
+returned_local s worker r i taken put l = with_state s worker r i.finished i taken put l l.finished
 
 pub record IsEnding (ws : List (ℕ × Bag)) (ms : List ℕ) (a b : Bool) : Type 0 where
   pub waiting : ws ≡ []
@@ -165,27 +168,7 @@ ending_by ws ms a b f e = absurd (cc)
 pub finish_local : (s : Spot) (worker : ℕ) (i : Instance) (taken : ℕ → ℕ → List Note) (put : ℕ → List Note) → IsLocal s worker i taken put → want i ≡ End → IsLocal s worker (finish i) taken put
 finish_local s worker i taken put l wanted =
     let e = ending_by i.waiting i.marks (port_ended i 0) (port_ended i 1) i.finished wanted in
-    record {
-      given = l.given;
-      part = l.part;
-      taken_notes = l.taken_notes;
-      put_notes = l.put_notes;
-      waiting_notes = l.waiting_notes;
-      no_edge = l.no_edge;
-      gave = l.gave;
-      sent_on = l.sent_on;
-      placed = l.placed;
-      placed_wide = l.placed_wide;
-      marks_wait = l.marks_wait;
-      marked = l.marked;
-      marked_last = l.marked_last;
-      in_order = l.in_order;
-      finished = λ _. (e.waiting, e.marks, e.all);
-      ended = l.ended;
-      kept = l.kept;
-      kept_wide = l.kept_wide;
-      counted = l.counted;
-    }
+    with_state s worker i.receiver true i taken put l (λ _. (e.waiting, e.marks, e.all))
 
 -- ---- the start
 

@@ -23,9 +23,9 @@ use Rattle.flow_model.specs.Steps.{Added, later, next_note}
 use Rattle.flow_model.specs.Events.{Ends, Puts, Takes, added, first_note, noted, is_pipe}
 use Rattle.flow_model.specs.Worlds.{World, History, LocalAt, Stands, reader_of, lists_at}
 use Rattle.flow_model.proofs.GivenForNotes.{nil_only}
-use Rattle.flow_model.proofs.Locals.{each_list, took_local, unmarked}
-use Rattle.flow_model.proofs.Marks.{nothing_behind}
-use Rattle.flow_model.proofs.Offers.{finish_local, offered_local}
+use Rattle.flow_model.proofs.LocalAfterTakes.{each_list, took_local, unmarked}
+use Rattle.flow_model.proofs.EndMarksAndWants.{nothing_behind}
+use Rattle.flow_model.proofs.LocalAfterPuts.{finish_local, offered_local}
 use Rattle.flow_model.proofs.Readers.{IsFound, found, one_reader, port_for}
 use Rattle.plan_trees.proofs.SubtreesOfPlans.{root_of-subtree}
 
