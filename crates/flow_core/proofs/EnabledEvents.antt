@@ -6,14 +6,14 @@ use Rattle.flow_model.specs.declared.notes.Event.TheVariants as events
 use Rattle.flow_model.specs.declared.notes.Note.{Note}
 use Rattle.flow_model.specs.declared.notes.Note.TheVariants.{Batch, End as EndNote}
 use Rattle.flow_model.specs.declared.notes.PipeId.{PipeId}
-use Rattle.flow_model.specs.declared.notes.Want.TheVariants.{End, Put, Take}
+use Rattle.flow_model.specs.declared.notes.Want.TheVariants.{Take}
 use Rattle.flow_model.specs.Events.{first_note}
 use Rattle.flow_model.specs.Instances.{want}
 use Rattle.flow_model.specs.Local.{sender_ended}
 use Rattle.flow_model.specs.Notes.{AreNotes, IsNote, has_end}
 use Rattle.flow_model.specs.Spots.{Port, Setting, is_edge, ports_of, setting}
 use Rattle.flow_model.specs.Worlds.{can_take, does_want, enabled, lists_at, reader_of}
-use Rattle.flow_model.proofs.Events.{receiver_below, wants_end, wants_put, wants_take}
+use Rattle.flow_model.proofs.Events.{wants_take}
 use Rattle.flow_model.proofs.StandsAfterEvents.{can_be_taken}
 use Rattle.flow_core.specs.Stations.{IsReadyFor}
 use Rattle.flow_core.specs.Worlds.{StandsForSome, WorldData, instance_in, queue_in, seen}
@@ -22,30 +22,8 @@ pub record IsAt (w : WorldData) (at worker : ℕ) : Type 0 where
   pub there : has at w.physical.tree ≡ true
   pub below : worker < w.physical.workers
 
--- ---- a put
-
-pub record CanPut (w : WorldData) (p : PipeId) : Type 0 where
-  pub wanted : want (instance_in w.stations p.edge p.from) ≡ Put p.to
-  pub sender : IsAt w p.edge p.from
-  pub to : p.to < w.physical.workers
-
 abbrev some_setting : (w : WorldData) → StandsForSome w → Setting
 some_setting w s = setting s.program s.inputs w.physical
-
-pub can_put : (w : WorldData) (p : PipeId) → StandsForSome w → enabled w.physical w.depth (seen w) (events.Put p) ≡ true → CanPut w p
-can_put w p s e =
-    let parts = and_parts (has p.edge w.physical.tree && nat_lt p.from w.physical.workers) _ e in
-    let place = and_parts (has p.edge w.physical.tree) (nat_lt p.from w.physical.workers) parts.0 in
-    let can = and_parts (does_want (want (instance_in w.stations p.edge p.from)) (Put p.to)) (nat_lt (length (queue_in w.stations p.edge p.from p.to)) w.depth) parts.1 in
-    let from = ltb-true p.from w.physical.workers place.1 in
-    let wanted = wants_put (want (instance_in w.stations p.edge p.from)) p.to can.0 in
-    record {
-      wanted = wanted;
-      sender = record { there = place.0; below = from };
-      to = receiver_below (some_setting w s) (seen w) s.history p s.standing.stands place.0 from wanted;
-    }
-
--- ---- a take
 
 one_note : (fields : ℕ) (note : Note) → IsNote fields note → AreNotes fields (note ∷ [])
 one_note fields (Batch rows) h = (h.0, h.1, tt)
@@ -91,19 +69,4 @@ can_take_at w p at port s e reader =
             ∙ not_ended_from (slice_get (ports_of w.physical (subtree_of at w.physical.tree)) port) p.from p.to (lists_at s.history.taken (slice_get (ports_of w.physical (subtree_of at w.physical.tree)) port) p.from p.to) t.edge t.unended;
         fits = subst (λ (n : ℕ). AreNotes n (first_note (queue_in w.stations p.edge p.from p.to) ∷ [])) (sym l.part.fields) (one_note g.fields (first_note (queue_in w.stations p.edge p.from p.to)) t.note);
       };
-    }
-
--- ---- an end
-
-pub record CanEnd (w : WorldData) (at worker : ℕ) : Type 0 where
-  pub wanted : want (instance_in w.stations at worker) ≡ End
-  pub place : IsAt w at worker
-
-pub can_end : (w : WorldData) (at worker : ℕ) → enabled w.physical w.depth (seen w) (events.End at worker) ≡ true → CanEnd w at worker
-can_end w at worker e =
-    let parts = and_parts (has at w.physical.tree && nat_lt worker w.physical.workers) _ e in
-    let place = and_parts (has at w.physical.tree) (nat_lt worker w.physical.workers) parts.0 in
-    record {
-      wanted = wants_end (want (instance_in w.stations at worker)) parts.1;
-      place = record { there = place.0; below = ltb-true worker w.physical.workers place.1 };
     }

@@ -42,9 +42,6 @@ reached_numbers w v n counts r e p plan = e ∙ length-stations v p r.stands.sta
 
 -- ---- the events so far
 
-pub none_reached : (w : WorldData) → StandsForSome w → IsReached w 0 w
-none_reached w s = record { each = λ g h st. (h, st, sym (add-zero (events g (seen w) h))); physical = refl; stands = s }
-
 pub reached-next : (w u v : WorldData) (n : ℕ) (e : Event) → IsReached w n u → enabled u.physical u.depth (seen u) e ≡ true
     → ((g : Setting) (h : History) → IsStanding g u h → Steps g (seen u) e (seen v)) → ((g : Setting) (h : History) → IsStanding g u h → IsStanding g v (noted (seen u) e h))
     → v.physical ≡ u.physical → StandsForSome v → IsReached w (n + 1) v
