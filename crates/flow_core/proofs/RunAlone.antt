@@ -1,6 +1,5 @@
 -- What a run on one thread leaves.
-use Rattle.std.proofs.Common.{◌≡◌, ◌≤◌, ◌+◌, ℕ, true, List, length, refl, subst, sym, ◌∙◌, arith}
-use Rattle.std.proofs.Math.Nat.{add-zero}
+use Rattle.std.proofs.Common.{◌≡◌, ◌≤◌, ◌+◌, ℕ, true, List, length, subst, sym, ◌∙◌, arith}
 use Rattle.pact_operators.specs.Allowed.{Bag, Counted}
 use Rattle.pact_operators.specs.Inputs.{AreInputsOf}
 use Rattle.pact_operators.specs.PlanOps.{plan_ops}
@@ -11,7 +10,7 @@ use Rattle.ship_strategy.specs.Ships.{LegalShip}
 use Rattle.ship_strategy.proofs.DividedRuns.{divided_counted}
 use Rattle.flow_model.specs.declared.notes.Event.{Event}
 use Rattle.flow_model.specs.Events.{Steps, noted}
-use Rattle.flow_model.specs.Most.{events, most, program_turns}
+use Rattle.flow_model.specs.Most.{most, program_turns}
 use Rattle.flow_model.specs.Spots.{Setting, setting}
 use Rattle.flow_model.specs.Spread.{Spread}
 use Rattle.flow_model.specs.Worlds.{AreDone, History, IsStuck, enabled}
