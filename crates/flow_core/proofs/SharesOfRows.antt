@@ -19,7 +19,7 @@ use Rattle.pact_record.specs.declared.values.Value.{Value}
 use Rattle.pact_record.proofs.Lists.{AllByRecursion-cond, AllByRecursion-get_or}
 use Rattle.plan_trees.specs.Sending.{share_from}
 use Rattle.flow_instance.proofs.CarriedBatches.{IsNext, next_width}
-use Rattle.flow_core.specs.Starting.{AreDealt, AreOwn, TakesOwn}
+use Rattle.flow_core.specs.Starting.{AreDealt, AreOwn, MayStart, TakesOwn}
 
 -- ---- shares
 
@@ -64,6 +64,15 @@ pub own_share : (workers worker : ℕ) (rows share : Bag) (shares handed : List 
 own_share workers worker rows share shares handed dealt here less is =
     let below : worker < workers = omega (arith, less, here, dealt.long) in
     record { below = below; is = share_is workers worker rows share shares below (subst (λ (n : ℕ). share ≡ get_or shares n share) (sym here) is) dealt }
+
+-- Each share has the width of the rows, and is empty where they are.
+pub own_may_start : (p : ProgramData) (at workers worker : ℕ) (rows share : Bag) → IsOwnShare workers worker rows share → AreWide p.fields rows → (is_source_kind (kind_at p.ops at) ≡ false → rows ≡ [])
+    → MayStart p at workers worker share
+own_may_start p at workers worker rows share own wide none = record {
+  below = own.below;
+  wide = subst (AreWide p.fields) (sym own.is) (share-each (λ (row : List Value). length row ≡ p.fields) 0 workers worker rows wide);
+  none = λ other. own.is ∙ ap (share_from 0 workers worker) (none other);
+}
 
 -- the share to which a row goes has its width
 pub share_width : (workers to : ℕ) (done rows share : Bag) (row : List Value) (shares : List Bag) → HaveOneWidth rows → IsNext done rows row → share ≡ share_from 0 workers to done

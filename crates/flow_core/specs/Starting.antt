@@ -2,8 +2,9 @@
 use Rattle.std.specs.Prelude.{◌≡◌, ◌<◌, ℕ, Bool, true, false, List, [], ◌∷◌, get_or, length}
 use Rattle.std.specs.List.{AllByRecursion}
 use Rattle.pact_operators.specs.Allowed.{Bag}
-use Rattle.pact_operators.specs.PlanOps.{kind_at, plan_ops}
+use Rattle.pact_operators.specs.PlanOps.{is_source_kind, kind_at, plan_ops}
 use Rattle.pact_operators.specs.Programs.{ProgramData}
+use Rattle.pact_record.specs.Widths.{AreWide}
 use Rattle.plan_trees.specs.Plans.{subtree_of}
 use Rattle.plan_trees.specs.Sending.{share_from}
 use Rattle.tac_syntax.specs.declared.declarations.OpKind.TheVariants.{Source}
@@ -24,6 +25,12 @@ AreOwn p inputs at rows = kind_at p.ops at ≡ Source → rows ≡ (plan_ops p i
 pub record AreDealt (workers : ℕ) (rows : Bag) (shares : List Bag) : Type 0 where
   pub long : length shares ≡ workers
   pub each : (worker : ℕ) → worker < workers → get_or shares worker [] ≡ share_from 0 workers worker rows
+
+-- rows that an instance on a worker may start with: an operator has none
+pub record MayStart (p : ProgramData) (at workers worker : ℕ) (share : Bag) : Type 0 where
+  pub below : worker < workers
+  pub wide : AreWide p.fields share
+  pub none : is_source_kind (kind_at p.ops at) ≡ false → share ≡ []
 
 -- an instance at its start, with empty pipes, and batches of at most so many records
 pub record IsStarted (g : Setting) (size at worker : ℕ) (s : StationData) : Type 0 where

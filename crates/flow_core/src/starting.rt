@@ -9,7 +9,8 @@ ghost use Rattle.pact_operators.specs.Programs.{IsPlanOf};
 ghost use Rattle.pact_record.specs.Widths.{AreWide};
 ghost use Rattle.flow_instance.specs.Limits.{batch_limit};
 ghost use Rattle.flow_model.specs.Spots.{setting};
-ghost use Rattle.flow_core.specs.Starting.{AreDealt, AreOwn, AreStarted, AreStartedAt, TakesOwn};
+ghost use Rattle.flow_instance.specs.Starting.{IsShareOf};
+ghost use Rattle.flow_core.specs.Starting.{AreDealt, AreOwn, AreStarted, AreStartedAt, IsStarted, MayStart, TakesOwn};
 
 use crate::stations::{Queue, Row, Station};
 use flow_instance::Instance;
@@ -77,6 +78,27 @@ fn empty_queues(alloc: Global, workers: u32) -> Result<Vec<Queue>, OutOfMemory>
     Ok(queues)
 }
 
+// The station of a source or operator on a worker, with that worker's share of the rows.
+fn start_station<L: Local>(
+    alloc: Global,
+    program: &Program,
+    physical: &Physical,
+    share: Rows,
+    batch: u32,
+    at: u32,
+    worker: u32,
+) -> Result<Station<L>, OutOfMemory>
+    requires plan { IsPlanOf program.now.functions program.now.ops physical.now.tree }
+    requires share { MayStart program.now at physical.now.workers worker share }
+    requires batch { (1 ≤ batch) × (batch ≤ batch_limit) }
+    requires at { at < length program.now.ops }
+    ensures { IfOk result (λ s. (inputs : List Bag) → IsShareOf program.now inputs at physical.now.workers worker share → IsStarted (setting program.now inputs physical.now) batch at worker s) }
+{
+    let instance = Instance::start(alloc, program, physical, at, worker, batch, share)?;
+    let queues = empty_queues(alloc, physical.workers())?;
+    Ok(Station { instance, queues })
+}
+
 // The stations of a source or operator, with the rows that are its own.
 fn start_row<L: Local>(
     alloc: Global,
@@ -98,9 +120,7 @@ fn start_row<L: Local>(
     let mut worker = 0;
     let shares = deal(alloc, rows, workers)?;
     for share in shares {
-        let instance = Instance::start(alloc, program, physical, at, worker, batch, share)?;
-        let queues = empty_queues(alloc, workers)?;
-        held.push(Station { instance, queues })?;
+        held.push(start_station(alloc, program, physical, share, batch, at, worker)?)?;
         worker += 1;
     }
     Ok(Row { held })

@@ -1,33 +1,24 @@
 use Rattle.std.proofs.Common.{◌≡◌, ◌+◌, ◌∷◌, [], ap, arith, length, length-append, subst, sym, ℕ, List, ◌∙◌}
 use Rattle.std.proofs.lemmas.Iterator.Adapters.{YieldsList-from_vec}
 use Rattle.std.proofs.lemmas.Iterator.Consumers.{YieldsList-end, YieldsList-turn}
-use Rattle.pact_record.specs.declared.values.Value.{Value}
-use Rattle.pact_record.specs.Widths.{AreWide}
 use Rattle.plan_trees.specs.Sending.{share_from}
 use Rattle.flow_model.specs.Spots.{setting}
 use Rattle.flow_instance.specs.Starting.{IsShareOf}
-use Rattle.flow_core.specs.Starting.{AreBelow, IsStarted}
+use Rattle.flow_core.specs.Starting.{AreBelow, IsStarted, MayStart}
 use Rattle.flow_core.specs.Worlds.{StationData, no_station}
-use Rattle.flow_core.proofs.SharesOfRows.{each_last, own_share, share-each}
+use Rattle.flow_core.proofs.SharesOfRows.{each_last, own_may_start, own_share}
 use Rattle.flow_core.proofs.starting.start_row.Goals as goal
 
-pub start-requires-clause-widths : goal.start-requires-clause-widths
-start-requires-clause-widths g c =
+pub start_station-requires-clause-share : goal.start_station-requires-clause-share
+start_station-requires-clause-share g c =
     let gives = c.into_iter-share-iterator.ensures.into_iter_gives in
     let shares = c.in_ok-shares.shares in
     let t = YieldsList-turn (YieldsList-from_vec {s = c.into_iter-share-iterator.result} shares.items gives.0 (gives.1 ∙ shares.ok.0)) c.loop-share.yielded c.loop-share.share-iterator c.loop-share.yielded_by c.next.result c.next.new.self
     c.in-Some.share c.in-Some.is c.next.ensures.steps in
     let own = own_share c.workers-workers.result c.loop-share.worker c.args.rows c.in-Some.share shares.items c.loop-share.yielded c.in_ok-shares.ensures c.loop-share.invariant.0 t.0 t.1 in
-    λ _ _. subst (AreWide c.args.program.now.fields) (sym own.is) (share-each (λ (row : List Value). length row ≡ c.args.program.now.fields) 0 c.workers-workers.result c.loop-share.worker c.args.rows c.requires.wide)
-
-pub start-requires-clause-no_rows : goal.start-requires-clause-no_rows
-start-requires-clause-no_rows g c =
-    let gives = c.into_iter-share-iterator.ensures.into_iter_gives in
-    let shares = c.in_ok-shares.shares in
-    let t = YieldsList-turn (YieldsList-from_vec {s = c.into_iter-share-iterator.result} shares.items gives.0 (gives.1 ∙ shares.ok.0)) c.loop-share.yielded c.loop-share.share-iterator c.loop-share.yielded_by c.next.result c.next.new.self
-    c.in-Some.share c.in-Some.is c.next.ensures.steps in
-    let own = own_share c.workers-workers.result c.loop-share.worker c.args.rows c.in-Some.share shares.items c.loop-share.yielded c.in_ok-shares.ensures c.loop-share.invariant.0 t.0 t.1 in
-    λ _ _ other. own.is ∙ ap (share_from 0 c.workers-workers.result c.loop-share.worker) (c.requires.none other)
+    let p = c.args.program.now in
+    λ _ _. subst (λ (n : ℕ). MayStart p c.args.at n c.loop-share.worker c.in-Some.share) c.workers-workers.ensures.workers
+    (own_may_start p c.args.at c.workers-workers.result c.loop-share.worker c.args.rows c.in-Some.share own c.requires.wide c.requires.none)
 
 pub overflow_add-worker : goal.overflow_add-worker
 overflow_add-worker g c =
@@ -49,22 +40,16 @@ loop-share-preserved g c =
     let at = c.args.at in
     let k = c.loop-share.worker in
     let old = c.loop-share.held.items in
-    let station : StationData = record { instance = c.in_ok-instance.instance; queues = c.in_ok-queues.queues.items } in
     let workers = c.workers-workers.ensures.workers in
     let long : length old ≡ k = c.loop-share.invariant.1 in (
       omega (arith, c.loop-share.invariant.0, length-append c.loop-share.yielded (c.in-Some.share ∷ [])),
-      ap length c.in_ok-push.ensures.items ∙ length-append old (station ∷ []) ∙ ap (λ (n : ℕ). n + 1) long,
+      ap length c.in_ok-push.ensures.items ∙ length-append old (_ ∷ []) ∙ ap (λ (n : ℕ). n + 1) long,
       λ inputs owned.
           let s = setting p inputs c.args.physical.now in
           let share = subst (λ (n : ℕ). IsShareOf p inputs at n k c.in-Some.share) workers (λ source. own.is ∙ ap (share_from 0 c.workers-workers.result k) (owned source)) in
-          let started : IsStarted s c.args.batch at k station = record {
-            started = c.in_ok-instance.ensures.started inputs share;
-            batch = c.in_ok-instance.ensures.batch;
-            long = c.in_ok-queues.ensures.long ∙ workers;
-            empty = c.in_ok-queues.ensures.empty;
-          } in
+          let started = c.in_ok-start_station.ensures inputs share in
           subst (λ (l : List StationData). AreBelow s c.args.batch at (k + 1) l) (sym c.in_ok-push.ensures.items)
-          (each_last (λ n (x : StationData). IsStarted s c.args.batch at n x) old station no_station k long (c.loop-share.invariant.2 inputs owned) started),
+          (each_last (λ n (x : StationData). IsStarted s c.args.batch at n x) old _ no_station k long (c.loop-share.invariant.2 inputs owned) started),
     )
 
 pub returns : goal.returns
