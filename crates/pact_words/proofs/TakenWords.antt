@@ -8,7 +8,7 @@ use Rattle.pact_words.specs.declared.commands.Kind.{Kind}
 use Rattle.pact_words.specs.declared.commands.Kind.TheVariants.{Run, Plan, Cert, Check, Sets}
 use Rattle.pact_words.specs.Definitions.{app_for}
 use Rattle.pact_words.specs.FoundValues.{all_four, all_three, all_two, number_of}
-use Rattle.pact_words.specs.Words.{AreInRange, AreOptionsInRange, Asked, IsInRange, asked_of, options, to_certify, to_check, to_plan, to_run, to_tell_sets}
+use Rattle.pact_words.specs.Words.{AreInRange, Asked, IsInRange, asked_of, options, to_certify, to_check, to_plan, to_run, to_tell_sets}
 use Rattle.pact_words.proofs.FittingRows.{AllKnown}
 use Rattle.pact_words.proofs.GivenValues.{Holds, IsSure, held}
 use Rattle.pact_words.proofs.OneAsked.{not_both, one_of}
