@@ -1,5 +1,5 @@
 -- The calls of a pair operator, and the bags that a plan with one at its root allows.
-use Rattle.std.proofs.Common.{◌≡◌, ◌⊎◌, inl, inr, ℕ, List, [], refl, sym, subst}
+use Rattle.std.proofs.Common.{◌≡◌, inl, inr, ℕ, List, [], refl, sym, subst}
 use Rattle.std.specs.List.{AllByRecursion}
 use Rattle.pact_record.specs.Record.{joined_record, key_of}
 use Rattle.pact_record.proofs.Lists.{AllByRecursion-cond}
@@ -17,9 +17,8 @@ use Rattle.plan_trees.specs.Plans.{PlanTree, both}
 use Rattle.pact_operators.specs.declared.operators.Op.{Op}
 use Rattle.pact_operators.specs.Allowed.{Bag, Allows, GivesBoth, crossed, matched}
 use Rattle.pact_operators.specs.PlanOps.{PlanOps}
-use Rattle.pact_operators.specs.Programs.{Owns}
 use Rattle.pact_operators.specs.SoundOps.{AreOpsOf, called, function_kind}
-use Rattle.pact_operators.proofs.LawfulBags.{all_wide, cross_fits, match_fits}
+use Rattle.pact_operators.proofs.LawfulBags.{OverBoth, all_wide, cross_fits, match_fits}
 use Rattle.reorder_pair.proofs.FunctionForms.{PairForm, Row, matched_form, one_anchor}
 use Rattle.reorder_pair.proofs.PermittedExchanges.{AreSetsOf, IsPair, UsedFields}
 
@@ -73,27 +72,23 @@ IsLawful-pair : (fields : ℕ) (kind : OpKind) (c : Ports) (l r : Row) → IsPai
 IsLawful-pair fields kind c l r pair apart fl fr = record { apart = apart; called = is_input kind l r pair; some = tt; keyed = tt; left = (fl, tt); right = (fr, tt) }
 
 module _ (fields : ℕ) (v : List WithFields) (ops : List Op) (o : PlanOps) (good : AreOpsOf fields v ops o) where
-  -- the fields of the operator and of its inputs
-  abbrev Over : ℕ → (ℕ → Type 0) → (ℕ → Type 0) → ℕ → Type 0
-  Over n s t k = Owns v ops n k ⊎ s k ⊎ t k
-
-  called_fits : (n : ℕ) (s t : ℕ → Type 0) → IsPair (o.kind n) → (l r : Row) → IsWithin fields s l → IsWithin fields t r → AllByRecursion (IsWithin fields (Over n s t)) (o.of_pair n l r)
+  called_fits : (n : ℕ) (s t : ℕ → Type 0) → IsPair (o.kind n) → (l r : Row) → IsWithin fields s l → IsWithin fields t r → AllByRecursion (IsWithin fields (OverBoth v ops n s t)) (o.of_pair n l r)
   called_fits n s t (inl e) l r h j = match_fits fields v ops o good n s t e l r h j
   called_fits n s t (inr e) l r h j = cross_fits fields v ops o good n s t e l r h j
 
   pub pair_fits : (n : ℕ) (s t : ℕ → Type 0) → IsPair (o.kind n) → (l r : Row) → IsWithin fields s l → IsWithin fields t r
-      → AllByRecursion (IsWithin fields (λ k. Owns v ops n k ⊎ s k ⊎ t k)) (pair_of o (o.kind n) n l r)
+      → AllByRecursion (IsWithin fields (OverBoth v ops n s t)) (pair_of o (o.kind n) n l r)
   pair_fits n s t (inl e) l r h j =
-      subst (λ (k : OpKind). AllByRecursion (IsWithin fields (Over n s t)) (pair_of o k n l r)) (sym e)
-      (AllByRecursion-cond (IsWithin fields (Over n s t)) (is_same_key (key_of (o.left_keys n) l) (key_of (o.right_keys n) r)) (o.of_pair n l r) [] (called_fits n s t (inl e) l r h j) tt)
-  pair_fits n s t (inr e) l r h j = subst (λ (k : OpKind). AllByRecursion (IsWithin fields (Over n s t)) (pair_of o k n l r)) (sym e) (called_fits n s t (inr e) l r h j)
+      subst (λ (k : OpKind). AllByRecursion (IsWithin fields (OverBoth v ops n s t)) (pair_of o k n l r)) (sym e)
+      (AllByRecursion-cond (IsWithin fields (OverBoth v ops n s t)) (is_same_key (key_of (o.left_keys n) l) (key_of (o.right_keys n) r)) (o.of_pair n l r) [] (called_fits n s t (inl e) l r h j) tt)
+  pair_fits n s t (inr e) l r h j = subst (λ (k : OpKind). AllByRecursion (IsWithin fields (OverBoth v ops n s t)) (pair_of o k n l r)) (sym e) (called_fits n s t (inr e) l r h j)
 
   called_form : (n : ℕ) (c : Ports) (R W : FieldSet) → IsPair (o.kind n) → AreApart c.left c.right → HasForm (function_kind (o.kind n)) fields c R W on_left (called o n) → PairForm fields c.left c.right R W (o.of_pair n)
   called_form n c R W pair apart form = record {
     outputs = λ l m r s fl fm fr fs al ar.
         let q = form (of_pair l r) (of_pair m s) (IsLawful-pair fields (o.kind n) c l r pair apart fl fr) (IsLawful-pair fields (o.kind n) c m s pair apart fm fs) (record { left = (al, tt); right = (ar, tt) }) in
         one_anchor W (joined_record l r) (joined_record m s) q.0 (o.of_pair n l r) (o.of_pair n m s) q.1;
-    wide = λ l r fl fr. all_wide fields (Over n c.left c.right) (o.of_pair n l r) (called_fits n c.left c.right pair l r fl fr);
+    wide = λ l r fl fr. all_wide fields (OverBoth v ops n c.left c.right) (o.of_pair n l r) (called_fits n c.left c.right pair l r fl fr);
   }
 
   pub pair_form : (n : ℕ) (c : Ports) (s : UsedFields) → IsPair (o.kind n) → AreApart c.left c.right → AreSetsOf fields v ops o n c on_left s

@@ -2,7 +2,10 @@
 use Rattle.std.proofs.Common.{◌≡◌, ◌≢◌, ◌==◌, length, inl, inr, ℕ, true, false, Bool, List, [], ◌∷◌, refl, ap, sym, ◌∙◌}
 use Rattle.std.specs.Prelude.{Some, None}
 use Rattle.std.specs.List.{AllByRecursion, list_all}
-use Rattle.std.proofs.lemmas.Bool.{cases_Bool, eq-eqb, eqb-true, or_left, or_right, and_parts, and_from, true≢false}
+use Rattle.std.specs.Bool.{Decides}
+use Rattle.std.proofs.lemmas.Bool.{cases_Bool, eq-eqb, or_left, or_right, and_parts, and_from, true≢false}
+use Rattle.std.proofs.lemmas.Bool.Decides.{Decides-eqb}
+use Rattle.std.proofs.lemmas.Slice.Eq.{slice_eq-Decides}
 use Rattle.pact_record.specs.Keys.{is_listed}
 use Rattle.ship_strategy.specs.Ships.{Placement, is_within, is_exactly, same_keys}
 
@@ -23,32 +26,21 @@ pub listed_self : (keys : List ℕ) → AllByRecursion (λ k. is_listed keys k �
 listed_self [] = tt
 listed_self (k ∷ keys) = (or_left (k == k) (is_listed keys k) (eq-eqb k k refl), more_listed keys keys k (listed_self keys))
 
-same_lists : (a b : List ℕ) → same_keys a b ≡ true → a ≡ b
-same_lists [] [] e = refl
-same_lists [] (k ∷ ks) e = absurd (true≢false (sym e))
-same_lists (j ∷ js) [] e = absurd (true≢false (sym e))
-same_lists (j ∷ js) (k ∷ ks) e =
-    let p = and_parts (j == k) (same_keys js ks) e in
-    let head = eqb-true j k p.0 in
-    let tail = same_lists js ks p.1 in
-    λ i. head i ∷ tail i
+same_keys-Decides : (a b : List ℕ) → Decides (same_keys a b) (a ≡ b)
+same_keys-Decides a b = slice_eq-Decides Decides-eqb a b (same_keys a b) refl
 
 pub other_lists : (a b : List ℕ) (m n : ℕ) → m ≡ length a → n ≡ length b → m ≢ n → false ≡ same_keys a b
 other_lists a b m n p q h = elim (cases_Bool (same_keys a b)) as (λ _. false ≡ same_keys a b) [
-  | inl e ↦ absurd (h (p ∙ ap length (same_lists a b e) ∙ sym q))
+  | inl e ↦ absurd (h (p ∙ ap length ((same_keys-Decides a b).0 e) ∙ sym q))
   | inr e ↦ sym e
 ]
 
-same_self : (a : List ℕ) → same_keys a a ≡ true
-same_self [] = refl
-same_self (j ∷ js) = and_from (j == j) (same_keys js js) (eq-eqb j j refl) (same_self js)
-
 pub exactly : (keys : List ℕ) (edge : Placement) → is_exactly keys edge ≡ true → edge ≡ Some keys
 exactly keys None e = absurd (true≢false (sym e))
-exactly keys (Some fields) e = ap (λ (x : List ℕ). Some x) (same_lists fields keys e)
+exactly keys (Some fields) e = ap (λ (x : List ℕ). Some x) ((same_keys-Decides fields keys).0 e)
 
 pub exactly_self : (keys : List ℕ) (edge : Placement) → edge ≡ Some keys → is_exactly keys edge ≡ true
-exactly_self keys edge e = ap (is_exactly keys) e ∙ same_self keys
+exactly_self keys edge e = ap (is_exactly keys) e ∙ (same_keys-Decides keys keys).1 refl
 
 pub within : (keys : List ℕ) (edge : Placement) → is_within keys edge ≡ true → (fields : List ℕ) × (edge ≡ Some fields) × AllByRecursion (λ k. is_listed keys k ≡ true) fields
 within keys None e = absurd (true≢false (sym e))

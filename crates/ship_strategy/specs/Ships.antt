@@ -1,5 +1,6 @@
 -- Where records lie, and which ships are legal.
-use Rattle.std.specs.Prelude.{◌≡◌, ◌⊎◌, ◌||◌, ◌&&◌, ◌==◌, not, ℕ, Bool, true, false, cond, Option, Some, None, List, [], ◌∷◌}
+use Rattle.std.specs.Prelude.{◌≡◌, ◌⊎◌, ◌||◌, ◌&&◌, ◌==◌, not, ℕ, Bool, true, false, cond, Option, Some, None, List}
+use Rattle.std.specs.Cmp.Lexicographic.{pointwise}
 use Rattle.std.specs.List.{AllByRecursion, list_any, list_all}
 use Rattle.pact_record.specs.Keys.{is_listed}
 use Rattle.tac_syntax.specs.Contexts.{FieldSet}
@@ -139,9 +140,7 @@ is_within keys (Some fields) = list_all (is_listed keys) fields
 
 -- two lists of keys are the same
 abbrev pub same_keys : List ℕ → List ℕ → Bool
-same_keys [] [] = true
-same_keys (j ∷ js) (k ∷ ks) = (j == k) && same_keys js ks
-same_keys js ks = false
+same_keys = pointwise ◌==◌
 
 -- the edge's placement is exactly the keys
 abbrev pub is_exactly : List ℕ → Placement → Bool
