@@ -1,5 +1,5 @@
 -- What a feed and a sink do.
-use Rattle.std.specs.Prelude.{◌≡◌, ◌≤◌, ◌<◌, ◌⊎◌, ◌-◌, ◌^◌, ℕ, Bool, true, false, List, [], ◌∷◌, ◌++◌, length, take, drop, Option, Some, None, Result, OnOk, OnErr, IfOk, IfSome, cond, eqb, option_map, ◌&&◌}
+use Rattle.std.specs.Prelude.{◌≡◌, ◌≤◌, ◌<◌, ◌⊎◌, ◌-◌, ◌^◌, ℕ, Bool, true, false, List, [], ◌∷◌, ◌++◌, length, take, drop, Option, Some, None, Result, OnOk, OnErr, IfOk, IfSome, bytes_eq, cond, option_map}
 use Rattle.pact_outside.specs.declared.files.NamedFile.{NamedFile}
 
 -- a count has risen where it is greater, or stands at its last value, at which it stands still
@@ -11,15 +11,10 @@ pub record HasCause {T E : Type 0} (before now : ℕ) (result : Result T E) : Ty
   pub later : before ≤ now
   pub failed : OnErr result (Rose before now)
 
-abbrev pub same_bytes : List ℕ → List ℕ → Bool
-same_bytes [] [] = true
-same_bytes (a ∷ as1) (b ∷ bs) = eqb a b && same_bytes as1 bs
-same_bytes one other = false
-
 -- the bytes of the first file of that name
 abbrev pub file_named : List NamedFile → List ℕ → Option (List ℕ)
 file_named [] name = None
-file_named (f ∷ fs) name = cond (same_bytes f.name name) (Some f.bytes) (file_named fs name)
+file_named (f ∷ fs) name = cond (bytes_eq f.name name) (Some f.bytes) (file_named fs name)
 
 -- ---- feeds
 
