@@ -14,12 +14,11 @@ use Rattle.tac_text.proofs.WrittenFunctions.{function_written, last_line}
 use Rattle.text_lines.specs.CanonicalLines.{canonical_line, line_spelling}
 use Rattle.text_lines.specs.declared.line_words.LineWord.{LineWord}
 use Rattle.text_lines.specs.TextLines.{Say, lines_of}
-use Rattle.text_lines.proofs.WrittenTexts.{IsWritten, IsWritten-append, Say-written, line_written, nothing_written}
+use Rattle.text_lines.proofs.CanonicalLines.{IsWritten, IsWritten-append, Say-written, line_written, nothing_written}
 use Rattle.program_text.specs.DeclarationWords.{words_of_decl}
 use Rattle.program_text.specs.FirstLines.{IsFieldCount, field_count_words, version_words}
 use Rattle.program_text.specs.ProgramTexts.{IsWritableDraft, ProgramText, SpellsDecls, decl_spelling, function_text, program_spelling, CanWrite}
-use Rattle.program_text.proofs.DeclarationLaws.{AreFine-words_of_decl, words_of_decl-some}
-use Rattle.program_text.proofs.FirstLineLaws.{AreFine-field_count_words, AreFine-version_words, field_count_words-some, version_words-some}
+use Rattle.program_text.proofs.ProgramLines.{AreFine-words_of_decl, words_of_decl-some, AreFine-field_count_words, AreFine-version_words, field_count_words-some, version_words-some}
 
 -- ---- what is declared can be written
 

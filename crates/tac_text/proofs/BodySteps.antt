@@ -1,18 +1,17 @@
 -- The lines of a body, one after the other: a body's own lines may follow each other and make it, and lines that may follow each other are
 -- those of what they make.
-use Rattle.std.proofs.Common.{◌≡◌, ◌≤◌, Bool, true, Some, List, refl, ap, ◌<◌, ◌+◌, inl, inr, ℕ, suc, Option, [], ◌∷◌, ◌++◌, length, sym, subst, ◌∙◌, append_assoc, append-nil, arith}
+use Rattle.std.proofs.Common.{◌≡◌, ◌≤◌, Bool, true, Some, List, refl, ap, ◌<◌, ◌+◌, inl, inr, ℕ, Option, [], ◌∷◌, ◌++◌, length, sym, subst, ◌∙◌, append_assoc, append-nil, arith}
 use Rattle.std.proofs.lemmas.Bool.{le-leb}
 use Rattle.tac_syntax.specs.Code.{Code, stop, plain, branch, again, each, joined, nesting, Simple, Line, simple, test, turns, over, otherwise, close}
 use Rattle.tac_syntax.specs.Limits.{nesting_limit}
 use Rattle.tac_text.specs.declared.building.Block.{Block}
-use Rattle.tac_text.specs.Building.{Build, with_statement, build_start, built, IsBuilt}
+use Rattle.tac_text.specs.Places.{Build, with_statement, build_start, built, IsBuilt, lists_in, MayInside, built_or, built_on, opening, before_block, FitsBody, FitsFirst, FitsBuild, BeginsBlock, Front}
 use Rattle.tac_syntax.specs.Grammar.{IsSpelled, IsSpelledLine}
 use Rattle.tac_syntax.proofs.Bodies.{nesting-joined}
 use Rattle.text_lines.specs.Runs.{Steps}
 use Rattle.text_lines.proofs.LineRuns.{Steps-append}
 use Rattle.tac_text.specs.declared.building.Block.TheVariants.{If, Else, Repeat, Each}
 use Rattle.tac_text.specs.FunctionLines.{SpellsBody}
-use Rattle.tac_text.specs.Places.{lists_in, MayInside, built_or, built_on, opening, before_block, FitsBody, FitsFirst, FitsBuild, BeginsBlock, Front}
 
 -- ---- a body that grows by one statement
 
@@ -142,9 +141,6 @@ IsSpelled-joined lists (each name list body a) b p q = (p.0, p.1, IsSpelled-join
 FitsBody-joined : (blocks lists : ℕ) (a b : Code) → FitsBody blocks lists a → FitsBody blocks lists b → FitsBody blocks lists (joined a b)
 FitsBody-joined blocks lists a b p q = (IsSpelled-joined lists a b p.0 q.0, omega (arith, p.1, q.1, nesting-joined a b))
 
-FitsBody-deeper : (blocks lists : ℕ) (body : Code) → FitsBody (suc blocks) lists body → FitsBody (blocks + 1) lists body
-FitsBody-deeper blocks lists body h = (h.0, omega (arith, h.1))
-
 -- a line behind those that were read
 behind : (outer inside lines more : List Line) → lines ≡ outer ++ inside → lines ++ more ≡ outer ++ (inside ++ more)
 behind outer inside lines more e = rw e (append_assoc outer inside more)
@@ -229,7 +225,7 @@ part_on : (blocks : List Block) (body : Code) → FitsBuild (build blocks body) 
 part_on (If on before ∷ around) body fits may = record {
   next = build (Else on body before ∷ around) stop;
   taken = refl;
-  fits = ((fits.0.0, fits.0.1, fits.0.2, fits.0.3, FitsBody-deeper (length around) (lists_in around) body fits.1), (tt, omega (arith, fits.0.1)));
+  fits = ((fits.0.0, fits.0.1, fits.0.2, fits.0.3, (fits.1.0, omega (arith, fits.1.1))), (tt, omega (arith, fits.0.1)));
   front = λ lines f. part_front on before body around lines f;
 }
 part_on blocks body fits may = absurd (let e = may.0 in cc)

@@ -2,7 +2,7 @@ use Rattle.std.proofs.Common.{◌≡◌, Ok, Some, ap, subst}
 use Rattle.text_lines.specs.declared.faults.NotRead.{NotRead}
 use Rattle.text_lines.specs.LineReading.{IsFaultOf}
 use Rattle.program_text.specs.FirstLines.{fields_fault}
-use Rattle.program_text.proofs.FirstLineLaws.{no_count_fault, same_count}
+use Rattle.program_text.proofs.ProgramLines.{no_count_fault, same_count}
 use Rattle.program_text.proofs.first_lines.read_field_count.Goals as goal
 
 pub returns-in-Ok-clause-count_always : goal.returns-in-Ok-clause-count_always
