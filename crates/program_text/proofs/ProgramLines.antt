@@ -358,8 +358,5 @@ field_count_declared (word ∷ words) some good h = by_cases (is_plain (codes "f
 
 -- ---- what the second line's reader answers
 
-pub same_count : (found count : ℕ) (words : List LineWord) → IsFieldCount found → words ≡ field_count_words found → IsFieldCount count → words ≡ field_count_words count → found ≡ count
-same_count found count words h e k f = field_count_words-unique found count h k (sym e ∙ f)
-
 pub no_count_fault : (count what : ℕ) (words : List LineWord) → IsFieldCount count → words ≡ field_count_words count → fields_fault words ≡ Some what → ⊥
 no_count_fault count what words h e told = let none = ap fields_fault e ∙ field_count_faultless count h in cc

@@ -18,8 +18,8 @@ use Rattle.tac_syntax.specs.Grammar.{IsSpelledRecord, IsSpelledLine, IsNumber, I
 use Rattle.text_lines.specs.declared.line_words.LineWord.{LineWord}
 use Rattle.text_lines.specs.declared.line_words.LineWord.TheVariants.{Plain as plain_word, Literal as literal_word}
 use Rattle.text_lines.specs.OperandWords.{fixed_record, list_word, named_in, record_word, value_register, record_register}
-use Rattle.text_lines.proofs.DigitWords.{number_back, number_in, number_in-decimal, are_digits-decimal, is_signed_word-signed_decimal}
-use Rattle.text_lines.proofs.FilledSlots.{bytes_eq-decimal, digit_other, register_fault-letter, number_fits, turns_fit, operand_fault-record_word, is_list_word-list_word, name_fault-loop_name, fine_slot}
+use Rattle.text_lines.proofs.DigitWords.{number_back, number_in, number_in-decimal, are_digits-decimal, is_in_range-decimal, is_signed_word-signed_decimal}
+use Rattle.text_lines.proofs.FilledSlots.{bytes_eq-decimal, digit_other, register_fault-letter, number_fits, operand_fault-record_word, is_list_word-list_word, name_fault-loop_name, fine_slot}
 use Rattle.statement_lines.specs.Spelling.{op1_word, op2_word, words_of_line}
 use Rattle.std.proofs.lemmas.Bool.{lt-ltb}
 use Rattle.tac_syntax.specs.Limits.{nesting_limit}
@@ -222,7 +222,7 @@ statement_fault-words_of_line p (simple (copy_record to from)) h = rw (other_wor
 statement_fault-words_of_line p (simple (set_field to field value)) h = rw (record_target to h.0, number_fits field h.1, value_target value h.2) refl
 statement_fault-words_of_line p (simple (emit_record from)) h = rw (record_target from h) refl
 statement_fault-words_of_line p (test on) h = rw (lt-ltb p.blocks nesting_limit h.0, value_target on h.1) refl
-statement_fault-words_of_line p (turns count) h = rw (lt-ltb p.blocks nesting_limit h.0, turns_fit count h.1) refl
+statement_fault-words_of_line p (turns count) h = rw (lt-ltb p.blocks nesting_limit h.0, is_in_range-decimal 1 1000 count h.1.0 h.1.1 (omega (arith, h.1.1))) refl
 statement_fault-words_of_line p (over name items) h = rw (lt-ltb p.blocks nesting_limit h.0, each_name (p.lists + 1) name h.1.0 h.1.1, is_list_word-list_word items) refl
 statement_fault-words_of_line p otherwise h = rw h refl
 statement_fault-words_of_line p close h = refl

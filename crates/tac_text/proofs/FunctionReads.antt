@@ -17,7 +17,7 @@ use Rattle.tac_text.specs.FunctionStates.{OpenData, begun, function_of, with_bui
 use Rattle.tac_text.specs.FunctionFaults.{ended_fault, function_fault, function_missing}
 use Rattle.statement_lines.specs.StatementLines.{MayStand}
 use Rattle.statement_lines.specs.Spelling.{words_of_line}
-use Rattle.tac_text.proofs.BodySteps.{body_steps, front_start, fits_start, front_step, front_whole, closable, build}
+use Rattle.tac_text.proofs.BodySteps.{body_steps, front_step, front_whole, ends, build}
 use Rattle.statement_lines.proofs.FaultlessWords.{line_of_words}
 use Rattle.tac_text.proofs.HeaderWords.{header_fault-header_words, header_of_words, one_header, AreFine-header_words}
 use Rattle.statement_lines.proofs.StatementWords.{IsSpelledLine-MayStand, statement_fault-words_of_line, words_of_line-some, words_of_one_line, AreFine-words_of_line}
@@ -138,7 +138,7 @@ led_inside o l ls (lines, e, head, front, fits) may =
 
 led_whole : (o : OpenData) (ls : List FunctionLine) → LedBy (reading o) ls → o.build.blocks ≡ [] → LedBy (whole (function_of o)) (ls ++ inside close ∷ [])
 led_whole o ls (lines, e, head, front, fits) none =
-    let body = front_whole o.build lines none front fits in
+    let body = front_whole o.build.blocks o.build.body lines none front fits in
     (lines, ap (λ (x : List FunctionLine). x ++ inside close ∷ []) e, body.0, (record { name = head.0; keys = head.1; body = body.1 }, body.2))
 
 led_on : (l : Line) (blocks : List Block) (o : OpenData) (ls : List FunctionLine) → o.build.blocks ≡ blocks → LedBy (reading o) ls → MayStand (place_of o.build) l → LedBy (after_inside l blocks o) (ls ++ inside l ∷ [])
@@ -146,7 +146,7 @@ led_on close [] o ls e led may = led_whole o ls led e
 led_on l blocks o ls e led may = led_inside o l ls led (may, subst (IsInside l) (sym e) tt)
 
 pub led_step : (s : FunctionState) (l : FunctionLine) (ls : List FunctionLine) → LedBy s ls → MayFollow s l → LedBy (after s l) (ls ++ l ∷ [])
-led_step waiting (header name kind keys) ls led may = ([], ap (λ (x : List FunctionLine). x ++ header name kind keys ∷ []) led, may, front_start, fits_start)
+led_step waiting (header name kind keys) ls led may = ([], ap (λ (x : List FunctionLine). x ++ header name kind keys ∷ []) led, may, ([], [], refl, refl, refl), (tt, (tt, omega arith)))
 led_step (reading o) (inside l) ls led may = led_on l o.build.blocks o ls refl led may
 led_step s l ls led may = absurd may
 
@@ -169,7 +169,7 @@ shortest = ((refl, refl), (tt, refl))
 pub finished : (s : FunctionState) (ls : List FunctionLine) → LedBy s ls → (more : List FunctionLine) × (f : Function) × StepsTo s more (whole f)
 finished waiting ls led = (header (97 ∷ []) Map 0 ∷ inside close ∷ [], function_of (begun (97 ∷ []) Map 0), shortest)
 finished (reading o) ls (lines, e, head, front, fits) =
-    let rest = closable o.build lines front fits in
+    let rest = ends o.build.blocks o.build.body fits in
     (map inside rest.0 ++ inside close ∷ [], function_of (with_build o (build [] rest.1)), ended_steps o rest.0 rest.1 rest.2)
 finished (whole f) ls led = ([], f, refl)
 

@@ -86,9 +86,6 @@ header_of_words (literal_word bytes ∷ words) some good h = absurd cc
 keys_value : (k m : ℕ) → k ≤ key_limit → m ≤ key_limit → decimal k ≡ decimal m → k ≡ m
 keys_value k m h l e = sym (number_in-decimal k (omega (arith, h))) ∙ ap number_in e ∙ number_in-decimal m (omega (arith, l))
 
-one_kind : (a b : Kind) → kind_word a ≡ kind_word b → a ≡ b
-one_kind a b e = let same : Some a ≡ Some b = sym (kind_named-kind_word a) ∙ ap kind_named e ∙ kind_named-kind_word b in cc
-
 one_keys : (kind : Kind) (k m : ℕ) → HasKeys kind k → HasKeys kind m → key_words kind k ≡ key_words kind m → k ≡ m
 one_keys Reduce k m h l e = keys_value k m h.1 l.1 (let same : decimal k ≡ decimal m = cc in same)
 one_keys CoGroup k m h l e = keys_value k m h.1 l.1 (let same : decimal k ≡ decimal m = cc in same)
@@ -99,7 +96,8 @@ pub one_header : (a b : List ℕ) (j k : Kind) (m n : ℕ) → IsHeader a j m �
 one_header a b j k m n h l e =
     let name : a ≡ b = cc in
     let word : kind_word j ≡ kind_word k = cc in
-    let kind = one_kind j k word in
+    let named : Some j ≡ Some k = sym (kind_named-kind_word j) ∙ ap kind_named word ∙ kind_named-kind_word k in
+    let kind : j ≡ k = cc in
     let rest : key_words j m ≡ key_words k n = cc in
     let keys = one_keys k m n (subst (λ (x : Kind). HasKeys x m) kind h.1) l.1 (subst (λ (x : Kind). key_words x m ≡ key_words k n) kind rest) in
     λ i. header (name i) (kind i) (keys i)

@@ -10,7 +10,7 @@ use Rattle.tac_syntax.specs.declared.statements.Rec.{Rec}
 use Rattle.tac_syntax.specs.declared.statements.Rec.TheVariants.{Reg, Loop, Input, Left, Right, Join, First}
 use Rattle.tac_syntax.specs.declared.statements.LoopList.{LoopList}
 use Rattle.tac_syntax.specs.declared.statements.LoopList.TheVariants.{Group, Left as LeftGroup, Right as RightGroup}
-use Rattle.tac_syntax.specs.Grammar.{IsNumber, IsLoopName, IsTurnCount, IsSpelledRecord, IsLiteral}
+use Rattle.tac_syntax.specs.Grammar.{IsNumber, IsLoopName, IsSpelledRecord, IsLiteral}
 use Rattle.pact_record.specs.declared.columns.Column.{Column}
 use Rattle.text_lines.specs.OperandWords.{column_text, record_word, list_word}
 use Rattle.text_lines.specs.Slots.{begins_with, column_fault, numbered_fault, register_fault, is_fixed_record, operand_fault, name_fault, is_list_word, Slot, fixed, register, operand, number, signed, text, loop, list, identifier, file_name, column, slot_fault, nothing_left, fault_then, first_fault}
@@ -47,9 +47,6 @@ number_fits n h = is_in_range-decimal 0 255 n (omega arith) h (omega (arith, h))
 pub register_fault-letter : (letter n : ℕ) → (letter == letter) ≡ true → IsNumber n → register_fault letter (letter ∷ decimal n) ≡ None
 register_fault-letter letter n same h =
     rw (number_fits n h, same, are_digits-decimal n (omega (arith, h))) refl
-
-pub turns_fit : (n : ℕ) → IsTurnCount n → is_in_range 1 1000 (decimal n) ≡ true
-turns_fit n h = is_in_range-decimal 1 1000 n h.0 h.1 (omega (arith, h.1))
 
 pub operand_fault-record_word : (from : Rec) → IsSpelledRecord from → operand_fault (record_word from) ≡ None
 operand_fault-record_word (Reg k) h =

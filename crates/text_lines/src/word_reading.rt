@@ -84,6 +84,7 @@ fn literal_byte(line: &[u8]) -> Option<(u8, &[u8])>
     }
 }
 
+// The next byte of a word, and what follows it.
 fn next_byte(is_literal: bool, line: &[u8]) -> Option<(u8, &[u8])>
     ensures some { IfSome result (λ r. IsByte is_literal line.now r.0 r.1.now) }
     ensures none { IfNone result (byte_at is_literal line.now ≡ None) }
@@ -148,6 +149,7 @@ fn scan(alloc: Global, line: &[u8]) -> Result<Option<LineWords>, OutOfMemory>
     let mut rest = line;
     loop {
         let next = behind_gap(rest);
+        // behind blanks that is the line's end or a comment
         if is_word_end(next) {
             return Ok(Some(words));
         }
