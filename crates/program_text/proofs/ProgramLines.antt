@@ -314,12 +314,6 @@ decl_of_words (literal_word bytes ∷ words) some line h = absurd cc
 
 -- ---- the version
 
-pub AreFine-version_words : AreFine version_words
-AreFine-version_words = (refl, (refl, tt))
-
-pub version_words-some : version_words ≢ []
-version_words-some = λ e. absurd cc
-
 one_left : (words : List LineWord) → one_fault words ≡ None → words ≡ plain_word (codes "1") ∷ []
 one_left [] h = absurd cc
 one_left (word ∷ []) h = let e = is_plain-same (codes "1") word (told_unless-none _ _ h) in λ i. e i ∷ []
@@ -334,9 +328,6 @@ version_declared (word ∷ words) some h = by_cases (is_plain (codes "pact") wor
 
 pub AreFine-field_count_words : (count : ℕ) → IsFieldCount count → AreFine (field_count_words count)
 AreFine-field_count_words count h = (refl, (fine_decimal count (omega (arith, h.1)), tt))
-
-pub field_count_words-some : (count : ℕ) → IsFieldCount count → field_count_words count ≢ []
-field_count_words-some count h = λ e. absurd cc
 
 number_in-field_count_words : (count : ℕ) → IsFieldCount count → number_in (plain_at (field_count_words count) 1) ≡ count
 number_in-field_count_words count h = number_back count (omega (arith, h.1))

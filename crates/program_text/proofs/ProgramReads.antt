@@ -30,7 +30,7 @@ use Rattle.text_lines.specs.FirstFaults.{IsStart}
 use Rattle.text_lines.specs.declared.line_words.LineWord.TheVariants.{Plain as plain_word, Literal as literal_word}
 use Rattle.program_text.specs.DeclarationFaults.{declaration_fault}
 use Rattle.text_lines.proofs.CanonicalLines.{AreLineWords-fine}
-use Rattle.program_text.proofs.ProgramLines.{AreFine-words_of_decl, OtherFirst, decl_first, faultless, words_of_decl-some, words_of_decl-unique, decl_of_words, AreFine-field_count_words, AreFine-version_words, field_count_declared, field_count_faultless, field_count_words-some, field_count_words-unique, version_declared, version_words-some}
+use Rattle.program_text.proofs.ProgramLines.{AreFine-words_of_decl, OtherFirst, decl_first, faultless, words_of_decl-some, words_of_decl-unique, decl_of_words, AreFine-field_count_words, field_count_declared, field_count_faultless, field_count_words-unique, version_declared}
 
 abbrev pub Leads : ProgramState → List ProgramLine → ProgramState → Type 0
 Leads s lines t = Steps MaySay said_on s lines t
@@ -236,8 +236,8 @@ not_both d (inside l) h k e = k
 -- ---- what may be said has words of its own
 
 some_said : (s : ProgramState) (l : ProgramLine) → MaySay s l → words_of_program_line l ≢ []
-some_said nothing_read version h = version_words-some
-some_said version_read (field_count count) h = field_count_words-some count h
+some_said nothing_read version h = λ e. absurd cc
+some_said version_read (field_count count) h = λ e. absurd cc
 some_said (drafted d) (declares decl) h = words_of_decl-some decl h
 some_said (drafted d) (of_function l) h = function_sayings.some waiting l h
 some_said (open_function d o) (of_function l) h = function_sayings.some (reading o) l h
@@ -302,7 +302,7 @@ program_faults = record { none = fault_none; sound = fault_sound; complete = fau
 -- ---- what may be said can be written
 
 said_words : (s : ProgramState) (l : ProgramLine) → MaySay s l → AreLineWords (words_of_program_line l)
-said_words nothing_read version h = AreLineWords-fine version_words AreFine-version_words
+said_words nothing_read version h = AreLineWords-fine version_words (refl, (refl, tt))
 said_words version_read (field_count count) h = AreLineWords-fine (field_count_words count) (AreFine-field_count_words count h)
 said_words (drafted d) (declares decl) h = AreLineWords-fine (words_of_decl decl) (AreFine-words_of_decl decl h)
 said_words (drafted d) (of_function l) h = follow_words waiting l h
