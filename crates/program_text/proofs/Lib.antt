@@ -1,7 +1,4 @@
-pub mod DeclaredWords
-pub mod DeclarationLaws
-pub mod FirstLineLaws
-pub mod ProgramRuns
+pub mod ProgramLines
 pub mod ProgramReads
 pub mod WrittenPrograms
 pub mod ReadLoop

@@ -4,9 +4,9 @@ use Rattle.tac_syntax.specs.Code.{close}
 use Rattle.tac_syntax.specs.Drafts.{DraftData}
 use Rattle.text_lines.specs.declared.faults.NotRead.{NotRead}
 use Rattle.text_lines.specs.declared.line_words.LineWord.{LineWord}
-use Rattle.tac_text.specs.FunctionAnswers.{OpenData, TakesWords, function_of}
+use Rattle.tac_text.specs.FunctionStates.{OpenData, TakesWords, function_of}
 use Rattle.tac_text.specs.FunctionLines.{inside}
-use Rattle.tac_text.proofs.FunctionRuns.{LeadsOn-TakesWords, at_own_end}
+use Rattle.tac_text.proofs.FunctionReads.{LeadsOn-TakesWords, at_own_end}
 use Rattle.program_text.specs.declared.program_reading.State.{State}
 use Rattle.program_text.specs.ProgramStates.{LeadsOn, state_of, EndsWith, GivesDraft, TellsFirstFault, of_function, in_program, drafted, open_function, with_function, MaySay, ProgramState, RunsTo, nothing_read, program_place, said_on, words_of_program_line}
 use Rattle.text_lines.specs.declared.lines.TextFault.{TextFault}
@@ -81,20 +81,15 @@ whole_run : (text rest : List ℕ) (lines : ℕ) (s : ProgramState) → Reached 
 whole_run text rest lines s h none =
     subst (λ (x : List (List ℕ)). RunsTo nothing_read x s) (sym (h.all ∙ ap (λ (x : List ℕ). h.front ++ lines_of x) none ∙ append-nil h.front)) h.run
 
-drafted_is : (d e : DraftData) → drafted d ≡ drafted e → d ≡ e
-drafted_is d e h = cc
-
 pub same_draft : (d e : DraftData) (text : List (List ℕ)) → ProgramText d text → ProgramText e text → d ≡ e
 same_draft d e text t u =
-    drafted_is d e (Runs-unique words_of_program_line MaySay said_on program_sayings nothing_read (drafted d) (drafted e) text (RunsTo-ProgramText d text t) (RunsTo-ProgramText e text u))
+    let same : drafted d ≡ drafted e = Runs-unique words_of_program_line MaySay said_on program_sayings nothing_read (drafted d) (drafted e) text (RunsTo-ProgramText d text t) (RunsTo-ProgramText e text u) in
+    cc
 
 not_missing : (s : ProgramState) (what : ℕ) (d : DraftData) → s ≡ drafted d → program_missing (program_place s) ≡ Some what → ⊥
 not_missing s what d e m =
-    let none : program_missing (program_place (drafted d)) ≡ Some what = subst (λ (x : ProgramState). program_missing (program_place x) ≡ Some what) e m in
-    clash what none
-  where
-    clash : (what : ℕ) → None ≡ Some what → ⊥
-    clash what p = cc
+    let none : None ≡ Some what = subst (λ (x : ProgramState). program_missing (program_place x) ≡ Some what) e m in
+    cc
 
 ends_early : (text rest : List ℕ) (lines number what : ℕ) (s : ProgramState) → Reached text rest lines s → rest ≡ [] → program_missing (program_place s) ≡ Some what → number ≡ max 1 lines
     → IsFirstFault IsProgramText program_fault program_missing (lines_of text) number what

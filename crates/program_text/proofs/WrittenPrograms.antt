@@ -14,12 +14,11 @@ use Rattle.tac_text.proofs.WrittenFunctions.{function_written, last_line}
 use Rattle.text_lines.specs.CanonicalLines.{canonical_line, line_spelling}
 use Rattle.text_lines.specs.declared.line_words.LineWord.{LineWord}
 use Rattle.text_lines.specs.TextLines.{Say, lines_of}
-use Rattle.text_lines.proofs.WrittenTexts.{IsWritten, IsWritten-append, Say-written, line_written, nothing_written}
+use Rattle.text_lines.proofs.CanonicalLines.{IsWritten, IsWritten-append, Say-written, line_written, nothing_written}
 use Rattle.program_text.specs.DeclarationWords.{words_of_decl}
 use Rattle.program_text.specs.FirstLines.{IsFieldCount, field_count_words, version_words}
 use Rattle.program_text.specs.ProgramTexts.{IsWritableDraft, ProgramText, SpellsDecls, decl_spelling, function_text, program_spelling, CanWrite}
-use Rattle.program_text.proofs.DeclarationLaws.{AreFine-words_of_decl, words_of_decl-some}
-use Rattle.program_text.proofs.FirstLineLaws.{AreFine-field_count_words, AreFine-version_words, field_count_words-some, version_words-some}
+use Rattle.program_text.proofs.ProgramLines.{AreFine-words_of_decl, words_of_decl-some, AreFine-field_count_words}
 
 -- ---- what is declared can be written
 
@@ -92,9 +91,9 @@ written_text d text w e =
     let decls = decls_written d.functions d.functions 0 d.decls refl w.spelled.functions w.spelled.declared can in
     let rest = flat_map (decl_spelling d.functions) d.decls in
     let count : IsFieldCount d.fields = (w.spelled.some_field, w.spelled.few_fields) in
-    let second = line_written 0 (field_count_words d.fields) (AreFine-field_count_words d.fields count) (field_count_words-some d.fields count) in
+    let second = line_written 0 (field_count_words d.fields) (AreFine-field_count_words d.fields count) (λ e. absurd cc) in
     let behind = IsWritten-append (line_spelling 0 (field_count_words d.fields)) rest _ decls.lines _ decls.said second decls.so in
-    let first = line_written 0 version_words AreFine-version_words version_words-some in
+    let first = line_written 0 version_words (refl, (refl, tt)) (λ e. absurd cc) in
     let all = IsWritten-append (line_spelling 0 version_words) (line_spelling 0 (field_count_words d.fields) ++ rest) _ _ _ _ first behind in
     record {
       said = version_words ∷ field_count_words d.fields ∷ decls.said;

@@ -6,15 +6,12 @@
 //! line as it is read. Whether what is declared fits together isn't looked at here.
 #![tactic(auto)]
 
-mod declaration_parts;
 mod declaration_reading;
-mod declaration_writing;
 mod first_lines;
 mod program_reading;
 mod program_writing;
 
 pub use declaration_reading::read_declaration;
-pub use declaration_writing::write_declaration;
 pub use first_lines::{read_field_count, read_version};
 pub use program_reading::read_program;
-pub use program_writing::write_program;
+pub use program_writing::{write_declaration, write_program};

@@ -6,7 +6,7 @@ ghost use Rattle.text_lines.specs.LineReading.{IsFaultOf};
 ghost use Rattle.program_text.specs.ProgramStates.{EndsWith, GivesDraft, LeadsOn, TellsFirstFault, begins_function, state_of, drafted, nothing_read, open_function, program_place, RunsTo, version_read, with_function};
 ghost use Rattle.program_text.specs.ProgramTexts.{ProgramText, program_fault};
 ghost use Rattle.text_lines.specs.declared.faults.NotRead.TheVariants.{Memory};
-ghost use Rattle.tac_text.specs.FunctionAnswers.{function_of};
+ghost use Rattle.tac_text.specs.FunctionStates.{function_of};
 ghost use Rattle.text_lines.specs.FirstFaults.{IsLineFault};
 ghost use Rattle.text_lines.specs.TextLines.{lines_of};
 ghost use Rattle.text_lines.specs.CanonicalLines.{AreLineWords};

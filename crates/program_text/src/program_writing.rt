@@ -1,19 +1,128 @@
-//! Programs, written as text.
+//! The canonical lines of declarations, and programs, written as text.
 
-ghost use Rattle.std.specs.Prelude.{◌≡◌, ◌≤◌, ◌++◌, IfOk};
+ghost use Rattle.std.specs.Prelude.{◌≡◌, ◌++◌, ◌∷◌, [], IfOk, codes, map, ◌≤◌};
+ghost use Rattle.tac_syntax.specs.Declarations.{IsSpelledDecl};
+ghost use Rattle.text_lines.specs.CanonicalLines.{canonical_line, word_text, line_spelling};
+ghost use Rattle.text_lines.specs.declared.line_words.LineWord.TheVariants.{Plain as plain_word};
+ghost use Rattle.program_text.specs.DeclarationWords.{column_word, key_pair_words, number_words, words_of_decl, behind_left};
 ghost use Rattle.std.specs.List.{AllByRecursion};
 ghost use Rattle.program_text.specs.ProgramTexts.{ProgramText, decl_spelling, program_spelling, CanWrite};
 ghost use Rattle.program_text.specs.FirstLines.{field_count_words, version_words};
 ghost use Rattle.tac_syntax.specs.Code.{nesting};
 ghost use Rattle.tac_syntax.specs.Limits.{nesting_limit};
-ghost use Rattle.text_lines.specs.CanonicalLines.{line_spelling};
 ghost use Rattle.text_lines.specs.TextLines.{lines_of};
 
-use crate::declaration_writing::write_declaration;
-use pact_record::{Bytes, OutOfMemory};
+use pact_record::{Bytes, Columns, OutOfMemory, Word};
+use statement_lines::{Words, put_line};
 use std::alloc::Global;
-use tac_syntax::{Decl, Draft, Function, functions_of};
+use tac_syntax::{Decl, Draft, Function, Numbers, OpKind, functions_of};
 use tac_text::write_function;
+
+fn and_numbers(alloc: Global, mut words: Words, numbers: &Numbers) -> Result<Words, OutOfMemory>
+    ensures { IfOk result (λ all. all ≡ words ++ map word_text (number_words numbers.now)) }
+{
+    for number in numbers.numbers() {
+        words = words.and_number(alloc, b"", *number)?;
+    }
+    Ok(words)
+}
+
+fn and_columns(alloc: Global, mut words: Words, columns: &Columns) -> Result<Words, OutOfMemory>
+    ensures { IfOk result (λ all. all ≡ words ++ map word_text (map column_word columns.now)) }
+{
+    for column in columns.columns() {
+        let front: &[u8] = if column.text { b"text:" } else { b"int:" };
+        words = words.and_number(alloc, front, column.field)?;
+    }
+    Ok(words)
+}
+
+fn and_key_pair(
+    alloc: Global,
+    words: Words,
+    left_keys: &Numbers,
+    right_keys: &Numbers,
+) -> Result<Words, OutOfMemory>
+    ensures { IfOk result (λ all. all ≡ words ++ map word_text (plain_word (codes "by") ∷ key_pair_words left_keys.now right_keys.now)) }
+{
+    let words = and_numbers(alloc, words.and_word(alloc, b"by")?, left_keys)?;
+    let words = words.and_word(alloc, b"=")?;
+    and_numbers(alloc, words, right_keys)
+}
+
+// The words behind an operator's first input.
+fn and_others(
+    alloc: Global,
+    words: Words,
+    kind: OpKind,
+    right: &Word,
+    left_keys: &Numbers,
+    right_keys: &Numbers,
+) -> Result<Words, OutOfMemory>
+    ensures { IfOk result (λ all. all ≡ words ++ map word_text (behind_left kind right.now left_keys.now right_keys.now)) }
+{
+    match kind {
+        OpKind::Source | OpKind::Map => Ok(words),
+        OpKind::Reduce => and_numbers(alloc, words.and_word(alloc, b"by")?, left_keys),
+        OpKind::Cross => words.and_word(alloc, right.bytes()),
+        OpKind::Match | OpKind::CoGroup => {
+            let words = words.and_word(alloc, right.bytes())?;
+            and_key_pair(alloc, words, left_keys, right_keys)
+        }
+    }
+}
+
+fn decl_words(alloc: Global, decl: &Decl) -> Result<Words, OutOfMemory>
+    requires { IsSpelledDecl decl.now }
+    ensures { IfOk result (λ words. words ≡ map word_text (words_of_decl decl.now)) }
+{
+    match decl {
+        Decl::Source {
+            name,
+            file,
+            columns,
+        } => {
+            let words = Words::new(alloc)
+                .and_word(alloc, b"source")?
+                .and_word(alloc, name.bytes())?
+                .and_word(alloc, file.bytes())?;
+            and_columns(alloc, words, columns)
+        }
+        Decl::Function { .. } => unreachable!(),
+        Decl::Op {
+            name,
+            kind,
+            function,
+            left,
+            right,
+            left_keys,
+            right_keys,
+        } => {
+            let words = Words::new(alloc)
+                .and_word(alloc, kind.word())?
+                .and_word(alloc, name.bytes())?
+                .and_word(alloc, function.bytes())?
+                .and_word(alloc, left.bytes())?;
+            and_others(alloc, words, *kind, right, left_keys, right_keys)
+        }
+        Decl::Sink { input, fields } => {
+            let words = Words::new(alloc)
+                .and_word(alloc, b"sink")?
+                .and_word(alloc, input.bytes())?;
+            and_numbers(alloc, words, fields)
+        }
+    }
+}
+
+/// The one canonical line of a declaration, with its end.
+pub fn write_declaration(alloc: Global, decl: &Decl) -> Result<Bytes, OutOfMemory>
+    requires { IsSpelledDecl decl.now }
+    ensures { IfOk result (λ text. text ≡ canonical_line 0 (words_of_decl decl.now) ++ 10 ∷ []) }
+{
+    let mut text = Bytes::new(alloc);
+    put_line(&mut text, 0, &decl_words(alloc, decl)?)?;
+    Ok(text)
+}
 
 // The version, and the number of fields.
 fn first_lines(alloc: Global, fields: u32) -> Result<Bytes, OutOfMemory>

@@ -1,3 +1,2 @@
-pub mod StatementWords
 pub mod FaultlessWords
-pub mod LineForms
+pub mod StatementWords

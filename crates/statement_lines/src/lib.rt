@@ -5,15 +5,13 @@
 //! it may stand, and `specs/StatementFaults.antt` what can be wrong with words that are none.
 #![tactic(auto)]
 
-mod line_writing;
 pub mod lines;
 mod operation_words;
 mod statement_reading;
 mod statement_writing;
 pub mod words;
 
-pub use line_writing::{put_line, put_word};
 pub use lines::{BodyLine, Place};
 pub use statement_reading::read_statement;
-pub use statement_writing::first_words;
+pub use statement_writing::{first_words, put_line, put_word};
 pub use words::Words;

@@ -1,18 +1,17 @@
 -- The lines of a body, one after the other: a body's own lines may follow each other and make it, and lines that may follow each other are
 -- those of what they make.
-use Rattle.std.proofs.Common.{◌≡◌, ◌≤◌, Bool, true, Some, List, refl, ap, ◌<◌, ◌+◌, inl, inr, ℕ, suc, Option, [], ◌∷◌, ◌++◌, length, sym, subst, ◌∙◌, append_assoc, append-nil, arith}
+use Rattle.std.proofs.Common.{◌≡◌, ◌≤◌, Bool, true, Some, List, refl, ap, ◌<◌, ◌+◌, inl, inr, ℕ, Option, [], ◌∷◌, ◌++◌, length, sym, subst, ◌∙◌, append_assoc, append-nil, arith}
 use Rattle.std.proofs.lemmas.Bool.{le-leb}
 use Rattle.tac_syntax.specs.Code.{Code, stop, plain, branch, again, each, joined, nesting, Simple, Line, simple, test, turns, over, otherwise, close}
 use Rattle.tac_syntax.specs.Limits.{nesting_limit}
 use Rattle.tac_text.specs.declared.building.Block.{Block}
-use Rattle.tac_text.specs.Building.{Build, with_statement, build_start, built, IsBuilt}
+use Rattle.tac_text.specs.Places.{Build, with_statement, built, IsBuilt, lists_in, MayInside, built_or, built_on, opening, before_block, FitsBody, FitsFirst, FitsBuild, BeginsBlock, Front}
 use Rattle.tac_syntax.specs.Grammar.{IsSpelled, IsSpelledLine}
 use Rattle.tac_syntax.proofs.Bodies.{nesting-joined}
 use Rattle.text_lines.specs.Runs.{Steps}
 use Rattle.text_lines.proofs.LineRuns.{Steps-append}
 use Rattle.tac_text.specs.declared.building.Block.TheVariants.{If, Else, Repeat, Each}
 use Rattle.tac_text.specs.FunctionLines.{SpellsBody}
-use Rattle.tac_text.specs.Places.{lists_in, MayInside, built_or, built_on, opening, before_block, FitsBody, FitsFirst, FitsBuild, BeginsBlock, Front}
 
 -- ---- a body that grows by one statement
 
@@ -52,10 +51,6 @@ built-close (Else on first before) around body h = with_statement-fits around be
 built-close (Repeat count before) around body h = with_statement-fits around before (again count body stop) h
 built-close (Each name list before) around body h = with_statement-fits around before (each name list body stop) h
 
-pub built_on-close : (block : Block) (around : List Block) (body : Code) → nesting (ended block body) ≤ nesting_limit
-    → built_on (build (block ∷ around) body) close ≡ build around (joined (before_block block) (ended block body))
-built_on-close block around body h = ap (built_or (build (block ∷ around) body)) (built-close block around body h)
-
 -- ---- the lines of a body may follow each other
 
 abbrev StepsTo : Build → List Line → Build → Type 0
@@ -78,7 +73,7 @@ followed blocks body statement next lines h =
 
 closed : (block : Block) (around : List Block) (body : Code) (rest : List Line) (t : Build) → nesting (ended block body) ≤ nesting_limit
     → StepsTo (build around (joined (before_block block) (ended block body))) rest t → StepsTo (build (block ∷ around) body) (close ∷ rest) t
-closed block around body rest t h steps = ((tt, tt), subst (λ (x : Build). StepsTo x rest t) (sym (built_on-close block around body h)) steps)
+closed block around body rest t h steps = ((tt, tt), subst (λ (x : Build). StepsTo x rest t) (sym (ap (built_or (build (block ∷ around) body)) (built-close block around body h))) steps)
 
 pub body_steps : (code : Code) (lines : List Line) (b : Build) → SpellsBody code lines → IsSpelled (lists_in b.blocks) code → length b.blocks + nesting code ≤ nesting_limit
     → Steps MayInside built_on b lines (record { blocks = b.blocks; body = joined b.body code })
@@ -141,9 +136,6 @@ IsSpelled-joined lists (each name list body a) b p q = (p.0, p.1, IsSpelled-join
 
 FitsBody-joined : (blocks lists : ℕ) (a b : Code) → FitsBody blocks lists a → FitsBody blocks lists b → FitsBody blocks lists (joined a b)
 FitsBody-joined blocks lists a b p q = (IsSpelled-joined lists a b p.0 q.0, omega (arith, p.1, q.1, nesting-joined a b))
-
-FitsBody-deeper : (blocks lists : ℕ) (body : Code) → FitsBody (suc blocks) lists body → FitsBody (blocks + 1) lists body
-FitsBody-deeper blocks lists body h = (h.0, omega (arith, h.1))
 
 -- a line behind those that were read
 behind : (outer inside lines more : List Line) → lines ≡ outer ++ inside → lines ++ more ≡ outer ++ (inside ++ more)
@@ -229,7 +221,7 @@ part_on : (blocks : List Block) (body : Code) → FitsBuild (build blocks body) 
 part_on (If on before ∷ around) body fits may = record {
   next = build (Else on body before ∷ around) stop;
   taken = refl;
-  fits = ((fits.0.0, fits.0.1, fits.0.2, fits.0.3, FitsBody-deeper (length around) (lists_in around) body fits.1), (tt, omega (arith, fits.0.1)));
+  fits = ((fits.0.0, fits.0.1, fits.0.2, fits.0.3, (fits.1.0, omega (arith, fits.1.1))), (tt, omega (arith, fits.0.1)));
   front = λ lines f. part_front on before body around lines f;
 }
 part_on blocks body fits may = absurd (let e = may.0 in cc)
@@ -263,31 +255,19 @@ IsBuilt-inside b now l taken fits may h =
 
 -- ---- all lines
 
-pub front_start : Front build_start []
-front_start = ([], [], refl, refl, refl)
-
-pub fits_start : FitsBuild build_start
-fits_start = (tt, (tt, omega arith))
-
 pub front_step : (b : Build) (l : Line) (lines : List Line) → Front b lines → FitsBuild b → MayInside b l → Front (built_on b l) (lines ++ l ∷ []) × FitsBuild (built_on b l)
 front_step b l lines front fits may =
     let on = line_on b.blocks b.body l fits may in
     (subst (λ (x : Build). Front x (lines ++ l ∷ [])) (sym (ap (built_or b) on.taken)) (on.front lines front), fits_step b l fits may)
 
-whole : (blocks : List Block) (body : Code) (lines : List Line) → blocks ≡ [] → Front (build blocks body) lines → FitsBuild (build blocks body)
+pub front_whole : (blocks : List Block) (body : Code) (lines : List Line) → blocks ≡ [] → Front (build blocks body) lines → FitsBuild (build blocks body)
     → SpellsBody body lines × IsSpelled 0 body × (nesting body ≤ nesting_limit)
-whole [] body lines e (outer, inside, p, q, f) fits = (subst (SpellsBody body) (sym (f ∙ ap (λ (x : List Line). x ++ inside) p)) q, fits.1.0, omega (arith, fits.1.1))
-whole (block ∷ around) body lines e front fits = absurd cc
-
-pub front_whole : (b : Build) (lines : List Line) → b.blocks ≡ [] → Front b lines → FitsBuild b → SpellsBody b.body lines × IsSpelled 0 b.body × (nesting b.body ≤ nesting_limit)
-front_whole b lines e front fits = whole b.blocks b.body lines e front fits
+front_whole [] body lines e (outer, inside, p, q, f) fits = (subst (SpellsBody body) (sym (f ∙ ap (λ (x : List Line). x ++ inside) p)) q, fits.1.0, omega (arith, fits.1.1))
+front_whole (block ∷ around) body lines e front fits = absurd cc
 
 -- so many `end` as there are open blocks
-ends : (blocks : List Block) (body : Code) → FitsBuild (build blocks body) → (more : List Line) × (c : Code) × Steps MayInside built_on (build blocks body) more (build [] c)
+pub ends : (blocks : List Block) (body : Code) → FitsBuild (build blocks body) → (more : List Line) × (c : Code) × Steps MayInside built_on (build blocks body) more (build [] c)
 ends [] body fits = ([], body, refl)
 ends (block ∷ around) body fits =
     let rest = ends around (joined (before_block block) (ended block body)) (FitsBuild-ended block around body fits) in
     (close ∷ rest.0, rest.1, closed block around body rest.0 (build [] rest.1) (ended_deep block around body fits) rest.2)
-
-pub closable : (b : Build) (lines : List Line) → Front b lines → FitsBuild b → (more : List Line) × (c : Code) × Steps MayInside built_on b more (record { blocks = []; body = c })
-closable b lines front fits = ends b.blocks b.body fits

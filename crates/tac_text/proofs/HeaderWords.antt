@@ -1,24 +1,20 @@
 -- The words of a header, which are those of no other, and words without a fault; some line has them.
-use Rattle.std.proofs.Common.{◌≡◌, ◌≢◌, ◌≤◌, ℕ, List, [], ◌∷◌, Option, Some, None, Result, Ok, Err, codes, bytes_eq, decimal, refl, ap, sym, subst, ◌∙◌, arith}
-use Rattle.std.specs.Prelude.{IfErr, IfOk}
+use Rattle.std.proofs.Common.{◌≡◌, ◌≢◌, ◌≤◌, ℕ, List, [], ◌∷◌, Option, Some, None, codes, bytes_eq, decimal, refl, ap, sym, subst, ◌∙◌, arith}
 use Rattle.tac_syntax.specs.declared.functions.Kind.{Kind}
 use Rattle.tac_syntax.specs.declared.functions.Kind.TheVariants.{Map, Match, Cross, Reduce, CoGroup}
 use Rattle.tac_syntax.specs.Functions.{HasKeys, key_limit}
 use Rattle.text_lines.specs.declared.line_words.LineWord.{LineWord}
 use Rattle.text_lines.specs.declared.line_words.LineWord.TheVariants.{Plain as plain_word, Literal as literal_word}
 use Rattle.text_lines.proofs.DigitWords.{is_in_range-decimal, number_in, number_in-decimal}
-use Rattle.text_lines.specs.LineReading.{IsFaultOf, TellsFault}
-use Rattle.text_lines.specs.declared.faults.NotRead.{NotRead}
-use Rattle.text_lines.specs.declared.faults.NotRead.TheVariants.{Fault, Memory}
-use Rattle.tac_text.specs.Building.{build_start}
-use Rattle.tac_text.specs.FunctionAnswers.{GivesHeader, OpenData, begun}
+use Rattle.tac_text.specs.Places.{build_start}
+use Rattle.tac_text.specs.FunctionStates.{OpenData, begun}
 use Rattle.tac_text.specs.FunctionFaults.{kind_named, key_slots, keys_fault, kind_fault, named_fault, is_part_or_end, header_fault}
 use Rattle.tac_text.specs.FunctionLines.{header, header_words, IsHeader, kind_word, key_words}
 use Rattle.text_lines.specs.CanonicalLines.{AreLineWords}
 use Rattle.text_lines.specs.Slots.{identifier, number, first_fault}
 use Rattle.text_lines.proofs.FilledSlots.{filled, filled_line, none_left}
 use Rattle.text_lines.proofs.Faultless.{by_cases, named_as, same_word}
-use Rattle.text_lines.proofs.FineWords.{AreFine, IsFine, fine_decimal, fine_name}
+use Rattle.text_lines.proofs.CanonicalLines.{AreFine, IsFine, fine_decimal, fine_name}
 
 -- ---- a header's words have no fault
 
@@ -90,9 +86,6 @@ header_of_words (literal_word bytes ∷ words) some good h = absurd cc
 keys_value : (k m : ℕ) → k ≤ key_limit → m ≤ key_limit → decimal k ≡ decimal m → k ≡ m
 keys_value k m h l e = sym (number_in-decimal k (omega (arith, h))) ∙ ap number_in e ∙ number_in-decimal m (omega (arith, l))
 
-one_kind : (a b : Kind) → kind_word a ≡ kind_word b → a ≡ b
-one_kind a b e = let same : Some a ≡ Some b = sym (kind_named-kind_word a) ∙ ap kind_named e ∙ kind_named-kind_word b in cc
-
 one_keys : (kind : Kind) (k m : ℕ) → HasKeys kind k → HasKeys kind m → key_words kind k ≡ key_words kind m → k ≡ m
 one_keys Reduce k m h l e = keys_value k m h.1 l.1 (let same : decimal k ≡ decimal m = cc in same)
 one_keys CoGroup k m h l e = keys_value k m h.1 l.1 (let same : decimal k ≡ decimal m = cc in same)
@@ -103,35 +96,19 @@ pub one_header : (a b : List ℕ) (j k : Kind) (m n : ℕ) → IsHeader a j m �
 one_header a b j k m n h l e =
     let name : a ≡ b = cc in
     let word : kind_word j ≡ kind_word k = cc in
-    let kind = one_kind j k word in
+    let named : Some j ≡ Some k = sym (kind_named-kind_word j) ∙ ap kind_named word ∙ kind_named-kind_word k in
+    let kind : j ≡ k = cc in
     let rest : key_words j m ≡ key_words k n = cc in
     let keys = one_keys k m n (subst (λ (x : Kind). HasKeys x m) kind h.1) l.1 (subst (λ (x : Kind). key_words x m ≡ key_words k n) kind rest) in
     λ i. header (name i) (kind i) (keys i)
 
--- ---- what a header's reader answers
-
-abbrev ReadsOpen : OpenData → List LineWord → Type 0
-ReadsOpen o words = (words ≡ header_words o.name o.kind o.keys) × IsHeader o.name o.kind o.keys × (o.build ≡ build_start)
-
 -- The parts of a header are those of the only one with its words.
-same_begun : (o : OpenData) (name : List ℕ) (kind : Kind) (keys : ℕ) → header o.name o.kind o.keys ≡ header name kind keys → o.build ≡ build_start → o ≡ begun name kind keys
+pub same_begun : (o : OpenData) (name : List ℕ) (kind : Kind) (keys : ℕ) → header o.name o.kind o.keys ≡ header name kind keys → o.build ≡ build_start → o ≡ begun name kind keys
 same_begun o name kind keys e fresh =
     let a : o.name ≡ name = cc in
     let b : o.kind ≡ kind = cc in
     let d : o.keys ≡ keys = cc in
     λ i. record { name = a i; kind = b i; keys = d i; build = fresh i }
-
-pub GivesHeader-read : (r : Result OpenData NotRead) (words : List LineWord) → IfOk r (λ o. ReadsOpen o words) → IfErr r (λ e. IsFaultOf e (header_fault words))
-    → (name : List ℕ) (kind : Kind) (keys : ℕ) → IsHeader name kind keys → words ≡ header_words name kind keys → GivesHeader r name kind keys
-GivesHeader-read (Ok o) words read told name kind keys h e = same_begun o name kind keys (one_header o.name name o.kind kind o.keys keys read.1 h (sym read.0 ∙ e)) read.2
-GivesHeader-read (Err (Fault what)) words read told name kind keys h e = let none = ap header_fault e ∙ header_fault-header_words name kind keys h in absurd cc
-GivesHeader-read (Err Memory) words read told name kind keys h e = tt
-
-pub TellsFault-header : (r : Result OpenData NotRead) (words : List LineWord) → IfOk r (λ o. ReadsOpen o words) → IfErr r (λ e. IsFaultOf e (header_fault words))
-    → (what : ℕ) → header_fault words ≡ Some what → TellsFault r what
-TellsFault-header (Ok o) words read told what h = let none = ap header_fault read.0 ∙ header_fault-header_words o.name o.kind o.keys read.1 in absurd cc
-TellsFault-header (Err (Fault e)) words read told what h = cc
-TellsFault-header (Err Memory) words read told what h = tt
 
 -- ---- words that some line has
 

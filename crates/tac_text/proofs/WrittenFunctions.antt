@@ -14,9 +14,7 @@ use Rattle.tac_syntax.specs.Limits.{nesting_limit}
 use Rattle.text_lines.specs.CanonicalLines.{canonical_line, line_spelling, line_text, word_text}
 use Rattle.text_lines.specs.declared.line_words.LineWord.{LineWord}
 use Rattle.text_lines.specs.TextLines.{lines_of}
-use Rattle.text_lines.proofs.FineWords.{AreLineWords-fine}
-use Rattle.text_lines.proofs.CanonicalLines.{HasWords-canonical_line}
-use Rattle.text_lines.proofs.WrittenTexts.{IsWritten, IsWritten-append, line_written, nothing_written}
+use Rattle.text_lines.proofs.CanonicalLines.{AreLineWords-fine, HasWords-canonical_line, IsWritten, IsWritten-append, line_written, nothing_written}
 use Rattle.statement_lines.specs.Spelling.{words_of_line}
 use Rattle.statement_lines.proofs.StatementWords.{words_of_line-some, AreFine-words_of_line}
 use Rattle.tac_text.specs.FunctionLines.{SpellsBody, header_words, FunctionText, SpellsFunction, FunctionAt}

@@ -4,9 +4,8 @@ ghost use Rattle.std.specs.Bool.{OnFalse, OnTrue};
 ghost use Rattle.std.specs.Prelude.{◌≡◌, ◌≤◌, ◌<◌, ◌∷◌, [], length, reverse, IfOk, true};
 ghost use Rattle.tac_syntax.specs.Code.{Line, stop, otherwise, close};
 ghost use Rattle.tac_syntax.specs.Trees.{only};
-ghost use Rattle.tac_text.specs.Building.{IsBuilt, build_start, built, closed, finished, with_statement};
+ghost use Rattle.tac_text.specs.Places.{IsBuilt, build_start, built, closed, finished, with_statement, lists_in, may_part, place_of};
 ghost use Rattle.tac_syntax.specs.Limits.{nesting_limit};
-ghost use Rattle.tac_text.specs.Places.{lists_in, may_part, place_of};
 ghost use Rattle.statement_lines.specs.StatementAnswers.{said};
 
 use pact_record::OutOfMemory;
@@ -74,7 +73,7 @@ pub struct Builder {
 
 impl Model for Builder {
     ghost use Rattle.std.specs.Prelude.{reverse};
-    ghost use Rattle.tac_text.specs.Building.{Build};
+    ghost use Rattle.tac_text.specs.Places.{Build};
     ghost use Rattle.tac_text.specs.BuildCode.{coded_build};
 
     ghost Value = { Build };

@@ -6,10 +6,9 @@ ghost use Rattle.tac_syntax.specs.Functions.{IsSpelledFunction};
 ghost use Rattle.text_lines.specs.CanonicalLines.{AreLineWords};
 ghost use Rattle.text_lines.specs.FirstFaults.{IsLineFault};
 ghost use Rattle.text_lines.specs.TextLines.{lines_of};
-ghost use Rattle.tac_text.specs.FunctionAnswers.{function_of, OpenData};
+ghost use Rattle.tac_text.specs.FunctionStates.{function_of, OpenData, GivesFunction, IsFunctionFault, LeadsLine, LeadsOn, place_at, state_of};
 ghost use Rattle.tac_text.specs.FunctionFaults.{function_fault};
 ghost use Rattle.tac_text.specs.FunctionLines.{FunctionAt};
-ghost use Rattle.tac_text.specs.FunctionStates.{GivesFunction, IsFunctionFault, LeadsLine, LeadsOn, place_at, state_of};
 ghost use Rattle.text_lines.specs.LineReading.{IsFaultOf};
 
 use crate::open_functions::{OpenFunction, read_header};

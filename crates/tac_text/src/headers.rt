@@ -2,7 +2,7 @@
 
 ghost use Rattle.std.specs.Prelude.{◌≡◌, ◌<◌, length};
 ghost use Rattle.tac_text.specs.FunctionFaults.{is_part_or_end, kind_of_word};
-ghost use Rattle.tac_text.specs.FunctionAnswers.{ReadsFirst, ReadsHeader, ReadsKeys, ReadsKind};
+ghost use Rattle.tac_text.specs.FunctionStates.{ReadsFirst, ReadsHeader, ReadsKeys, ReadsKind};
 
 use crate::kind_words::kind_named;
 use tac_syntax::Kind;

@@ -13,7 +13,6 @@ mod function_writing;
 mod headers;
 mod kind_words;
 pub mod open_functions;
-mod writing;
 
 pub use function_reading::read_function;
 pub use function_writing::write_function;

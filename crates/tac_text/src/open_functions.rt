@@ -6,11 +6,10 @@ ghost use Rattle.tac_syntax.specs.Code.{Line, close};
 ghost use Rattle.tac_syntax.specs.declared.functions.Kind.{Kind};
 ghost use Rattle.text_lines.specs.CanonicalLines.{AreLineWords};
 ghost use Rattle.tac_text.specs.declared.building.Block.{Block};
-ghost use Rattle.tac_text.specs.Building.{build_start};
-ghost use Rattle.tac_text.specs.FunctionAnswers.{begun, function_of, GivesHeader, IsUnchanged, TakesWords, with_build};
+ghost use Rattle.tac_text.specs.Places.{build_start, built_on, IsInside, MayInside, place_of};
+ghost use Rattle.tac_text.specs.FunctionStates.{begun, function_of, GivesHeader, IsUnchanged, TakesWords, with_build};
 ghost use Rattle.tac_text.specs.FunctionFaults.{header_fault};
 ghost use Rattle.tac_text.specs.FunctionLines.{header_words, IsHeader, IsWritable};
-ghost use Rattle.tac_text.specs.Places.{built_on, IsInside, MayInside, place_of};
 ghost use Rattle.statement_lines.specs.StatementAnswers.{said};
 ghost use Rattle.text_lines.specs.LineReading.{IsFaultOf, TellsFault, TellsNoFault};
 ghost use Rattle.statement_lines.specs.StatementFaults.{statement_fault};
@@ -34,7 +33,7 @@ pub struct OpenFunction {
 }
 
 impl Model for OpenFunction {
-    ghost use Rattle.tac_text.specs.FunctionAnswers.{coded_open, OpenData};
+    ghost use Rattle.tac_text.specs.FunctionStates.{coded_open, OpenData};
     ghost use Rattle.tac_text.specs.FunctionLines.{IsHeader};
     ghost use Rattle.tac_text.specs.Places.{FitsBuild};
 

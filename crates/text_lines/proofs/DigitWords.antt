@@ -15,14 +15,8 @@ use Rattle.text_lines.specs.Digits.{is_digit, are_digits, is_number_word, is_in_
 abbrev pub HasNoOther : List ℕ → Type 0
 HasNoOther ds = list_any (λ b. not (is_digit b)) ds ≡ false
 
-digit_low : (c : ℕ) (rest : Bool) → (not (nat_le 48 c && nat_le c 57) || rest) ≡ false → 48 ≤ c
-digit_low c rest h = grind (arith, nat_tests)
-
-digit_high : (c : ℕ) (rest : Bool) → (not (nat_le 48 c && nat_le c 57) || rest) ≡ false → c ≤ 57
-digit_high c rest h = grind (arith, nat_tests)
-
-digit_rest : (c : ℕ) (rest : Bool) → (not (nat_le 48 c && nat_le c 57) || rest) ≡ false → rest ≡ false
-digit_rest c rest h = grind (arith, nat_tests)
+digit_parts : (c : ℕ) (rest : Bool) → (not (nat_le 48 c && nat_le c 57) || rest) ≡ false → (48 ≤ c) × (c ≤ 57) × (rest ≡ false)
+digit_parts c rest h = (grind (arith, nat_tests), grind (arith, nat_tests), grind (arith, nat_tests))
 
 digit_more : (c : ℕ) (rest : Bool) → 48 ≤ c → c ≤ 57 → rest ≡ false → (not (nat_le 48 c && nat_le c 57) || rest) ≡ false
 digit_more c rest low high h = grind (arith, nat_tests)
@@ -30,7 +24,7 @@ digit_more c rest low high h = grind (arith, nat_tests)
 tells_no_other : IsDigitsTest HasNoOther
 tells_no_other = record {
   empty = refl;
-  parts = λ c cs h. ((digit_low c _ h, digit_high c _ h), digit_rest c _ h);
+  parts = λ c cs h. let d = digit_parts c _ h in ((d.0, d.1), d.2);
   more = λ c cs h k. digit_more c _ h.0 h.1 k;
 }
 
@@ -50,7 +44,7 @@ pub IsUtf8-are_digits : (ds : List ℕ) → are_digits ds ≡ true → IsUtf8 ds
 IsUtf8-are_digits ds h = IsUtf8-from_ascii ds (IsAscii-from_digits ds (own_digits.to ds (no_other ds h)))
 
 pub minus_no_digit : (b : ℕ) (bytes : List ℕ) → are_digits (b ∷ bytes) ≡ true → (b == 45) ≡ false
-minus_no_digit b bytes h = let low = digit_low b _ (no_other (b ∷ bytes) h) in grind (arith, nat_tests)
+minus_no_digit b bytes h = let low = (digit_parts b _ (no_other (b ∷ bytes) h)).0 in grind (arith, nat_tests)
 
 -- ---- numbers in their one spelling
 

@@ -1,8 +1,12 @@
 -- What holds where no fault is told, and what a test of a word tells.
-use Rattle.std.proofs.Common.{◌≡◌, ◌≢◌, ◌<◌, ◌+◌, ℕ, Bool, true, false, if◌then◌else◌, List, [], ◌∷◌, length, get_or, drop, is_some, Option, Some, None, bytes_eq, refl, ap, ◌∙◌, arith}
+use Rattle.std.proofs.Common.{◌≡◌, ◌≢◌, ◌<◌, ◌+◌, ℕ, Bool, true, false, if◌then◌else◌, List, [], ◌∷◌, length, get_or, drop, is_some, Option, Some, None, Result, Ok, Err, bytes_eq, refl, ap, ◌∙◌, arith}
 use Rattle.std.proofs.lemmas.List.{at_drop_more}
 use Rattle.std.proofs.lemmas.Slice.Eq.{bytes_eq-Decides}
 use Rattle.std.specs.List.{AllByRecursion}
+use Rattle.std.specs.Prelude.{IfErr, IfOk}
+use Rattle.text_lines.specs.declared.faults.NotRead.{NotRead}
+use Rattle.text_lines.specs.declared.faults.NotRead.TheVariants.{Fault, Memory}
+use Rattle.text_lines.specs.LineReading.{Gives, IsFaultOf, TellsFault}
 use Rattle.text_lines.specs.OperandWords.{named_in}
 use Rattle.text_lines.specs.Digits.{told_unless, or_else}
 use Rattle.text_lines.specs.LineGrammar.{LineWord, plain_word, literal_word, is_plain}
@@ -26,6 +30,19 @@ or_else-none (Some what) b h = absurd cc
 
 pub same_word : (w v : List ℕ) → bytes_eq w v ≡ true → w ≡ v
 same_word w v h = (bytes_eq-Decides w v).0 h
+
+-- What a reader of words answers, by what it reads and the fault that it tells.
+pub Gives-read : {T : Type 0} (r : Result T NotRead) (Good Wanted : T → Type 0) (told : Option ℕ) → IfOk r Good → IfErr r (λ e. IsFaultOf e told) → told ≡ None
+    → ((x : T) → Good x → Wanted x) → Gives Wanted r
+Gives-read (Ok x) Good Wanted told read fault none wanted = wanted x read
+Gives-read (Err (Fault what)) Good Wanted told read fault none wanted = absurd cc
+Gives-read (Err Memory) Good Wanted told read fault none wanted = tt
+
+pub TellsFault-read : {T : Type 0} (r : Result T NotRead) (Good : T → Type 0) (told : Option ℕ) → IfOk r Good → IfErr r (λ e. IsFaultOf e told) → ((x : T) → Good x → told ≡ None)
+    → (what : ℕ) → told ≡ Some what → TellsFault r what
+TellsFault-read (Ok x) Good told read fault sound what h = let none = sound x read in absurd cc
+TellsFault-read (Err (Fault e)) Good told read fault sound what h = cc
+TellsFault-read (Err Memory) Good told read fault sound what h = tt
 
 -- what is named so has that word
 pub named_as : {X : Type 0} (name : X → List ℕ) (xs : List X) (word : List ℕ) (x : X) → named_in name xs word ≡ Some x → word ≡ name x

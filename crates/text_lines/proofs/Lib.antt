@@ -1,12 +1,9 @@
 pub mod Faultless
 pub mod WordReading
 pub mod Utf8Texts
-pub mod CanonicalLines
 pub mod DigitWords
 pub mod LineRuns
-pub mod WrittenTexts
 pub mod TextLines
-pub mod SlotWords
-pub mod FineWords
+pub mod CanonicalLines
 pub mod FilledSlots
 pub mod ListSlots

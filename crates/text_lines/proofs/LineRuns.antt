@@ -1,5 +1,5 @@
 -- The lines of a text take a reader through one run, and what it has come to tells the first fault.
-use Rattle.std.proofs.Common.{◌≡◌, ◌≢◌, inl, inr, ℕ, ◌+◌, max, List, [], ◌∷◌, ◌++◌, map, length, Option, Some, None, refl, sym, subst, ◌∙◌, append_assoc, append-nil}
+use Rattle.std.proofs.Common.{◌≡◌, ◌≢◌, inl, inr, ℕ, ◌+◌, max, List, [], ◌∷◌, ◌++◌, map, length, Option, Some, refl, sym, subst, ◌∙◌, append_assoc, append-nil}
 use Rattle.text_lines.specs.CanonicalLines.{AreLineWords, canonical_line}
 use Rattle.text_lines.specs.declared.faults.NotRead.{NotRead}
 use Rattle.text_lines.specs.declared.faults.NotRead.TheVariants.{Fault, Memory}
@@ -133,15 +133,13 @@ pub IsLineFault-HasCause : (fault : List LineWord → Option ℕ) (e : NotRead) 
 IsLineFault-HasCause fault (Fault what) bytes line same h = inl (subst (HasCause (Fault what)) same h)
 IsLineFault-HasCause fault Memory bytes line same h = tt
 
-both_not : (what : ℕ) (told : Option ℕ) → told ≡ Some what → told ≡ None → ⊥
-both_not what told p q = cc
-
 pub ¬HasFault-IsFaultless : (fault : List LineWord → Option ℕ) (line : List ℕ) (what : ℕ) → HasFault fault line what → ¬ IsFaultless fault line
 ¬HasFault-IsFaultless fault line what (inl p) h = ¬HasLineFault-IsLine (trimmed line) h.0 what h.1 p
 ¬HasFault-IsFaultless fault line what (inr p) h =
     let same = IsLine-unique (trimmed line) p.0 h.0 p.1 h.1 in
     let told : fault h.0 ≡ Some what = subst (λ (ws : List LineWord). fault ws ≡ Some what) same p.2 in
-    both_not what (fault h.0) told h.2
+    let none = h.2 in
+    cc
 
 IsFaultyLine-run : {State Saying Place : Type 0} (Whole : List (List ℕ) → Type 0) (words : Saying → List LineWord) (May : State → Saying → Type 0) (step : State → Saying → State) (start : State) (place_of : State → Place) (fault : Place → List LineWord → Option ℕ)
     → AreSayings words May → TellsFaults words May (λ x. fault (place_of x)) → Reads Whole words May step start

@@ -32,19 +32,9 @@ IsUtf8-around_ascii x b y h p q = IsUtf8-append x (b ∷ y) p (IsUtf8-append (b 
 
 -- ---- escapes
 
--- two bytes that an escape joins
-record AreAscii (e b : ℕ) : Type 0 where
-  letter : e < 128
-  meant : b < 128
-
-letter_ascii : (e b : ℕ) → escaped_byte e ≡ Some b → e < 128
-letter_ascii e b h = grind (arith, nat_tests)
-
-meant_ascii : (e b : ℕ) → escaped_byte e ≡ Some b → b < 128
-meant_ascii e b h = grind (arith, nat_tests)
-
-are_ascii : (e b : ℕ) → escaped_byte e ≡ Some b → AreAscii e b
-are_ascii e b h = record { letter = letter_ascii e b h; meant = meant_ascii e b h }
+-- the two bytes that an escape joins
+are_ascii : (e b : ℕ) → escaped_byte e ≡ Some b → (e < 128) × (b < 128)
+are_ascii e b h = (grind (arith, nat_tests), grind (arith, nat_tests))
 
 -- ---- from the text to its meaning, and back
 
@@ -57,8 +47,8 @@ meaning_of_byte front first rest b bytes (inl own) more h =
 meaning_of_byte front first rest b bytes (inr escape) more h =
     let ascii = are_ascii escape.0 b escape.2 in
     let spelled : IsUtf8 (front ++ 92 ∷ escape.0 ∷ rest) = subst (λ (x : List ℕ). IsUtf8 (front ++ (x ++ rest))) escape.1 h in
-    let behind = IsUtf8-behind_ascii [] escape.0 rest ascii.letter (IsUtf8-behind_ascii front 92 (escape.0 ∷ rest) (omega arith) spelled) in
-    IsUtf8-around_ascii front b bytes ascii.meant (IsUtf8-before_ascii front 92 (escape.0 ∷ rest) (omega arith) spelled) (more [] behind)
+    let behind = IsUtf8-behind_ascii [] escape.0 rest ascii.0 (IsUtf8-behind_ascii front 92 (escape.0 ∷ rest) (omega arith) spelled) in
+    IsUtf8-around_ascii front b bytes ascii.1 (IsUtf8-before_ascii front 92 (escape.0 ∷ rest) (omega arith) spelled) (more [] behind)
 
 pub IsUtf8-meaning : (front text bytes : List ℕ) → SpellsBytes text bytes → IsUtf8 (front ++ text) → IsUtf8 (front ++ bytes)
 IsUtf8-meaning front text [] h utf8 = subst (λ (x : List ℕ). IsUtf8 (front ++ x)) h utf8
@@ -72,8 +62,8 @@ spelling_of_byte front first rest b bytes (inl own) more h =
     subst IsUtf8 (append_assoc front (b ∷ []) rest ∙ ap (λ (x : List ℕ). front ++ (x ++ rest)) (sym own.0)) moved
 spelling_of_byte front first rest b bytes (inr escape) more h =
     let ascii = are_ascii escape.0 b escape.2 in
-    let behind = IsUtf8-around_ascii [] escape.0 rest ascii.letter IsUtf8-nil (more [] (IsUtf8-behind_ascii front b bytes ascii.meant h)) in
-    let spelled = IsUtf8-around_ascii front 92 (escape.0 ∷ rest) (omega arith) (IsUtf8-before_ascii front b bytes ascii.meant h) behind in
+    let behind = IsUtf8-around_ascii [] escape.0 rest ascii.0 IsUtf8-nil (more [] (IsUtf8-behind_ascii front b bytes ascii.1 h)) in
+    let spelled = IsUtf8-around_ascii front 92 (escape.0 ∷ rest) (omega arith) (IsUtf8-before_ascii front b bytes ascii.1 h) behind in
     subst (λ (x : List ℕ). IsUtf8 (front ++ (x ++ rest))) (sym escape.1) spelled
 
 pub IsUtf8-spelling : (front text bytes : List ℕ) → SpellsBytes text bytes → IsUtf8 (front ++ bytes) → IsUtf8 (front ++ text)

@@ -6,7 +6,7 @@ use Rattle.std.proofs.lemmas.List.{take_all}
 use Rattle.std.proofs.lemmas.Option.{same_Some}
 use Rattle.pact_record.specs.Limits.{text_limit}
 use Rattle.text_lines.specs.LineGrammar.{LineWord, plain_word, literal_word, is_blank, ends_word, needs_escape, escaped_byte, SpellsByte, SpellsBytes, SpellsWord, SpellsWords, IsGap, IsComment, IsWordEnd, has_return, IsLine, IsGarbled, HasLineFault}
-use Rattle.text_lines.specs.WordReading.{behind_gap, IsWordStart, plain_byte, before, escape_byte, literal_byte, byte_at, IsByte, Chain, IsStuck, IsWordAt, NextWord}
+use Rattle.text_lines.specs.LineReading.{behind_gap, IsWordStart, plain_byte, before, escape_byte, literal_byte, byte_at, IsByte, Chain, IsStuck, IsWordAt, NextWord}
 use Rattle.text_lines.proofs.Faultless.{by_cases}
 
 -- ---- one thing behind the other

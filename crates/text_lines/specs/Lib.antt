@@ -1,5 +1,4 @@
 pub mod LineGrammar
-pub mod WordReading
 pub mod LineReading
 pub mod CanonicalLines
 pub mod Digits

@@ -7,18 +7,15 @@
 #![tactic(auto)]
 
 mod cursors;
-mod digits;
 pub mod faults;
 pub mod line_words;
 pub mod lines;
 mod operands;
-mod scanning;
 pub mod word_reading;
 
 pub use cursors::Cursor;
-pub use digits::{is_in_form, is_in_range};
 pub use faults::NotRead;
 pub use line_words::{LineWord, LineWords, is_word};
 pub use lines::{TextFault, first_line, line_at, trim_line};
-pub use operands::{record_in, value_in};
+pub use operands::{is_in_form, is_in_range, record_in, value_in};
 pub use word_reading::read_words;

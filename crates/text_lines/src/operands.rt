@@ -1,19 +1,85 @@
-//! Operands, each read from its word.
+//! Numbers and other operands, each read from its word.
 
-ghost use Rattle.std.specs.Prelude.{◌≡◌, ◌≤◌, ◌∷◌, FitsSigned, IfErr, IfNone, IfSome, None, Some, decimal, false, if◌then◌else◌, true};
+ghost use Rattle.std.specs.Prelude.{◌≡◌, ◌≤◌, ◌<◌, ◌^◌, false, true, IfNone, IfSome, Some, None, decimal, ◌∷◌, FitsSigned, IfErr, if◌then◌else◌};
+ghost use Rattle.std.specs.Str.Parse.{digits_value};
+ghost use Rattle.text_lines.specs.Digits.{are_digits, is_digit, is_in_form, is_in_range, is_number_word, is_signed_word, told_unless};
 ghost use Rattle.std.specs.Fmt.{signed_decimal};
 ghost use Rattle.tac_syntax.specs.Grammar.{IsLoopName, IsNumber, IsSpelledRecord};
 ghost use Rattle.text_lines.specs.LineReading.{ReadsPlain, IsTold};
-ghost use Rattle.text_lines.specs.Digits.{is_in_form, is_in_range, is_signed_word, told_unless};
 ghost use Rattle.text_lines.specs.OperandWords.{column_text, fixed_record, list_word, loop_name, record_register, record_word, value_register};
 ghost use Rattle.text_lines.specs.Slots.{column_fault, is_list_word, name_fault, numbered_fault, operand_fault, register_fault};
 ghost use mir.Syntax.{w64};
 
-use crate::digits::{is_in_form, number_between};
 use crate::faults::NotRead;
 use crate::line_words::is_word;
 use pact_record::Column;
+use std::str;
 use tac_syntax::{LoopList, Rec};
+
+fn is_digit(byte: u8) -> bool
+    ensures { result ≡ is_digit byte }
+{
+    b'0' <= byte && byte <= b'9'
+}
+
+fn are_digits(word: &[u8]) -> bool
+    ensures { result ≡ are_digits word.now }
+{
+    for byte in word {
+        if !is_digit(*byte) {
+            return false;
+        }
+    }
+    word.len() >= 1
+}
+
+// Decimal, without a zero in front.
+fn is_number_word(word: &[u8]) -> bool
+    ensures { result ≡ is_number_word word.now }
+{
+    are_digits(word) && (word.len() <= 1 || word[0] != b'0')
+}
+
+// None where the number doesn't fit.
+fn number_of(word: &[u8]) -> Option<u64>
+    ensures fits { are_digits word.now ≡ true → digits_value 10 word.now < 2 ^ 64 → result ≡ Some (digits_value 10 word.now) }
+    ensures large { are_digits word.now ≡ true → 2 ^ 64 ≤ digits_value 10 word.now → result ≡ None }
+{
+    match str::from_utf8(word) {
+        Ok(text) => text.parse::<u64>().ok(),
+        Err(_) => None,
+    }
+}
+
+// The number that a word in a range spells.
+fn number_between(low: u64, high: u64, word: &[u8]) -> Option<u64>
+    ensures some { IfSome result (λ n. (word.now ≡ decimal n) × (low ≤ n) × (n ≤ high) × (is_in_range low high word.now ≡ true)) }
+    ensures none { IfNone result (is_in_range low high word.now ≡ false) }
+{
+    if !is_number_word(word) {
+        return None;
+    }
+    match number_of(word) {
+        Some(number) if low <= number && number <= high => Some(number),
+        _ => None,
+    }
+}
+
+pub fn is_in_range(low: u64, high: u64, word: &[u8]) -> bool
+    ensures { result ≡ is_in_range low high word.now }
+{
+    number_between(low, high, word).is_some()
+}
+
+/// Whether a word is a letter with one or more digits behind it.
+pub fn is_in_form(letter: u8, word: &[u8]) -> bool
+    ensures { result ≡ is_in_form letter word.now }
+{
+    match word.split_first() {
+        Some((first, digits)) => *first == letter && are_digits(digits),
+        None => false,
+    }
+}
 
 /// A number in a range.
 pub fn number_in(low: u32, high: u32, word: &[u8]) -> Result<u32, NotRead>

@@ -1,16 +1,165 @@
-//! One line of a text, read as its words.
+//! One line of a text, read as its words, one behind the other.
 
-ghost use Rattle.std.specs.Prelude.{◌≡◌, ℕ, false, List, IfOk, IfErr, IsUtf8};
-ghost use Rattle.std.specs.Bool.{OnTrue, OnFalse};
+ghost use Rattle.std.specs.Prelude.{◌≡◌, ◌<◌, ◌≤◌, ◌∷◌, List, ℕ, IfNone, IfOk, IfSome, None, Some, length, false, IfErr, IsUtf8};
+ghost use Rattle.std.specs.Bool.{OnFalse, OnTrue};
+ghost use Rattle.text_lines.specs.LineGrammar.{IsWordEnd, escaped_byte, HasLineFault, has_return, IsGarbled, IsLine, LineWord};
+ghost use Rattle.text_lines.specs.LineReading.{Chain, HasFound, IsByte, IsStuck, IsWordAt, IsWordStart, byte_at, literal_byte, plain_byte, GivesWords, HasCause, TellsFault};
 ghost use Rattle.text_lines.specs.CanonicalLines.{AreLineWords, canonical_line};
-ghost use Rattle.text_lines.specs.LineGrammar.{HasLineFault, has_return, IsGarbled, IsLine, LineWord};
-ghost use Rattle.text_lines.specs.LineReading.{GivesWords, HasCause, TellsFault};
+ghost use Rattle.text_lines.specs.LineGrammar as grammar;
+ghost use Rattle.text_lines.specs.LineReading as reading;
 
 use crate::faults::NotRead;
-use crate::line_words::LineWords;
-use crate::scanning::scan;
+use crate::line_words::{LineWord, LineWords};
+use pact_record::{Bytes, MAX_TEXT, OutOfMemory};
 use std::alloc::Global;
 use std::str;
+
+fn ends_word(byte: u8) -> bool
+    ensures { result ≡ grammar.ends_word byte }
+{
+    matches!(byte, b' ' | b'\t' | b'#')
+}
+
+// What a byte behind a backslash stands for.
+fn meaning(byte: u8) -> Option<u8>
+    ensures { result ≡ escaped_byte byte }
+{
+    match byte {
+        b'\\' => Some(b'\\'),
+        b'"' => Some(b'"'),
+        b'n' => Some(b'\n'),
+        b'r' => Some(b'\r'),
+        b't' => Some(b'\t'),
+        _ => None,
+    }
+}
+
+// What stands behind the blanks that a line begins with.
+fn behind_gap(line: &[u8]) -> &[u8]
+    ensures { result.now ≡ reading.behind_gap line.now }
+{
+    let mut rest = line;
+    while let Some((b' ' | b'\t', behind)) = rest.split_first() {
+        rest = behind;
+    }
+    rest
+}
+
+fn is_word_end(line: &[u8]) -> bool
+    ensures yes { OnTrue result (IsWordEnd line.now) }
+    ensures no { OnFalse result (IsWordStart line.now) }
+{
+    match line.first() {
+        Some(byte) => ends_word(*byte),
+        None => true,
+    }
+}
+
+// The next byte of a plain word, and what follows it.
+fn plain_byte(line: &[u8]) -> Option<(u8, &[u8])>
+    ensures some { IfSome result (λ r. plain_byte line.now ≡ Some (r.0, r.1.now)) }
+    ensures none { IfNone result (plain_byte line.now ≡ None) }
+    ensures shorter { IfSome result (λ r. length r.1.now < length line.now) }
+{
+    match line.split_first() {
+        Some((first, rest)) if !ends_word(*first) => Some((*first, rest)),
+        _ => None,
+    }
+}
+
+// The next byte that a literal stands for, and what follows its spelling.
+fn literal_byte(line: &[u8]) -> Option<(u8, &[u8])>
+    ensures some { IfSome result (λ r. literal_byte line.now ≡ Some (r.0, r.1.now)) }
+    ensures none { IfNone result (literal_byte line.now ≡ None) }
+    ensures shorter { IfSome result (λ r. length r.1.now < length line.now) }
+{
+    let (first, rest) = line.split_first()?;
+    match *first {
+        b'\\' => {
+            let (escape, rest) = rest.split_first()?;
+            Some((meaning(*escape)?, rest))
+        }
+        b'"' | b'\r' => None,
+        byte => Some((byte, rest)),
+    }
+}
+
+// The next byte of a word, and what follows it.
+fn next_byte(is_literal: bool, line: &[u8]) -> Option<(u8, &[u8])>
+    ensures some { IfSome result (λ r. IsByte is_literal line.now r.0 r.1.now) }
+    ensures none { IfNone result (byte_at is_literal line.now ≡ None) }
+    ensures shorter { IfSome result (λ r. length r.1.now < length line.now) }
+{
+    if is_literal {
+        literal_byte(line)
+    } else {
+        plain_byte(line)
+    }
+}
+
+// As many bytes of a word as there are, and what follows them.
+fn word_bytes(alloc: Global, is_literal: bool, line: &[u8]) -> Result<(Bytes, &[u8]), OutOfMemory>
+    ensures bytes { IfOk result (λ r. Chain (IsByte is_literal) line.now r.0 r.1.now) }
+    ensures no_more { IfOk result (λ r. byte_at is_literal r.1.now ≡ None) }
+{
+    let mut bytes = Bytes::new(alloc);
+    let mut rest = line;
+    loop {
+        let Some((byte, behind)) = next_byte(is_literal, rest) else {
+            return Ok((bytes, rest));
+        };
+        bytes.push(byte)?;
+        rest = behind;
+    }
+}
+
+// What stands behind a literal's closing quotation mark.
+fn behind_literal(line: &[u8]) -> Option<&[u8]>
+    ensures some { IfSome result (λ rest. (line.now ≡ 34 ∷ rest.now) × IsWordEnd rest.now) }
+    ensures none { IfNone result ((rest : List ℕ) → line.now ≡ 34 ∷ rest → IsWordStart rest) }
+{
+    match line.split_first() {
+        Some((b'"', rest)) if is_word_end(rest) => Some(rest),
+        _ => None,
+    }
+}
+
+// The word that a line begins with, and what stands behind it.
+fn next_word(alloc: Global, line: &[u8]) -> Result<Option<(LineWord, &[u8])>, OutOfMemory>
+    requires { IsWordStart line.now }
+    ensures word { IfOk result (λ found. IfSome found (λ r. IsWordAt line.now r.0 r.1.now)) }
+    ensures none { IfOk result (λ found. IfNone found (IsStuck IsWordAt line.now)) }
+{
+    if line[0] != b'"' {
+        let (bytes, rest) = word_bytes(alloc, false, line)?;
+        return Ok(Some((LineWord::Plain(bytes), rest)));
+    }
+    let (bytes, rest) = word_bytes(alloc, true, &line[1..])?;
+    match behind_literal(rest) {
+        Some(behind) if bytes.len() <= MAX_TEXT => Ok(Some((LineWord::Literal(bytes), behind))),
+        _ => Ok(None),
+    }
+}
+
+// The words that spell a line, if any do.
+fn scan(alloc: Global, line: &[u8]) -> Result<Option<LineWords>, OutOfMemory>
+    ensures { IfOk result (λ found. HasFound found line.now) }
+{
+    let mut words = LineWords::new(alloc);
+    let mut rest = line;
+    loop {
+        let next = behind_gap(rest);
+        // behind blanks that is the line's end or a comment
+        if is_word_end(next) {
+            return Ok(Some(words));
+        }
+        let Some((word, behind)) = next_word(alloc, next)? else {
+            return Ok(None);
+        };
+        words.push(word)?;
+        rest = behind;
+    }
+}
 
 fn is_garbled(line: &[u8]) -> bool
     ensures garbled { OnTrue result (IsGarbled line.now) }

@@ -1,8 +1,14 @@
-use Rattle.program_text.proofs.DeclarationLaws.{GivesDecl-read, TellsFault-decl}
+use Rattle.std.proofs.Common.{ap, sym, ◌∙◌}
+use Rattle.text_lines.proofs.Faultless.{Gives-read, TellsFault-read}
+use Rattle.program_text.specs.DeclarationFaults.{declaration_fault}
+use Rattle.program_text.proofs.ProgramLines.{faultless, words_of_decl-unique}
 use Rattle.program_text.proofs.declaration_reading.read_declaration.Goals as goal
 
 pub returns-clause-decl_always : goal.returns-clause-decl_always
-returns-clause-decl_always c = GivesDecl-read c.read_line.result c.args.words.now c.read_line.ensures.decl c.read_line.ensures.fault
+returns-clause-decl_always c d h e =
+    Gives-read c.read_line.result _ _ (declaration_fault c.args.words.now) c.read_line.ensures.decl c.read_line.ensures.fault (ap declaration_fault e ∙ faultless d h)
+    (λ found read. words_of_decl-unique found d read.0 h (sym read.1 ∙ e))
 
 pub returns-clause-fault_always : goal.returns-clause-fault_always
-returns-clause-fault_always c = TellsFault-decl c.read_line.result c.args.words.now c.read_line.ensures.decl c.read_line.ensures.fault
+returns-clause-fault_always c =
+    TellsFault-read c.read_line.result _ (declaration_fault c.args.words.now) c.read_line.ensures.decl c.read_line.ensures.fault (λ found read. ap declaration_fault read.1 ∙ faultless found read.0)

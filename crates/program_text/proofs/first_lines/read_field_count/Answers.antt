@@ -1,12 +1,12 @@
-use Rattle.std.proofs.Common.{◌≡◌, Ok, Some, ap, subst}
+use Rattle.std.proofs.Common.{◌≡◌, ◌∙◌, Ok, Some, ap, subst, sym}
 use Rattle.text_lines.specs.declared.faults.NotRead.{NotRead}
 use Rattle.text_lines.specs.LineReading.{IsFaultOf}
 use Rattle.program_text.specs.FirstLines.{fields_fault}
-use Rattle.program_text.proofs.FirstLineLaws.{no_count_fault, same_count}
+use Rattle.program_text.proofs.ProgramLines.{field_count_words-unique, no_count_fault}
 use Rattle.program_text.proofs.first_lines.read_field_count.Goals as goal
 
 pub returns-in-Ok-clause-count_always : goal.returns-in-Ok-clause-count_always
-returns-in-Ok-clause-count_always c count h e = let read = c.in-Ok.ensures.count in ap Ok (same_count c.in-Ok.count count c.args.words.now read.0 read.1 h e)
+returns-in-Ok-clause-count_always c count h e = let read = c.in-Ok.ensures.count in ap Ok (field_count_words-unique c.in-Ok.count count read.0 h (sym read.1 ∙ e))
 
 pub returns-in-Ok-clause-fault_always : goal.returns-in-Ok-clause-fault_always
 returns-in-Ok-clause-fault_always c what h = let read = c.in-Ok.ensures.count in absurd (no_count_fault c.in-Ok.count what c.args.words.now read.0 read.1 h)

@@ -1,6 +1,6 @@
 use Rattle.std.proofs.Common.{ap}
-use Rattle.tac_text.specs.Building.{Build}
-use Rattle.tac_text.specs.FunctionAnswers.{with_build}
+use Rattle.tac_text.specs.Places.{Build}
+use Rattle.tac_text.specs.FunctionStates.{with_build}
 use Rattle.tac_text.specs.FunctionLines.{header}
 use Rattle.program_text.specs.ProgramStates.{of_function, open_function}
 use Rattle.program_text.proofs.program_reading.open_words.Goals as goal

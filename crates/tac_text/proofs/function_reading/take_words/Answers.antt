@@ -1,8 +1,7 @@
 use Rattle.std.proofs.Common.{Some, Option, false, sym, subst}
 use Rattle.std.proofs.lemmas.Result.{IfOk-weaker}
-use Rattle.tac_text.specs.FunctionAnswers.{OpenData}
-use Rattle.tac_text.specs.FunctionStates.{LeadsOn}
-use Rattle.tac_text.proofs.FunctionRuns.{LeadsOn-TakesWords, LeadsOn-header}
+use Rattle.tac_text.specs.FunctionStates.{OpenData, LeadsOn}
+use Rattle.tac_text.proofs.FunctionReads.{LeadsOn-TakesWords, LeadsOn-header}
 use Rattle.tac_text.proofs.function_reading.take_words.Goals as goal
 
 pub returns-in-Some-clause-taken : goal.returns-in-Some-clause-taken

@@ -1,5 +1,5 @@
 use Rattle.std.proofs.Common.{◌≡◌, ◌≢◌, arith}
-use Rattle.text_lines.proofs.SlotWords.{name_reads, name_told}
+use Rattle.text_lines.proofs.FilledSlots.{name_reads, name_told}
 use Rattle.text_lines.proofs.operands.name_in.Goals as goal
 
 pub returns-then-from-name : goal.returns-then-from-name

@@ -1,5 +1,5 @@
 use Rattle.std.proofs.Common.{◌≡◌, ℕ, ◌∷◌, ap, ◌∙◌}
-use Rattle.text_lines.proofs.SlotWords.{signed_bare, signed_minus}
+use Rattle.text_lines.proofs.FilledSlots.{signed_bare, signed_minus}
 use Rattle.text_lines.proofs.operands.signed_in.Goals as goal
 
 pub returns-in-Some : goal.returns-in-Some

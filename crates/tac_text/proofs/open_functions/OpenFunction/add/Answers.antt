@@ -1,5 +1,5 @@
 use Rattle.std.proofs.Common.{◌≡◌, true, false, sym, subst}
-use Rattle.tac_text.specs.FunctionAnswers.{OpenData}
+use Rattle.tac_text.specs.FunctionStates.{OpenData}
 use Rattle.tac_text.specs.Places.{MayInside, FitsBuild}
 use Rattle.tac_text.proofs.BodySteps.{fits_step, IsBuilt-inside}
 use Rattle.tac_text.proofs.open_functions.OpenFunction.add.Goals as goal

@@ -1,7 +1,0 @@
-use Rattle.std.proofs.Common.{◌≡◌, not, drop}
-use Rattle.std.specs.List.{list_any}
-use Rattle.text_lines.specs.Digits.{is_digit}
-use Rattle.text_lines.proofs.digits.are_digits.Given as goal
-
-abbrev pub invariant-loop-byte : goal.invariant-loop-byte
-invariant-loop-byte l = list_any (λ b. not (is_digit b)) (drop l.byte-index l.word) ≡ list_any (λ b. not (is_digit b)) l.word

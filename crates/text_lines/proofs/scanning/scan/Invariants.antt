@@ -1,9 +1,0 @@
-use Rattle.std.proofs.Common.{length}
-use Rattle.text_lines.specs.WordReading.{Chain, NextWord}
-use Rattle.text_lines.proofs.scanning.scan.Given as goal
-
-abbrev pub invariant-loop-next : goal.invariant-loop-next
-invariant-loop-next l = Chain NextWord l.line l.words l.rest
-
-abbrev pub decreases-loop-next : goal.decreases-loop-next
-decreases-loop-next l = length l.rest

@@ -1,9 +1,0 @@
-use Rattle.std.proofs.Common.{length}
-use Rattle.text_lines.specs.WordReading.{Chain, IsByte}
-use Rattle.text_lines.proofs.scanning.word_bytes.Given as goal
-
-abbrev pub invariant-loop-byte : goal.invariant-loop-byte
-invariant-loop-byte l = Chain (IsByte l.is_literal) l.line l.bytes l.rest
-
-abbrev pub decreases-loop-byte : goal.decreases-loop-byte
-decreases-loop-byte l = length l.rest
