@@ -92,11 +92,6 @@ next_receiver (w ∷ waiting) marks = w.0
 abbrev pub offered : Instance → Instance
 offered i = record i { waiting = later i.waiting; marks = later_marks i.waiting i.marks; receiver = next_receiver i.waiting i.marks }
 
--- with it again
-abbrev pub returned : Instance → Note → Instance
-returned i (Batch rows) = record i { waiting = (i.receiver, rows) ∷ i.waiting }
-returned i End = record i { marks = i.receiver ∷ i.marks }
-
 -- ---- an instance ends
 
 -- nothing else changes
