@@ -9,7 +9,8 @@ use Rattle.std.proofs.lemmas.Fmt.{IsAscii-from_digits, decimal-digits_value, dec
 use Rattle.std.proofs.lemmas.Str.{IsUtf8-from_ascii}
 use Rattle.std.proofs.lemmas.Str.Parse.{IsDigitsTest, IsNumeralModel, numerals_by_value}
 use Rattle.tac_syntax.specs.Grammar.{IsNumber}
-use Rattle.text_lines.specs.Digits.{is_digit, are_digits, is_number_word, is_in_range, is_signed_word}
+use Rattle.tac_syntax.specs.Names.{is_digit}
+use Rattle.text_lines.specs.Digits.{are_digits, is_number_word, is_in_range, is_signed_word}
 
 -- no byte is another than a digit
 abbrev pub HasNoOther : List ℕ → Type 0

@@ -2,9 +2,7 @@
 use Rattle.std.specs.Prelude.{ℕ, ◌^◌, ◌-◌, ◌==◌, Bool, false, not, ◌&&◌, ◌||◌, if◌then◌else◌, nat_le, Option, Some, None, List, [], ◌∷◌, length, get_or}
 use Rattle.std.specs.List.{list_any}
 use Rattle.std.specs.Str.Parse.{digits_value}
-
-abbrev pub is_digit : ℕ → Bool
-is_digit b = nat_le 48 b && nat_le b 57
+use Rattle.tac_syntax.specs.Names.{is_digit}
 
 abbrev pub are_digits : List ℕ → Bool
 are_digits bytes = not (list_any (λ b. not (is_digit b)) bytes) && nat_le 1 (length bytes)

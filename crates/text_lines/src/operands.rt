@@ -2,7 +2,8 @@
 
 ghost use Rattle.std.specs.Prelude.{◌≡◌, ◌≤◌, ◌<◌, ◌^◌, false, true, IfNone, IfSome, Some, None, decimal, ◌∷◌, FitsSigned, IfErr, if◌then◌else◌};
 ghost use Rattle.std.specs.Str.Parse.{digits_value};
-ghost use Rattle.text_lines.specs.Digits.{are_digits, is_digit, is_in_form, is_in_range, is_number_word, is_signed_word, told_unless};
+ghost use Rattle.tac_syntax.specs.Names.{is_digit};
+ghost use Rattle.text_lines.specs.Digits.{are_digits, is_in_form, is_in_range, is_number_word, is_signed_word, told_unless};
 ghost use Rattle.std.specs.Fmt.{signed_decimal};
 ghost use Rattle.tac_syntax.specs.Grammar.{IsLoopName, IsNumber, IsSpelledRecord};
 ghost use Rattle.text_lines.specs.LineReading.{ReadsPlain, IsTold};

@@ -1,6 +1,6 @@
 use Rattle.std.proofs.Common.{◌≡◌, not, drop}
 use Rattle.std.specs.List.{list_any}
-use Rattle.text_lines.specs.Digits.{is_digit}
+use Rattle.tac_syntax.specs.Names.{is_digit}
 use Rattle.text_lines.proofs.operands.are_digits.Given as goal
 
 abbrev pub invariant-loop-byte : goal.invariant-loop-byte
