@@ -5,8 +5,8 @@ ghost use Rattle.flow_model.specs.Local.{works_at_once};
 ghost use Rattle.flow_model.specs.Notes.{AreNotes};
 ghost use Rattle.flow_model.specs.declared.notes.Note.TheVariants.{End};
 ghost use Rattle.pact_record.specs.Widths.{AreWide};
-ghost use Rattle.flow_instance.specs.Sending.{AreFew};
-ghost use Rattle.flow_instance.specs.States.{AreGivenLast, AreOrderly, HasEnded, HasFlags, HasTaken, IsReady, IsSound, IsSoundIfTaking, IsWhole, is_reduce};
+ghost use Rattle.flow_instance.specs.States.{AreGivenLast, HasEnded, IsReady, IsSound, IsWhole, is_reduce};
+ghost use Rattle.flow_instance.specs.Steps.{Takes};
 
 use crate::flags::all_set;
 use crate::grouping::{cogroup_kept, reduce_kept};
@@ -116,11 +116,7 @@ impl<L: Local> State<L> {
     pub(crate) fn take_end(&mut self, port: u32, from: u32) -> Result<(), OutOfMemory>
         requires ready { IsReady L.rows L.key_fields L.is_sealed self.old port }
         requires from { from < self.old.part.workers }
-        ensures took { OnOk result (HasTaken L.rows self.old port from End self.new) }
-        ensures sound { OnOk result (IsSoundIfTaking L.rows L.key_fields L.is_sealed self.new) }
-        ensures orderly { OnOk result (AreOrderly self.new.part.workers self.new.queue.items) }
-        ensures flags { OnOk result (HasFlags self.new) }
-        ensures batches { OnOk result (AreFew self.new.part.batch self.new.queue.items) }
+        ensures { OnOk result (Takes L.rows L.key_fields L.is_sealed self.old port from End self.new) }
     {
         self.end_sender(port, from)?;
         if !self.all_ended() {
@@ -136,11 +132,7 @@ impl<L: Local> State<L> {
         requires ready { IsReady L.rows L.key_fields L.is_sealed self.old port }
         requires from { from < self.old.part.workers }
         requires note { AreNotes self.old.part.fields (note ∷ []) }
-        ensures took { OnOk result (HasTaken L.rows self.old port from note self.new) }
-        ensures sound { OnOk result (IsSoundIfTaking L.rows L.key_fields L.is_sealed self.new) }
-        ensures orderly { OnOk result (AreOrderly self.new.part.workers self.new.queue.items) }
-        ensures flags { OnOk result (HasFlags self.new) }
-        ensures batches { OnOk result (AreFew self.new.part.batch self.new.queue.items) }
+        ensures { OnOk result (Takes L.rows L.key_fields L.is_sealed self.old port from note self.new) }
     {
         match note {
             Note::Batch(rows) => self.take_batch(port, rows),
