@@ -8,7 +8,7 @@ use Rattle.pact_operators.specs.Allowed.{Bag, count_of}
 use Rattle.pact_operators.specs.PlanOps.{PlanOps}
 use Rattle.pact_record.specs.Widths.{AreWide}
 use Rattle.flow_instance.specs.Sending.{AreFew, batch_parcel, mark_parcel}
-use Rattle.flow_instance.specs.States.{AreOrderly, HasFlags, HasTaken, IsSoundIfTaking, part_of, spot_of}
+use Rattle.flow_instance.specs.States.{AreGivenLast, AreOrderly, HasFlags, HasTaken, IsSoundIfTaking, part_of, spot_of}
 use Rattle.flow_instance.specs.declared.parcels.Parcel.{Parcel}
 use Rattle.flow_instance.specs.declared.states.State.{State}
 
@@ -33,6 +33,14 @@ pub record Gives {L : Type 0} (s : State L) (out : Bag) (t : State L) : Type 0 w
   pub sent : HasGiven (part_of s.part) out s.placed t.placed t.queue.items
   pub orderly : AreOrderly s.part.workers t.queue.items
   pub batches : AreFew s.part.batch t.queue.items
+
+-- It gave these for the groups of what it has kept, which may stand in another order now.
+pub record GivesGroups {L : Type 0} (rows : L → Bag) (s t : State L) (out : Bag) : Type 0 where
+  pub same : t ≡ record s { left = t.left; right = t.right }
+  pub given : AreGivenLast rows s out
+  pub left_wide : AreWide s.part.fields (rows t.left)
+  pub right_wide : AreWide s.part.fields (rows t.right)
+  pub widths : AreWide s.part.fields out
 
 -- It took a note at a port from a sender, and is one that may go on.
 pub record Takes {L : Type 0} (rows : L → Bag) (keys : L → List ℕ) (is_sealed : L → Bool) (s : State L) (port from : ℕ) (note : Note) (t : State L) : Type 0 where
