@@ -22,9 +22,9 @@ use Rattle.tac_syntax.specs.Valid.{WithFields}
 use Rattle.tac_syntax.specs.declared.declarations.OpKind.{OpKind}
 use Rattle.tac_syntax.specs.declared.declarations.OpKind.TheVariants.{Source, Map, Reduce, Match, Cross, CoGroup}
 use Rattle.flow_instance.specs.Grouping.{AreCoGroupsGiven, AreGroupsGiven}
-use Rattle.flow_instance.specs.Sending.{batches_in, batch_parcel, mark_parcel, marks_in}
+use Rattle.flow_instance.specs.Sending.{AreFew, batches_in, batch_parcel, mark_parcel, marks_in}
 use Rattle.flow_instance.specs.States.{AreGivenLast, AreOpsOf, AreOrderly, GivesLast, HasEnded, HasFlags, HasTaken, IsOperator, IsReady, IsSound, IsSoundIfTaking, body_in, is_reduce, part_of, port_of, seen, spot_of}
-use Rattle.flow_instance.specs.Steps.{HasGiven, HasMarked}
+use Rattle.flow_instance.specs.Steps.{HasGiven, HasMarked, Takes}
 use Rattle.flow_instance.specs.declared.parcels.Parcel.{Parcel}
 use Rattle.flow_instance.specs.declared.parts.Part.{Part}
 use Rattle.flow_instance.specs.declared.states.State.{State}
@@ -177,6 +177,16 @@ took_more rows keys is_sealed s t port from ready h not_yet = λ ops a.
     (subst (Carry spot s.part.worker []) (sym (ap batches_in ready.none)) (nothing_sent spot s.part.worker))
     (no_marks spot s.part.worker (all_ended (seen rows new)) (marks_in s.queue.items) all (ap marks_in ready.none))
     (stays s.part.out s.placed sound.placed_at_root) sound.placed_wide (sound.counted ∙ ap count_of (sym (add-zero s.given))))
+
+pub takes_more : {L : Type 0} (rows : L → Bag) (keys : L → List ℕ) (is_sealed : L → Bool) (s t : State L) (port from : ℕ) → IsReady rows keys is_sealed s port → HasEnded rows s port from t → IsSound rows keys is_sealed t → all_ended (seen rows t) ≡ false
+    → AreFew t.part.batch t.queue.items → Takes rows keys is_sealed s port from End t
+takes_more rows keys is_sealed s t port from ready h sound not_yet few = record {
+  took = took_more rows keys is_sealed s t port from ready h not_yet;
+  sound = λ e. sound;
+  orderly = subst (AreOrderly t.part.workers) (sym (ap (λ (u : State _). u.queue.items) h.same ∙ ready.none)) (record { order = refl; receivers = tt });
+  flags = record { left = omega (arith, sound.left_flags); right = omega (arith, sound.right_flags) };
+  batches = few;
+}
 
 -- ---- the last one
 

@@ -1,6 +1,7 @@
 -- Records that are sent on or placed.
 use Rattle.std.proofs.Common.{◌≡◌, ◌<◌, ◌&&◌, ℕ, true, List, [], ◌∷◌, ◌++◌, Option, Some, None, map, length, refl, ap, sym, ◌∙◌, subst, append-nil}
 use Rattle.std.specs.List.{AllByRecursion}
+use Rattle.std.proofs.Math.Bool.{and-true}
 use Rattle.flow_model.proofs.Bags.{is_same}
 use Rattle.flow_model.specs.Instances.{Part}
 use Rattle.flow_model.specs.Local.{IsReceiver, IsWaiting, Placed, one_if}
@@ -11,9 +12,10 @@ use Rattle.pact_operators.specs.PlanOps.{PlanOps}
 use Rattle.pact_record.proofs.Lists.{AllByRecursion-append, AllByRecursion-weaker}
 use Rattle.pact_record.specs.Widths.{AreWide}
 use Rattle.pact_record.specs.declared.values.Value.{Value}
+use Rattle.plan_trees.specs.Sending.{has_pipe}
 use Rattle.plan_trees.specs.declared.physicals.Ship.{Ship}
 use Rattle.tac_syntax.specs.declared.declarations.OpKind.TheVariants.{Source}
-use Rattle.flow_instance.specs.Sending.{AreSent, IsInOrder, IsSent, batch_parcel, batches_in, mark_parcel, marks_in}
+use Rattle.flow_instance.specs.Sending.{AreMarked, AreSent, HasPipe, IsInOrder, IsSent, batch_parcel, batches_in, mark_parcel, marks_in}
 use Rattle.flow_instance.specs.States.{AreOrderly, PlacesAtRoot, spot_of}
 use Rattle.flow_instance.specs.Steps.{HasGiven, HasMarked}
 use Rattle.flow_instance.specs.declared.parcels.Parcel.{Parcel}
@@ -51,6 +53,16 @@ marked_none p queue root = record {
   list = [];
   behind = sym (append-nil queue);
   marks = λ ops. record { receivers = tt; each = λ to less. sym (ap (λ (x : Option Ship). one_if (has_out x p.worker to && true)) root) };
+}
+
+pub marked_some : (p : Part) (ship : Ship) (old new : List Parcel) → p.out ≡ Some ship → AreMarked p.workers ship p.worker p.workers old new → HasMarked p old new
+marked_some p ship old new o a = record {
+  list = a.list;
+  behind = a.behind;
+  marks = λ ops. record {
+    receivers = AllByRecursion-weaker (HasPipe p.workers ship p.worker) (IsReceiver (spot_of p ops) p.worker) a.list (λ to h. (h.0, ap (λ (x : Option Ship). has_out x p.worker to) o ∙ h.1)) a.receivers;
+    each = λ to less. a.each to less ∙ sym (ap (λ (x : Option Ship). one_if (has_out x p.worker to && true)) o ∙ ap one_if (and-true (has_pipe ship p.worker to)));
+  };
 }
 
 -- ---- what waits, in order

@@ -1,5 +1,5 @@
 -- Notes that an instance takes.
-use Rattle.std.proofs.Common.{◌≡◌, ◌+◌, ◌&&◌, ◌||◌, ◌==◌, ◌⊎◌, inl, inr, ℕ, zero, suc, Bool, true, false, Option, Some, None, List, [], ◌∷◌, ◌++◌, length, map, refl, ap, sym, ◌∙◌, subst, append-nil}
+use Rattle.std.proofs.Common.{◌≡◌, ◌<◌, ◌+◌, ◌&&◌, ◌||◌, ◌==◌, ◌⊎◌, inl, inr, ℕ, zero, suc, Bool, true, false, Option, Some, None, List, [], ◌∷◌, ◌++◌, length, map, refl, ap, sym, ◌∙◌, subst, arith, append-nil}
 use Rattle.std.specs.Prelude.{flat_map}
 use Rattle.std.specs.List.{AllByRecursion}
 use Rattle.std.specs.List.Sorted.{IsPermutation}
@@ -15,7 +15,7 @@ use Rattle.flow_model.specs.declared.notes.Note.{Note}
 use Rattle.flow_model.specs.declared.notes.Note.TheVariants.{Batch}
 use Rattle.pact_operators.specs.Allowed.{Bag, count_of, crossed, matched}
 use Rattle.pact_operators.specs.PlanOps.{PlanOps}
-use Rattle.pact_operators.specs.Programs.{HasKeyLists, is_pair_kind}
+use Rattle.pact_operators.specs.Programs.{HasKeyLists, is_pair_kind, takes}
 use Rattle.pact_record.proofs.Permutations.{filter_perm, from_permutation, to_permutation}
 use Rattle.pact_record.specs.Widths.{AreWide}
 use Rattle.pact_record.specs.declared.values.Value.{Value}
@@ -26,9 +26,12 @@ use Rattle.flow_model.specs.Local.{Calls}
 use Rattle.tac_syntax.specs.Call.{Out, of_pair, of_record}
 use Rattle.tac_syntax.specs.Valid.{WithFields}
 use Rattle.tac_syntax.specs.declared.declarations.OpKind.{OpKind}
-use Rattle.flow_instance.specs.Sending.{batch_parcel, batches_in, marks_in}
-use Rattle.flow_instance.specs.States.{AreOpsOf, ArePairsGiven, IsSound, IsOperator, IsReady, PlacesAtRoot, body_in, is_cross, is_map, part_of, seen, spot_of}
-use Rattle.flow_instance.specs.Steps.{HasGiven}
+use Rattle.flow_instance.specs.Sending.{AreFew, batch_parcel, batches_in, marks_in}
+use Rattle.flow_instance.specs.States.{AreOpsOf, AreOrderly, ArePairsGiven, HasFlags, HasTaken, IsSound, IsOperator, IsReady, PlacesAtRoot, body_in, is_cross, is_map, part_of, seen, spot_of}
+use Rattle.flow_instance.specs.Steps.{Gives, HasGiven, Takes}
+use Rattle.flow_instance.specs.Keeping.{IsKept}
+use Rattle.flow_instance.proofs.NotesForReceivers.{none_few}
+use Rattle.flow_instance.proofs.SoundInstances.{sound_given}
 use Rattle.flow_instance.specs.declared.parts.Part.{Part}
 use Rattle.flow_instance.specs.declared.states.State.{State}
 use Rattle.tac_syntax.specs.declared.declarations.OpKind.TheVariants.{Source, Map, Reduce, Match, Cross, CoGroup}
@@ -268,3 +271,93 @@ took_left rows keys is_sealed s t batch ready k frame right p wide from ops a =
     let all : all_ended (seen rows t) ≡ false = ap (λ (u : State _). all_ended (seen rows u)) frame ∙ still_taking rows keys is_sealed s 0 ready in
     took_kept rows keys is_sealed s 0 ready t ops from batch (gives_kept_left s.part ops (seen rows s) (seen rows t) s.part.kind batch k all)
     (left_keeps s.part.kind (seen rows s) (seen rows t) batch k p right) (each_wide s.part.fields (seen rows t) wide (subst (AreWide s.part.fields) (sym right) ready.sound.right_wide)) frame
+
+gives_kept_right : (p : Part) (ops : PlanOps) (i j : Instance) (kind : OpKind) (batch : Bag) → is_pair_kind kind ≡ false → 1 < takes kind → all_ended j ≡ false
+    → GivesNow (works_at_once kind) (record (spot_of (part_of p) ops) { kind = kind }) p.worker i j 1 (Batch batch) []
+gives_kept_right p ops i j Source batch k two e = absurd (omega (arith, two))
+gives_kept_right p ops i j Map batch k two e = absurd (omega (arith, two))
+gives_kept_right p ops i j Reduce batch k two e = absurd (omega (arith, two))
+gives_kept_right p ops i j Match batch k two e = absurd (cc)
+gives_kept_right p ops i j Cross batch k two e = absurd (cc)
+gives_kept_right p ops i j CoGroup batch k two e = rw e refl
+
+right_keeps : (kind : OpKind) (i j : Instance) (batch : Bag) → is_pair_kind kind ≡ false → 1 < takes kind → IsPermutation (i.right_kept ++ batch) j.right_kept → j.left_kept ≡ i.left_kept → KeepsRows kind (kept_with (kept_at i) 1 (Batch batch)) (kept_at j)
+right_keeps Source i j batch k two p l = tt
+right_keeps Map i j batch k two p l = tt
+right_keeps Reduce i j batch k two p l = absurd (omega (arith, two))
+right_keeps Match i j batch k two p l = absurd (cc)
+right_keeps Cross i j batch k two p l = absurd (cc)
+right_keeps CoGroup i j batch k two p l = (is_same (append-nil i.left_kept ∙ sym l), p)
+
+-- ---- what an instance is then
+
+module _ {L : Type 0} (rows : L → Bag) (keys : L → List ℕ) (is_sealed : L → Bool) (s : State L) (batch : Bag) where
+  none_waits : s.queue.items ≡ [] → AreOrderly s.part.workers s.queue.items
+  none_waits none = subst (AreOrderly s.part.workers) (sym none) (record { order = refl; receivers = tt })
+
+  -- one that gave records for it
+  pub takes_given : (t : State L) (port from : ℕ) (note : Note) (out : Bag) → IsSound rows keys is_sealed s → Gives s out t → HasTaken rows s port from note t → Takes rows keys is_sealed s port from note t
+  takes_given t port from note out sound g took =
+      let part : t.part ≡ s.part = ap (λ (u : State L). u.part) g.same in
+      record {
+        took = took;
+        sound = λ not_yet. sound_given rows keys is_sealed s t out sound g.same g.counted g.sent;
+        orderly = subst (λ (p : Part). AreOrderly p.workers t.queue.items) (sym part) g.orderly;
+        flags = subst HasFlags (sym g.same) (record { left = omega (arith, sound.left_flags); right = omega (arith, sound.right_flags) });
+        batches = subst (λ (p : Part). AreFew p.batch t.queue.items) (sym part) g.batches;
+      }
+
+  pub takes_left : (new : L) → IsReady rows keys is_sealed s 0 → is_map s.part.kind ≡ false → IsKept rows keys is_sealed s.part.fields batch s.left new → (from : ℕ) → Takes rows keys is_sealed s 0 from (Batch batch) (record s { left = new })
+  takes_left new ready kind k from =
+      let h = ready.sound in
+      record {
+        took = took_left rows keys is_sealed s (record s { left = new }) batch ready kind refl refl k.kept k.wide from;
+        sound = λ not_yet. record {
+          batch = h.batch;
+          worker = h.worker;
+          operator = h.operator;
+          left_flags = h.left_flags;
+          right_flags = h.right_flags;
+          left_wide = k.wide;
+          right_wide = h.right_wide;
+          left_keys = k.same ∙ h.left_keys;
+          right_keys = h.right_keys;
+          left_sealed = k.not_sealed ∙ sym (and_right (is_pair_kind s.part.kind) (port_ended (seen rows s) 0) ready.not_ended);
+          right_sealed = h.right_sealed;
+          placed_wide = h.placed_wide;
+          placed_at_root = h.placed_at_root;
+          counted = h.counted;
+        };
+        orderly = none_waits ready.none;
+        flags = record { left = omega (arith, h.left_flags); right = omega (arith, h.right_flags) };
+        batches = none_few s.part.batch s.queue.items ready.none;
+      }
+
+  pub takes_right : (new : L) → IsReady rows keys is_sealed s 1 → is_pair_kind s.part.kind ≡ false → IsKept rows keys is_sealed s.part.fields batch s.right new → (from : ℕ) → Takes rows keys is_sealed s 1 from (Batch batch) (record s { right = new })
+  takes_right new ready kind k from =
+      let h = ready.sound in
+      let t = record s { right = new } in
+      let two = subst (λ (n : ℕ). 1 < n) (sym h.operator.arity) ready.there in
+      record {
+        took = λ ops a. took_kept rows keys is_sealed s 1 ready t ops from batch (gives_kept_right s.part ops (seen rows s) (seen rows t) s.part.kind batch kind two (still_taking rows keys is_sealed s 1 ready))
+            (right_keeps s.part.kind (seen rows s) (seen rows t) batch kind two k.kept refl) (each_wide s.part.fields (seen rows t) h.left_wide k.wide) refl;
+        sound = λ not_yet. record {
+          batch = h.batch;
+          worker = h.worker;
+          operator = h.operator;
+          left_flags = h.left_flags;
+          right_flags = h.right_flags;
+          left_wide = h.left_wide;
+          right_wide = k.wide;
+          left_keys = h.left_keys;
+          right_keys = k.same ∙ h.right_keys;
+          left_sealed = h.left_sealed;
+          right_sealed = k.not_sealed;
+          placed_wide = h.placed_wide;
+          placed_at_root = h.placed_at_root;
+          counted = h.counted;
+        };
+        orderly = none_waits ready.none;
+        flags = record { left = omega (arith, h.left_flags); right = omega (arith, h.right_flags) };
+        batches = none_few s.part.batch s.queue.items ready.none;
+      }

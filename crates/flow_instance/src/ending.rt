@@ -4,9 +4,8 @@ ghost use Rattle.std.specs.Prelude.{◌≡◌, ◌<◌, ◌∷◌, [], true, fal
 ghost use Rattle.flow_model.specs.Local.{works_at_once};
 ghost use Rattle.flow_model.specs.Notes.{AreNotes};
 ghost use Rattle.flow_model.specs.declared.notes.Note.TheVariants.{End};
-ghost use Rattle.pact_record.specs.Widths.{AreWide};
-ghost use Rattle.flow_instance.specs.Sending.{AreFew};
-ghost use Rattle.flow_instance.specs.States.{AreGivenLast, AreOrderly, HasEnded, HasFlags, HasTaken, IsReady, IsSound, IsSoundIfTaking, IsWhole, is_reduce};
+ghost use Rattle.flow_instance.specs.States.{HasEnded, IsReady, IsSound, IsWhole, is_reduce};
+ghost use Rattle.flow_instance.specs.Steps.{GivesGroups, Takes};
 
 use crate::flags::all_set;
 use crate::grouping::{cogroup_kept, reduce_kept};
@@ -60,11 +59,7 @@ impl<L: Local> State<L> {
     fn reduce(&mut self) -> Result<Rows, OutOfMemory>
         requires sound { IsSound L.rows L.key_fields L.is_sealed self.old }
         requires kind { is_reduce self.old.part.kind ≡ true }
-        ensures same { IfOk result (λ _. self.new ≡ record self.old { left = self.new.left; right = self.new.right }) }
-        ensures given { IfOk result (AreGivenLast L.rows self.old) }
-        ensures left_wide { IfOk result (λ _. AreWide self.old.part.fields (L.rows self.new.left)) }
-        ensures right_wide { IfOk result (λ _. AreWide self.old.part.fields (L.rows self.new.right)) }
-        ensures widths { IfOk result (AreWide self.old.part.fields) }
+        ensures { IfOk result (GivesGroups L.rows self.old self.new) }
     {
         self.left.seal()?;
         let part = &self.part;
@@ -75,11 +70,7 @@ impl<L: Local> State<L> {
         requires sound { IsSound L.rows L.key_fields L.is_sealed self.old }
         requires waits { works_at_once self.old.part.kind ≡ false }
         requires kind { is_reduce self.old.part.kind ≡ false }
-        ensures same { IfOk result (λ _. self.new ≡ record self.old { left = self.new.left; right = self.new.right }) }
-        ensures given { IfOk result (AreGivenLast L.rows self.old) }
-        ensures left_wide { IfOk result (λ _. AreWide self.old.part.fields (L.rows self.new.left)) }
-        ensures right_wide { IfOk result (λ _. AreWide self.old.part.fields (L.rows self.new.right)) }
-        ensures widths { IfOk result (AreWide self.old.part.fields) }
+        ensures { IfOk result (GivesGroups L.rows self.old self.new) }
     {
         self.left.seal()?;
         self.right.seal()?;
@@ -97,11 +88,7 @@ impl<L: Local> State<L> {
     // What a Reduce or a CoGroup gives for all groups.
     fn groups(&mut self) -> Result<Rows, OutOfMemory>
         requires sound { IsSound L.rows L.key_fields L.is_sealed self.old }
-        ensures same { IfOk result (λ _. self.new ≡ record self.old { left = self.new.left; right = self.new.right }) }
-        ensures given { IfOk result (AreGivenLast L.rows self.old) }
-        ensures left_wide { IfOk result (λ _. AreWide self.old.part.fields (L.rows self.new.left)) }
-        ensures right_wide { IfOk result (λ _. AreWide self.old.part.fields (L.rows self.new.right)) }
-        ensures widths { IfOk result (AreWide self.old.part.fields) }
+        ensures { IfOk result (GivesGroups L.rows self.old self.new) }
     {
         if self.part.works_at_once() {
             return Ok(Rows::new(self.alloc));
@@ -116,11 +103,7 @@ impl<L: Local> State<L> {
     pub(crate) fn take_end(&mut self, port: u32, from: u32) -> Result<(), OutOfMemory>
         requires ready { IsReady L.rows L.key_fields L.is_sealed self.old port }
         requires from { from < self.old.part.workers }
-        ensures took { OnOk result (HasTaken L.rows self.old port from End self.new) }
-        ensures sound { OnOk result (IsSoundIfTaking L.rows L.key_fields L.is_sealed self.new) }
-        ensures orderly { OnOk result (AreOrderly self.new.part.workers self.new.queue.items) }
-        ensures flags { OnOk result (HasFlags self.new) }
-        ensures batches { OnOk result (AreFew self.new.part.batch self.new.queue.items) }
+        ensures { OnOk result (Takes L.rows L.key_fields L.is_sealed self.old port from End self.new) }
     {
         self.end_sender(port, from)?;
         if !self.all_ended() {
@@ -136,11 +119,7 @@ impl<L: Local> State<L> {
         requires ready { IsReady L.rows L.key_fields L.is_sealed self.old port }
         requires from { from < self.old.part.workers }
         requires note { AreNotes self.old.part.fields (note ∷ []) }
-        ensures took { OnOk result (HasTaken L.rows self.old port from note self.new) }
-        ensures sound { OnOk result (IsSoundIfTaking L.rows L.key_fields L.is_sealed self.new) }
-        ensures orderly { OnOk result (AreOrderly self.new.part.workers self.new.queue.items) }
-        ensures flags { OnOk result (HasFlags self.new) }
-        ensures batches { OnOk result (AreFew self.new.part.batch self.new.queue.items) }
+        ensures { OnOk result (Takes L.rows L.key_fields L.is_sealed self.old port from note self.new) }
     {
         match note {
             Note::Batch(rows) => self.take_batch(port, rows),

@@ -1,12 +1,11 @@
 //! The fields of an instance.
 
-ghost use Rattle.std.specs.Prelude.{◌≡◌, ◌≤◌, ◌<◌, ◌+◌, [], true, length, IfOk, OnOk};
+ghost use Rattle.std.specs.Prelude.{◌≡◌, ◌≤◌, ◌<◌, [], true, length, IfOk, OnOk};
 ghost use Rattle.flow_model.specs.Instances.{all_ended};
-ghost use Rattle.pact_operators.specs.Allowed.{count_of};
 ghost use Rattle.pact_record.specs.Widths.{AreWide};
 ghost use Rattle.flow_instance.specs.Sending.{AreFew};
-ghost use Rattle.flow_instance.specs.Steps.{HasGiven, HasMarked};
-ghost use Rattle.flow_instance.specs.States.{AreOrderly, HasBegun, IsFresh, PlacesAtRoot, part_of, seen};
+ghost use Rattle.flow_instance.specs.Steps.{Gives, HasMarked};
+ghost use Rattle.flow_instance.specs.States.{HasBegun, IsFresh, PlacesAtRoot, part_of, seen};
 
 use crate::flags::{all_set, ended_at_start};
 use crate::parcels::Parcel;
@@ -95,11 +94,7 @@ impl<L: Local> State<L> {
         requires placed_wide { AreWide self.old.part.fields self.old.placed }
         requires at_root { PlacesAtRoot self.old.part.out self.old.placed }
         requires none { self.old.queue.items ≡ [] }
-        ensures same { OnOk result (self.new ≡ record self.old { queue = self.new.queue; placed = self.new.placed; given = self.new.given }) }
-        ensures counted { OnOk result (self.new.given ≡ count_of (self.old.given + length rows)) }
-        ensures sent { OnOk result (HasGiven (part_of self.old.part) rows self.old.placed self.new.placed self.new.queue.items) }
-        ensures orderly { OnOk result (AreOrderly self.old.part.workers self.new.queue.items) }
-        ensures batches { OnOk result (AreFew self.old.part.batch self.new.queue.items) }
+        ensures { OnOk result (Gives self.old rows self.new) }
     {
         self.given = self.given.saturating_add(rows.len() as u64);
         let Some(ship) = &self.part.out else {

@@ -4,9 +4,9 @@ ghost use Rattle.std.specs.Prelude.{◌≡◌, [], ℕ, true, false, IfOk, OnOk}
 ghost use Rattle.flow_model.specs.Instances.{all_ended};
 ghost use Rattle.flow_model.specs.declared.notes.Note.TheVariants.{Batch};
 ghost use Rattle.pact_record.specs.Widths.{AreWide};
-ghost use Rattle.flow_instance.specs.Sending.{AreFew};
 ghost use Rattle.pact_operators.specs.Programs.{is_pair_kind};
-ghost use Rattle.flow_instance.specs.States.{AreOrderly, ArePairsGiven, HasFlags, HasTaken, IsReady, IsSound, is_map};
+ghost use Rattle.flow_instance.specs.States.{ArePairsGiven, IsReady, is_map};
+ghost use Rattle.flow_instance.specs.Steps.{Takes};
 
 use crate::keeping::keep;
 use crate::matching::{cross_kept, match_kept};
@@ -22,11 +22,7 @@ impl<L: Local> State<L> {
         requires ready { IsReady L.rows L.key_fields L.is_sealed self.old 0 }
         requires kind { is_map self.old.part.kind ≡ true }
         requires wide { AreWide self.old.part.fields rows.now }
-        ensures took { OnOk result ((from : ℕ) → HasTaken L.rows self.old 0 from (Batch rows.now) self.new) }
-        ensures sound { OnOk result (IsSound L.rows L.key_fields L.is_sealed self.new) }
-        ensures orderly { OnOk result (AreOrderly self.new.part.workers self.new.queue.items) }
-        ensures flags { OnOk result (HasFlags self.new) }
-        ensures batches { OnOk result (AreFew self.new.part.batch self.new.queue.items) }
+        ensures { OnOk result ((from : ℕ) → Takes L.rows L.key_fields L.is_sealed self.old 0 from (Batch rows.now) self.new) }
     {
         let out = map_rows(self.alloc, self.part.function(), rows)?;
         self.give(out)
@@ -58,11 +54,7 @@ impl<L: Local> State<L> {
         requires ready { IsReady L.rows L.key_fields L.is_sealed self.old 1 }
         requires kind { is_pair_kind self.old.part.kind ≡ true }
         requires wide { AreWide self.old.part.fields rows.now }
-        ensures took { OnOk result ((from : ℕ) → HasTaken L.rows self.old 1 from (Batch rows.now) self.new) }
-        ensures sound { OnOk result (IsSound L.rows L.key_fields L.is_sealed self.new) }
-        ensures orderly { OnOk result (AreOrderly self.new.part.workers self.new.queue.items) }
-        ensures flags { OnOk result (HasFlags self.new) }
-        ensures batches { OnOk result (AreFew self.new.part.batch self.new.queue.items) }
+        ensures { OnOk result ((from : ℕ) → Takes L.rows L.key_fields L.is_sealed self.old 1 from (Batch rows.now) self.new) }
     {
         let out = self.pairs(rows)?;
         self.give(out)
@@ -72,11 +64,7 @@ impl<L: Local> State<L> {
         requires ready { IsReady L.rows L.key_fields L.is_sealed self.old 0 }
         requires kind { is_map self.old.part.kind ≡ false }
         requires wide { AreWide self.old.part.fields rows }
-        ensures took { OnOk result ((from : ℕ) → HasTaken L.rows self.old 0 from (Batch rows) self.new) }
-        ensures sound { OnOk result (IsSound L.rows L.key_fields L.is_sealed self.new) }
-        ensures orderly { OnOk result (AreOrderly self.new.part.workers self.new.queue.items) }
-        ensures flags { OnOk result (HasFlags self.new) }
-        ensures batches { OnOk result (AreFew self.new.part.batch self.new.queue.items) }
+        ensures { OnOk result ((from : ℕ) → Takes L.rows L.key_fields L.is_sealed self.old 0 from (Batch rows) self.new) }
     {
         keep(&mut self.left, self.part.fields, rows)
     }
@@ -85,30 +73,42 @@ impl<L: Local> State<L> {
         requires ready { IsReady L.rows L.key_fields L.is_sealed self.old 1 }
         requires kind { is_pair_kind self.old.part.kind ≡ false }
         requires wide { AreWide self.old.part.fields rows }
-        ensures took { OnOk result ((from : ℕ) → HasTaken L.rows self.old 1 from (Batch rows) self.new) }
-        ensures sound { OnOk result (IsSound L.rows L.key_fields L.is_sealed self.new) }
-        ensures orderly { OnOk result (AreOrderly self.new.part.workers self.new.queue.items) }
-        ensures flags { OnOk result (HasFlags self.new) }
-        ensures batches { OnOk result (AreFew self.new.part.batch self.new.queue.items) }
+        ensures { OnOk result ((from : ℕ) → Takes L.rows L.key_fields L.is_sealed self.old 1 from (Batch rows) self.new) }
     {
         keep(&mut self.right, self.part.fields, rows)
+    }
+
+    fn take_left(&mut self, rows: Rows) -> Result<(), OutOfMemory>
+        requires ready { IsReady L.rows L.key_fields L.is_sealed self.old 0 }
+        requires wide { AreWide self.old.part.fields rows }
+        ensures { OnOk result ((from : ℕ) → Takes L.rows L.key_fields L.is_sealed self.old 0 from (Batch rows) self.new) }
+    {
+        if self.part.maps() {
+            return self.map_batch(&rows);
+        }
+        self.keep_left(rows)
+    }
+
+    fn take_right(&mut self, rows: Rows) -> Result<(), OutOfMemory>
+        requires ready { IsReady L.rows L.key_fields L.is_sealed self.old 1 }
+        requires wide { AreWide self.old.part.fields rows }
+        ensures { OnOk result ((from : ℕ) → Takes L.rows L.key_fields L.is_sealed self.old 1 from (Batch rows) self.new) }
+    {
+        if self.part.pairs() {
+            return self.match_batch(&rows);
+        }
+        self.keep_right(rows)
     }
 
     /// Takes a batch at a port.
     pub(crate) fn take_batch(&mut self, port: u32, rows: Rows) -> Result<(), OutOfMemory>
         requires ready { IsReady L.rows L.key_fields L.is_sealed self.old port }
         requires wide { AreWide self.old.part.fields rows }
-        ensures took { OnOk result ((from : ℕ) → HasTaken L.rows self.old port from (Batch rows) self.new) }
-        ensures sound { OnOk result (IsSound L.rows L.key_fields L.is_sealed self.new) }
-        ensures orderly { OnOk result (AreOrderly self.new.part.workers self.new.queue.items) }
-        ensures flags { OnOk result (HasFlags self.new) }
-        ensures batches { OnOk result (AreFew self.new.part.batch self.new.queue.items) }
+        ensures { OnOk result ((from : ℕ) → Takes L.rows L.key_fields L.is_sealed self.old port from (Batch rows) self.new) }
     {
-        match (port == 0, self.part.maps(), self.part.pairs()) {
-            (true, true, _) => self.map_batch(&rows),
-            (true, false, _) => self.keep_left(rows),
-            (false, _, true) => self.match_batch(&rows),
-            (false, _, false) => self.keep_right(rows),
+        if port == 0 {
+            return self.take_left(rows);
         }
+        self.take_right(rows)
     }
 }

@@ -1,7 +1,7 @@
 use Rattle.std.proofs.Common.{◌<◌, ◌≤◌, ℕ, List, length, arith, sym, subst}
 use Rattle.std.proofs.lemmas.Result.{IfOk-weaker}
 use Rattle.pact_operators.specs.Allowed.{Bag}
-use Rattle.pact_record.specs.Widths.{AreBelow}
+use Rattle.pact_record.specs.Widths.{AreBelow, AreWide}
 use Rattle.pact_record.specs.declared.values.Value.{Value}
 use Rattle.tac_syntax.specs.Call.{Out, of_groups}
 use Rattle.flow_instance.proofs.Calling.{keys_of_group, numbered_as, numbered_wide, other_group, right_called, right_silent, row_width}
@@ -39,6 +39,9 @@ returns-then-len-gt0-clause-given g c =
     let calls : List Value → Bag → Bag → Bag = λ k x y. Out f.fields f.function.body (of_groups k x y) in
     let some : 0 < length left = omega (arith, c.len.ensures, c.if-len-gt0.true) in
     right_silent calls others keys ls rs order c.args.n left right c.new.result r p some c.new.ensures
+
+pub returns-then-len-gt0-clause-widths : goal.returns-then-len-gt0-clause-widths
+returns-then-len-gt0-clause-widths g c = subst (AreWide c.args.f.now.fields) (sym c.new.ensures) tt
 
 pub call_cogroup-requires-clause-right_widths : goal.call_cogroup-requires-clause-right_widths
 call_cogroup-requires-clause-right_widths g c =

@@ -1,11 +1,11 @@
-use Rattle.std.proofs.Common.{◌++◌, ℕ, length, ap, sym, subst, ◌∙◌}
-use Rattle.std.specs.List.Sorted.{IsPermutation}
+use Rattle.std.proofs.Common.{ℕ, length, ap, sym, subst, ◌∙◌}
 use Rattle.std.proofs.lemmas.Iterator.Adapters.{YieldsList-from_vec}
 use Rattle.std.proofs.lemmas.Iterator.Consumers.{YieldsList-end, YieldsList-turn}
 use Rattle.std.proofs.lemmas.List.{map-id}
 use Rattle.pact_operators.specs.Allowed.{Bag}
 use Rattle.pact_record.specs.Widths.{AreBelow, AreWide}
 use Rattle.flow_instance.proofs.CarriedBatches.{next_width}
+use Rattle.flow_instance.specs.Keeping.{IsKept}
 use Rattle.flow_instance.proofs.KeptRecords.{none_kept, one_kept}
 use Rattle.flow_instance.proofs.keeping.keep.Goals as goal
 
@@ -38,10 +38,10 @@ loop-row-preserved g c =
     one_kept g.L.Local.rows g.L.Local.key_fields g.L.Local.is_sealed c.args.fields c.loop-row.yielded c.in-Some.row c.args.kept.now c.loop-row.kept c.add.new.self (next_width c.args.fields c.loop-row.yielded c.args.rows c.in-Some.row c.requires.rows_wide t)
     c.in_ok-add.ensures.rows c.in_ok-add.ensures.keys c.in_ok-add.ensures.not_sealed c.loop-row.invariant
 
-pub returns-clause-rows : goal.returns-clause-rows
-returns-clause-rows g c =
+pub returns : goal.returns
+returns g c =
     let gives = c.into_iter-row-iterator.ensures.into_iter_gives in
     let items = c.into_records-row-items in
     let all = YieldsList-end (YieldsList-from_vec {s = c.into_iter-row-iterator.result} c.args.rows (gives.0 ∙ items.ensures) (gives.1 ∙ items.result.ok.0 ∙ ap length items.ensures)) c.loop-row.yielded c.loop-row.row-iterator c.loop-row.yielded_by c.next.result c.next.new.self
     c.in-None.is c.next.ensures.steps in
-    subst (λ (rows : Bag). IsPermutation (g.L.Local.rows c.args.kept.now ++ rows) (g.L.Local.rows c.loop-row.kept)) (sym (map-id c.loop-row.yielded) ∙ all.0) c.loop-row.invariant.kept
+    subst (λ (rows : Bag). IsKept g.L.Local.rows g.L.Local.key_fields g.L.Local.is_sealed c.args.fields rows c.args.kept.now c.loop-row.kept) (sym (map-id c.loop-row.yielded) ∙ all.0) c.loop-row.invariant

@@ -1,4 +1,7 @@
+use Rattle.std.proofs.Common.{rules}
 use Rattle.std.proofs.lemmas.Result.{on_ok_weaker}
+use Rattle.flow_instance.proofs.NotesForReceivers.{none_few}
+use Rattle.flow_instance.proofs.Results.{on_ok_two}
 use Rattle.pact_bag.proofs.Widths.{HaveOneWidth-append}
 use Rattle.flow_instance.specs.States.{part_of}
 use Rattle.flow_instance.proofs.Giving.{given_placed, given_sent, orderly_given}
@@ -7,20 +10,32 @@ use Rattle.flow_instance.proofs.states.State.give.Goals as goal
 pub append-requires : goal.append-requires
 append-requires g c = HaveOneWidth-append c.args.self.now.part.fields c.args.self.now.placed c.args.rows c.requires.placed_wide c.requires.wide
 
-pub returns-in_default-clause-sent : goal.returns-in_default-clause-sent
-returns-in_default-clause-sent g c =
-    on_ok_weaker c.append.result (λ e. given_placed (part_of c.args.self.now.part) c.args.rows c.args.self.now.placed c.append.new.self c.args.self.now.queue.items c.in_default.is c.requires.none c.requires.wide c.requires.placed_wide e) c.append.ensures.ok
+pub returns-in_default : goal.returns-in_default
+returns-in_default g c =
+    let s = c.args.self.now in
+    let p = part_of s.part in
+    on_ok_weaker c.append.result (λ e.
+    let sent = given_placed p c.args.rows s.placed c.append.new.self s.queue.items c.in_default.is c.requires.none c.requires.wide c.requires.placed_wide e in
+    record {
+      same = search rules;
+      counted = search rules;
+      sent = sent;
+      orderly = orderly_given p c.args.rows s.placed c.append.new.self s.queue.items sent;
+      batches = none_few s.part.batch s.queue.items c.requires.none;
+    })
+    c.append.ensures.ok
 
-pub returns-clause-sent : goal.returns-clause-sent
-returns-clause-sent g c = on_ok_weaker c.send.result (λ h. given_sent (part_of c.args.self.now.part) c.in-Some.ship c.args.rows c.args.self.now.placed c.send.new.queue.items c.in-Some.is c.requires.at_root c.requires.placed_wide
-    (h c.args.self.now.part.fields c.requires.wide)) c.send.ensures.sent
-
-pub returns-in_default-clause-orderly : goal.returns-in_default-clause-orderly
-returns-in_default-clause-orderly g c =
-    on_ok_weaker c.append.result (λ e. orderly_given (part_of c.args.self.now.part) c.args.rows c.args.self.now.placed c.append.new.self c.args.self.now.queue.items
-    (given_placed (part_of c.args.self.now.part) c.args.rows c.args.self.now.placed c.append.new.self c.args.self.now.queue.items c.in_default.is c.requires.none c.requires.wide c.requires.placed_wide e)) c.append.ensures.ok
-
-pub returns-clause-orderly : goal.returns-clause-orderly
-returns-clause-orderly g c = on_ok_weaker c.send.result (λ h. orderly_given (part_of c.args.self.now.part) c.args.rows c.args.self.now.placed c.args.self.now.placed c.send.new.queue.items
-    (given_sent (part_of c.args.self.now.part) c.in-Some.ship c.args.rows c.args.self.now.placed c.send.new.queue.items c.in-Some.is c.requires.at_root c.requires.placed_wide
-    (h c.args.self.now.part.fields c.requires.wide))) c.send.ensures.sent
+pub returns : goal.returns
+returns g c =
+    let s = c.args.self.now in
+    let p = part_of s.part in
+    on_ok_two c.send.result (λ told few.
+    let sent = given_sent p c.in-Some.ship c.args.rows s.placed c.send.new.queue.items c.in-Some.is c.requires.at_root c.requires.placed_wide (told s.part.fields c.requires.wide) in
+    record {
+      same = search rules;
+      counted = search rules;
+      sent = sent;
+      orderly = orderly_given p c.args.rows s.placed s.placed c.send.new.queue.items sent;
+      batches = few;
+    })
+    c.send.ensures.sent c.send.ensures.batches
