@@ -28,7 +28,7 @@ use Rattle.flow_instance.specs.Steps.{HasGiven, HasMarked, Takes}
 use Rattle.flow_instance.specs.declared.parcels.Parcel.{Parcel}
 use Rattle.flow_instance.specs.declared.parts.Part.{Part}
 use Rattle.flow_instance.specs.declared.states.State.{State}
-use Rattle.flow_instance.proofs.Giving.{batches_in-queue, marks_in-queue, orderly_marked}
+use Rattle.flow_instance.proofs.RowsSentOrPlaced.{batches_in-queue, marks_in-queue, orderly_marked}
 use Rattle.flow_instance.proofs.KeptRecords.{wide_permuted}
 use Rattle.flow_instance.proofs.TakenNotes.{each_wide, its_fields, no_marks, nothing_sent, stays, took_of}
 

@@ -33,7 +33,7 @@ use Rattle.flow_instance.specs.declared.parts.Part.{Part}
 use Rattle.flow_instance.specs.declared.states.State.{State}
 use Rattle.flow_instance.proofs.PartsOfPlans.{arity_at}
 use Rattle.flow_instance.proofs.SoundInstances.{at_root, count_twice}
-use Rattle.flow_instance.proofs.Spotted.{same_spot}
+use Rattle.flow_instance.proofs.InstancesOfPlans.{same_spot}
 use Rattle.flow_instance.proofs.TakenNotes.{each_wide}
 
 -- ---- the part

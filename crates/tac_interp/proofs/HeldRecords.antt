@@ -7,7 +7,7 @@ use Rattle.pact_record.specs.declared.values.Value.{Value}
 use Rattle.tac_syntax.specs.Call.{empty_record}
 use Rattle.tac_syntax.specs.Limits.{record_registers}
 use Rattle.tac_interp.specs.Registers.{AreAsWide, IsAsWide, filled, row_of}
-use Rattle.tac_interp.proofs.Filled.{get_or-filled, get_or-held, get_or-unset, set-filled}
+use Rattle.tac_interp.proofs.FilledRegisters.{get_or-filled, get_or-held, get_or-unset, set-filled}
 
 -- what the registers have
 abbrev pub rows_of : ℕ → List (Option (List Value)) → List (List Value)

@@ -1,5 +1,5 @@
 pub mod Loops
 pub mod Starts
 pub mod InputRecords
-pub mod Filled
+pub mod FilledRegisters
 pub mod HeldRecords

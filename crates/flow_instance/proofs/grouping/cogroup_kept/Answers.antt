@@ -4,7 +4,7 @@ use Rattle.pact_operators.specs.Allowed.{Bag}
 use Rattle.pact_record.specs.declared.values.Value.{Value}
 use Rattle.tac_syntax.specs.Call.{Out, of_groups}
 use Rattle.flow_instance.specs.Grouping.{AreCoGroupsGiven}
-use Rattle.flow_instance.proofs.Calling.{cogroups_given}
+use Rattle.flow_instance.proofs.CallsForGroups.{cogroups_given}
 use Rattle.flow_instance.proofs.grouping.cogroup_kept.Goals as goal
 
 pub append-requires : goal.append-requires

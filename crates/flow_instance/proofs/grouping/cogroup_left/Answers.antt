@@ -4,8 +4,8 @@ use Rattle.pact_operators.specs.Allowed.{Bag}
 use Rattle.pact_record.specs.Widths.{AreBelow}
 use Rattle.pact_record.specs.declared.values.Value.{Value}
 use Rattle.tac_syntax.specs.Call.{Out, of_groups}
-use Rattle.flow_instance.proofs.Calling.{keys_of_group, left_called, numbered_as, numbered_wide, other_group, row_width}
-use Rattle.flow_instance.proofs.Matched.{group_wide}
+use Rattle.flow_instance.proofs.CallsForGroups.{keys_of_group, left_called, numbered_as, numbered_wide, other_group, row_width}
+use Rattle.flow_instance.proofs.PairsByKeys.{group_wide}
 use Rattle.flow_instance.proofs.grouping.cogroup_left.Goals as goal
 
 pub at-requires : goal.at-requires

@@ -5,7 +5,7 @@ use Rattle.pact_operators.specs.Allowed.{Bag, keys_in}
 use Rattle.pact_record.specs.declared.values.Value.{Value}
 use Rattle.tac_syntax.specs.Call.{Out, of_group}
 use Rattle.flow_instance.specs.Grouping.{IsCalled}
-use Rattle.flow_instance.proofs.Calling.{all_given, all_have_groups, given_on, groups_given}
+use Rattle.flow_instance.proofs.CallsForGroups.{all_given, all_have_groups, given_on, groups_given}
 use Rattle.flow_instance.proofs.grouping.reduce_kept.Goals as goal
 
 pub append-requires : goal.append-requires

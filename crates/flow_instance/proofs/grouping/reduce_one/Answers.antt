@@ -4,7 +4,7 @@ use Rattle.std.specs.List.Sorted.{IsPermutation}
 use Rattle.std.proofs.lemmas.Result.{IfOk-weaker}
 use Rattle.pact_bag.specs.Groups.{group_of_key}
 use Rattle.tac_syntax.specs.Call.{Out, of_group}
-use Rattle.flow_instance.proofs.Calling.{called, keys_of_group, numbered, numbered_wide}
+use Rattle.flow_instance.proofs.CallsForGroups.{called, keys_of_group, numbered, numbered_wide}
 use Rattle.flow_instance.proofs.grouping.reduce_one.Goals as goal
 
 pub call_group-requires-clause-some : goal.call_group-requires-clause-some

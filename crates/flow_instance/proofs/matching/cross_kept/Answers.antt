@@ -5,7 +5,7 @@ use Rattle.pact_operators.specs.Allowed.{Bag}
 use Rattle.pact_record.specs.Record.{key_of}
 use Rattle.pact_record.specs.declared.values.Value.{Value}
 use Rattle.tac_syntax.specs.Call.{Out, of_pair}
-use Rattle.flow_instance.proofs.Matched.{crossed_kept, crossed_none, group_wide}
+use Rattle.flow_instance.proofs.PairsByKeys.{crossed_kept, crossed_none, group_wide}
 use Rattle.flow_instance.proofs.matching.cross_kept.Goals as goal
 
 pub returns-then-len-eq0-clause-given : goal.returns-then-len-eq0-clause-given

@@ -6,7 +6,7 @@ use Rattle.pact_operators.specs.Allowed.{Bag, matched}
 use Rattle.pact_record.specs.Record.{key_of}
 use Rattle.pact_record.specs.declared.values.Value.{Value}
 use Rattle.tac_syntax.specs.Call.{Out, of_pair}
-use Rattle.flow_instance.proofs.Matched.{group_wide, one_right, turned_pairs}
+use Rattle.flow_instance.proofs.PairsByKeys.{group_wide, one_right, turned_pairs}
 use Rattle.flow_instance.proofs.matching.match_kept.Goals as goal
 
 pub append_pairs-requires-clause-left_widths : goal.append_pairs-requires-clause-left_widths

@@ -2,7 +2,7 @@ use Rattle.std.proofs.Common.{◌+◌, ◌∙◌, None, sym, subst, arith}
 use Rattle.std.specs.List.{AllByRecursion}
 use Rattle.tac_syntax.specs.Limits.{record_registers}
 use Rattle.tac_interp.specs.Registers.{IsAsWide}
-use Rattle.tac_interp.proofs.Filled.{FillsTo, FillsTo-start, FillsTo-next, FillsTo-end, FillsTo-few, FillsTo-all, FillsTo-length}
+use Rattle.tac_interp.proofs.FilledRegisters.{FillsTo, FillsTo-start, FillsTo-next, FillsTo-end, FillsTo-few, FillsTo-all, FillsTo-length}
 use Rattle.tac_interp.proofs.registers.reach_record.Goals as goal
 
 pub loop-init : goal.loop-init

@@ -1,5 +1,5 @@
 use Rattle.std.proofs.Common.{None}
-use Rattle.tac_interp.proofs.Filled.{FillsTo}
+use Rattle.tac_interp.proofs.FilledRegisters.{FillsTo}
 use Rattle.tac_interp.proofs.registers.reach_record.Given as goal
 
 abbrev pub invariant-loop : goal.invariant-loop

@@ -1,7 +1,7 @@
 use Rattle.std.proofs.Common.{◌+◌, ◌∙◌, sym, subst, arith}
 use Rattle.pact_record.specs.declared.values.Value.TheVariants.{Null}
 use Rattle.tac_syntax.specs.Limits.{value_registers}
-use Rattle.tac_interp.proofs.Filled.{FillsTo, FillsTo-start, FillsTo-next, FillsTo-end, FillsTo-few, FillsTo-length}
+use Rattle.tac_interp.proofs.FilledRegisters.{FillsTo, FillsTo-start, FillsTo-next, FillsTo-end, FillsTo-few, FillsTo-length}
 use Rattle.tac_interp.proofs.registers.reach_value.Goals as goal
 
 pub loop-init : goal.loop-init

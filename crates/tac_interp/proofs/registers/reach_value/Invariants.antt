@@ -1,5 +1,5 @@
 use Rattle.pact_record.specs.declared.values.Value.TheVariants.{Null}
-use Rattle.tac_interp.proofs.Filled.{FillsTo}
+use Rattle.tac_interp.proofs.FilledRegisters.{FillsTo}
 use Rattle.tac_interp.proofs.registers.reach_value.Given as goal
 
 abbrev pub invariant-loop : goal.invariant-loop

@@ -2,7 +2,7 @@ use Rattle.std.proofs.lemmas.Result.{on_ok_weaker}
 use Rattle.flow_model.proofs.Events.{step_depth}
 use Rattle.flow_model.specs.Spots.{setting}
 use Rattle.flow_core.specs.Worlds.{seen}
-use Rattle.flow_instance.proofs.Results.{on_ok_two}
+use Rattle.flow_instance.proofs.OnOkTogether.{on_ok_two}
 use Rattle.flow_core.proofs.WorldLaws.{laws_hold}
 use Rattle.flow_core.proofs.WorldsAfterEvents.{parts_kept, some_after, standing_after}
 use Rattle.flow_core.proofs.worlds.World.step.Goals as goal

@@ -1,5 +1,5 @@
 use Rattle.std.proofs.Common.{◌≡◌, ap, subst, sym, ◌∙◌, true, Some}
-use Rattle.flow_instance.proofs.Results.{on_ok_three}
+use Rattle.flow_instance.proofs.OnOkTogether.{on_ok_three}
 use Rattle.plan_trees.specs.Physicals.{PhysicalData}
 use Rattle.plan_trees.specs.Plans.{has}
 use Rattle.flow_model.specs.Events.{first_note}

@@ -1,7 +1,7 @@
 use Rattle.std.proofs.Common.{rules, sym, subst}
 use Rattle.flow_model.specs.Instances.{Instance}
 use Rattle.flow_model.specs.Local.{IsLocal}
-use Rattle.flow_instance.proofs.Spotted.{local_offered}
+use Rattle.flow_instance.proofs.InstancesOfPlans.{local_offered}
 use Rattle.flow_instance.proofs.instances.Instance.offer.Goals as goal
 
 pub returns-clause-note : goal.returns-clause-note

@@ -6,8 +6,8 @@ use Rattle.flow_model.specs.Steps.{Took}
 use Rattle.pact_operators.specs.PlanOps.{PlanOps}
 use Rattle.flow_instance.specs.States.{AreOpsOf, part_of, seen, spot_of}
 use Rattle.flow_instance.proofs.SmallBatches.{small_batches}
-use Rattle.flow_instance.proofs.Spotted.{local_taken, same_part, took_for, took_receiver}
-use Rattle.flow_instance.proofs.Wanting.{ready}
+use Rattle.flow_instance.proofs.InstancesOfPlans.{local_taken, same_part, took_for, took_receiver}
+use Rattle.flow_instance.proofs.WantsOfInstances.{ready}
 use Rattle.flow_instance.proofs.instances.Instance.took.Goals as goal
 
 pub take-requires-clause-ready : goal.take-requires-clause-ready

@@ -1,6 +1,6 @@
 use Rattle.std.proofs.Common.{sym, ◌∙◌}
-use Rattle.flow_instance.proofs.Beginning.{begun_last, begun_more}
-use Rattle.flow_instance.proofs.Results.{on_ok_two}
+use Rattle.flow_instance.proofs.FreshInstances.{begun_last, begun_more}
+use Rattle.flow_instance.proofs.OnOkTogether.{on_ok_two}
 use Rattle.flow_instance.proofs.SmallBatches.{few_marked}
 use Rattle.flow_instance.specs.States.{part_of}
 use Rattle.std.proofs.lemmas.Result.{on_ok_weaker}

@@ -1,5 +1,5 @@
 use Rattle.std.proofs.Common.{refl}
-use Rattle.flow_instance.proofs.Wanting.{closed}
+use Rattle.flow_instance.proofs.WantsOfInstances.{closed}
 use Rattle.flow_instance.proofs.states.State.close.Goals as goal
 
 pub returns : goal.returns

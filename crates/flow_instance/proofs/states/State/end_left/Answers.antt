@@ -2,7 +2,7 @@ use Rattle.std.proofs.Common.{◌≡◌, true, set, get_or, length, refl, ap, sy
 use Rattle.std.specs.Vec.{with_item}
 use Rattle.flow_model.specs.Notes.{all_below}
 use Rattle.flow_instance.proofs.EndMarks.{sound_built}
-use Rattle.flow_instance.proofs.Results.{on_ok_three}
+use Rattle.flow_instance.proofs.OnOkTogether.{on_ok_three}
 use Rattle.flow_instance.proofs.states.State.end_left.Goals as goal
 
 pub returns-clause-sound : goal.returns-clause-sound

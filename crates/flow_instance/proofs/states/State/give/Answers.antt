@@ -1,10 +1,10 @@
 use Rattle.std.proofs.Common.{rules}
 use Rattle.std.proofs.lemmas.Result.{on_ok_weaker}
 use Rattle.flow_instance.proofs.NotesForReceivers.{none_few}
-use Rattle.flow_instance.proofs.Results.{on_ok_two}
+use Rattle.flow_instance.proofs.OnOkTogether.{on_ok_two}
 use Rattle.pact_bag.proofs.Widths.{HaveOneWidth-append}
 use Rattle.flow_instance.specs.States.{part_of}
-use Rattle.flow_instance.proofs.Giving.{given_placed, given_sent, orderly_given}
+use Rattle.flow_instance.proofs.RowsSentOrPlaced.{given_placed, given_sent, orderly_given}
 use Rattle.flow_instance.proofs.states.State.give.Goals as goal
 
 pub append-requires : goal.append-requires

@@ -1,6 +1,6 @@
 use Rattle.std.proofs.lemmas.Result.{on_ok_weaker}
 use Rattle.flow_instance.specs.States.{part_of}
-use Rattle.flow_instance.proofs.Giving.{marked_none, marked_some}
+use Rattle.flow_instance.proofs.RowsSentOrPlaced.{marked_none, marked_some}
 use Rattle.flow_instance.proofs.states.State.mark.Goals as goal
 
 pub returns-in-Some-clause-marked : goal.returns-in-Some-clause-marked

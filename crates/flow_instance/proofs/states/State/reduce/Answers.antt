@@ -2,7 +2,7 @@ use Rattle.std.proofs.Common.{rules, ℕ, subst}
 use Rattle.pact_record.specs.Widths.{AreWide}
 use Rattle.flow_instance.proofs.EndMarks.{reduce_given}
 use Rattle.flow_instance.proofs.KeptRecords.{wide_permuted}
-use Rattle.flow_instance.proofs.Results.{if_ok_two}
+use Rattle.flow_instance.proofs.OnOkTogether.{if_ok_two}
 use Rattle.flow_instance.proofs.TakenNotes.{its_fields}
 use Rattle.flow_instance.proofs.states.State.reduce.Goals as goal
 

@@ -1,6 +1,6 @@
 use Rattle.std.proofs.Common.{sym, ◌∙◌}
 use Rattle.flow_instance.proofs.EndMarks.{flags_last, not_taking, orderly_last, takes_more, took_last}
-use Rattle.flow_instance.proofs.Results.{on_ok_two}
+use Rattle.flow_instance.proofs.OnOkTogether.{on_ok_two}
 use Rattle.flow_instance.proofs.SmallBatches.{few_last, few_more}
 use Rattle.flow_instance.proofs.states.State.take_end.Goals as goal
 

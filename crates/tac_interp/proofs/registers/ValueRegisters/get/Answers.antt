@@ -2,7 +2,7 @@ use Rattle.std.proofs.Common.{List, get_or, ap, sym, ◌∙◌, arith}
 use Rattle.pact_record.specs.declared.values.Value.{Value}
 use Rattle.pact_record.specs.declared.values.Value.TheVariants.{Null}
 use Rattle.tac_syntax.specs.Limits.{value_registers}
-use Rattle.tac_interp.proofs.Filled.{get_or-unset, get_or-held}
+use Rattle.tac_interp.proofs.FilledRegisters.{get_or-unset, get_or-held}
 use Rattle.tac_interp.proofs.registers.ValueRegisters.get.Goals as goal
 
 pub returns-then-at-len : goal.returns-then-at-len

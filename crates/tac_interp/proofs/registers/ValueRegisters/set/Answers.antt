@@ -3,7 +3,7 @@ use Rattle.pact_record.specs.declared.values.Value.{Value}
 use Rattle.pact_record.specs.declared.values.Value.TheVariants.{Null}
 use Rattle.tac_syntax.specs.Limits.{value_registers}
 use Rattle.tac_interp.specs.Registers.{filled}
-use Rattle.tac_interp.proofs.Filled.{set-filled}
+use Rattle.tac_interp.proofs.FilledRegisters.{set-filled}
 use Rattle.tac_interp.proofs.registers.ValueRegisters.set.Goals as goal
 
 pub returns : goal.returns

@@ -16,7 +16,7 @@ use Rattle.tac_syntax.specs.Call.{Out, of_group, of_groups, of_pair, of_record}
 use Rattle.tac_syntax.specs.declared.declarations.OpKind.{OpKind}
 use Rattle.tac_syntax.specs.declared.declarations.OpKind.TheVariants.{Source, Map, Reduce, Match, Cross, CoGroup}
 use Rattle.flow_instance.specs.States.{AreOpsOf, spot_of}
-use Rattle.flow_instance.proofs.Wanting.{is_note}
+use Rattle.flow_instance.proofs.WantsOfInstances.{is_note}
 
 pub same_spot : (s : Spot) (on : ℕ) (p : Part) → IsPartOf s on p → spot_of p s.ops ≡ s
 same_spot s on p h = λ i. record { at = h.at i; kind = h.kind i; workers = h.workers i; fields = h.fields i; ports = h.ports i; out = h.out i; ops = s.ops }

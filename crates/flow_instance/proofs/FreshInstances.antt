@@ -12,7 +12,7 @@ use Rattle.flow_instance.specs.Steps.{HasGiven, HasMarked}
 use Rattle.flow_instance.specs.declared.parts.Part.{Part}
 use Rattle.flow_instance.specs.declared.states.State.{State}
 use Rattle.flow_instance.proofs.EndMarks.{queue_lists}
-use Rattle.flow_instance.proofs.Giving.{batches_in-queue, marks_in-queue, orderly_marked}
+use Rattle.flow_instance.proofs.RowsSentOrPlaced.{batches_in-queue, marks_in-queue, orderly_marked}
 use Rattle.flow_instance.proofs.TakenNotes.{no_marks}
 
 placed_first : (o : Option Ship) (before out placed : Bag) → before ≡ [] → Placed o (before ++ out) placed → Placed o out placed

@@ -16,7 +16,7 @@ use Rattle.pact_record.specs.Widths.{AreWide}
 use Rattle.pact_record.specs.declared.values.Value.{Value}
 use Rattle.flow_instance.specs.Grouping.{AreCoGroupsGiven, AreGroupsGiven, EachGives, HaveGroups, IsCalled, IsCalledAlone, IsCalledIf, IsCoCalled, has_none}
 use Rattle.flow_instance.proofs.BothKeys.{keys_of_both}
-use Rattle.flow_instance.proofs.Matched.{group_wide}
+use Rattle.flow_instance.proofs.PairsByKeys.{group_wide}
 
 -- ---- the group of a number
 
