@@ -24,7 +24,7 @@ is_current() {
         [ "$toolchain" = "$(<"$marker")" ] || return 1
         # the command, and the compiler and its parts that stand beside it
         places+=("$(command -v rt)")
-        for part in "${toolchain%/*}"/{rt,rattle}*; do
+        for part in "${toolchain%/*}"/{rt,rt-*,rtlib*,rattle,rattle-*}; do
             [ ! -e "$part" ] || places+=("$part")
         done
     fi

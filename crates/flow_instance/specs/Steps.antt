@@ -42,7 +42,7 @@ pub record GivesGroups {L : Type 0} (rows : L → Bag) (s t : State L) (out : Ba
   pub right_wide : AreWide s.part.fields (rows t.right)
   pub widths : AreWide s.part.fields out
 
--- It took a note at a port from a sender, and is one that may go on.
+-- It took a note at a port from a sender, and is sound while it may still take.
 pub record Takes {L : Type 0} (rows : L → Bag) (keys : L → List ℕ) (is_sealed : L → Bool) (s : State L) (port from : ℕ) (note : Note) (t : State L) : Type 0 where
   pub took : HasTaken rows s port from note t
   pub sound : IsSoundIfTaking rows keys is_sealed t

@@ -16,7 +16,7 @@ use plan_trees::Ship;
 use std::alloc::Global;
 use std::collections::VecDeque;
 
-// Puts the rows away as a batch where they are enough. So many more come behind them, for which the next one has room.
+// Puts the rows away as a batch where they are enough. `more` come behind them: the next batch has room for as many of these as it takes.
 fn stow(
     alloc: Global,
     to: u32,

@@ -23,6 +23,7 @@ abbrev pub row_of : ℕ → Option (List Value) → List Value
 row_of fields None = empty_record fields
 row_of fields (Some row) = row
 
+-- a record that is there has so many fields
 abbrev pub IsAsWide : ℕ → Option (List Value) → Type 0
 IsAsWide fields None = Unit {0}
 IsAsWide fields (Some row) = length row ≡ fields

@@ -86,10 +86,12 @@ IsStuck {X = X} Next line = (x : X) (rest : List ℕ) → ¬ Next line x rest
 
 -- ---- bytes of a word
 
+-- the next byte of a plain word, and what follows it; none where the word ends
 abbrev pub plain_byte : List ℕ → Option (ℕ × List ℕ)
 plain_byte [] = None
 plain_byte (b ∷ rest) = if ends_word b then None else Some (b, rest)
 
+-- a byte, if there is one, with what follows it
 abbrev pub before : List ℕ → Option ℕ → Option (ℕ × List ℕ)
 before rest None = None
 before rest (Some b) = Some (b, rest)
@@ -99,6 +101,7 @@ abbrev pub escape_byte : List ℕ → Option (ℕ × List ℕ)
 escape_byte [] = None
 escape_byte (e ∷ rest) = before rest (escaped_byte e)
 
+-- the next byte that a literal stands for, and what follows its spelling; none at a quotation mark, or where nothing is spelled
 abbrev pub literal_byte : List ℕ → Option (ℕ × List ℕ)
 literal_byte [] = None
 literal_byte (b ∷ rest) = if b == 92 then escape_byte rest else (if needs_escape b then None else Some (b, rest))
@@ -112,6 +115,7 @@ IsByte is_literal line b rest = byte_at is_literal line ≡ Some (b, rest)
 
 -- ---- words
 
+-- a word begins here
 abbrev pub IsWordStart : List ℕ → Type 0
 IsWordStart [] = ⊥
 IsWordStart (b ∷ line) = ends_word b ≡ false
@@ -127,6 +131,7 @@ abbrev pub behind_gap : List ℕ → List ℕ
 behind_gap [] = []
 behind_gap (b ∷ line) = if is_blank b then behind_gap line else b ∷ line
 
+-- the next word, behind blanks, and what follows it
 abbrev pub NextWord : List ℕ → LineWord → List ℕ → Type 0
 NextWord line word rest = IsWordAt (behind_gap line) word rest
 
