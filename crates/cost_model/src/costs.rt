@@ -15,7 +15,7 @@ use pact_bag::Counts;
 use pact_operators::{Parts, Physical, Plan, Program, Ship};
 
 // What a tree's root is expected to give, and what its operators are expected to cost.
-#[derive(Clone, Copy, Debug)]
+#[derive(Clone, Copy)]
 struct Spent {
     estimate: u64,
     cost: u64,

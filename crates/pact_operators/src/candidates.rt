@@ -15,7 +15,7 @@ use std::marker::Model;
 use tac_syntax::{Decl, Draft, Valid, functions_of};
 
 /// A draft and its valid functions, with the names and columns of its declarations gathered once.
-#[derive(Debug, Drop)]
+#[derive(Drop)]
 pub struct Candidate<'a> {
     draft: &'a Draft,
     valids: &'a [Valid],

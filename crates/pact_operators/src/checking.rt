@@ -144,7 +144,7 @@ fn check_declarations(alloc: Global, candidate: &Candidate) -> Result<(), NotPro
 }
 
 // What a program has besides its functions.
-#[derive(Debug, Drop)]
+#[derive(Drop)]
 struct Resolved {
     ops: Vec<Op>,
     plan: Plan,

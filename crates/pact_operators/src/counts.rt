@@ -13,7 +13,7 @@ const MAX_OPERATORS: usize = 16;
 
 const MAX_PAIRS: usize = 8;
 
-#[derive(Clone, Copy, Debug)]
+#[derive(Clone, Copy)]
 pub struct Counts {
     pub functions: usize,
     pub operators: usize,

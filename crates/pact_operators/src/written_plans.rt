@@ -17,7 +17,7 @@ use std::alloc::Global;
 use tac_syntax::{Decl, OpKind};
 
 /// What a source or an operator reads.
-#[derive(Clone, Copy, Debug)]
+#[derive(Clone, Copy)]
 pub enum Reads {
     Nothing,
     One { at: usize },

@@ -10,7 +10,7 @@ use crate::transfer::write_all;
 use pact_outside::{Failed, Sink};
 use pact_record::{Bytes, OutOfMemory};
 
-#[derive(Debug, Drop)]
+#[derive(Drop)]
 pub enum Refusal {
     OutOfMemory,
     Usage,

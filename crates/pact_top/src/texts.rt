@@ -5,7 +5,7 @@ ghost use Rattle.std.specs.Prelude.{◌≡◌, None};
 use pact_record::Bytes;
 
 /// The text for the output, and the counts for the other sink where they are asked for.
-#[derive(Debug, Drop)]
+#[derive(Drop)]
 pub struct Texts {
     pub out: Bytes,
     pub counts: Option<Bytes>,

@@ -20,7 +20,7 @@ use tac_text::{OpenFunction, read_header};
 use text_lines::{LineWord, NotRead, TextFault, first_line, is_word, read_words, trim_line};
 
 // What was read of a program.
-#[derive(Debug, Drop)]
+#[derive(Drop)]
 enum State {
     NothingRead,
     VersionRead,

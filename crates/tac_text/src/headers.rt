@@ -9,7 +9,7 @@ use tac_syntax::Kind;
 use text_lines::{Cursor, LineWord, NotRead, is_word};
 
 /// What a header says.
-#[derive(Clone, Copy, Debug)]
+#[derive(Clone, Copy)]
 pub struct Header<'a> {
     pub name: &'a [u8],
     pub kind: Kind,
