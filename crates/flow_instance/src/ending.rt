@@ -34,15 +34,6 @@ impl<L: Local> State<L> {
         self.left.seal()
     }
 
-    fn end_right(&mut self, from: u32)
-        requires sound { IsSound L.rows L.key_fields L.is_sealed self.old }
-        requires from { from < self.old.part.workers }
-        ensures ended { HasEnded L.rows self.old 1 from self.new }
-        ensures sound { IsSound L.rows L.key_fields L.is_sealed self.new }
-    {
-        self.right_ended[from as usize] = true;
-    }
-
     fn end_sender(&mut self, port: u32, from: u32) -> Result<(), OutOfMemory>
         requires ready { IsReady L.rows L.key_fields L.is_sealed self.old port }
         requires from { from < self.old.part.workers }
@@ -52,7 +43,7 @@ impl<L: Local> State<L> {
         if port == 0 {
             return self.end_left(from);
         }
-        self.end_right(from);
+        self.right_ended[from as usize] = true;
         Ok(())
     }
 
@@ -122,7 +113,12 @@ impl<L: Local> State<L> {
         ensures { OnOk result (Takes L.rows L.key_fields L.is_sealed self.old port from note self.new) }
     {
         match note {
-            Note::Batch(rows) => self.take_batch(port, rows),
+            Note::Batch(rows) => {
+                if port == 0 {
+                    return self.take_left(rows);
+                }
+                self.take_right(rows)
+            }
             Note::End => self.take_end(port, from),
         }
     }

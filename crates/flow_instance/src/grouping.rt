@@ -1,9 +1,8 @@
 //! Calls for the groups of kept records.
 
-ghost use Rattle.std.specs.Prelude.{◌≡◌, ◌<◌, ◌++◌, true, List, length, slice_get, IfOk, IfSome, OnOk};
+ghost use Rattle.std.specs.Prelude.{◌≡◌, ◌<◌, true, List, length, slice_get, IfOk, IfSome, OnOk};
 ghost use Rattle.std.specs.List.{AllByRecursion};
 ghost use Rattle.std.specs.List.Sorted.{IsPermutation};
-ghost use Rattle.pact_bag.specs.Rows.{HaveOneWidth};
 ghost use Rattle.pact_operators.specs.Allowed.{keys_in};
 ghost use Rattle.pact_record.specs.Record.{key_of};
 ghost use Rattle.pact_record.specs.Widths.{AreBelow, AreWide};
@@ -18,15 +17,6 @@ use pact_record::{Keys, OutOfMemory};
 use std::alloc::Global;
 use tac_interp::{call_cogroup, call_group};
 use tac_syntax::Valid;
-
-// Moves the records behind the others.
-fn append_all(out: &mut Rows, given: Rows) -> Result<(), OutOfMemory>
-    requires { HaveOneWidth (out.old ++ given) }
-    ensures { OnOk result (out.new ≡ out.old ++ given) }
-{
-    let mut given = given;
-    out.append(&mut given)
-}
 
 // The call for the group with this number.
 fn reduce_one<L: Local>(
@@ -69,7 +59,8 @@ pub(crate) fn reduce_kept<L: Local>(
 {
     let mut out = Rows::new(alloc);
     for n in 0..kept.key_count() {
-        append_all(&mut out, reduce_one(alloc, f, keys, kept, n)?)?;
+        let mut emitted = reduce_one(alloc, f, keys, kept, n)?;
+        out.append(&mut emitted)?;
     }
     Ok(out)
 }
@@ -141,8 +132,8 @@ fn cogroup_side<L: Local>(
     ensures order { OnOk result (IsPermutation (keys_in keys.now (L.rows own.now)) (L.order own.now)) }
 {
     for n in 0..own.key_count() {
-        let given = cogroup_one(alloc, f, keys, other_keys, own, others, is_right, n)?;
-        append_all(out, given)?;
+        let mut given = cogroup_one(alloc, f, keys, other_keys, own, others, is_right, n)?;
+        out.append(&mut given)?;
     }
     Ok(())
 }

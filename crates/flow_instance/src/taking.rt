@@ -60,25 +60,8 @@ impl<L: Local> State<L> {
         self.give(out)
     }
 
-    fn keep_left(&mut self, rows: Rows) -> Result<(), OutOfMemory>
-        requires ready { IsReady L.rows L.key_fields L.is_sealed self.old 0 }
-        requires kind { is_map self.old.part.kind ≡ false }
-        requires wide { AreWide self.old.part.fields rows }
-        ensures { OnOk result ((from : ℕ) → Takes L.rows L.key_fields L.is_sealed self.old 0 from (Batch rows) self.new) }
-    {
-        keep(&mut self.left, self.part.fields, rows)
-    }
-
-    fn keep_right(&mut self, rows: Rows) -> Result<(), OutOfMemory>
-        requires ready { IsReady L.rows L.key_fields L.is_sealed self.old 1 }
-        requires kind { is_pair_kind self.old.part.kind ≡ false }
-        requires wide { AreWide self.old.part.fields rows }
-        ensures { OnOk result ((from : ℕ) → Takes L.rows L.key_fields L.is_sealed self.old 1 from (Batch rows) self.new) }
-    {
-        keep(&mut self.right, self.part.fields, rows)
-    }
-
-    fn take_left(&mut self, rows: Rows) -> Result<(), OutOfMemory>
+    /// Takes a batch at port 0.
+    pub(crate) fn take_left(&mut self, rows: Rows) -> Result<(), OutOfMemory>
         requires ready { IsReady L.rows L.key_fields L.is_sealed self.old 0 }
         requires wide { AreWide self.old.part.fields rows }
         ensures { OnOk result ((from : ℕ) → Takes L.rows L.key_fields L.is_sealed self.old 0 from (Batch rows) self.new) }
@@ -86,10 +69,11 @@ impl<L: Local> State<L> {
         if self.part.maps() {
             return self.map_batch(&rows);
         }
-        self.keep_left(rows)
+        keep(&mut self.left, self.part.fields, rows)
     }
 
-    fn take_right(&mut self, rows: Rows) -> Result<(), OutOfMemory>
+    /// Takes a batch at port 1.
+    pub(crate) fn take_right(&mut self, rows: Rows) -> Result<(), OutOfMemory>
         requires ready { IsReady L.rows L.key_fields L.is_sealed self.old 1 }
         requires wide { AreWide self.old.part.fields rows }
         ensures { OnOk result ((from : ℕ) → Takes L.rows L.key_fields L.is_sealed self.old 1 from (Batch rows) self.new) }
@@ -97,18 +81,6 @@ impl<L: Local> State<L> {
         if self.part.pairs() {
             return self.match_batch(&rows);
         }
-        self.keep_right(rows)
-    }
-
-    /// Takes a batch at a port.
-    pub(crate) fn take_batch(&mut self, port: u32, rows: Rows) -> Result<(), OutOfMemory>
-        requires ready { IsReady L.rows L.key_fields L.is_sealed self.old port }
-        requires wide { AreWide self.old.part.fields rows }
-        ensures { OnOk result ((from : ℕ) → Takes L.rows L.key_fields L.is_sealed self.old port from (Batch rows) self.new) }
-    {
-        if port == 0 {
-            return self.take_left(rows);
-        }
-        self.take_right(rows)
+        keep(&mut self.right, self.part.fields, rows)
     }
 }

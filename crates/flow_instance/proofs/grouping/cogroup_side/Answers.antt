@@ -14,8 +14,8 @@ loop-n-init g c =
     let calls : List Value → Bag → Bag → Bag = λ k x y. Out f.fields f.function.body (of_groups k x y) in
     none_behind f.fields (IsCalledFrom c.args.is_right calls c.args.keys.now c.args.other_keys.now (g.L.Local.rows c.args.own.now) (g.L.Local.rows c.args.others.now)) c.args.out.now c.requires.widths
 
-pub append_all-requires : goal.append_all-requires
-append_all-requires g c = HaveOneWidth-append c.args.f.now.fields _ _ c.loop-n.invariant.wide c.in_ok-given.ensures.widths
+pub append-requires : goal.append-requires
+append-requires g c = HaveOneWidth-append c.args.f.now.fields _ _ c.loop-n.invariant.wide c.in_ok-given.ensures.widths
 
 pub cogroup_one-requires-clause-groups : goal.cogroup_one-requires-clause-groups
 cogroup_one-requires-clause-groups g c = λ lifetimes bound.
@@ -29,7 +29,7 @@ loop-n-preserved g c =
     let calls : List Value → Bag → Bag → Bag = λ k x y. Out f.fields f.function.body (of_groups k x y) in
     one_behind f.fields (IsCalledFrom c.args.is_right calls c.args.keys.now c.args.other_keys.now (g.L.Local.rows c.args.own.now) (g.L.Local.rows c.args.others.now))
     (g.L.Local.order c.args.own.now) c.loop-n.n c.args.out.now c.loop-n.out c.in_ok-given.given _ (omega (arith, c.key_count-n-end.ensures.count, c.loop-n-test.true))
-    c.loop-n.invariant c.in_ok-given.ensures.given c.in_ok-given.ensures.widths c.in_ok-append_all.ensures
+    c.loop-n.invariant c.in_ok-given.ensures.given c.in_ok-given.ensures.widths c.in_ok-append.ensures.ok
 
 pub returns-clause-given : goal.returns-clause-given
 returns-clause-given g c =

@@ -8,8 +8,8 @@ use Rattle.flow_instance.specs.Grouping.{IsCalled}
 use Rattle.flow_instance.proofs.CallsForGroups.{all_given, all_have_groups, given_on, groups_given}
 use Rattle.flow_instance.proofs.grouping.reduce_kept.Goals as goal
 
-pub append_all-requires : goal.append_all-requires
-append_all-requires g c = HaveOneWidth-append c.args.f.now.fields _ _ c.loop-n.invariant.1 c.in_ok-reduce_one.ensures.widths
+pub append-requires : goal.append-requires
+append-requires g c = HaveOneWidth-append c.args.f.now.fields _ _ c.loop-n.invariant.1 c.in_ok-emitted.ensures.widths
 
 pub reduce_one-requires-clause-groups : goal.reduce_one-requires-clause-groups
 reduce_one-requires-clause-groups g c = λ lifetimes bound.
@@ -21,8 +21,8 @@ pub loop-n-preserved : goal.loop-n-preserved
 loop-n-preserved g c =
     let f = c.args.f.now in
     let calls : List Value → Bag → Bag = λ k group. Out f.fields f.function.body (of_group k group) in
-    given_on f.fields (IsCalled calls c.args.keys.now (g.L.Local.rows c.args.kept.now)) (g.L.Local.order c.args.kept.now) c.loop-n.n c.loop-n.out c.in_ok-reduce_one.field-0 _
-    (omega (arith, c.key_count-n-end.ensures.count, c.loop-n-test.true)) c.loop-n.invariant c.in_ok-reduce_one.ensures.given c.in_ok-reduce_one.ensures.widths c.in_ok-append_all.ensures
+    given_on f.fields (IsCalled calls c.args.keys.now (g.L.Local.rows c.args.kept.now)) (g.L.Local.order c.args.kept.now) c.loop-n.n c.loop-n.out c.in_ok-emitted.emitted _
+    (omega (arith, c.key_count-n-end.ensures.count, c.loop-n-test.true)) c.loop-n.invariant c.in_ok-emitted.ensures.given c.in_ok-emitted.ensures.widths c.in_ok-append.ensures.ok
 
 pub returns-clause-given : goal.returns-clause-given
 returns-clause-given g c =
