@@ -25,21 +25,13 @@ has_function p h = subst IsSome (sym h.called) refl
 
 -- ---- by the kind
 
-reduce_open : (kind : OpKind) (ended : Bool) → is_reduce kind ≡ true → is_built kind ended ≡ false
-reduce_open Source ended k = refl
-reduce_open Map ended k = refl
-reduce_open Reduce ended k = refl
-reduce_open Match ended k = absurd (cc)
-reduce_open Cross ended k = absurd (cc)
-reduce_open CoGroup ended k = refl
-
-cogroup_open : (kind : OpKind) (ended : Bool) → works_at_once kind ≡ false → is_built kind ended ≡ false
-cogroup_open Source ended w = refl
-cogroup_open Map ended w = refl
-cogroup_open Reduce ended w = refl
-cogroup_open Match ended w = absurd (cc)
-cogroup_open Cross ended w = absurd (cc)
-cogroup_open CoGroup ended w = refl
+groups_open : (kind : OpKind) (ended : Bool) → works_at_once kind ≡ false → is_built kind ended ≡ false
+groups_open Source ended w = refl
+groups_open Map ended w = refl
+groups_open Reduce ended w = refl
+groups_open Match ended w = absurd (cc)
+groups_open Cross ended w = absurd (cc)
+groups_open CoGroup ended w = refl
 
 reduce_kind : (kind : OpKind) (called : Kind) (n : ℕ) (ks js : List ℕ) → is_reduce kind ≡ true → IsKindFor kind called → HasKeyLists kind n ks js → (called ≡ kinds.Reduce) × (length ks ≡ n)
 reduce_kind Source called n ks js k h l = absurd (cc)
@@ -76,11 +68,8 @@ cross_kind CoGroup called n ks js k h l = absurd (cc)
 -- ---- of an instance
 
 module _ {L : Type 0} (rows : L → Bag) (keys : L → List ℕ) (is_sealed : L → Bool) (s : State L) (sound : IsSound rows keys is_sealed s) where
-  pub left_open_reduce : is_reduce s.part.kind ≡ true → is_sealed s.left ≡ false
-  left_open_reduce k = sound.left_sealed ∙ reduce_open s.part.kind (port_ended (seen rows s) 0) k
-
   pub left_open : works_at_once s.part.kind ≡ false → is_sealed s.left ≡ false
-  left_open w = sound.left_sealed ∙ cogroup_open s.part.kind (port_ended (seen rows s) 0) w
+  left_open w = sound.left_sealed ∙ groups_open s.part.kind (port_ended (seen rows s) 0) w
 
   own_reduce : is_reduce s.part.kind ≡ true → (sound.operator.function.function.kind ≡ kinds.Reduce) × (length s.part.left_keys ≡ sound.operator.function.function.keys)
   own_reduce k = reduce_kind s.part.kind sound.operator.function.function.kind sound.operator.function.function.keys s.part.left_keys s.part.right_keys k sound.operator.kind sound.operator.keys

@@ -1,10 +1,9 @@
 //! End marks that an instance takes.
 
 ghost use Rattle.std.specs.Prelude.{◌≡◌, ◌<◌, ◌∷◌, [], true, false, IfOk, OnOk};
-ghost use Rattle.flow_model.specs.Local.{works_at_once};
 ghost use Rattle.flow_model.specs.Notes.{AreNotes};
 ghost use Rattle.flow_model.specs.declared.notes.Note.TheVariants.{End};
-ghost use Rattle.flow_instance.specs.States.{HasEnded, IsReady, IsSound, IsWhole, is_reduce};
+ghost use Rattle.flow_instance.specs.States.{HasEnded, IsReady, IsSound, IsWhole};
 ghost use Rattle.flow_instance.specs.Steps.{GivesGroups, Takes};
 
 use crate::flags::all_set;
@@ -47,23 +46,19 @@ impl<L: Local> State<L> {
         Ok(())
     }
 
-    fn reduce(&mut self) -> Result<Rows, OutOfMemory>
+    // What a Reduce or a CoGroup gives for all groups.
+    fn groups(&mut self) -> Result<Rows, OutOfMemory>
         requires sound { IsSound L.rows L.key_fields L.is_sealed self.old }
-        requires kind { is_reduce self.old.part.kind ≡ true }
         ensures { IfOk result (GivesGroups L.rows self.old self.new) }
     {
+        if self.part.works_at_once() {
+            return Ok(Rows::new(self.alloc));
+        }
         self.left.seal()?;
-        let part = &self.part;
-        reduce_kept(self.alloc, part.function(), &part.left_keys, &self.left)
-    }
-
-    fn cogroup(&mut self) -> Result<Rows, OutOfMemory>
-        requires sound { IsSound L.rows L.key_fields L.is_sealed self.old }
-        requires waits { works_at_once self.old.part.kind ≡ false }
-        requires kind { is_reduce self.old.part.kind ≡ false }
-        ensures { IfOk result (GivesGroups L.rows self.old self.new) }
-    {
-        self.left.seal()?;
+        if self.part.reduces() {
+            let part = &self.part;
+            return reduce_kept(self.alloc, part.function(), &part.left_keys, &self.left);
+        }
         self.right.seal()?;
         let part = &self.part;
         cogroup_kept(
@@ -74,20 +69,6 @@ impl<L: Local> State<L> {
             &self.left,
             &self.right,
         )
-    }
-
-    // What a Reduce or a CoGroup gives for all groups.
-    fn groups(&mut self) -> Result<Rows, OutOfMemory>
-        requires sound { IsSound L.rows L.key_fields L.is_sealed self.old }
-        ensures { IfOk result (GivesGroups L.rows self.old self.new) }
-    {
-        if self.part.works_at_once() {
-            return Ok(Rows::new(self.alloc));
-        }
-        if self.part.reduces() {
-            return self.reduce();
-        }
-        self.cogroup()
     }
 
     /// Takes an end mark at a port. With the last one, what waited for it is given, and end marks go out.
