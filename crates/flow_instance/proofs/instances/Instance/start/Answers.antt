@@ -2,6 +2,7 @@ use Rattle.std.proofs.Common.{◌<◌, ◌≤◌, ℕ, ap, sym, subst, ◌∙◌
 use Rattle.std.proofs.Math.Path.{transport}
 use Rattle.pact_record.specs.Widths.{AreWide}
 use Rattle.flow_instance.specs.declared.parts.Part.{Part}
+use Rattle.flow_instance.specs.declared.states.State.{State}
 use Rattle.flow_instance.proofs.instances.Instance.start.Goals as goal
 use Rattle.flow_instance.proofs.SmallBatches.{small_started}
 use Rattle.flow_instance.proofs.Started.{started, whole}
@@ -57,3 +58,18 @@ begin-requires-clause-wide g c = λ lifetimes bound.
     let fresh = c.in_ok-state.ensures in
     let own = c.in_ok-part.ensures in
     subst (λ (n : ℕ). AreWide n c.args.rows) (sym (ap (λ (p : Part). p.fields) fresh.part ∙ own.fields)) c.requires.widths
+
+pub returns-clause-number : goal.returns-clause-number
+returns-clause-number g c =
+    let same = ap (λ (u : State _). u.part) c.in_ok-begin.ensures.begun.same in
+    ap (λ (p : Part). p.at) (same ∙ c.in_ok-state.ensures.part) ∙ c.in_ok-part.ensures.at
+
+pub returns-clause-worker : goal.returns-clause-worker
+returns-clause-worker g c =
+    let same = ap (λ (u : State _). u.part) c.in_ok-begin.ensures.begun.same in
+    ap (λ (p : Part). p.worker) (same ∙ c.in_ok-state.ensures.part) ∙ c.in_ok-part.ensures.worker
+
+pub returns-clause-batch : goal.returns-clause-batch
+returns-clause-batch g c =
+    let same = ap (λ (u : State _). u.part) c.in_ok-begin.ensures.begun.same in
+    ap (λ (p : Part). p.batch) (same ∙ c.in_ok-state.ensures.part) ∙ c.in_ok-part.ensures.batch
