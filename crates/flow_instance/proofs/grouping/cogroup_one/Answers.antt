@@ -1,4 +1,4 @@
-use Rattle.std.proofs.Common.{ℕ, Bool, List, sym, subst}
+use Rattle.std.proofs.Common.{inl, ℕ, Bool, List, sym, subst}
 use Rattle.std.specs.Prelude.{IfSome, slice_get}
 use Rattle.std.proofs.lemmas.Result.{IfOk-weaker}
 use Rattle.pact_operators.specs.Allowed.{Bag}
@@ -88,3 +88,7 @@ returns-clause-given g c =
     subst (λ (b : Bool). IfSome (slice_get order c.args.n) (λ k. IsCalledFrom b calls keys c.args.other_keys.now rows others k out)) (sym c.if-is_right.false)
     (left_called calls keys c.args.other_keys.now rows others order c.args.n group other out r p e))
     (c.call_cogroup.ensures.emitted r.key (keys_of_group keys rows group r.key r.same) (keys_of_group c.args.other_keys.now others other r.key p))
+
+pub call_cogroup-requires-clause-some : goal.call_cogroup-requires-clause-some
+call_cogroup-requires-clause-some g c =
+    inl (numbered_as c.args.keys.now (g.L.Local.key_fields c.args.own.now) (g.L.Local.rows c.args.own.now) (g.L.Local.order c.args.own.now) c.args.n c.in_ok-group.group c.requires.sides.left_same c.requires.number c.requires.groups c.in_ok-group.ensures).some
