@@ -14,7 +14,8 @@ use Rattle.pact_record.proofs.Permutations.{Perm, nothing, keeps, swaps, chains,
 use Rattle.pact_record.specs.Record.{key_of}
 use Rattle.pact_record.specs.Widths.{AreWide}
 use Rattle.pact_record.specs.declared.values.Value.{Value}
-use Rattle.flow_instance.specs.Grouping.{AreCoGroupsGiven, AreGroupsGiven, EachGives, HaveGroups, IsCalled, IsCalledAlone, IsCalledIf, IsCoCalled, has_none}
+use Rattle.tac_syntax.specs.Valid.{WithFields}
+use Rattle.flow_instance.specs.Grouping.{AreCoGroupsGiven, AreGroupsGiven, AreSides, EachGives, HaveGroups, IsCalled, IsCalledAlone, IsCalledFrom, IsCalledIf, IsCoCalled, IsGivenBehind, has_none}
 use Rattle.flow_instance.proofs.BothKeys.{keys_of_both}
 use Rattle.flow_instance.proofs.PairsByKeys.{group_wide}
 
@@ -185,3 +186,69 @@ cogroups_given f left_keys right_keys ls rs left_order right_order out other p q
     joined (is_same (keys_of_both left_keys right_keys ls rs)) (beside p (to_permutation (filter_perm lacks (from_permutation (keys_in right_keys rs) right_order q)))) in
     let turned = other_order Gives (keys_in_either left_keys right_keys ls rs) order (out ++ other) all (each_append Gives left_order (filter lacks right_order) out other g (lacking Gives lacks right_order other h)) in
     record { other = turned.other; grouped = cogrouped f left_keys right_keys ls rs (keys_in_either left_keys right_keys ls rs) turned.other turned.each; same = turned.same }
+
+-- ---- one side behind the other
+
+pub sides_turned : (f : WithFields) (left_keys right_keys left_fields right_fields : List ℕ) (ls rs : Bag) → AreSides f left_keys right_keys left_fields right_fields ls rs → AreSides f right_keys left_keys right_fields left_fields rs ls
+sides_turned f left_keys right_keys left_fields right_fields ls rs s = record {
+  kind = s.kind;
+  left_count = s.right_count;
+  right_count = s.left_count;
+  left_below = s.right_below;
+  right_below = s.left_below;
+  left_same = s.right_same;
+  right_same = s.left_same;
+  left_wide = s.right_wide;
+  right_wide = s.left_wide;
+}
+
+-- those of two groups
+pub sides_of_groups : (f : WithFields) (left_keys right_keys left_fields right_fields : List ℕ) (ls rs left right : Bag) → AreSides f left_keys right_keys left_fields right_fields ls rs → AreWide f.fields left → AreWide f.fields right
+    → AreSides f left_keys right_keys left_keys right_keys left right
+sides_of_groups f left_keys right_keys left_fields right_fields ls rs left right s wide other = record {
+  kind = s.kind;
+  left_count = s.left_count;
+  right_count = s.right_count;
+  left_below = s.left_below;
+  right_below = s.right_below;
+  left_same = refl;
+  right_same = refl;
+  left_wide = wide;
+  right_wide = other;
+}
+
+pub right_told : (f : List Value → Bag → Bag → Bag) (left_keys right_keys : List ℕ) (ls rs : Bag) (order : List (List Value)) (n : ℕ) (left right out : Bag) → (r : IsNumbered right_keys rs order n right)
+    → IsPermutation (group_of_key left_keys ls r.key) left → IsCalledIf (has_none left) (λ o. o ≡ f r.key left right) out → IfSome (slice_get order n) (λ k. IsCalledAlone f left_keys right_keys ls rs k out)
+right_told f left_keys right_keys ls rs order n [] right out r p told = right_called f left_keys right_keys ls rs order n [] right out r p (omega arith) told
+right_told f left_keys right_keys ls rs order n (row ∷ left) right out r p told = right_silent f left_keys right_keys ls rs order n (row ∷ left) right out r p (omega arith) told
+
+pub silent_alone : (left : Bag) (Gives : Bag → Type 0) (out : Bag) → 0 < length left → out ≡ [] → IsCalledIf (has_none left) Gives out
+silent_alone [] Gives out some e = absurd (omega (arith, some))
+silent_alone (row ∷ left) Gives out some e = e
+
+pub called_alone : (left : Bag) (Gives : Bag → Type 0) (out : Bag) → length left ≤ 0 → Gives out → IsCalledIf (has_none left) Gives out
+called_alone [] Gives out none e = e
+called_alone (row ∷ left) Gives out none e = absurd (omega (arith, none))
+
+pub none_behind : (fields : ℕ) (Gives : List Value → Bag → Type 0) (old : Bag) → AreWide fields old → IsGivenBehind fields Gives [] old old
+none_behind fields Gives old wide = record { other = []; behind = sym (append-nil old); each = refl; wide = wide }
+
+pub one_behind : (fields : ℕ) (Gives : List Value → Bag → Type 0) (order : List (List Value)) (n : ℕ) (old new given whole : Bag) → n < length order → IsGivenBehind fields Gives (take n order) old new
+    → IfSome (slice_get order n) (λ k. Gives k given) → AreWide fields given → whole ≡ new ++ given → IsGivenBehind fields Gives (take (n + 1) order) old whole
+one_behind fields Gives order n old new given whole less h g wide is = record {
+  other = h.other ++ given;
+  behind = is ∙ ap (λ (l : Bag). l ++ given) h.behind ∙ append_assoc old h.other given;
+  each = subst (λ (m : ℕ). EachGives Gives (take m order) (h.other ++ given)) (sym (add-one n)) (each_more Gives order n h.other given less h.each g);
+  wide = subst (AreWide fields) (sym is) (AllByRecursion-append (λ (row : List Value). length row ≡ fields) new given h.wide wide);
+}
+
+pub all_behind : (fields : ℕ) (Gives : List Value → Bag → Type 0) (order : List (List Value)) (n : ℕ) (old new : Bag) → length order ≤ n → IsGivenBehind fields Gives (take n order) old new → IsGivenBehind fields Gives order old new
+all_behind fields Gives order n old new past h = subst (λ (ks : List (List Value)). IsGivenBehind fields Gives ks old new) (take_all n order past) h
+
+-- the calls for both sides
+pub cogroups_behind : (fields : ℕ) (f : List Value → Bag → Bag → Bag) (left_keys right_keys : List ℕ) (ls rs : Bag) (left_order right_order : List (List Value)) (none out whole : Bag) → none ≡ [] → IsPermutation (keys_in left_keys ls) left_order → IsPermutation (keys_in right_keys rs) right_order
+    → IsGivenBehind fields (IsCalledFrom false f left_keys right_keys ls rs) left_order none out → IsGivenBehind fields (IsCalledFrom true f right_keys left_keys rs ls) right_order out whole → AreCoGroupsGiven f left_keys right_keys ls rs whole
+cogroups_behind fields f left_keys right_keys ls rs left_order right_order none out whole e p q g h =
+    let first : out ≡ g.other = g.behind ∙ ap (λ (l : Bag). l ++ g.other) e in
+    subst (AreCoGroupsGiven f left_keys right_keys ls rs) (sym (h.behind ∙ ap (λ (l : Bag). l ++ h.other) first))
+    (cogroups_given f left_keys right_keys ls rs left_order right_order g.other h.other p q g.each h.each)

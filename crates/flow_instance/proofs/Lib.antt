@@ -13,6 +13,7 @@ pub mod OnOkTogether
 pub mod SoundInstances
 pub mod TakenNotes
 pub mod EndMarks
+pub mod CallsOfOperators
 pub mod PartsOfPlans
 pub mod FreshInstances
 pub mod WantsOfInstances

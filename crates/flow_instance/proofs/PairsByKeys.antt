@@ -1,12 +1,12 @@
 -- Pairs whose left records are found by the keys of the right one.
-use Rattle.std.proofs.Common.{◌≡◌, ◌<◌, ◌+◌, ◌++◌, ◌∷◌, [], ℕ, Bool, true, false, cond, List, length, take, get_or, refl, ap, sym, ◌∙◌, append-nil, subst, arith}
+use Rattle.std.proofs.Common.{◌≡◌, ◌<◌, ◌+◌, ◌++◌, ◌∷◌, [], ℕ, Bool, true, false, cond, List, length, take, get_or, refl, ap, sym, ◌∙◌, append-nil, append_assoc, subst, arith}
 use Rattle.std.specs.Prelude.{flat_map}
 use Rattle.std.specs.List.Sorted.{IsPermutation}
 use Rattle.std.proofs.lemmas.List.{take_more}
 use Rattle.flow_model.proofs.Bags.{beside, crossed-left, crossed-nil, is_same, joined}
 use Rattle.pact_bag.specs.Groups.{group_of_key, is_same_key}
 use Rattle.pact_operators.specs.Allowed.{Bag, crossed, matched}
-use Rattle.pact_record.proofs.Lists.{AllByRecursion-filter}
+use Rattle.pact_record.proofs.Lists.{AllByRecursion-filter, AllByRecursion-get_or}
 use Rattle.pact_record.proofs.Permutations.{flat_map-append, flat_map_perm, from_permutation, to_permutation, turn}
 use Rattle.pact_record.specs.Record.{key_of}
 use Rattle.pact_record.specs.Widths.{AreWide}
@@ -38,6 +38,17 @@ one_right f left_keys right_keys ls rs group out more n r lt e p m h =
     let calls : List Value → Bag = λ x. flat_map (λ l. matched f left_keys right_keys l x) ls in
     joined (is_same (ap (flat_map calls) (take_more rs n r lt ∙ ap (λ (x : List Value). take n rs ++ x ∷ []) (sym e)) ∙ flat_map-append calls (take n rs) (r ∷ []) ∙ ap (λ (l : Bag). flat_map calls (take n rs) ++ l) (append-nil (calls r) ∙ matched_group f left_keys right_keys ls r)))
     (joined (beside h (to_permutation (flat_map_perm (λ l. f l r) (from_permutation (group_of_key left_keys ls (key_of right_keys r)) group p)))) (is_same (sym m)))
+
+-- one left record more
+pub pairs_more : (f : List Value → Bag) (xs : Bag) (n : ℕ) (x : List Value) (old new given whole : Bag) → n < length xs → x ≡ get_or xs n x → new ≡ old ++ flat_map f (take n xs) → given ≡ f x → whole ≡ new ++ given → whole ≡ old ++ flat_map f (take (n + 1) xs)
+pairs_more f xs n x old new given whole lt e h g m =
+    let more : flat_map f (take (n + 1) xs) ≡ flat_map f (take n xs) ++ f x =
+    ap (flat_map f) (take_more xs n x lt ∙ ap (λ (y : List Value). take n xs ++ y ∷ []) (sym e)) ∙ flat_map-append f (take n xs) (x ∷ []) ∙ ap (λ (l : Bag). flat_map f (take n xs) ++ l) (append-nil (f x)) in
+    m ∙ (λ i. h i ++ g i) ∙ append_assoc old (flat_map f (take n xs)) (f x) ∙ ap (λ (l : Bag). old ++ l) (sym more)
+
+-- the width of one record
+pub item_width : (fields : ℕ) (xs rows : Bag) (n : ℕ) (x : List Value) → xs ≡ rows → n < length xs → x ≡ get_or xs n x → AreWide fields rows → length x ≡ fields
+item_width fields xs rows n x same lt e wide = ap length e ∙ AllByRecursion-get_or (λ (r : List Value). length r ≡ fields) xs n x lt (subst (AreWide fields) (sym same) wide)
 
 pub turned_pairs : (f : List Value → List Value → Bag) (left_keys right_keys : List ℕ) (ls rs out : Bag) → IsPermutation (flat_map (λ x. flat_map (λ l. matched f left_keys right_keys l x) ls) rs) out
     → IsPermutation (crossed (matched f left_keys right_keys) ls rs) out

@@ -68,3 +68,15 @@ pub record AreCoGroupsGiven (f : List Value → Bag → Bag → Bag) (left_keys 
   pub other : Bag
   pub grouped : CoGrouped f left_keys right_keys ls rs (keys_in_either left_keys right_keys ls rs) other
   pub same : IsPermutation other out
+
+-- the call for a key of one side: of the left one, or of the right one alone
+abbrev pub IsCalledFrom : (is_right : Bool) → (List Value → Bag → Bag → Bag) → (keys other_keys : List ℕ) → (own others : Bag) → List Value → Bag → Type 0
+IsCalledFrom false f keys other_keys own others k out = IsCoCalled f keys other_keys own others k out
+IsCalledFrom true f keys other_keys own others k out = IsCalledAlone f other_keys keys others own k out
+
+-- for each of the keys a part came behind what was there, and all have so many fields
+pub record IsGivenBehind (fields : ℕ) (Gives : List Value → Bag → Type 0) (ks : List (List Value)) (old new : Bag) : Type 0 where
+  pub other : Bag
+  pub behind : new ≡ old ++ other
+  pub each : EachGives Gives ks other
+  pub wide : AreWide fields new

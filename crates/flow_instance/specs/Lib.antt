@@ -6,3 +6,4 @@ pub mod Grouping
 pub mod Starting
 pub mod InstanceCode
 pub mod Limits
+pub mod Held

@@ -1,10 +1,9 @@
 //! End marks that an instance takes.
 
 ghost use Rattle.std.specs.Prelude.{◌≡◌, ◌<◌, ◌∷◌, [], true, false, IfOk, OnOk};
-ghost use Rattle.flow_model.specs.Local.{works_at_once};
 ghost use Rattle.flow_model.specs.Notes.{AreNotes};
 ghost use Rattle.flow_model.specs.declared.notes.Note.TheVariants.{End};
-ghost use Rattle.flow_instance.specs.States.{HasEnded, IsReady, IsSound, IsWhole, is_reduce};
+ghost use Rattle.flow_instance.specs.States.{HasEnded, IsReady, IsSound, IsWhole};
 ghost use Rattle.flow_instance.specs.Steps.{GivesGroups, Takes};
 
 use crate::flags::all_set;
@@ -34,15 +33,6 @@ impl<L: Local> State<L> {
         self.left.seal()
     }
 
-    fn end_right(&mut self, from: u32)
-        requires sound { IsSound L.rows L.key_fields L.is_sealed self.old }
-        requires from { from < self.old.part.workers }
-        ensures ended { HasEnded L.rows self.old 1 from self.new }
-        ensures sound { IsSound L.rows L.key_fields L.is_sealed self.new }
-    {
-        self.right_ended[from as usize] = true;
-    }
-
     fn end_sender(&mut self, port: u32, from: u32) -> Result<(), OutOfMemory>
         requires ready { IsReady L.rows L.key_fields L.is_sealed self.old port }
         requires from { from < self.old.part.workers }
@@ -52,37 +42,8 @@ impl<L: Local> State<L> {
         if port == 0 {
             return self.end_left(from);
         }
-        self.end_right(from);
+        self.right_ended[from as usize] = true;
         Ok(())
-    }
-
-    fn reduce(&mut self) -> Result<Rows, OutOfMemory>
-        requires sound { IsSound L.rows L.key_fields L.is_sealed self.old }
-        requires kind { is_reduce self.old.part.kind ≡ true }
-        ensures { IfOk result (GivesGroups L.rows self.old self.new) }
-    {
-        self.left.seal()?;
-        let part = &self.part;
-        reduce_kept(self.alloc, part.function(), &part.left_keys, &self.left)
-    }
-
-    fn cogroup(&mut self) -> Result<Rows, OutOfMemory>
-        requires sound { IsSound L.rows L.key_fields L.is_sealed self.old }
-        requires waits { works_at_once self.old.part.kind ≡ false }
-        requires kind { is_reduce self.old.part.kind ≡ false }
-        ensures { IfOk result (GivesGroups L.rows self.old self.new) }
-    {
-        self.left.seal()?;
-        self.right.seal()?;
-        let part = &self.part;
-        cogroup_kept(
-            self.alloc,
-            part.function(),
-            &part.left_keys,
-            &part.right_keys,
-            &self.left,
-            &self.right,
-        )
     }
 
     // What a Reduce or a CoGroup gives for all groups.
@@ -93,10 +54,21 @@ impl<L: Local> State<L> {
         if self.part.works_at_once() {
             return Ok(Rows::new(self.alloc));
         }
+        self.left.seal()?;
         if self.part.reduces() {
-            return self.reduce();
+            let part = &self.part;
+            return reduce_kept(self.alloc, part.function(), &part.left_keys, &self.left);
         }
-        self.cogroup()
+        self.right.seal()?;
+        let part = &self.part;
+        cogroup_kept(
+            self.alloc,
+            part.function(),
+            &part.left_keys,
+            &part.right_keys,
+            &self.left,
+            &self.right,
+        )
     }
 
     /// Takes an end mark at a port. With the last one, what waited for it is given, and end marks go out.
@@ -122,7 +94,12 @@ impl<L: Local> State<L> {
         ensures { OnOk result (Takes L.rows L.key_fields L.is_sealed self.old port from note self.new) }
     {
         match note {
-            Note::Batch(rows) => self.take_batch(port, rows),
+            Note::Batch(rows) => {
+                if port == 0 {
+                    return self.take_left(rows);
+                }
+                self.take_right(rows)
+            }
             Note::End => self.take_end(port, from),
         }
     }

@@ -1,11 +1,12 @@
 //! Which senders have ended.
 
-ghost use Rattle.std.specs.Prelude.{◌≡◌, ◌<◌, ℕ, true, not, get_or, length, map, slice_get, IfOk};
+ghost use Rattle.std.specs.Prelude.{◌≡◌, true, not, get_or, length, map, slice_get, IfOk};
 ghost use Rattle.flow_model.specs.Notes.{all_below};
 ghost use Rattle.flow_model.specs.Spots.{is_edge};
+ghost use Rattle.flow_instance.specs.Held.{AreFlagsOf};
 ghost use Rattle.flow_instance.specs.States.{port_of};
 
-use crate::parts::Port;
+use crate::parts::{Part, Port};
 use crate::sending::has_pipe;
 use pact_record::OutOfMemory;
 use std::alloc::Global;
@@ -35,17 +36,14 @@ fn has_ended(ports: &[Port], port: usize, from: u32, worker: u32) -> bool
 /// Which senders have ended at a port before any note has come.
 pub(crate) fn ended_at_start(
     alloc: Global,
-    ports: &[Port],
+    part: &Part,
     port: usize,
-    worker: u32,
-    workers: u32,
 ) -> Result<Vec<bool>, OutOfMemory>
-    ensures long { IfOk result (λ flags. length flags.items ≡ workers) }
-    ensures each { IfOk result (λ flags. (from : ℕ) → from < workers → get_or flags.items from true ≡ not (is_edge (slice_get (map port_of ports.now) port) from worker)) }
+    ensures { IfOk result (λ flags. AreFlagsOf part.now port flags.items) }
 {
-    let mut flags = Vec::with_capacity(alloc, workers as usize)?;
-    for from in 0..workers {
-        flags.push_reserved(has_ended(ports, port, from, worker));
+    let mut flags = Vec::with_capacity(alloc, part.workers as usize)?;
+    for from in 0..part.workers {
+        flags.push_reserved(has_ended(&part.ports, port, from, part.worker));
     }
     Ok(flags)
 }

@@ -3,7 +3,7 @@
 use flow_model::Note;
 
 /// A note, and the worker that it is for.
-#[derive(Debug, Drop)]
+#[derive(Drop)]
 pub(crate) struct Parcel {
     pub(crate) to: u32,
     pub(crate) note: Note,

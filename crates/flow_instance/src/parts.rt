@@ -10,7 +10,7 @@ use plan_trees::Ship;
 use tac_syntax::{OpKind, Valid};
 
 /// An edge that comes in at a port, by the number of what sends along it.
-#[derive(Clone, Copy, Debug)]
+#[derive(Clone, Copy)]
 pub(crate) struct Port {
     pub(crate) edge: u32,
     pub(crate) ship: Ship,

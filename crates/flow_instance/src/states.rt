@@ -5,6 +5,7 @@ ghost use Rattle.flow_model.specs.Instances.{all_ended};
 ghost use Rattle.pact_record.specs.Widths.{AreWide};
 ghost use Rattle.flow_instance.specs.Sending.{AreFew};
 ghost use Rattle.flow_instance.specs.Steps.{Gives, HasMarked};
+ghost use Rattle.flow_instance.specs.Held.{IsHeldAtStart};
 ghost use Rattle.flow_instance.specs.States.{HasBegun, IsFresh, PlacesAtRoot, part_of, seen};
 
 use crate::flags::{all_set, ended_at_start};
@@ -34,23 +35,44 @@ pub(crate) struct State<L: Local> {
     pub(crate) finished: bool,
 }
 
+// What a fresh state needs memory for, so that no part is at hand where there is none.
+#[derive(Drop)]
+struct Held<L: Local> {
+    left_ended: Vec<bool>,
+    right_ended: Vec<bool>,
+    left: L,
+    right: L,
+}
+
+fn held_at_start<L: Local>(alloc: Global, part: &Part) -> Result<Held<L>, OutOfMemory>
+    ensures { IfOk result (IsHeldAtStart L.rows L.key_fields L.is_sealed part.now) }
+{
+    let left = L::start(alloc, &part.left_keys)?;
+    let right = L::start(alloc, &part.right_keys)?;
+    let left_ended = ended_at_start(alloc, part, 0)?;
+    let right_ended = ended_at_start(alloc, part, 1)?;
+    Ok(Held {
+        left_ended,
+        right_ended,
+        left,
+        right,
+    })
+}
+
 impl<L: Local> State<L> {
     /// Nothing was taken or given, and nothing waits.
     pub(crate) fn fresh(alloc: Global, part: Part) -> Result<State<L>, OutOfMemory>
         ensures { IfOk result (IsFresh L.rows L.key_fields L.is_sealed part) }
     {
-        let left = L::start(alloc, &part.left_keys)?;
-        let right = L::start(alloc, &part.right_keys)?;
-        let left_ended = ended_at_start(alloc, &part.ports, 0, part.worker, part.workers)?;
-        let right_ended = ended_at_start(alloc, &part.ports, 1, part.worker, part.workers)?;
+        let held: Held<L> = held_at_start(alloc, &part)?;
         let receiver = part.workers;
         Ok(State {
             alloc,
             part,
-            left_ended,
-            right_ended,
-            left,
-            right,
+            left_ended: held.left_ended,
+            right_ended: held.right_ended,
+            left: held.left,
+            right: held.right,
             queue: VecDeque::new(alloc),
             receiver,
             placed: Rows::new(alloc),

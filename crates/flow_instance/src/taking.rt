@@ -17,17 +17,6 @@ use pact_bag::Rows;
 use pact_record::OutOfMemory;
 
 impl<L: Local> State<L> {
-    // A Map gives records at once.
-    fn map_batch(&mut self, rows: &Rows) -> Result<(), OutOfMemory>
-        requires ready { IsReady L.rows L.key_fields L.is_sealed self.old 0 }
-        requires kind { is_map self.old.part.kind ≡ true }
-        requires wide { AreWide self.old.part.fields rows.now }
-        ensures { OnOk result ((from : ℕ) → Takes L.rows L.key_fields L.is_sealed self.old 0 from (Batch rows.now) self.new) }
-    {
-        let out = map_rows(self.alloc, self.part.function(), rows)?;
-        self.give(out)
-    }
-
     // What a Match or a Cross gives for right records.
     fn pairs(&self, rows: &Rows) -> Result<Rows, OutOfMemory>
         requires ready { IsReady L.rows L.key_fields L.is_sealed self.now 1 }
@@ -49,66 +38,29 @@ impl<L: Local> State<L> {
         )
     }
 
-    // They are given at once.
-    fn match_batch(&mut self, rows: &Rows) -> Result<(), OutOfMemory>
-        requires ready { IsReady L.rows L.key_fields L.is_sealed self.old 1 }
-        requires kind { is_pair_kind self.old.part.kind ≡ true }
-        requires wide { AreWide self.old.part.fields rows.now }
-        ensures { OnOk result ((from : ℕ) → Takes L.rows L.key_fields L.is_sealed self.old 1 from (Batch rows.now) self.new) }
-    {
-        let out = self.pairs(rows)?;
-        self.give(out)
-    }
-
-    fn keep_left(&mut self, rows: Rows) -> Result<(), OutOfMemory>
-        requires ready { IsReady L.rows L.key_fields L.is_sealed self.old 0 }
-        requires kind { is_map self.old.part.kind ≡ false }
-        requires wide { AreWide self.old.part.fields rows }
-        ensures { OnOk result ((from : ℕ) → Takes L.rows L.key_fields L.is_sealed self.old 0 from (Batch rows) self.new) }
-    {
-        keep(&mut self.left, self.part.fields, rows)
-    }
-
-    fn keep_right(&mut self, rows: Rows) -> Result<(), OutOfMemory>
-        requires ready { IsReady L.rows L.key_fields L.is_sealed self.old 1 }
-        requires kind { is_pair_kind self.old.part.kind ≡ false }
-        requires wide { AreWide self.old.part.fields rows }
-        ensures { OnOk result ((from : ℕ) → Takes L.rows L.key_fields L.is_sealed self.old 1 from (Batch rows) self.new) }
-    {
-        keep(&mut self.right, self.part.fields, rows)
-    }
-
-    fn take_left(&mut self, rows: Rows) -> Result<(), OutOfMemory>
+    /// Takes a batch at port 0. A Map gives records at once.
+    pub(crate) fn take_left(&mut self, rows: Rows) -> Result<(), OutOfMemory>
         requires ready { IsReady L.rows L.key_fields L.is_sealed self.old 0 }
         requires wide { AreWide self.old.part.fields rows }
         ensures { OnOk result ((from : ℕ) → Takes L.rows L.key_fields L.is_sealed self.old 0 from (Batch rows) self.new) }
     {
         if self.part.maps() {
-            return self.map_batch(&rows);
+            let out = map_rows(self.alloc, self.part.function(), &rows)?;
+            return self.give(out);
         }
-        self.keep_left(rows)
+        keep(&mut self.left, self.part.fields, rows)
     }
 
-    fn take_right(&mut self, rows: Rows) -> Result<(), OutOfMemory>
+    /// Takes a batch at port 1. A Match or a Cross gives records at once.
+    pub(crate) fn take_right(&mut self, rows: Rows) -> Result<(), OutOfMemory>
         requires ready { IsReady L.rows L.key_fields L.is_sealed self.old 1 }
         requires wide { AreWide self.old.part.fields rows }
         ensures { OnOk result ((from : ℕ) → Takes L.rows L.key_fields L.is_sealed self.old 1 from (Batch rows) self.new) }
     {
         if self.part.pairs() {
-            return self.match_batch(&rows);
+            let out = self.pairs(&rows)?;
+            return self.give(out);
         }
-        self.keep_right(rows)
-    }
-
-    /// Takes a batch at a port.
-    pub(crate) fn take_batch(&mut self, port: u32, rows: Rows) -> Result<(), OutOfMemory>
-        requires ready { IsReady L.rows L.key_fields L.is_sealed self.old port }
-        requires wide { AreWide self.old.part.fields rows }
-        ensures { OnOk result ((from : ℕ) → Takes L.rows L.key_fields L.is_sealed self.old port from (Batch rows) self.new) }
-    {
-        if port == 0 {
-            return self.take_left(rows);
-        }
-        self.take_right(rows)
+        keep(&mut self.right, self.part.fields, rows)
     }
 }

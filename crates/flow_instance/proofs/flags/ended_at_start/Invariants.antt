@@ -7,5 +7,5 @@ use Rattle.flow_instance.proofs.flags.ended_at_start.Given as goal
 
 abbrev pub invariant-loop-from : goal.invariant-loop-from
 invariant-loop-from l =
-    (length l.flags.items ≡ l.from) × (vec_len l.flags ≡ l.from) × (l.workers ≤ vec_capacity l.flags)
-    × ((from : ℕ) → from < l.from → get_or l.flags.items from true ≡ not (is_edge (slice_get (map port_of l.ports) l.port) from l.worker))
+    (length l.flags.items ≡ l.from) × (vec_len l.flags ≡ l.from) × (l.part.workers ≤ vec_capacity l.flags)
+    × ((from : ℕ) → from < l.from → get_or l.flags.items from true ≡ not (is_edge (slice_get (map port_of l.part.ports.items) l.port) from l.part.worker))

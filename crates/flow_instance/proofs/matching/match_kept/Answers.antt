@@ -1,4 +1,5 @@
-use Rattle.std.proofs.Common.{List, subst, ◌∙◌}
+use Rattle.std.proofs.Common.{ℕ, List, sym, subst, ◌∙◌}
+use Rattle.pact_record.specs.Widths.{AreBelow}
 use Rattle.std.specs.Prelude.{flat_map}
 use Rattle.std.specs.List.Sorted.{IsPermutation}
 use Rattle.std.proofs.lemmas.List.{take_all}
@@ -6,7 +7,7 @@ use Rattle.pact_operators.specs.Allowed.{Bag, matched}
 use Rattle.pact_record.specs.Record.{key_of}
 use Rattle.pact_record.specs.declared.values.Value.{Value}
 use Rattle.tac_syntax.specs.Call.{Out, of_pair}
-use Rattle.flow_instance.proofs.PairsByKeys.{group_wide, one_right, turned_pairs}
+use Rattle.flow_instance.proofs.PairsByKeys.{group_wide, item_width, one_right, turned_pairs}
 use Rattle.flow_instance.proofs.matching.match_kept.Goals as goal
 
 pub append_pairs-requires-clause-left_widths : goal.append_pairs-requires-clause-left_widths
@@ -31,3 +32,12 @@ returns-clause-given g c =
     let all = take_all c.loop-right.right-index c.rows-right-items.result.now c.loop-right-test.false ∙ c.rows-right-items.ensures.rows in
     turned_pairs calls keys c.args.right_keys.now ls c.args.rights.now c.loop-right.out
     (subst (λ (rs : Bag). IsPermutation (flat_map (λ x. flat_map (λ l. matched calls keys c.args.right_keys.now l x) ls) rs) c.loop-right.out) all c.loop-right.invariant.0)
+
+pub append_pairs-requires-clause-right_width : goal.append_pairs-requires-clause-right_width
+append_pairs-requires-clause-right_width g c =
+    item_width c.args.f.now.fields c.rows-right-items.result.now c.args.rights.now c.loop-right.right-index c.right-item.result c.rows-right-items.ensures.rows c.loop-right-test.true c.right-item.is c.requires.right_widths
+
+pub group_of-requires-clause-below : goal.group_of-requires-clause-below
+group_of-requires-clause-below g c =
+    subst (λ (n : ℕ). AreBelow n c.args.right_keys.now)
+    (sym (item_width c.args.f.now.fields c.rows-right-items.result.now c.args.rights.now c.loop-right.right-index c.right-item.result c.rows-right-items.ensures.rows c.loop-right-test.true c.right-item.is c.requires.right_widths)) c.requires.right_below

@@ -1,0 +1,15 @@
+use Rattle.std.proofs.Common.{sym, ◌∙◌}
+use Rattle.std.proofs.lemmas.Result.{on_ok_weaker}
+use Rattle.flow_model.specs.declared.notes.Note.TheVariants.{Batch}
+use Rattle.flow_instance.proofs.TakenNotes.{takes_given, takes_right, took_pair}
+use Rattle.flow_instance.proofs.states.State.take_right.Goals as goal
+
+pub returns : goal.returns
+returns g c = on_ok_weaker c.keep.result (λ k. takes_right g.L.Local.rows g.L.Local.key_fields g.L.Local.is_sealed c.args.self.now c.args.rows c.keep.new.kept c.requires.ready (sym c.pairs.ensures ∙ c.if-pairs.false) k) c.keep.ensures
+
+pub returns-then-pairs : goal.returns-then-pairs
+returns-then-pairs g c = on_ok_weaker c.give.result (λ h from.
+    let s = c.args.self.now in
+    takes_given g.L.Local.rows g.L.Local.key_fields g.L.Local.is_sealed s c.args.rows c.give.new.self 1 from (Batch c.args.rows) c.in_ok-out.out c.requires.ready.sound h
+    (took_pair g.L.Local.rows g.L.Local.key_fields g.L.Local.is_sealed s c.give.new.self c.args.rows c.in_ok-out.out c.requires.ready (sym c.pairs.ensures ∙ c.if-pairs.true) c.in_ok-out.ensures.given h.same h.counted h.sent from))
+    c.give.ensures
