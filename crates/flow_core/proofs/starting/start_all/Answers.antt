@@ -1,4 +1,4 @@
-use Rattle.std.proofs.Common.{◌+◌, ◌∷◌, [], length-append, rules, subst, sym, ◌∙◌, ap, List}
+use Rattle.std.proofs.Common.{arith, ◌+◌, ◌∷◌, [], length-append, rules, subst, sym, ◌∙◌, ap, List}
 use Rattle.flow_model.specs.Spots.{setting}
 use Rattle.flow_core.specs.Starting.{AreStarted, AreStartedAt}
 use Rattle.flow_core.specs.Worlds.{StationData}
@@ -41,11 +41,13 @@ loop-at-preserved g c =
     let n = c.loop-at.at in
     let s = setting c.args.program.now c.args.inputs c.args.physical.now in
     let old = c.loop-at.rows.items in
-    let row = c.in_ok-start_row.field-0 in
-    let i = c.loop-at.invariant.1 in (
+    let row = c.in_ok-row.row in
+    let i = c.loop-at.invariant.3 in (
       taken.behind,
-      subst (AreStarted s c.args.batch (n + 1)) (sym c.in_ok-push.ensures.items) (record {
+      c.push_reserved.ensures.len ∙ ap (λ k. k + 1) c.loop-at.invariant.1,
+      omega (arith, c.push_reserved.ensures.capacity, c.loop-at.invariant.2),
+      subst (AreStarted s c.args.batch (n + 1)) (sym c.push_reserved.ensures.items) (record {
         long = length-append old (row ∷ []) ∙ ap (λ k. k + 1) i.long;
-        each = each_last (λ k (r : List StationData). AreStartedAt s c.args.batch k r) old row [] n i.long i.each (c.in_ok-start_row.ensures c.args.inputs taken.own_are);
+        each = each_last (λ k (r : List StationData). AreStartedAt s c.args.batch k r) old row [] n i.long i.each (c.in_ok-row.ensures c.args.inputs taken.own_are);
       }),
     )
