@@ -10,3 +10,4 @@ mod PlacedRows
 mod FinishedWorlds
 mod RunAlone
 mod WorldLaws
+mod ReadersOfEdges

@@ -8,35 +8,35 @@ use Rattle.flow_core.proofs.starting.start_all.Goals as goal
 
 pub own_rows-own-requires : goal.own_rows-own-requires
 own_rows-own-requires g c =
-    let at = op_at c.args.program.now c.ops-ops.result.now c.loop-at.at c.index-ops-at.result c.ops-ops.ensures.ops (search rules) c.index-ops-at.is in
+    let at = op_at c.args.program.now c.ops-ops.result.now c.loop-at.at c.index-ops-at.result c.ops-ops.ensures.ops c.loop-at-test.true c.index-ops-at.is in
     some_left c.args.program.now c.args.inputs c.loop-at.left c.loop-at.at c.index-ops-at.result c.requires.inputs at c.loop-at.invariant.0
 
 pub overflow_cast-at : goal.overflow_cast-at
 overflow_cast-at g c =
-    let at = op_at c.args.program.now c.ops-ops.result.now c.loop-at.at c.index-ops-at.result c.ops-ops.ensures.ops (search rules) c.index-ops-at.is in
+    let at = op_at c.args.program.now c.ops-ops.result.now c.loop-at.at c.index-ops-at.result c.ops-ops.ensures.ops c.loop-at-test.true c.index-ops-at.is in
     let few = below_limit c.loop-at.at c.args.physical.now.tree c.workers-workers.ensures.physical.plan (c.requires.plan.all c.loop-at.at at.less) in
     search (rules, few)
 
 pub start_row-requires-clause-wide : goal.start_row-requires-clause-wide
 start_row-requires-clause-wide g c =
-    let at = op_at c.args.program.now c.ops-ops.result.now c.loop-at.at c.index-ops-at.result c.ops-ops.ensures.ops (search rules) c.index-ops-at.is in
+    let at = op_at c.args.program.now c.ops-ops.result.now c.loop-at.at c.index-ops-at.result c.ops-ops.ensures.ops c.loop-at-test.true c.index-ops-at.is in
     let taken = has_taken c.args.program.now c.args.inputs c.loop-at.left c.loop-at.at c.index-ops-at.result c.own_rows-own.result c.own_rows-own.new.left c.requires.inputs at c.loop-at.invariant.0 c.own_rows-own.ensures in
     λ _ _. taken.wide
 
 pub start_row-requires-clause-none : goal.start_row-requires-clause-none
 start_row-requires-clause-none g c =
-    let at = op_at c.args.program.now c.ops-ops.result.now c.loop-at.at c.index-ops-at.result c.ops-ops.ensures.ops (search rules) c.index-ops-at.is in
+    let at = op_at c.args.program.now c.ops-ops.result.now c.loop-at.at c.index-ops-at.result c.ops-ops.ensures.ops c.loop-at-test.true c.index-ops-at.is in
     let taken = has_taken c.args.program.now c.args.inputs c.loop-at.left c.loop-at.at c.index-ops-at.result c.own_rows-own.result c.own_rows-own.new.left c.requires.inputs at c.loop-at.invariant.0 c.own_rows-own.ensures in
     λ _ _. taken.none
 
 pub start_row-requires-clause-at : goal.start_row-requires-clause-at
 start_row-requires-clause-at g c =
-    let at = op_at c.args.program.now c.ops-ops.result.now c.loop-at.at c.index-ops-at.result c.ops-ops.ensures.ops (search rules) c.index-ops-at.is in
+    let at = op_at c.args.program.now c.ops-ops.result.now c.loop-at.at c.index-ops-at.result c.ops-ops.ensures.ops c.loop-at-test.true c.index-ops-at.is in
     λ _ _. at.less
 
 pub loop-at-preserved : goal.loop-at-preserved
 loop-at-preserved g c =
-    let at = op_at c.args.program.now c.ops-ops.result.now c.loop-at.at c.index-ops-at.result c.ops-ops.ensures.ops (search rules) c.index-ops-at.is in
+    let at = op_at c.args.program.now c.ops-ops.result.now c.loop-at.at c.index-ops-at.result c.ops-ops.ensures.ops c.loop-at-test.true c.index-ops-at.is in
     let taken = has_taken c.args.program.now c.args.inputs c.loop-at.left c.loop-at.at c.index-ops-at.result c.own_rows-own.result c.own_rows-own.new.left c.requires.inputs at c.loop-at.invariant.0 c.own_rows-own.ensures in
     let n = c.loop-at.at in
     let s = setting c.args.program.now c.args.inputs c.args.physical.now in
@@ -51,3 +51,9 @@ loop-at-preserved g c =
         each = each_last (λ k (r : List StationData). AreStartedAt s c.args.batch k r) old row [] n i.long i.each (c.in_ok-row.ensures c.args.inputs taken.own_are);
       }),
     )
+
+pub bounds-ops-at : goal.bounds-ops-at
+bounds-ops-at g c = c.loop-at-test.true
+
+pub push_reserved-requires : goal.push_reserved-requires
+push_reserved-requires g c = omega (arith, c.loop-at-test.true, c.loop-at.invariant.1, c.loop-at.invariant.2)
