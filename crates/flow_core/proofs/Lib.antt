@@ -11,3 +11,4 @@ mod FinishedWorlds
 mod RunAlone
 mod WorldLaws
 mod ReadersOfEdges
+mod ChangedStations

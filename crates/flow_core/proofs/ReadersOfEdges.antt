@@ -1,5 +1,5 @@
 -- Readers of edges, by the parts of a plan.
-use Rattle.std.proofs.Common.{◌≡◌, ℕ, Bool, Option, Some, if◌then◌else◌, ◌==◌, refl, ap, subst, sym, ◌∙◌}
+use Rattle.std.proofs.Common.{◌≡◌, ℕ, Bool, Option, Some, if◌then◌else◌, ◌==◌, ap, sym, ◌∙◌}
 use Rattle.std.proofs.lemmas.Bool.{eq-eqb, ne_eqb}
 use Rattle.plan_trees.specs.PlanParts.{parts_of}
 use Rattle.plan_trees.specs.Plans.{PlanTree, leaf, over, both, root_of}

@@ -19,7 +19,7 @@ use Rattle.flow_model.proofs.EventsWithinMost.{bound}
 use Rattle.flow_model.proofs.CallTurns.{bounded_program}
 use Rattle.flow_model.proofs.Counting.{step_counted}
 use Rattle.flow_model.proofs.DividedRuns.{divided}
-use Rattle.flow_core.specs.Ends.{GoesOn, IsEnded, IsRun, Leaves}
+use Rattle.flow_core.specs.Ends.{IsEnded, Leaves}
 use Rattle.flow_core.specs.Replays.{IsReached}
 use Rattle.flow_core.specs.Worlds.{IsStanding, StandsForSome, WorldData, seen}
 use Rattle.flow_core.proofs.FinishedWorlds.{done_if_stuck, length-stations}

@@ -33,7 +33,7 @@ set_row old at worker s l m =
 -- the row and the station that were found at a place, however they were found
 module _ (old items : List (List StationData)) (row found_row : List StationData) (at worker : ℕ) (items_are : items ≡ old) (row_is : row ≡ found_row) (found : found_row ≡ get_or items at found_row)
     (below : at < length old) (within : worker < length (get_or old at [])) where
-  row_at : row ≡ get_or old at []
+  pub row_at : row ≡ get_or old at []
   row_at = row_is ∙ found ∙ ap (λ (l : List (List StationData)). get_or l at found_row) items_are ∙ get_or_default old at found_row [] below
 
   pub station_at : (x : StationData) → x ≡ get_or row worker x → x ≡ station_in old at worker

@@ -1,4 +1,4 @@
-use Rattle.std.proofs.Common.{◌≡◌, List, arith, subst, sym, take, ◌∙◌}
+use Rattle.std.proofs.Common.{◌≡◌, List, subst, sym, take, ◌∙◌}
 use Rattle.std.proofs.lemmas.List.{take_all}
 use Rattle.flow_model.specs.declared.notes.Event.{Event}
 use Rattle.flow_core.specs.Replays.{IsReplayed}

@@ -1,4 +1,4 @@
-use Rattle.std.proofs.Common.{arith, ◌+◌, ◌∷◌, [], length-append, rules, subst, sym, ◌∙◌, ap, List}
+use Rattle.std.proofs.Common.{arith, ◌≡◌, length, ◌+◌, ◌∷◌, [], length-append, rules, subst, sym, ◌∙◌, ap, List}
 use Rattle.flow_model.specs.Spots.{setting}
 use Rattle.flow_core.specs.Starting.{AreStarted, AreStartedAt}
 use Rattle.flow_core.specs.Worlds.{StationData}
@@ -57,3 +57,16 @@ bounds-ops-at g c = c.loop-at-test.true
 
 pub push_reserved-requires : goal.push_reserved-requires
 push_reserved-requires g c = omega (arith, c.loop-at-test.true, c.loop-at.invariant.1, c.loop-at.invariant.2)
+
+pub start_row-requires-clause-plan : goal.start_row-requires-clause-plan
+start_row-requires-clause-plan g c = λ _ _. c.requires.plan
+
+pub start_row-requires-clause-batch : goal.start_row-requires-clause-batch
+start_row-requires-clause-batch g c = λ _ _. c.requires.batch
+
+pub returns : goal.returns
+returns g c =
+    let p = c.args.program.now in
+    let s = setting p c.args.inputs c.args.physical.now in
+    let all : c.loop-at.at ≡ length c.ops-ops.result.now = omega (arith, c.loop-at-test.false, c.loop-at.auto.at-end) in
+    subst (λ n. AreStarted s c.args.batch n c.loop-at.rows.items) (all ∙ ap length c.ops-ops.ensures.ops) c.loop-at.invariant.3

@@ -75,3 +75,12 @@ returns g c = λ inputs own.
       long = i.1 ∙ whole;
       each = subst (λ (n : ℕ). AreBelow (setting c.args.program.now inputs c.args.physical.now) c.args.batch c.args.at n c.loop-share.held.items) whole (i.4 inputs own);
     }
+
+pub start_station-requires-clause-plan : goal.start_station-requires-clause-plan
+start_station-requires-clause-plan g c = λ _ _. c.requires.plan
+
+pub start_station-requires-clause-batch : goal.start_station-requires-clause-batch
+start_station-requires-clause-batch g c = λ _ _. c.requires.batch
+
+pub start_station-requires-clause-at : goal.start_station-requires-clause-at
+start_station-requires-clause-at g c = λ _ _. c.requires.at

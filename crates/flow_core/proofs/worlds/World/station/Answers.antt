@@ -1,5 +1,4 @@
-use Rattle.std.proofs.Common.{◌≡◌, ◌≤◌, [], ap, arith, get_or, length, sym, ◌∙◌, List}
-use Rattle.std.proofs.lemmas.List.{get_or_past}
+use Rattle.std.proofs.Common.{[], ap, arith, get_or, ◌∙◌, List}
 use Rattle.flow_core.specs.Worlds.{StationData, WorldData, no_station}
 use Rattle.flow_core.proofs.StationsAtPlaces.{found_none, found_some, no_row}
 use Rattle.flow_core.proofs.worlds.World.station.Goals as goal
