@@ -1,5 +1,5 @@
 -- What an enabled event tells of the instance that does it.
-use Rattle.std.proofs.Common.{◌∷◌, [], ◌≡◌, ◌<◌, ◌&&◌, ℕ, true, false, Option, Some, List, length, slice_get, nat_lt, refl, subst, sym, ◌∙◌}
+use Rattle.std.proofs.Common.{◌∷◌, [], ◌≡◌, ◌<◌, ◌&&◌, ℕ, true, false, Option, None, Some, List, length, slice_get, nat_lt, refl, subst, sym, ◌∙◌}
 use Rattle.std.proofs.lemmas.Bool.{and_parts, ltb-true}
 use Rattle.plan_trees.specs.Plans.{has, subtree_of}
 use Rattle.flow_model.specs.declared.notes.Event.TheVariants as events
@@ -70,3 +70,10 @@ can_take_at w p at port s e reader =
         fits = subst (λ (n : ℕ). AreNotes n (first_note (queue_in w.stations p.edge p.from p.to) ∷ [])) (sym l.part.fields) (one_note g.fields (first_note (queue_in w.stations p.edge p.from p.to)) t.note);
       };
     }
+
+-- what nobody reads can't be taken
+pub not_unread : (w : WorldData) (p : PipeId) → enabled w.physical w.depth (seen w) (events.Take p) ≡ true → reader_of p.edge w.physical.tree ≡ None → ⊥
+not_unread w p e unread =
+    let parts = and_parts (nat_lt p.from w.physical.workers && nat_lt p.to w.physical.workers) _ e in
+    let clash : false ≡ true = subst (λ (o : Option (ℕ × ℕ)). can_take (seen w) p o ≡ true) unread parts.1 in
+    cc

@@ -1,6 +1,6 @@
 -- What an instance can do, by what it wants.
-use Rattle.std.proofs.Common.{◌≡◌, ◌<◌, ◌&&◌, ◌==◌, inl, inr, ℕ, zero, suc, Bool, true, false, if◌then◌else◌, IfNone, Option, Some, None, [], length, slice_get, nat_lt, refl, ap, subst, sym, ◌∙◌, arith}
-use Rattle.std.proofs.lemmas.Bool.{and_parts, cases_Bool, eq-eqb, eqb-true, false_from_ne_true, lt-ltb, ltb-true}
+use Rattle.std.proofs.Common.{◌≡◌, ◌+◌, ◌<◌, ◌&&◌, ◌==◌, inl, inr, ℕ, zero, suc, Bool, true, false, if◌then◌else◌, IfNone, IfSome, Option, Some, None, [], length, slice_get, nat_lt, refl, ap, subst, sym, ◌∙◌, arith}
+use Rattle.std.proofs.lemmas.Bool.{and_parts, cases_Bool, cases_eq, eq-eqb, eqb-true, false_from_ne_true, lt-ltb, ltb-true}
 use Rattle.std.proofs.lemmas.Option.{none-some, same_Some}
 use Rattle.plan_trees.specs.Distinct.{AreDifferent}
 use Rattle.plan_trees.specs.Physicals.{IsPhysical, PhysicalData}
@@ -87,6 +87,14 @@ input_reads p at port e k i = elim (cases_Bool (has at p.tree)) as (λ _. reader
 pub none_if : {X P : Type 0} (b : Bool) (x : X) (o : Option X) → o ≡ (if b then Some x else None) → (b ≡ false → P) → IfNone o P
 none_if {X} {P} true x o e h = subst (λ (y : Option X). IfNone y P) (sym e) tt
 none_if {X} {P} false x o e h = subst (λ (y : Option X). IfNone y P) (sym e) (h refl)
+
+-- what passed the test
+pub some_if : {X : Type 0} (f : X → Bool) (x : X) (o : Option X) → o ≡ (if f x then Some x else None) → IfSome o (λ y. f y ≡ true)
+some_if {X} f x o e = by_test (f x) refl e
+  where
+    by_test : (b : Bool) → f x ≡ b → o ≡ (if b then Some x else None) → IfSome o (λ y. f y ≡ true)
+    by_test true on is = subst (λ (p : Option X). IfSome p (λ y. f y ≡ true)) (sym is) on
+    by_test false off is = subst (λ (p : Option X). IfSome p (λ y. f y ≡ true)) (sym is) tt
 
 -- ---- what enabled events tell
 
@@ -204,6 +212,14 @@ module _ (p : PhysicalData) (depth : ℕ) (w : World) where
       cc)
 
   -- ---- all instances
+
+  -- of one number more
+  pub idle_next : (n : ℕ) → ((at worker : ℕ) → at < n → worker < p.workers → IsIdle p depth w at worker) → ((worker : ℕ) → worker < p.workers → IsIdle p depth w n worker)
+      → (at worker : ℕ) → at < n + 1 → worker < p.workers → IsIdle p depth w at worker
+  idle_next n before here at worker below within = elim (cases_eq at n) as (λ _. IsIdle p depth w at worker) [
+    | inl e ↦ subst (λ (k : ℕ). IsIdle p depth w k worker) (sym e) (here worker within)
+    | inr other ↦ before at worker (omega (arith, below, other)) within
+  ]
 
   stuck_take : IsPhysical p → ((at worker : ℕ) → at < node_limit → worker < p.workers → IsIdle p depth w at worker) → (q : PipeId) (o : Option (ℕ × ℕ)) → reader_of q.edge p.tree ≡ o
       → enabled p depth w (events.Take q) ≡ true → ⊥

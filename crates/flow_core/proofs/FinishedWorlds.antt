@@ -1,7 +1,7 @@
 -- What a world leaves.
 use Rattle.std.proofs.Common.{◌≡◌, ◌<◌, ◌≤◌, ℕ, zero, suc, true, Some, List, [], get_or, length, map, slice_get, refl, ap, subst, sym, ◌∙◌, arith}
 use Rattle.std.specs.Option.{option_map}
-use Rattle.std.proofs.lemmas.List.{get_or_default}
+use Rattle.std.proofs.lemmas.List.{get_or_default, length-map}
 use Rattle.std.proofs.lemmas.Option.{slice_get-get_or, slice_get-map}
 use Rattle.pact_bag.specs.Rows.{HaveOneWidth}
 use Rattle.pact_bag.proofs.Widths.{All-from_recursion}
@@ -20,6 +20,7 @@ use Rattle.flow_model.specs.Worlds.{AreDone, History, IsStuck, LocalAt}
 use Rattle.flow_model.proofs.Bags.{is_same}
 use Rattle.flow_model.proofs.AllPutIsTaken.{spread}
 use Rattle.flow_model.proofs.Stuck.{stuck_is_done}
+use Rattle.flow_core.specs.Ends.{Leaves}
 use Rattle.flow_core.specs.Stations.{given_by, placed_by, total_given}
 use Rattle.flow_core.specs.Worlds.{IsStanding, IsWhole, StandsForSome, StationData, WorldData, seen}
 use Rattle.flow_instance.proofs.PartsOfPlans.{number_below}
@@ -69,6 +70,14 @@ spread_of g w h rows counts physical s done rows_are counts_are =
     let found : slice_get (map total_given w.stations) at ≡ Some (total_given row) =
     slice_get-map total_given w.stations at ∙ ap (option_map total_given) (slice_get-get_or w.stations at [] below) in
     ap (λ (l : List ℕ). slice_get l at) counts_are ∙ found ∙ ap (λ (n : ℕ). Some (count_of (sum_below n (given_by row)))) many)
+
+-- from what was taken out
+pub leaves : (w : WorldData) (rows : Bag) (counts : List ℕ) → StandsForSome w → rows ≡ all_of (length (root_row w)) (placed_by (root_row w)) → counts ≡ map total_given w.stations → Leaves w rows counts
+leaves w rows counts s rows_are counts_are = record {
+  spread = λ g h standing done. spread_of g w h rows counts s.is_physical standing done rows_are counts_are;
+  wide = λ g h standing. subst (AreWide g.fields) (sym rows_are) (placed_widths g w h standing);
+  long = ap length counts_are ∙ length-map w.stations total_given;
+}
 
 -- ---- nothing can happen
 

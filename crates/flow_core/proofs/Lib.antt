@@ -10,3 +10,5 @@ mod PlacedRows
 mod FinishedWorlds
 mod RunAlone
 mod WorldLaws
+mod ReadersOfEdges
+mod ChangedStations

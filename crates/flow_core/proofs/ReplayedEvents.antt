@@ -1,7 +1,8 @@
 -- One event more.
-use Rattle.std.proofs.Common.{◌≡◌, ◌<◌, ◌≤◌, ◌+◌, ◌++◌, ◌∷◌, [], ℕ, true, false, List, OnOk, Result, Ok, Err, get_or, length, refl, subst, sym, take, ◌∙◌}
+use Rattle.std.proofs.Common.{◌≡◌, ◌<◌, ◌≤◌, ◌+◌, ◌++◌, ◌∷◌, [], ℕ, true, false, List, Some, slice_get, OnOk, Result, Ok, Err, get_or, length, refl, subst, sym, take, ◌∙◌}
 use Rattle.std.specs.Prelude.{is_err}
 use Rattle.std.proofs.lemmas.List.{take_more}
+use Rattle.std.proofs.lemmas.Option.{same_Some, slice_get-get_or}
 use Rattle.pact_operators.specs.Allowed.{Bag}
 use Rattle.pact_operators.specs.Programs.{ProgramData}
 use Rattle.plan_trees.specs.Physicals.{PhysicalData}
@@ -51,3 +52,12 @@ replayed_short w v events s r p inputs h st =
     let g = setting p inputs w.physical in
     let m = r.runs g h st in
     runs_short g (program_turns p) w.depth events (seen w) (seen v) h m.0 s.is_physical.plan.different (bounded_program p inputs) st.stands m.1
+
+-- an event that isn't enabled is the first one
+pub stopped_at : (w u : WorldData) (events : List Event) (n : ℕ) (d : Event) → n < length events → IsReplayed w (take n events) u → enabled u.physical u.depth (seen u) (get_or events n d) ≡ false
+    → (n < length events) × IsReplayed w (take n events) u × ((e : Event) → slice_get events n ≡ Some e → enabled u.physical u.depth (seen u) e ≡ false)
+stopped_at w u events n d less before off = (
+  less,
+  before,
+  λ e is. subst (λ (x : Event). enabled u.physical u.depth (seen u) x ≡ false) (same_Some (get_or events n d) e (sym (slice_get-get_or events n d less) ∙ is)) off,
+)

@@ -1,9 +1,10 @@
 -- What a run on one thread leaves.
-use Rattle.std.proofs.Common.{◌≡◌, ◌≤◌, ◌+◌, ℕ, true, List, length, subst, sym, ◌∙◌, arith}
+use Rattle.std.proofs.Common.{◌≡◌, ◌≤◌, ◌+◌, ℕ, true, List, length, refl, subst, sym, ◌∙◌, arith}
 use Rattle.pact_operators.specs.Allowed.{Bag, Counted}
 use Rattle.pact_operators.specs.Inputs.{AreInputsOf}
 use Rattle.pact_operators.specs.PlanOps.{plan_ops}
 use Rattle.pact_operators.specs.Programs.{IsPlanOf, IsProgram, ProgramData}
+use Rattle.pact_record.specs.Widths.{AreWide}
 use Rattle.plan_trees.specs.Physicals.{IsPhysical, PhysicalData}
 use Rattle.ship_strategy.specs.PlanFacts.{facts_of}
 use Rattle.ship_strategy.specs.Ships.{LegalShip}
@@ -13,33 +14,66 @@ use Rattle.flow_model.specs.Events.{Steps, noted}
 use Rattle.flow_model.specs.Most.{most, program_turns}
 use Rattle.flow_model.specs.Spots.{Setting, setting}
 use Rattle.flow_model.specs.Spread.{Spread}
-use Rattle.flow_model.specs.Worlds.{AreDone, History, IsStuck, enabled}
+use Rattle.flow_model.specs.Worlds.{History, IsStuck, enabled}
 use Rattle.flow_model.proofs.EventsWithinMost.{bound}
 use Rattle.flow_model.proofs.CallTurns.{bounded_program}
 use Rattle.flow_model.proofs.Counting.{step_counted}
 use Rattle.flow_model.proofs.DividedRuns.{divided}
+use Rattle.flow_core.specs.Ends.{IsEnded, Leaves}
 use Rattle.flow_core.specs.Replays.{IsReached}
 use Rattle.flow_core.specs.Worlds.{IsStanding, StandsForSome, WorldData, seen}
 use Rattle.flow_core.proofs.FinishedWorlds.{done_if_stuck, length-stations}
 
--- what a world that is done spreads, at the world that a run came to
-abbrev pub Spreads : WorldData → Bag → List ℕ → Type 0
-Spreads v rows counts = (g : Setting) (h : History) → IsStanding g v h → AreDone g.physical (seen v) → Spread g rows counts
+-- where nothing can happen, every instance is done
+pub ended_here : (w : WorldData) → StandsForSome w → IsStuck w.physical w.depth (seen w) → IsEnded w w
+ended_here w some stuck = record {
+  each = λ g h s. (h, s, done_if_stuck g w h some.is_physical some.some_depth s stuck);
+  physical = refl;
+  stands = some;
+}
 
-pub reached_spread : (w v : WorldData) (n : ℕ) (rows : Bag) (counts : List ℕ) → IsReached w n v → IsStuck v.physical v.depth (seen v) → Spreads v rows counts → (g : Setting) (h : History) → IsStanding g w h → Spread g rows counts
-reached_spread w v n rows counts r stuck spreads g h s =
-    let m = r.each g h s in
-    spreads g m.0 m.1 (done_if_stuck g v m.0 r.stands.is_physical r.stands.some_depth m.1 stuck)
+-- what is left is what came of the world before the run
+pub ended_spread : (w v : WorldData) (rows : Bag) (counts : List ℕ) → IsEnded w v → Leaves v rows counts → (g : Setting) (h : History) → IsStanding g w h → Spread g rows counts
+ended_spread w v rows counts e l g h s =
+    let m = e.each g h s in
+    l.spread g m.0 m.1 m.2
+
+pub ended_widths : (w v : WorldData) (rows : Bag) (counts : List ℕ) → IsEnded w v → Leaves v rows counts → (g : Setting) (h : History) → IsStanding g w h → AreWide g.fields rows
+ended_widths w v rows counts e l g h s =
+    let m = e.each g h s in
+    l.wide g m.0 m.1
 
 -- legal ships make of it one counted evaluation
 pub spread_counted : (physical : PhysicalData) (rows : Bag) (counts : List ℕ) (p : ProgramData) (inputs : List Bag) → IsPhysical physical → IsProgram p → AreInputsOf p inputs → IsPlanOf p.functions p.ops physical.tree
     → LegalShip (facts_of p physical.tree) physical → Spread (setting p inputs physical) rows counts → Counted (plan_ops p inputs) physical.tree rows counts
 spread_counted physical rows counts p inputs k is are plan legal run = divided_counted p is inputs are physical k plan legal rows counts (divided p inputs physical rows counts k plan run)
 
-pub reached_numbers : (w v : WorldData) (n : ℕ) (counts : List ℕ) → IsReached w n v → length counts ≡ length v.stations → (p : ProgramData) → IsPlanOf p.functions p.ops w.physical.tree → length counts ≡ length p.ops
-reached_numbers w v n counts r e p plan = e ∙ length-stations v p r.stands.standing.whole (subst (λ (q : PhysicalData). IsPlanOf p.functions p.ops q.tree) (sym r.physical) plan)
+pub ended_numbers : (w v : WorldData) (rows : Bag) (counts : List ℕ) → IsEnded w v → Leaves v rows counts → (p : ProgramData) → IsPlanOf p.functions p.ops w.physical.tree → length counts ≡ length p.ops
+ended_numbers w v rows counts r l p plan = l.long ∙ length-stations v p r.stands.standing.whole (subst (λ (q : PhysicalData). IsPlanOf p.functions p.ops q.tree) (sym r.physical) plan)
 
 -- ---- the events so far
+
+pub reached_none : (w : WorldData) → StandsForSome w → IsReached w 0 w
+reached_none w some = record { each = λ g h s. (h, s, omega arith); physical = refl; stands = some }
+
+pub reached_more : (w u v : WorldData) (n : ℕ) → IsReached w n u → IsReached u 1 v → IsReached w (n + 1) v
+reached_more w u v n r s = record {
+  each = λ g h st.
+      let m = r.each g h st in
+      let k = s.each g m.0 m.1 in
+      (k.0, k.1, omega (arith, m.2, k.2));
+  physical = s.physical ∙ r.physical;
+  stands = s.stands;
+}
+
+pub reached_end : (w u v : WorldData) (n : ℕ) → IsReached w n u → IsEnded u v → IsEnded w v
+reached_end w u v n r e = record {
+  each = λ g h st.
+      let m = r.each g h st in
+      e.each g m.0 m.1;
+  physical = e.physical ∙ r.physical;
+  stands = e.stands;
+}
 
 pub reached-next : (w u v : WorldData) (n : ℕ) (e : Event) → IsReached w n u → enabled u.physical u.depth (seen u) e ≡ true
     → ((g : Setting) (h : History) → IsStanding g u h → Steps g (seen u) e (seen v)) → ((g : Setting) (h : History) → IsStanding g u h → IsStanding g v (noted (seen u) e h))

@@ -1,7 +1,8 @@
 -- Stations at places of a list of lists.
-use Rattle.std.proofs.Common.{◌≡◌, ◌≢◌, ◌<◌, ◌⊎◌, inl, inr, ℕ, List, [], get_or, length, set, ap, subst, sym, ◌∙◌}
+use Rattle.std.proofs.Common.{◌≡◌, ◌≢◌, ◌<◌, ◌≤◌, ◌⊎◌, inl, inr, ℕ, Option, None, Some, IfNone, IfSome, List, [], arith, get_or, length, set, ap, subst, sym, ◌∙◌}
 use Rattle.std.proofs.lemmas.Bool.{cases_eq}
-use Rattle.std.proofs.lemmas.List.{get_or-set_other, get_or-set_same, get_or_default}
+use Rattle.std.proofs.lemmas.List.{get_or-set_other, get_or-set_same, get_or_default, get_or_past}
+use Rattle.std.specs.Option.{option_map, unwrap_or}
 use Rattle.flow_core.specs.Worlds.{StationData, no_station, station_in}
 
 -- another station at one place, and the same ones elsewhere
@@ -32,7 +33,7 @@ set_row old at worker s l m =
 -- the row and the station that were found at a place, however they were found
 module _ (old items : List (List StationData)) (row found_row : List StationData) (at worker : ℕ) (items_are : items ≡ old) (row_is : row ≡ found_row) (found : found_row ≡ get_or items at found_row)
     (below : at < length old) (within : worker < length (get_or old at [])) where
-  row_at : row ≡ get_or old at []
+  pub row_at : row ≡ get_or old at []
   row_at = row_is ∙ found ∙ ap (λ (l : List (List StationData)). get_or l at found_row) items_are ∙ get_or_default old at found_row [] below
 
   pub station_at : (x : StationData) → x ≡ get_or row worker x → x ≡ station_in old at worker
@@ -40,3 +41,18 @@ module _ (old items : List (List StationData)) (row found_row : List StationData
 
   pub station_set : (s : StationData) → IsSet old (set items at (set row worker s)) at worker s
   station_set s = subst (λ (l : List (List StationData)). IsSet old l at worker s) (λ i. set (sym items_are i) at (set (sym row_at i) worker s)) (set_row old at worker s below within)
+
+-- ---- what is looked up
+
+pub no_row : (found stations : List (List StationData)) (at worker : ℕ) → found ≡ stations → length found ≤ at → station_in stations at worker ≡ no_station
+no_row found stations at worker same past =
+    let none : get_or stations at [] ≡ [] = ap (λ (l : List (List StationData)). get_or l at []) (sym same) ∙ get_or_past found at [] past in
+    ap (λ (r : List StationData). get_or r worker no_station) none ∙ get_or_past [] worker no_station (omega arith)
+
+pub found_some : {R : Type 0} (now : R → StationData) (o : Option R) (s : StationData) → unwrap_or (option_map now o) no_station ≡ s → IfSome o (λ x. now x ≡ s)
+found_some now None s e = tt
+found_some now (Some x) s e = e
+
+pub found_none : {R : Type 0} (now : R → StationData) (o : Option R) (s : StationData) → unwrap_or (option_map now o) no_station ≡ s → IfNone o (s ≡ no_station)
+found_none now None s e = sym e
+found_none now (Some x) s e = tt

@@ -3,9 +3,10 @@ use Rattle.std.specs.Prelude.{◌≡◌, ◌<◌, ℕ, true, false, [], ◌∷�
 use Rattle.flow_model.specs.declared.notes.Note.{Note}
 use Rattle.flow_model.specs.declared.notes.Want.TheVariants.{Take}
 use Rattle.flow_model.specs.Instances.{Instance, ended_at, want}
+use Rattle.flow_model.specs.Local.{IsLocal}
 use Rattle.flow_model.specs.Notes.{AreNotes}
-use Rattle.flow_model.specs.Spots.{is_edge}
-use Rattle.flow_model.specs.Steps.{finish, later, next_note, offered}
+use Rattle.flow_model.specs.Spots.{Spot, is_edge}
+use Rattle.flow_model.specs.Steps.{Took, finish, later, next_note, offered}
 use Rattle.pact_operators.specs.Allowed.{Bag, count_of}
 use Rattle.flow_model.specs.Spread.{sum_below}
 use Rattle.flow_core.specs.Worlds.{StationData, no_station}
@@ -30,6 +31,14 @@ pub record IsReadyFor (i : Instance) (on port sender : ℕ) (note : Note) : Type
   pub below : sender < i.part.workers
   pub not_ended : ended_at i port sender ≡ false
   pub fits : AreNotes i.part.fields (note ∷ [])
+
+-- The instance can take it on its own worker.
+pub record CanTake (i : Instance) (port sender : ℕ) (note : Note) : Type 0 where
+  pub ready : IsReadyFor i i.part.worker port sender note
+
+-- It has taken the note, whatever was taken and put before.
+pub record HasTaken (i : Instance) (port sender : ℕ) (note : Note) (j : Instance) : Type 0 where
+  pub took : (s : Spot) (taken : ℕ → ℕ → List Note) (put : ℕ → List Note) → IsLocal s i.part.worker i taken put → Took s i.part.worker i port sender note j
 
 -- ---- what the stations of a row leave
 

@@ -1,6 +1,6 @@
 //! A run on one thread.
 
-ghost use Rattle.std.specs.Prelude.{◌≡◌, ◌≤◌, ◌-◌, ◌^◌, List, length, IfNone, IfOk, IfSome, true};
+ghost use Rattle.std.specs.Prelude.{◌≡◌, List, length, IfNone, IfOk, IfSome, true};
 ghost use Rattle.pact_operators.specs.Allowed.{Bag, Counted};
 ghost use Rattle.pact_operators.specs.Inputs.{AreInputsOf};
 ghost use Rattle.pact_operators.specs.PlanOps.{plan_ops};
@@ -9,10 +9,10 @@ ghost use Rattle.pact_record.specs.Widths.{AreWide};
 ghost use Rattle.plan_trees.specs.Physicals.{IsPhysical};
 ghost use Rattle.ship_strategy.specs.PlanFacts.{facts_of};
 ghost use Rattle.ship_strategy.specs.Ships.{LegalShip};
-ghost use Rattle.flow_model.specs.Most.{most, program_turns};
 ghost use Rattle.flow_model.specs.Spots.{Setting, setting};
 ghost use Rattle.flow_model.specs.Spread.{Spread};
 ghost use Rattle.flow_model.specs.Worlds.{History, IsStuck, enabled};
+ghost use Rattle.flow_core.specs.Ends.{GoesOn, IsRun};
 ghost use Rattle.flow_core.specs.Worlds.{IsStanding, StandsForSome, seen};
 
 use crate::ready::Ready;
@@ -46,30 +46,37 @@ fn list_around<L: Local>(
         return Ok(());
     };
     ready.push(pipe.edge, pipe.from)?;
-    match world.reader(pipe.edge) {
+    match world.wiring.reader(pipe.edge) {
         Some((at, _)) => ready.push(at, pipe.to),
         None => Ok(()),
     }
 }
 
-// Lets events happen until none can, and None after 2^64 - 1 of them, where a run may have as many.
-fn run_to_end<L: Local>(world: World<L>) -> Result<Option<Outcome>, OutOfMemory>
-    requires { StandsForSome world }
-    ensures spread { IfOk result (λ o. IfSome o (λ o. (g : Setting) (h : History) → IsStanding g world h → Spread g o.rows o.counts)) }
-    ensures widths { IfOk result (λ o. IfSome o (λ o. (g : Setting) (h : History) → IsStanding g world h → AreWide g.fields o.rows)) }
-    ensures counts { IfOk result (λ o. IfSome o (λ o. (p : ProgramData) → IsPlanOf p.functions p.ops world.physical.tree → length o.counts ≡ length p.ops)) }
-    ensures long { IfOk result (λ o. IfNone o ((p : ProgramData) (inputs : List Bag) (h : History) → IsStanding (setting p inputs world.physical) world h → 2 ^ 64 - 1 ≤ most (setting p inputs world.physical) (program_turns p))) }
+// Lets an event happen, and tells whether one could.
+fn go_on<L: Local>(world: &mut World<L>, ready: &mut Ready) -> Result<bool, OutOfMemory>
+    requires { StandsForSome world.old }
+    ensures { IfOk result (λ went. GoesOn world.old went world.new) }
 {
-    let mut world = world;
-    let mut ready = Ready::new(world.alloc());
+    let Some(event) = next_event(world, ready) else {
+        return Ok(false);
+    };
+    world.step(event)?;
+    list_around(ready, world, event)?;
+    Ok(true)
+}
+
+// Lets events happen until none can, and false after 2^64 - 1 of them, where a run may have as many.
+fn run_to_end<L: Local>(world: &mut World<L>) -> Result<bool, OutOfMemory>
+    requires { StandsForSome world.old }
+    ensures { IfOk result (λ ended. IsRun world.old ended world.new) }
+{
+    let mut ready = Ready::new(world.alloc);
     for _turn in 0..u64::MAX {
-        let Some(event) = next_event(&world, &mut ready) else {
-            return Ok(Some(world.finish()?));
-        };
-        world.step(event)?;
-        list_around(&mut ready, &world, event)?;
+        if !go_on(world, &mut ready)? {
+            return Ok(true);
+        }
     }
-    Ok(None)
+    Ok(false)
 }
 
 /// Lets events happen until none can, which is when every instance is done. It waits for nobody. Want of memory is the error; a run whose bound on
@@ -81,8 +88,9 @@ pub fn run_alone<L: Local>(world: World<L>) -> Result<Outcome, OutOfMemory>
     ensures widths { IfOk result (λ o. (g : Setting) (h : History) → IsStanding g world h → AreWide g.fields o.rows) }
     ensures counts { IfOk result (λ o. (p : ProgramData) → IsPlanOf p.functions p.ops world.physical.tree → length o.counts ≡ length p.ops) }
 {
-    let Some(outcome) = run_to_end(world)? else {
+    let mut world = world;
+    if !run_to_end(&mut world)? {
         return Err(OutOfMemory);
-    };
-    Ok(outcome)
+    }
+    world.finish()
 }

@@ -21,7 +21,7 @@ impl<L: Local> World<L> {
         ensures below { IfSome result (λ from. from < self.now.physical.workers) }
         ensures none { IfNone result ((from : ℕ) → from < self.now.physical.workers → length (queue_in self.now.stations edge from to) ≡ 0) }
     {
-        for from in 0..self.workers() {
+        for from in 0..self.wiring.workers() {
             if self.queued(PipeId { edge, from, to }) > 0 {
                 return Some(from);
             }
@@ -42,7 +42,7 @@ impl<L: Local> World<L> {
         ensures some { IfSome result (λ e. enabled self.now.physical self.now.depth (seen self.now) e ≡ true) }
         ensures none { IfNone result (IsIdle self.now.physical self.now.depth (seen self.now) at worker) }
     {
-        let edge = self.input(at, port)?;
+        let edge = self.wiring.input(at, port)?;
         let from = self.sender(edge, worker)?;
         self.if_enabled(Event::Take(PipeId {
             edge,
@@ -75,7 +75,7 @@ impl<L: Local> World<L> {
         ensures some { IfSome result (λ e. enabled self.now.physical self.now.depth (seen self.now) e ≡ true) }
         ensures none { IfNone result ((worker : ℕ) → worker < self.now.physical.workers → IsIdle self.now.physical self.now.depth (seen self.now) at worker) }
     {
-        for worker in 0..self.workers() {
+        for worker in 0..self.wiring.workers() {
             if let Some(event) = self.event_of(at, worker) {
                 return Some(event);
             }

@@ -71,9 +71,9 @@ fn empty_queues(alloc: Global, workers: u32) -> Result<Vec<Queue>, OutOfMemory>
 {
     let mut queues = Vec::with_capacity(alloc, workers as usize)?;
     for _receiver in 0..workers {
-        queues.push(Queue {
+        queues.push_reserved(Queue {
             notes: VecDeque::new(alloc),
-        })?;
+        });
     }
     Ok(queues)
 }
@@ -120,7 +120,8 @@ fn start_row<L: Local>(
     let mut worker = 0;
     let shares = deal(alloc, rows, workers)?;
     for share in shares {
-        held.push(start_station(alloc, program, physical, share, batch, at, worker)?)?;
+        let station = start_station(alloc, program, physical, share, batch, at, worker)?;
+        held.push_reserved(station);
         worker += 1;
     }
     Ok(Row { held })
@@ -146,7 +147,8 @@ pub(crate) fn start_all<L: Local>(
     let mut rows = Vec::with_capacity(alloc, ops.len())?;
     for (at, op) in ops.iter().enumerate() {
         let own = own_rows(alloc, op, &mut left);
-        rows.push(start_row(alloc, program, physical, own, batch, at as u32)?)?;
+        let row = start_row(alloc, program, physical, own, batch, at as u32)?;
+        rows.push_reserved(row);
     }
     Ok(rows)
 }

@@ -1,16 +1,12 @@
 //! Instances with the pipes that leave them.
 
-ghost use Rattle.std.specs.Prelude.{◌≡◌, ◌<◌, ℕ, List, [], get_or, length, IfOk, OnOk};
+ghost use Rattle.std.specs.Prelude.{◌≡◌, ◌<◌, [], get_or, length, IfOk, OnOk};
 ghost use Rattle.pact_bag.specs.Rows.{HaveOneWidth};
 ghost use Rattle.plan_trees.specs.Sending.{all_of};
-ghost use Rattle.flow_model.specs.declared.notes.Note.{Note as NoteData};
 ghost use Rattle.flow_model.specs.declared.notes.Want.TheVariants.{End, Put};
 ghost use Rattle.flow_model.specs.Events.{first_note};
 ghost use Rattle.flow_model.specs.Instances.{want};
-ghost use Rattle.flow_model.specs.Local.{IsLocal};
-ghost use Rattle.flow_model.specs.Spots.{Spot};
-ghost use Rattle.flow_model.specs.Steps.{Took};
-ghost use Rattle.flow_core.specs.Stations.{IsReadyFor, given, placed_by, total_given, with_end, with_put};
+ghost use Rattle.flow_core.specs.Stations.{CanTake, HasTaken, given, placed_by, total_given, with_end, with_put};
 
 use flow_instance::Instance;
 use flow_model::Note;
@@ -90,8 +86,8 @@ impl<L: Local> Station<L> {
 
     /// The instance takes a note.
     pub(crate) fn take(&mut self, port: u32, from: u32, note: Note) -> Result<(), OutOfMemory>
-        requires { IsReadyFor self.old.instance self.old.instance.part.worker port from note }
-        ensures took { OnOk result ((s : Spot) (taken : ℕ → ℕ → List NoteData) (put : ℕ → List NoteData) → IsLocal s self.old.instance.part.worker self.old.instance taken put → Took s self.old.instance.part.worker self.old.instance port from note self.new.instance) }
+        requires { CanTake self.old.instance port from note }
+        ensures took { OnOk result (HasTaken self.old.instance port from note self.new.instance) }
         ensures queues { self.new.queues ≡ self.old.queues }
     {
         self.instance.took(port, from, note)

@@ -12,12 +12,10 @@ ghost use Rattle.flow_model.specs.Events.{Ends, KeepsDepth, ListChanged, OthersS
 ghost use Rattle.flow_model.specs.Instances.{want};
 ghost use Rattle.flow_model.specs.Local.{IsLocal};
 ghost use Rattle.flow_model.specs.Spots.{Setting, Spot, setting};
-ghost use Rattle.flow_model.specs.Spread.{Spread};
 ghost use Rattle.flow_model.specs.Steps.{Took, later};
-ghost use Rattle.pact_record.specs.Widths.{AreWide};
 ghost use Rattle.flow_core.specs.Stations.{IsReadyFor, total_given};
-ghost use Rattle.flow_model.specs.Worlds.{AreDone, History, does_want, enabled, reader_of};
-ghost use Rattle.flow_core.specs.Wired.{input_in};
+ghost use Rattle.flow_model.specs.Worlds.{History, does_want, enabled};
+ghost use Rattle.flow_core.specs.Ends.{Leaves};
 ghost use Rattle.flow_core.specs.Laws.{ObeysLaws};
 ghost use Rattle.flow_core.specs.Worlds.{HasBatchSize, IsStanding, IsWhole, StandsForSome, depth_limit, instance_in, no_station, queue_in, seen, station_in};
 
@@ -35,8 +33,8 @@ use std::marker::Model;
 /// The instances of a physical plan, and the notes on the pipes between them.
 #[derive(Drop)]
 pub struct World<L: Local> {
-    alloc: Global,
-    wiring: Wiring,
+    pub(crate) alloc: Global,
+    pub(crate) wiring: Wiring,
     depth: u32,
     stations: Vec<Row<L>>,
 }
@@ -130,30 +128,6 @@ impl<L: Local> World<L> {
         ensures batch { IfOk result (λ w. HasBatchSize w batch) }
     {
         World::start_owned(alloc, program, physical, inputs.copy(alloc)?, batch, depth)
-    }
-
-    pub(crate) fn alloc(&self) -> Global {
-        self.alloc
-    }
-
-    pub(crate) fn workers(&self) -> u32
-        ensures { result ≡ self.now.physical.workers }
-    {
-        self.wiring.workers()
-    }
-
-    // The operator that reads an edge, and its port.
-    pub(crate) fn reader(&self, edge: u32) -> Option<(u32, u32)>
-        ensures { result ≡ reader_of edge self.now.physical.tree }
-    {
-        self.wiring.reader(edge)
-    }
-
-    // What an operator reads at a port.
-    pub(crate) fn input(&self, at: u32, port: u32) -> Option<u32>
-        ensures { result ≡ input_in self.now.physical.tree at port }
-    {
-        self.wiring.input(at, port)
     }
 
     // The station of an operator on a worker, where there is one.
@@ -343,9 +317,7 @@ impl<L: Local> World<L> {
     /// What is left at the end: the records that the root's instances placed, and how many each source and operator gave.
     pub(crate) fn finish(self) -> Result<Outcome, OutOfMemory>
         requires { StandsForSome self }
-        ensures spread { IfOk result (λ o. (g : Setting) (h : History) → IsStanding g self h → AreDone g.physical (seen self) → Spread g o.rows o.counts) }
-        ensures widths { IfOk result (λ o. (g : Setting) (h : History) → IsStanding g self h → AreWide g.fields o.rows) }
-        ensures counts { IfOk result (λ o. length o.counts ≡ length self.stations) }
+        ensures { IfOk result (λ o. Leaves self o.rows o.counts) }
     {
         let counts = count_rows(self.alloc, &self.stations)?;
         let root = self.wiring.root();

@@ -1,14 +1,19 @@
-use Rattle.std.proofs.Common.{IfSome, subst}
-use Rattle.flow_model.specs.Spots.{Setting, setting}
-use Rattle.flow_model.specs.Spread.{Spread}
-use Rattle.flow_model.specs.Worlds.{History}
-use Rattle.flow_core.specs.Worlds.{IsStanding}
-use Rattle.flow_core.proofs.RunAlone.{spread_counted}
+use Rattle.std.proofs.Common.{subst}
+use Rattle.std.proofs.lemmas.Result.{IfOk-weaker}
+use Rattle.flow_core.specs.Ends.{IsEnded, IsRun}
+use Rattle.flow_model.specs.Spots.{setting}
+use Rattle.flow_core.proofs.RunAlone.{ended_numbers, ended_spread, ended_widths, spread_counted}
 use Rattle.flow_core.proofs.alone.run_alone.Goals as goal
 
-pub returns-clause-counted : goal.returns-clause-counted
-returns-clause-counted g c = λ p inputs h is are plan legal st.
+pub returns : goal.returns
+returns g c =
     let w = c.args.world in
-    let o = c.in-Some.outcome in
-    let spread = subst (λ x. IfSome x (λ o. (s : Setting) (before : History) → IsStanding s w before → Spread s o.rows o.counts)) c.in-Some.is c.in_ok-outcome.ensures.spread in
-    spread_counted w.physical o.rows o.counts p inputs c.requires.is_physical is are plan legal (spread (setting p inputs w.physical) h st)
+    let v = c.run_to_end.new.world in
+    let ended : IsEnded w v = subst (λ b. IsRun w b v) c.if-not-branch.false c.in_ok-run_to_end.ensures in
+    record {
+      spread = IfOk-weaker c.finish.result _ _ (λ o l. ended_spread w v o.rows o.counts ended l) c.finish.ensures;
+      counted = IfOk-weaker c.finish.result _ _ (λ o l p inputs h is are plan legal st.
+          spread_counted w.physical o.rows o.counts p inputs c.requires.is_physical is are plan legal (ended_spread w v o.rows o.counts ended l (setting p inputs w.physical) h st)) c.finish.ensures;
+      widths = IfOk-weaker c.finish.result _ _ (λ o l. ended_widths w v o.rows o.counts ended l) c.finish.ensures;
+      counts = IfOk-weaker c.finish.result _ _ (λ o l. ended_numbers w v o.rows o.counts ended l) c.finish.ensures;
+    }

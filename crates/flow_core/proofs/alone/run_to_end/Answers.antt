@@ -1,21 +1,24 @@
-use Rattle.std.proofs.Common.{arith}
-use Rattle.flow_core.proofs.RunAlone.{reached-next, reached_long, reached_numbers, reached_spread}
+use Rattle.std.proofs.Common.{arith, subst}
+use Rattle.flow_core.specs.Ends.{GoesOn}
+use Rattle.flow_core.proofs.RunAlone.{reached_end, reached_long, reached_more, reached_none}
 use Rattle.flow_core.proofs.alone.run_to_end.Goals as goal
 
-pub returns-in_default-clause-spread : goal.returns-in_default-clause-spread
-returns-in_default-clause-spread g c =
-    let o = c.in_ok-finish.field-0 in
-    reached_spread c.args.world c.loop-turn.world c.loop-turn._turn o.rows o.counts c.loop-turn.invariant c.in_default.ensures.none c.in_ok-finish.ensures.spread
-
-pub returns-in_default-clause-counts : goal.returns-in_default-clause-counts
-returns-in_default-clause-counts g c = reached_numbers c.args.world c.loop-turn.world c.loop-turn._turn c.in_ok-finish.field-0.counts c.loop-turn.invariant c.in_ok-finish.ensures.counts
+pub loop-turn-init : goal.loop-turn-init
+loop-turn-init g c = reached_none c.args.world.now c.requires
 
 pub loop-turn-preserved : goal.loop-turn-preserved
 loop-turn-preserved g c =
-    let step = c.in_ok-step.ensures in
-    reached-next c.args.world c.loop-turn.world c.step.new.self c.loop-turn._turn c.in-Some.event c.loop-turn.invariant c.in-Some.ensures.some step.stepped step.standing step.physical step.stands
+    let u = c.loop-turn.world in
+    let v = c.go_on.new.world in
+    reached_more c.args.world.now u v c.loop-turn._turn c.loop-turn.invariant (subst (λ b. GoesOn u b v) c.if-not-branch.false c.in_ok-go_on.ensures)
 
-pub returns-clause-long : goal.returns-clause-long
-returns-clause-long g c = λ p inputs h st.
-    let few = reached_long c.args.world c.loop-turn.world c.loop-turn._turn c.requires c.loop-turn.invariant p inputs h st in
+pub returns-then-not-branch : goal.returns-then-not-branch
+returns-then-not-branch g c =
+    let u = c.loop-turn.world in
+    let v = c.go_on.new.world in
+    reached_end c.args.world.now u v c.loop-turn._turn c.loop-turn.invariant (subst (λ b. GoesOn u b v) c.if-not-branch.true c.in_ok-go_on.ensures)
+
+pub returns : goal.returns
+returns g c = λ p inputs h st.
+    let few = reached_long c.args.world.now c.loop-turn.world c.loop-turn._turn c.requires c.loop-turn.invariant p inputs h st in
     omega (arith, few, c.loop-turn-test.false)

@@ -1,13 +1,11 @@
-use Rattle.std.proofs.Common.{OnOk, List, ap, subst, ℕ}
-use Rattle.flow_model.specs.declared.notes.Note.{Note}
+use Rattle.std.proofs.Common.{ap, subst}
+use Rattle.std.proofs.lemmas.Result.{on_ok_weaker}
 use Rattle.flow_model.specs.Instances.{Instance}
-use Rattle.flow_model.specs.Local.{IsLocal}
-use Rattle.flow_model.specs.Spots.{Spot}
-use Rattle.flow_model.specs.Steps.{Took}
+use Rattle.flow_core.specs.Stations.{HasTaken}
 use Rattle.flow_core.specs.Worlds.{StationData}
 use Rattle.flow_core.proofs.stations.Station.take.Goals as goal
 
 pub returns-clause-took : goal.returns-clause-took
 returns-clause-took g c =
-    subst (λ (i : Instance). OnOk c.took.result ((s : Spot) (taken : ℕ → ℕ → List Note) (put : ℕ → List Note) → IsLocal s i.part.worker i taken put → Took s i.part.worker i c.args.port c.args.from c.args.note c.took.new.self))
-    (ap (λ (s : StationData). s.instance) c.self.view_is) c.took.ensures.took
+    let same = ap (λ (s : StationData). s.instance) c.self.view_is in
+    on_ok_weaker c.took.result (λ took. subst (λ (i : Instance). HasTaken i c.args.port c.args.from c.args.note c.took.new.self) same (record { took = took })) c.took.ensures.took

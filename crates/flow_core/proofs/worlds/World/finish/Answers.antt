@@ -1,11 +1,10 @@
 use Rattle.std.proofs.Common.{◌≡◌, ap, arith, length, map, subst, sym, ◌∙◌, List}
 use Rattle.pact_bag.specs.Rows.{HaveOneWidth}
-use Rattle.pact_record.specs.Widths.{AreWide}
 use Rattle.plan_trees.specs.Plans.{root_of}
 use Rattle.plan_trees.specs.Sending.{all_of}
 use Rattle.flow_core.specs.Stations.{placed_by, total_given}
 use Rattle.flow_core.specs.Worlds.{StationData, WorldData}
-use Rattle.flow_core.proofs.FinishedWorlds.{one_width, placed_widths, root_below, spread_of, taken_row}
+use Rattle.flow_core.proofs.FinishedWorlds.{leaves, one_width, root_below, taken_row}
 use Rattle.flow_core.proofs.worlds.World.finish.Goals as goal
 
 pub swap_remove-requires : goal.swap_remove-requires
@@ -22,18 +21,11 @@ into_placed-requires-after_bounds g c κs within =
     let row_is = taken_row w _ c.root-root.result c.swap_remove.result c.self.view_is c.root-root.ensures c.swap_remove.ensures.value c.requires in
     subst (λ (r : List StationData). HaveOneWidth (all_of (length r) (placed_by r))) (sym row_is) (one_width w c.requires)
 
-pub returns-clause-spread : goal.returns-clause-spread
-returns-clause-spread g c =
+pub returns : goal.returns
+returns g c =
     let w = c.args.self in
     let items = ap (λ (x : WorldData). x.stations) c.self.view_is in
     let row_is = taken_row w _ c.root-root.result c.swap_remove.result c.self.view_is c.root-root.ensures c.swap_remove.ensures.value c.requires in
     let rows_are = c.in_ok-rows.ensures ∙ ap (λ (r : List StationData). all_of (length r) (placed_by r)) row_is in
     let counts_are = c.in_ok-counts.ensures ∙ ap (map total_given) (c.deref.ensures.value ∙ items) in
-    λ s h standing done. spread_of s w h c.in_ok-rows.rows c.in_ok-counts.counts c.requires.is_physical standing done rows_are counts_are
-
-pub returns-clause-widths : goal.returns-clause-widths
-returns-clause-widths g c =
-    let w = c.args.self in
-    let row_is = taken_row w _ c.root-root.result c.swap_remove.result c.self.view_is c.root-root.ensures c.swap_remove.ensures.value c.requires in
-    let rows_are = c.in_ok-rows.ensures ∙ ap (λ (r : List StationData). all_of (length r) (placed_by r)) row_is in
-    λ s h standing. subst (AreWide s.fields) (sym rows_are) (placed_widths s w h standing)
+    leaves w c.in_ok-rows.rows c.in_ok-counts.counts c.requires rows_are counts_are

@@ -1,4 +1,4 @@
-use Rattle.std.proofs.Common.{◌≡◌, ap, subst, sym, ◌∙◌, true, Some}
+use Rattle.std.proofs.Common.{◌≡◌, ◌<◌, ap, subst, sym, ◌∙◌, true, Some}
 use Rattle.flow_instance.proofs.OnOkTogether.{on_ok_three}
 use Rattle.plan_trees.specs.Physicals.{PhysicalData}
 use Rattle.plan_trees.specs.Plans.{has}
@@ -8,7 +8,7 @@ use Rattle.flow_model.specs.Worlds.{reader_of}
 use Rattle.flow_model.specs.declared.notes.Note.{Note}
 use Rattle.flow_core.specs.Stations.{IsReadyFor}
 use Rattle.flow_core.specs.Worlds.{WorldData, instance_in, queue_in}
-use Rattle.flow_core.proofs.EnabledEvents.{can_take_at}
+use Rattle.flow_core.proofs.EnabledEvents.{can_take_at, not_unread}
 use Rattle.flow_core.proofs.WorldsAfterEvents.{take_steps}
 use Rattle.flow_core.proofs.worlds.World.take.Goals as goal
 
@@ -52,3 +52,41 @@ returns-clause-stepped g c =
     take_steps s c.args.self.now c.give-note.new.self c.receive.new.self h c.args.pipe c.in-Some.at c.in-Some.port c.give-note.result st reader can.receiver.there can.receiver.below
     give.instances give.queue give.note took others kept)
     c.receive.ensures.took c.receive.ensures.others c.receive.ensures.queues
+
+pub unreachable-requires : goal.unreachable-requires
+unreachable-requires g c =
+    not_unread c.args.self.now c.args.pipe c.requires.can (ap (λ (w : WorldData). reader_of c.args.pipe.edge w.physical.tree) (sym c.self.view_is) ∙ sym c.reader.ensures ∙ c.in_default.is)
+
+pub give-note-requires-clause-whole : goal.give-note-requires-clause-whole
+give-note-requires-clause-whole g c κs within = c.requires.stands.standing.whole
+
+pub give-note-requires-clause-from : goal.give-note-requires-clause-from
+give-note-requires-clause-from g c κs within =
+    let reader : reader_of c.args.pipe.edge c.args.self.now.physical.tree ≡ Some (c.in-Some.at, c.in-Some.port) =
+    ap (λ (w : WorldData). reader_of c.args.pipe.edge w.physical.tree) (sym c.self.view_is) ∙ sym c.reader.ensures ∙ c.in-Some.is in
+    (can_take_at c.args.self.now c.args.pipe c.in-Some.at c.in-Some.port c.requires.stands c.requires.can reader).sender.below
+
+pub give-note-requires-clause-to : goal.give-note-requires-clause-to
+give-note-requires-clause-to g c κs within =
+    let reader : reader_of c.args.pipe.edge c.args.self.now.physical.tree ≡ Some (c.in-Some.at, c.in-Some.port) =
+    ap (λ (w : WorldData). reader_of c.args.pipe.edge w.physical.tree) (sym c.self.view_is) ∙ sym c.reader.ensures ∙ c.in-Some.is in
+    (can_take_at c.args.self.now c.args.pipe c.in-Some.at c.in-Some.port c.requires.stands c.requires.can reader).receiver.below
+
+pub receive-requires-clause-whole : goal.receive-requires-clause-whole
+receive-requires-clause-whole g c κs within = c.give-note.ensures.whole
+
+pub receive-requires-clause-worker : goal.receive-requires-clause-worker
+receive-requires-clause-worker g c κs within =
+    let reader : reader_of c.args.pipe.edge c.args.self.now.physical.tree ≡ Some (c.in-Some.at, c.in-Some.port) =
+    ap (λ (w : WorldData). reader_of c.args.pipe.edge w.physical.tree) (sym c.self.view_is) ∙ sym c.reader.ensures ∙ c.in-Some.is in
+    let can = can_take_at c.args.self.now c.args.pipe c.in-Some.at c.in-Some.port c.requires.stands c.requires.can reader in
+    subst (λ (q : PhysicalData). c.args.pipe.to < q.workers) (sym c.give-note.ensures.physical) can.receiver.below
+
+pub returns-clause-whole : goal.returns-clause-whole
+returns-clause-whole g c = c.receive.ensures.whole
+
+pub returns-clause-physical : goal.returns-clause-physical
+returns-clause-physical g c = c.receive.ensures.physical ∙ c.give-note.ensures.physical
+
+pub returns-clause-depth : goal.returns-clause-depth
+returns-clause-depth g c = c.receive.ensures.depth ∙ c.give-note.ensures.depth
