@@ -99,7 +99,7 @@ some_if {X} f x o e = by_test (f x) refl e
 -- ---- what enabled events tell
 
 module _ (p : PhysicalData) (depth : ℕ) (w : World) where
-  told_put : (q : PipeId) → enabled p depth w (events.Put q) ≡ true → want (w.instance q.edge q.from) ≡ Put q.to
+  pub told_put : (q : PipeId) → enabled p depth w (events.Put q) ≡ true → want (w.instance q.edge q.from) ≡ Put q.to
   told_put q on =
       let parts = and_parts (has q.edge p.tree && nat_lt q.from p.workers) _ on in
       wants_put (want (w.instance q.edge q.from)) q.to (and_parts (does_want (want (w.instance q.edge q.from)) (Put q.to)) _ parts.1).0
@@ -131,8 +131,18 @@ module _ (p : PhysicalData) (depth : ℕ) (w : World) where
       let some = lt-ltb 0 (length (w.queue q.edge q.from q.to)) t.some in
       rw (from, to, r, wanted, some) refl
 
-  told_end : (at worker : ℕ) → enabled p depth w (events.End at worker) ≡ true → want (w.instance at worker) ≡ End
+  pub told_end : (at worker : ℕ) → enabled p depth w (events.End at worker) ≡ true → want (w.instance at worker) ≡ End
   told_end at worker on = wants_end (want (w.instance at worker)) (and_parts (has at p.tree && nat_lt worker p.workers) _ on).1
+
+  pub place_put : (q : PipeId) → enabled p depth w (events.Put q) ≡ true → (has q.edge p.tree ≡ true) × (q.from < p.workers)
+  place_put q on =
+      let place = and_parts (has q.edge p.tree) (nat_lt q.from p.workers) (and_parts (has q.edge p.tree && nat_lt q.from p.workers) _ on).0 in
+      (place.0, ltb-true q.from p.workers place.1)
+
+  pub place_end : (at worker : ℕ) → enabled p depth w (events.End at worker) ≡ true → (has at p.tree ≡ true) × (worker < p.workers)
+  place_end at worker on =
+      let place = and_parts (has at p.tree) (nat_lt worker p.workers) (and_parts (has at p.tree && nat_lt worker p.workers) _ on).0 in
+      (place.0, ltb-true worker p.workers place.1)
 
   -- what an instance wants that does an enabled event
   abbrev Wanted : (at worker : ℕ) → Event → Want → Type 0

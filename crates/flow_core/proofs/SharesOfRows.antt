@@ -1,8 +1,8 @@
 -- Shares of rows, and rows of stations, item by item.
-use Rattle.std.proofs.Common.{◌≡◌, ◌<◌, ◌+◌, ◌%◌, ◌==◌, inl, inr, ℕ, suc, Bool, true, false, cond, List, [], ◌∷◌, ◌++◌, drop, get_or, length, set, take, refl, ap, subst, sym, ◌∙◌, append-nil, arith, length-append, length-drop}
+use Rattle.std.proofs.Common.{◌≡◌, ◌<◌, ◌+◌, ◌%◌, ◌==◌, inl, inr, ℕ, zero, suc, replicate, Bool, true, false, cond, List, [], ◌∷◌, ◌++◌, drop, get_or, length, set, take, refl, ap, subst, sym, ◌∙◌, append-nil, arith, length-append, length-drop}
 use Rattle.std.specs.List.{AllByRecursion}
 use Rattle.std.proofs.lemmas.Bool.{cases_eq, eq-eqb, ne_eqb}
-use Rattle.std.proofs.lemmas.List.{drop_more, get_or_append_left, get_or_default, get_or-set_other, get_or-set_same, length-set}
+use Rattle.std.proofs.lemmas.List.{drop_more, get_or_append_left, get_or_default, get_or_past, get_or-set_other, get_or-set_same, length-replicate, length-set}
 use Rattle.std.proofs.lemmas.List.Elements.{recursion_from_All}
 use Rattle.std.proofs.lemmas.Option.{slice_get-get_or}
 use Rattle.std.proofs.Math.Seq.{get_or-append_seam}
@@ -49,6 +49,18 @@ share_from-after workers worker done row =
     share_from-last 0 workers worker done row ∙ ap (λ (m : ℕ). share_from 0 workers worker done ++ cond (m % workers == worker) (row ∷ []) []) (omega arith)
 
 -- ---- shares that grow
+
+blank : (n k : ℕ) (none : Bag) → none ≡ [] → get_or (replicate n none) k [] ≡ []
+blank zero k none e = get_or_past [] k [] (omega arith)
+blank (suc n) zero none e = e
+blank (suc n) (suc k) none e = blank n k none e
+
+-- before the first row
+pub none_dealt : (n workers : ℕ) (shares : List Bag) → shares ≡ replicate n [] → n ≡ workers → AreDealt workers [] shares
+none_dealt n workers shares is all = record {
+  long = ap length is ∙ length-replicate n [] ∙ all;
+  each = λ worker below. ap (λ (l : List Bag). get_or l worker []) is ∙ blank n worker [] refl;
+}
 
 -- a share, however it was found
 pub share_is : (workers to : ℕ) (done share : Bag) (shares : List Bag) → to < workers → share ≡ get_or shares to share → AreDealt workers done shares → share ≡ share_from 0 workers to done
