@@ -10,7 +10,7 @@ use Rattle.flow_model.specs.Steps.{next_note}
 use Rattle.flow_model.specs.Worlds.{World}
 use Rattle.flow_core.specs.Stations.{with_end, with_put}
 use Rattle.flow_core.specs.Worlds.{IsWhole, StationData, instance_in, queue_in, station_in}
-use Rattle.flow_core.proofs.StationsAtPlaces.{IsSet}
+use Rattle.flow_core.proofs.StationsAtPlaces.{IsFoundAt, IsSet}
 
 abbrev pub world_of : List (List StationData) → World
 world_of stations = record { instance = λ at worker. instance_in stations at worker; queue = λ edge from to. queue_in stations edge from to }
@@ -91,19 +91,19 @@ many_pipes p old new at worker s w i many a b less below = elim (cases_eq a at) 
 ]
 
 -- they stay whole, however the row and the list were found
-pub whole_after : (p q : PhysicalData) (old items : List (List StationData)) (row : List StationData) (at worker : ℕ) (s : StationData) → IsWhole p old → q ≡ p → items ≡ old → length row ≡ p.workers
-    → IsSet old (set items at (set row worker s)) at worker s → length s.queues ≡ p.workers → at < length old → IsWhole q (set items at (set row worker s))
-whole_after p q old items row at worker s w same items_are long i many below =
+pub whole_after : (p q : PhysicalData) (old items : List (List StationData)) (row : List StationData) (at worker : ℕ) (x s : StationData) → IsWhole p old → q ≡ p → items ≡ old → IsFoundAt p old items row at worker x
+    → length s.queues ≡ p.workers → IsWhole q (set items at (set row worker s))
+whole_after p q old items row at worker x s w same items_are f many =
     let new = set items at (set row worker s) in
     let count : length new ≡ length old = length-set items at (set row worker s) ∙ ap length items_are in
-    let within : at < length items = subst (λ (l : List (List StationData)). at < length l) (sym items_are) below in
+    let within : at < length items = subst (λ (l : List (List StationData)). at < length l) (sym items_are) f.below in
     subst (λ (x : PhysicalData). IsWhole x new) (sym same) (record {
       each = λ a there. subst (λ (n : ℕ). a < n) (sym count) (w.each a there);
       only = λ a less. w.only a (subst (λ (n : ℕ). a < n) count less);
       workers = λ a less. elim (cases_eq a at) as (λ _. length (get_or new a []) ≡ p.workers) [
-        | inl e ↦ ap (λ (n : ℕ). length (get_or new n [])) e ∙ ap length (get_or-set_same items at (set row worker s) [] within) ∙ length-set row worker s ∙ long
+        | inl e ↦ ap (λ (n : ℕ). length (get_or new n [])) e ∙ ap length (get_or-set_same items at (set row worker s) [] within) ∙ length-set row worker s ∙ f.long
         | inr e ↦
             ap length (get_or-set_other items at a (set row worker s) [] e) ∙ ap (λ (l : List (List StationData)). length (get_or l a [])) items_are ∙ w.workers a (subst (λ (n : ℕ). a < n) count less)
       ];
-      pipes = λ a b less below_workers. many_pipes p old new at worker s w i many a b (subst (λ (n : ℕ). a < n) count less) below_workers;
+      pipes = λ a b less below_workers. many_pipes p old new at worker s w (f.changed s) many a b (subst (λ (n : ℕ). a < n) count less) below_workers;
     })

@@ -20,7 +20,7 @@ use Rattle.flow_model.specs.Worlds.{AreDone, History, IsStuck, LocalAt}
 use Rattle.flow_model.proofs.Bags.{is_same}
 use Rattle.flow_model.proofs.AllPutIsTaken.{spread}
 use Rattle.flow_model.proofs.Stuck.{stuck_is_done}
-use Rattle.flow_core.specs.Ends.{Leaves}
+use Rattle.flow_core.specs.Outcomes.{IsOutcome}
 use Rattle.flow_core.specs.Stations.{given_by, placed_by, total_given}
 use Rattle.flow_core.specs.Worlds.{IsStanding, IsWhole, StandsForSome, StationData, WorldData, seen}
 use Rattle.flow_instance.proofs.PartsOfPlans.{number_below}
@@ -72,7 +72,7 @@ spread_of g w h rows counts physical s done rows_are counts_are =
     ap (λ (l : List ℕ). slice_get l at) counts_are ∙ found ∙ ap (λ (n : ℕ). Some (count_of (sum_below n (given_by row)))) many)
 
 -- from what was taken out
-pub leaves : (w : WorldData) (rows : Bag) (counts : List ℕ) → StandsForSome w → rows ≡ all_of (length (root_row w)) (placed_by (root_row w)) → counts ≡ map total_given w.stations → Leaves w rows counts
+pub leaves : (w : WorldData) (rows : Bag) (counts : List ℕ) → StandsForSome w → rows ≡ all_of (length (root_row w)) (placed_by (root_row w)) → counts ≡ map total_given w.stations → IsOutcome w rows counts
 leaves w rows counts s rows_are counts_are = record {
   spread = λ g h standing done. spread_of g w h rows counts s.is_physical standing done rows_are counts_are;
   wide = λ g h standing. subst (AreWide g.fields) (sym rows_are) (placed_widths g w h standing);

@@ -2,39 +2,30 @@
 use Rattle.std.proofs.Common.{◌≡◌, ℕ, Bool, Option, Some, if◌then◌else◌, ◌==◌, ap, sym, ◌∙◌}
 use Rattle.std.proofs.lemmas.Bool.{eq-eqb, ne_eqb}
 use Rattle.plan_trees.specs.PlanParts.{parts_of}
-use Rattle.plan_trees.specs.Plans.{PlanTree, leaf, over, both, root_of}
-use Rattle.plan_trees.specs.declared.plans.Parts.TheVariants.{Alone, OverOne, OverTwo}
+use Rattle.plan_trees.specs.Plans.{PlanTree, root_of}
+use Rattle.plan_trees.specs.declared.plans.Parts.TheVariants.{OverOne, OverTwo}
 use Rattle.flow_model.specs.Worlds.{first_of, reader_of}
-
-is_over : (tree : PlanTree) (at : ℕ) (input : PlanTree) → parts_of tree ≡ OverOne at input → tree ≡ over at input
-is_over (leaf n) at input e = absurd (let bad : Alone n ≡ OverOne at input = e in cc)
-is_over (over n t) at input e = let same : OverOne n t ≡ OverOne at input = e in cc
-is_over (both n t u) at input e = absurd (let bad : OverTwo n t u ≡ OverOne at input = e in cc)
-
-is_both : (tree : PlanTree) (at : ℕ) (left right : PlanTree) → parts_of tree ≡ OverTwo at left right → tree ≡ both at left right
-is_both (leaf n) at left right e = absurd (let bad : Alone n ≡ OverTwo at left right = e in cc)
-is_both (over n t) at left right e = absurd (let bad : OverOne n t ≡ OverTwo at left right = e in cc)
-is_both (both n t u) at left right e = let same : OverTwo n t u ≡ OverTwo at left right = e in cc
+use Rattle.plan_trees.proofs.RootParts.{is_both, is_over}
 
 pub read_here : (tree : PlanTree) (e at : ℕ) (input : PlanTree) → parts_of tree ≡ OverOne at input → e ≡ root_of input → Some (at, 0) ≡ reader_of e tree
 read_here tree e at input is here =
-    sym (ap (reader_of e) (is_over tree at input is) ∙ ap (λ (b : Bool). if b then Some (at, 0) else reader_of e input) (eq-eqb e (root_of input) here))
+    sym (ap (reader_of e) (is_over tree input at (sym is)) ∙ ap (λ (b : Bool). if b then Some (at, 0) else reader_of e input) (eq-eqb e (root_of input) here))
 
 pub read_below : (tree : PlanTree) (e at : ℕ) (input : PlanTree) (found : Option (ℕ × ℕ)) → parts_of tree ≡ OverOne at input → (e ≡ root_of input → ⊥) → found ≡ reader_of e input → found ≡ reader_of e tree
 read_below tree e at input found is other below =
-    below ∙ sym (ap (reader_of e) (is_over tree at input is) ∙ ap (λ (b : Bool). if b then Some (at, 0) else reader_of e input) (ne_eqb e (root_of input) other))
+    below ∙ sym (ap (reader_of e) (is_over tree input at (sym is)) ∙ ap (λ (b : Bool). if b then Some (at, 0) else reader_of e input) (ne_eqb e (root_of input) other))
 
 pub read_at_left : (tree : PlanTree) (e at : ℕ) (left right : PlanTree) → parts_of tree ≡ OverTwo at left right → e ≡ root_of left → Some (at, 0) ≡ reader_of e tree
 read_at_left tree e at left right is here =
     let rest = if (e == root_of right) then Some (at, 1) else first_of (reader_of e left) (reader_of e right) in
-    sym (ap (reader_of e) (is_both tree at left right is) ∙ ap (λ (b : Bool). if b then Some (at, 0) else rest) (eq-eqb e (root_of left) here))
+    sym (ap (reader_of e) (is_both tree left right at (sym is)) ∙ ap (λ (b : Bool). if b then Some (at, 0) else rest) (eq-eqb e (root_of left) here))
 
 -- not at the left one
 past_left : (tree : PlanTree) (e at : ℕ) (left right : PlanTree) → parts_of tree ≡ OverTwo at left right → (e ≡ root_of left → ⊥)
     → reader_of e tree ≡ (if (e == root_of right) then Some (at, 1) else first_of (reader_of e left) (reader_of e right))
 past_left tree e at left right is other =
     let rest = if (e == root_of right) then Some (at, 1) else first_of (reader_of e left) (reader_of e right) in
-    ap (reader_of e) (is_both tree at left right is) ∙ ap (λ (b : Bool). if b then Some (at, 0) else rest) (ne_eqb e (root_of left) other)
+    ap (reader_of e) (is_both tree left right at (sym is)) ∙ ap (λ (b : Bool). if b then Some (at, 0) else rest) (ne_eqb e (root_of left) other)
 
 pub read_at_right : (tree : PlanTree) (e at : ℕ) (left right : PlanTree) → parts_of tree ≡ OverTwo at left right → (e ≡ root_of left → ⊥) → e ≡ root_of right → Some (at, 1) ≡ reader_of e tree
 read_at_right tree e at left right is other here =

@@ -19,7 +19,7 @@ use Rattle.flow_model.proofs.EventsWithinMost.{bound}
 use Rattle.flow_model.proofs.CallTurns.{bounded_program}
 use Rattle.flow_model.proofs.Counting.{step_counted}
 use Rattle.flow_model.proofs.DividedRuns.{divided}
-use Rattle.flow_core.specs.Ends.{IsEnded, Leaves}
+use Rattle.flow_core.specs.Outcomes.{IsEnded, IsOutcome}
 use Rattle.flow_core.specs.Replays.{IsReached}
 use Rattle.flow_core.specs.Worlds.{IsStanding, StandsForSome, WorldData, seen}
 use Rattle.flow_core.proofs.FinishedWorlds.{done_if_stuck, length-stations}
@@ -33,12 +33,12 @@ ended_here w some stuck = record {
 }
 
 -- what is left is what came of the world before the run
-pub ended_spread : (w v : WorldData) (rows : Bag) (counts : List ℕ) → IsEnded w v → Leaves v rows counts → (g : Setting) (h : History) → IsStanding g w h → Spread g rows counts
+pub ended_spread : (w v : WorldData) (rows : Bag) (counts : List ℕ) → IsEnded w v → IsOutcome v rows counts → (g : Setting) (h : History) → IsStanding g w h → Spread g rows counts
 ended_spread w v rows counts e l g h s =
     let m = e.each g h s in
     l.spread g m.0 m.1 m.2
 
-pub ended_widths : (w v : WorldData) (rows : Bag) (counts : List ℕ) → IsEnded w v → Leaves v rows counts → (g : Setting) (h : History) → IsStanding g w h → AreWide g.fields rows
+pub ended_widths : (w v : WorldData) (rows : Bag) (counts : List ℕ) → IsEnded w v → IsOutcome v rows counts → (g : Setting) (h : History) → IsStanding g w h → AreWide g.fields rows
 ended_widths w v rows counts e l g h s =
     let m = e.each g h s in
     l.wide g m.0 m.1
@@ -48,7 +48,7 @@ pub spread_counted : (physical : PhysicalData) (rows : Bag) (counts : List ℕ) 
     → LegalShip (facts_of p physical.tree) physical → Spread (setting p inputs physical) rows counts → Counted (plan_ops p inputs) physical.tree rows counts
 spread_counted physical rows counts p inputs k is are plan legal run = divided_counted p is inputs are physical k plan legal rows counts (divided p inputs physical rows counts k plan run)
 
-pub ended_numbers : (w v : WorldData) (rows : Bag) (counts : List ℕ) → IsEnded w v → Leaves v rows counts → (p : ProgramData) → IsPlanOf p.functions p.ops w.physical.tree → length counts ≡ length p.ops
+pub ended_numbers : (w v : WorldData) (rows : Bag) (counts : List ℕ) → IsEnded w v → IsOutcome v rows counts → (p : ProgramData) → IsPlanOf p.functions p.ops w.physical.tree → length counts ≡ length p.ops
 ended_numbers w v rows counts r l p plan = l.long ∙ length-stations v p r.stands.standing.whole (subst (λ (q : PhysicalData). IsPlanOf p.functions p.ops q.tree) (sym r.physical) plan)
 
 -- ---- the events so far

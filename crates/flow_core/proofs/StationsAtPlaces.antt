@@ -1,9 +1,11 @@
 -- Stations at places of a list of lists.
-use Rattle.std.proofs.Common.{◌≡◌, ◌≢◌, ◌<◌, ◌≤◌, ◌⊎◌, inl, inr, ℕ, Option, None, Some, IfNone, IfSome, List, [], arith, get_or, length, set, ap, subst, sym, ◌∙◌}
+use Rattle.std.proofs.Common.{◌≡◌, ◌≢◌, ◌<◌, ◌≤◌, ◌⊎◌, inl, inr, ℕ, true, Option, None, Some, IfNone, IfSome, List, [], arith, get_or, length, set, ap, subst, sym, ◌∙◌}
 use Rattle.std.proofs.lemmas.Bool.{cases_eq}
 use Rattle.std.proofs.lemmas.List.{get_or-set_other, get_or-set_same, get_or_default, get_or_past}
 use Rattle.std.specs.Option.{option_map, unwrap_or}
-use Rattle.flow_core.specs.Worlds.{StationData, no_station, station_in}
+use Rattle.plan_trees.specs.Physicals.{PhysicalData}
+use Rattle.plan_trees.specs.Plans.{has}
+use Rattle.flow_core.specs.Worlds.{IsWhole, StationData, no_station, station_in}
 
 -- another station at one place, and the same ones elsewhere
 pub record IsSet (old new : List (List StationData)) (at worker : ℕ) (s : StationData) : Type 0 where
@@ -33,14 +35,36 @@ set_row old at worker s l m =
 -- the row and the station that were found at a place, however they were found
 module _ (old items : List (List StationData)) (row found_row : List StationData) (at worker : ℕ) (items_are : items ≡ old) (row_is : row ≡ found_row) (found : found_row ≡ get_or items at found_row)
     (below : at < length old) (within : worker < length (get_or old at [])) where
-  pub row_at : row ≡ get_or old at []
+  row_at : row ≡ get_or old at []
   row_at = row_is ∙ found ∙ ap (λ (l : List (List StationData)). get_or l at found_row) items_are ∙ get_or_default old at found_row [] below
 
-  pub station_at : (x : StationData) → x ≡ get_or row worker x → x ≡ station_in old at worker
+  station_at : (x : StationData) → x ≡ get_or row worker x → x ≡ station_in old at worker
   station_at x e = e ∙ ap (λ (r : List StationData). get_or r worker x) row_at ∙ get_or_default (get_or old at []) worker x no_station within
 
-  pub station_set : (s : StationData) → IsSet old (set items at (set row worker s)) at worker s
+  station_set : (s : StationData) → IsSet old (set items at (set row worker s)) at worker s
   station_set s = subst (λ (l : List (List StationData)). IsSet old l at worker s) (λ i. set (sym items_are i) at (set (sym row_at i) worker s)) (set_row old at worker s below within)
+
+-- The station that was found at a place of whole stations, and what another one in its place makes of them.
+pub record IsFoundAt (p : PhysicalData) (old items : List (List StationData)) (row : List StationData) (at worker : ℕ) (x : StationData) : Type 0 where
+  pub is : x ≡ station_in old at worker
+  pub below : at < length old
+  pub long : length row ≡ p.workers
+  pub pipes : length x.queues ≡ p.workers
+  pub changed : (s : StationData) → IsSet old (set items at (set row worker s)) at worker s
+
+pub found_at : (p : PhysicalData) (old items : List (List StationData)) (row found_row : List StationData) (at worker : ℕ) (x : StationData) → IsWhole p old → has at p.tree ≡ true → worker < p.workers
+    → items ≡ old → row ≡ found_row → found_row ≡ get_or items at found_row → x ≡ get_or row worker x → IsFoundAt p old items row at worker x
+found_at p old items row found_row at worker x whole has_it on_worker items_are row_is found x_is =
+    let below : at < length old = whole.each at has_it in
+    let within : worker < length (get_or old at []) = subst (λ (n : ℕ). worker < n) (sym (whole.workers at below)) on_worker in
+    let is : x ≡ station_in old at worker = station_at old items row found_row at worker items_are row_is found below within x x_is in
+    record {
+      is = is;
+      below = below;
+      long = ap length (row_at old items row found_row at worker items_are row_is found below within) ∙ whole.workers at below;
+      pipes = ap (λ (y : StationData). length y.queues) is ∙ whole.pipes at worker below on_worker;
+      changed = station_set old items row found_row at worker items_are row_is found below within;
+    }
 
 -- ---- what is looked up
 

@@ -6,4 +6,4 @@ pub mod Wired
 pub mod Replays
 pub mod Idle
 pub mod Laws
-pub mod Ends
+pub mod Outcomes

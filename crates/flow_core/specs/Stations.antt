@@ -32,12 +32,12 @@ pub record IsReadyFor (i : Instance) (on port sender : ℕ) (note : Note) : Type
   pub not_ended : ended_at i port sender ≡ false
   pub fits : AreNotes i.part.fields (note ∷ [])
 
--- The instance can take it on its own worker.
+-- The instance can take it on its own worker. (A record, and so is the next one, so that a caller hands it on closed.)
 pub record CanTake (i : Instance) (port sender : ℕ) (note : Note) : Type 0 where
   pub ready : IsReadyFor i i.part.worker port sender note
 
 -- It has taken the note, whatever was taken and put before.
-pub record HasTaken (i : Instance) (port sender : ℕ) (note : Note) (j : Instance) : Type 0 where
+pub record TakesNote (i : Instance) (port sender : ℕ) (note : Note) (j : Instance) : Type 0 where
   pub took : (s : Spot) (taken : ℕ → ℕ → List Note) (put : ℕ → List Note) → IsLocal s i.part.worker i taken put → Took s i.part.worker i port sender note j
 
 -- ---- what the stations of a row leave

@@ -12,7 +12,7 @@ ghost use Rattle.ship_strategy.specs.Ships.{LegalShip};
 ghost use Rattle.flow_model.specs.Spots.{Setting, setting};
 ghost use Rattle.flow_model.specs.Spread.{Spread};
 ghost use Rattle.flow_model.specs.Worlds.{History, IsStuck, enabled};
-ghost use Rattle.flow_core.specs.Ends.{GoesOn, IsRun};
+ghost use Rattle.flow_core.specs.Outcomes.{GoesOn, IsRun};
 ghost use Rattle.flow_core.specs.Worlds.{IsStanding, StandsForSome, seen};
 
 use crate::ready::Ready;

@@ -6,7 +6,7 @@ ghost use Rattle.plan_trees.specs.Sending.{all_of};
 ghost use Rattle.flow_model.specs.declared.notes.Want.TheVariants.{End, Put};
 ghost use Rattle.flow_model.specs.Events.{first_note};
 ghost use Rattle.flow_model.specs.Instances.{want};
-ghost use Rattle.flow_core.specs.Stations.{CanTake, HasTaken, given, placed_by, total_given, with_end, with_put};
+ghost use Rattle.flow_core.specs.Stations.{CanTake, TakesNote, given, placed_by, total_given, with_end, with_put};
 
 use flow_instance::Instance;
 use flow_model::Note;
@@ -87,7 +87,7 @@ impl<L: Local> Station<L> {
     /// The instance takes a note.
     pub(crate) fn take(&mut self, port: u32, from: u32, note: Note) -> Result<(), OutOfMemory>
         requires { CanTake self.old.instance port from note }
-        ensures took { OnOk result (HasTaken self.old.instance port from note self.new.instance) }
+        ensures took { OnOk result (TakesNote self.old.instance port from note self.new.instance) }
         ensures queues { self.new.queues ≡ self.old.queues }
     {
         self.instance.took(port, from, note)

@@ -15,7 +15,7 @@ ghost use Rattle.flow_model.specs.Spots.{Setting, Spot, setting};
 ghost use Rattle.flow_model.specs.Steps.{Took, later};
 ghost use Rattle.flow_core.specs.Stations.{IsReadyFor, total_given};
 ghost use Rattle.flow_model.specs.Worlds.{History, does_want, enabled};
-ghost use Rattle.flow_core.specs.Ends.{Leaves};
+ghost use Rattle.flow_core.specs.Outcomes.{IsOutcome};
 ghost use Rattle.flow_core.specs.Laws.{ObeysLaws};
 ghost use Rattle.flow_core.specs.Worlds.{HasBatchSize, IsStanding, IsWhole, StandsForSome, depth_limit, instance_in, no_station, queue_in, seen, station_in};
 
@@ -317,7 +317,7 @@ impl<L: Local> World<L> {
     /// What is left at the end: the records that the root's instances placed, and how many each source and operator gave.
     pub(crate) fn finish(self) -> Result<Outcome, OutOfMemory>
         requires { StandsForSome self }
-        ensures { IfOk result (λ o. Leaves self o.rows o.counts) }
+        ensures { IfOk result (λ o. IsOutcome self o.rows o.counts) }
     {
         let counts = count_rows(self.alloc, &self.stations)?;
         let root = self.wiring.root();

@@ -1,7 +1,6 @@
--- That the calls for kept groups may be made.
-use Rattle.std.proofs.Common.{◌≡◌, ◌&&◌, ℕ, Bool, true, false, Some, List, [], ◌⊎◌, inl, inr, length, refl, sym, ap, ◌∙◌, subst, arith, length-set}
+-- That an operator's function may be called: for kept groups, and for pairs of a kept record and one that came.
+use Rattle.std.proofs.Common.{◌≡◌, ◌&&◌, ℕ, Bool, true, false, Some, List, [], ◌⊎◌, inl, inr, length, refl, sym, ap, ◌∙◌, subst, arith}
 use Rattle.std.specs.Option.{IsSome}
-use Rattle.std.specs.Vec.{with_item}
 use Rattle.std.specs.List.Sorted.{IsPermutation}
 use Rattle.flow_model.specs.Instances.{port_ended}
 use Rattle.flow_model.specs.Local.{works_at_once}
@@ -126,23 +125,3 @@ pub left_built : {L : Type 0} (rows : L → Bag) (keys : L → List ℕ) (is_sea
 left_built rows keys is_sealed s ready k =
     let ended : port_ended (seen rows s) 0 ≡ true = elim ready.which as (λ _. port_ended (seen rows s) 0 ≡ true) [ inl zero ↦ absurd (omega (arith, zero)) | inr one ↦ one.1 ] in
     ready.sound.left_sealed ∙ (λ i. k i && ended i)
-
--- one flag more of port 0
-pub sound_flagged : {L : Type 0} (rows : L → Bag) (keys : L → List ℕ) (is_sealed : L → Bool) (s : State L) (from : ℕ) → IsSound rows keys is_sealed s
-    → is_sealed s.left ≡ is_built s.part.kind (port_ended (seen rows (record s { left_ended = with_item s.left_ended from true })) 0) → IsSound rows keys is_sealed (record s { left_ended = with_item s.left_ended from true })
-sound_flagged rows keys is_sealed s from h e = record {
-  batch = h.batch;
-  worker = h.worker;
-  operator = h.operator;
-  left_flags = length-set s.left_ended.items from true ∙ h.left_flags;
-  right_flags = h.right_flags;
-  left_wide = h.left_wide;
-  right_wide = h.right_wide;
-  left_keys = h.left_keys;
-  right_keys = h.right_keys;
-  left_sealed = e;
-  right_sealed = h.right_sealed;
-  placed_wide = h.placed_wide;
-  placed_at_root = h.placed_at_root;
-  counted = h.counted;
-}

@@ -1,12 +1,13 @@
 -- End marks that an instance takes.
-use Rattle.std.proofs.Common.{◌≡◌, ◌≤◌, ◌+◌, ◌&&◌, ◌==◌, ℕ, Bool, true, false, cond, Some, List, [], ◌∷◌, ◌++◌, length, map, refl, ap, sym, ◌∙◌, subst, arith, append-nil}
+use Rattle.std.proofs.Common.{◌≡◌, ◌≤◌, ◌+◌, ◌&&◌, ◌==◌, ℕ, Bool, true, false, cond, Some, List, [], ◌∷◌, ◌++◌, length, map, refl, ap, sym, ◌∙◌, subst, arith, append-nil, length-set}
 use Rattle.std.specs.List.Sorted.{IsPermutation}
+use Rattle.std.specs.Vec.{with_item}
 use Rattle.std.proofs.Math.Nat.{add-zero}
 use Rattle.std.proofs.lemmas.List.{length-map}
 use Rattle.std.proofs.lemmas.List.Sorted.{IsPermutation-refl}
 use Rattle.flow_model.proofs.Bags.{is_same, joined}
 use Rattle.flow_model.proofs.GivenForNotes.{none_at_end}
-use Rattle.flow_model.specs.Instances.{Instance, Part as PartData, all_ended, ended_at, kept_at}
+use Rattle.flow_model.specs.Instances.{Instance, Part as PartData, all_ended, ended_at, kept_at, port_ended}
 use Rattle.flow_model.specs.Local.{Calls, Gave, IsGiven, KeepsRows, MayGive, works_at_once}
 use Rattle.flow_model.specs.Notes.{all_below}
 use Rattle.flow_model.specs.Spots.{Port as PortData, Spot}
@@ -23,7 +24,7 @@ use Rattle.tac_syntax.specs.declared.declarations.OpKind.{OpKind}
 use Rattle.tac_syntax.specs.declared.declarations.OpKind.TheVariants.{Source, Map, Reduce, Match, Cross, CoGroup}
 use Rattle.flow_instance.specs.Grouping.{AreCoGroupsGiven, AreGroupsGiven}
 use Rattle.flow_instance.specs.Sending.{AreFew, batches_in, batch_parcel, mark_parcel, marks_in}
-use Rattle.flow_instance.specs.States.{AreGivenLast, AreOpsOf, AreOrderly, GivesLast, HasEnded, HasFlags, HasTaken, IsOperator, IsReady, IsSound, IsSoundIfTaking, body_in, is_reduce, part_of, port_of, seen, spot_of}
+use Rattle.flow_instance.specs.States.{AreGivenLast, AreOpsOf, AreOrderly, GivesLast, HasEnded, HasFlags, HasTaken, IsOperator, IsReady, IsSound, IsSoundIfTaking, body_in, is_built, is_reduce, part_of, port_of, seen, spot_of}
 use Rattle.flow_instance.specs.Steps.{HasGiven, HasMarked, Takes}
 use Rattle.flow_instance.specs.declared.parcels.Parcel.{Parcel}
 use Rattle.flow_instance.specs.declared.parts.Part.{Part}
@@ -52,6 +53,26 @@ sound_built rows keys is_sealed s t h frame long p k sealed pairs ended = subst 
   placed_at_root = h.placed_at_root;
   counted = h.counted;
 })
+
+-- one flag more of port 0
+pub sound_flagged : {L : Type 0} (rows : L → Bag) (keys : L → List ℕ) (is_sealed : L → Bool) (s : State L) (from : ℕ) → IsSound rows keys is_sealed s
+    → is_sealed s.left ≡ is_built s.part.kind (port_ended (seen rows (record s { left_ended = with_item s.left_ended from true })) 0) → IsSound rows keys is_sealed (record s { left_ended = with_item s.left_ended from true })
+sound_flagged rows keys is_sealed s from h e = record {
+  batch = h.batch;
+  worker = h.worker;
+  operator = h.operator;
+  left_flags = length-set s.left_ended.items from true ∙ h.left_flags;
+  right_flags = h.right_flags;
+  left_wide = h.left_wide;
+  right_wide = h.right_wide;
+  left_keys = h.left_keys;
+  right_keys = h.right_keys;
+  left_sealed = e;
+  right_sealed = h.right_sealed;
+  placed_wide = h.placed_wide;
+  placed_at_root = h.placed_at_root;
+  counted = h.counted;
+}
 
 -- ---- what a Reduce gives
 

@@ -1,7 +1,6 @@
 //! End marks that an instance takes.
 
-ghost use Rattle.std.specs.Prelude.{◌≡◌, ◌<◌, ◌∷◌, [], true, false, IfOk, OnOk};
-ghost use Rattle.flow_model.specs.Notes.{AreNotes};
+ghost use Rattle.std.specs.Prelude.{◌≡◌, ◌<◌, false, IfOk, OnOk};
 ghost use Rattle.flow_model.specs.declared.notes.Note.TheVariants.{End};
 ghost use Rattle.flow_instance.specs.States.{HasEnded, IsReady, IsSound, IsWhole};
 ghost use Rattle.flow_instance.specs.Steps.{GivesGroups, Takes};
@@ -9,7 +8,6 @@ ghost use Rattle.flow_instance.specs.Steps.{GivesGroups, Takes};
 use crate::flags::all_set;
 use crate::grouping::{cogroup_kept, reduce_kept};
 use crate::states::State;
-use flow_model::Note;
 use local_strategy::Local;
 use pact_bag::Rows;
 use pact_record::OutOfMemory;
@@ -84,24 +82,6 @@ impl<L: Local> State<L> {
         let out = self.groups()?;
         self.give(out)?;
         self.mark()
-    }
-
-    /// Takes a note at a port.
-    pub(crate) fn take(&mut self, port: u32, from: u32, note: Note) -> Result<(), OutOfMemory>
-        requires ready { IsReady L.rows L.key_fields L.is_sealed self.old port }
-        requires from { from < self.old.part.workers }
-        requires note { AreNotes self.old.part.fields (note ∷ []) }
-        ensures { OnOk result (Takes L.rows L.key_fields L.is_sealed self.old port from note self.new) }
-    {
-        match note {
-            Note::Batch(rows) => {
-                if port == 0 {
-                    return self.take_left(rows);
-                }
-                self.take_right(rows)
-            }
-            Note::End => self.take_end(port, from),
-        }
     }
 
     /// Nothing is wanted any more.

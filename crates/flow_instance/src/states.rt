@@ -35,7 +35,7 @@ pub(crate) struct State<L: Local> {
     pub(crate) finished: bool,
 }
 
-// What a fresh state needs memory for, so that no part is at hand where there is none.
+// What a fresh state needs memory for: made while its part is lent, so that no part has to be given up where memory is wanting.
 #[derive(Drop)]
 struct Held<L: Local> {
     left_ended: Vec<bool>,

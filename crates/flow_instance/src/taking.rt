@@ -1,17 +1,18 @@
-//! Batches that an instance takes.
+//! Notes that an instance takes: what a batch does to it.
 
-ghost use Rattle.std.specs.Prelude.{◌≡◌, [], ℕ, true, false, IfOk, OnOk};
-ghost use Rattle.flow_model.specs.Instances.{all_ended};
+ghost use Rattle.std.specs.Prelude.{◌≡◌, ◌<◌, ◌∷◌, [], ℕ, true, IfOk, OnOk};
+ghost use Rattle.flow_model.specs.Notes.{AreNotes};
 ghost use Rattle.flow_model.specs.declared.notes.Note.TheVariants.{Batch};
 ghost use Rattle.pact_record.specs.Widths.{AreWide};
 ghost use Rattle.pact_operators.specs.Programs.{is_pair_kind};
-ghost use Rattle.flow_instance.specs.States.{ArePairsGiven, IsReady, is_map};
+ghost use Rattle.flow_instance.specs.States.{ArePairsGiven, IsReady};
 ghost use Rattle.flow_instance.specs.Steps.{Takes};
 
 use crate::keeping::keep;
 use crate::matching::{cross_kept, match_kept};
 use crate::states::State;
 use bag_calls::map_rows;
+use flow_model::Note;
 use local_strategy::Local;
 use pact_bag::Rows;
 use pact_record::OutOfMemory;
@@ -38,8 +39,8 @@ impl<L: Local> State<L> {
         )
     }
 
-    /// Takes a batch at port 0. A Map gives records at once.
-    pub(crate) fn take_left(&mut self, rows: Rows) -> Result<(), OutOfMemory>
+    // Takes a batch at port 0. A Map gives records at once.
+    fn take_left(&mut self, rows: Rows) -> Result<(), OutOfMemory>
         requires ready { IsReady L.rows L.key_fields L.is_sealed self.old 0 }
         requires wide { AreWide self.old.part.fields rows }
         ensures { OnOk result ((from : ℕ) → Takes L.rows L.key_fields L.is_sealed self.old 0 from (Batch rows) self.new) }
@@ -51,8 +52,8 @@ impl<L: Local> State<L> {
         keep(&mut self.left, self.part.fields, rows)
     }
 
-    /// Takes a batch at port 1. A Match or a Cross gives records at once.
-    pub(crate) fn take_right(&mut self, rows: Rows) -> Result<(), OutOfMemory>
+    // Takes a batch at port 1. A Match or a Cross gives records at once.
+    fn take_right(&mut self, rows: Rows) -> Result<(), OutOfMemory>
         requires ready { IsReady L.rows L.key_fields L.is_sealed self.old 1 }
         requires wide { AreWide self.old.part.fields rows }
         ensures { OnOk result ((from : ℕ) → Takes L.rows L.key_fields L.is_sealed self.old 1 from (Batch rows) self.new) }
@@ -62,5 +63,23 @@ impl<L: Local> State<L> {
             return self.give(out);
         }
         keep(&mut self.right, self.part.fields, rows)
+    }
+
+    /// Takes a note at a port.
+    pub(crate) fn take(&mut self, port: u32, from: u32, note: Note) -> Result<(), OutOfMemory>
+        requires ready { IsReady L.rows L.key_fields L.is_sealed self.old port }
+        requires from { from < self.old.part.workers }
+        requires note { AreNotes self.old.part.fields (note ∷ []) }
+        ensures { OnOk result (Takes L.rows L.key_fields L.is_sealed self.old port from note self.new) }
+    {
+        match note {
+            Note::Batch(rows) => {
+                if port == 0 {
+                    return self.take_left(rows);
+                }
+                self.take_right(rows)
+            }
+            Note::End => self.take_end(port, from),
+        }
     }
 }

@@ -1,5 +1,5 @@
 use Rattle.std.proofs.Common.{arith, subst}
-use Rattle.flow_core.specs.Ends.{GoesOn}
+use Rattle.flow_core.specs.Outcomes.{GoesOn}
 use Rattle.flow_core.proofs.RunAlone.{reached_end, reached_long, reached_more, reached_none}
 use Rattle.flow_core.proofs.alone.run_to_end.Goals as goal
 

@@ -3,8 +3,7 @@ use Rattle.std.specs.Vec.{with_item}
 use Rattle.flow_model.specs.Instances.{port_ended}
 use Rattle.flow_model.specs.Notes.{all_below}
 use Rattle.flow_instance.specs.States.{seen}
-use Rattle.flow_instance.proofs.CallsOfOperators.{sound_flagged}
-use Rattle.flow_instance.proofs.EndMarks.{sound_built}
+use Rattle.flow_instance.proofs.EndMarks.{sound_built, sound_flagged}
 use Rattle.flow_instance.proofs.OnOkTogether.{on_ok_three}
 use Rattle.flow_instance.proofs.states.State.end_left.Goals as goal
 
