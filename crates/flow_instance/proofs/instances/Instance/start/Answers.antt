@@ -44,13 +44,11 @@ begin-requires-clause-worker g c = λ lifetimes bound.
 pub begin-requires-clause-left : goal.begin-requires-clause-left
 begin-requires-clause-left g c = λ lifetimes bound.
     let fresh = c.in_ok-state.ensures in
-    let own = c.in_ok-part.ensures in
     fresh.left_flags ∙ sym (ap (λ (p : Part). p.workers) fresh.part)
 
 pub begin-requires-clause-right : goal.begin-requires-clause-right
 begin-requires-clause-right g c = λ lifetimes bound.
     let fresh = c.in_ok-state.ensures in
-    let own = c.in_ok-part.ensures in
     fresh.right_flags ∙ sym (ap (λ (p : Part). p.workers) fresh.part)
 
 pub begin-requires-clause-wide : goal.begin-requires-clause-wide

@@ -52,10 +52,7 @@ returns-then-reduces g c =
     c.reduce_kept.ensures.given c.reduce_kept.ensures.widths
 
 pub seal-requires-2 : goal.seal-requires-2
-seal-requires-2 g c =
-    let s = c.args.self.now in
-    let sound = c.requires.sound in
-    sound.right_sealed
+seal-requires-2 g c = c.requires.sound.right_sealed
 
 pub function-requires-2 : goal.function-requires-2
 function-requires-2 g c =
