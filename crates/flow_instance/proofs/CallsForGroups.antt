@@ -1,4 +1,4 @@
--- The calls of a Reduce, by the numbers of the keys.
+-- The calls of a Reduce and a CoGroup, by the numbers of the keys.
 use Rattle.std.proofs.Common.{◌≡◌, ◌<◌, ◌≤◌, ◌+◌, ℕ, zero, suc, Bool, true, false, cond, Option, Some, List, [], ◌∷◌, ◌++◌, length, map, take, refl, ap, sym, ◌∙◌, subst, arith, add-one, append-nil, append_assoc}
 use Rattle.std.proofs.lemmas.List.{take_all}
 use Rattle.std.specs.Prelude.{IfSome, filter, slice_get}
@@ -15,11 +15,17 @@ use Rattle.pact_record.specs.Record.{key_of}
 use Rattle.pact_record.specs.Widths.{AreWide}
 use Rattle.pact_record.specs.declared.values.Value.{Value}
 use Rattle.tac_syntax.specs.Valid.{WithFields}
-use Rattle.flow_instance.specs.Grouping.{AreCoGroupsGiven, AreGroupsGiven, AreSides, EachGives, HaveGroups, IsCalled, IsCalledAlone, IsCalledFrom, IsCalledIf, IsCoCalled, IsGivenBehind, has_none}
+use Rattle.flow_instance.specs.declared.grouping.Side.{Side}
+use Rattle.flow_instance.specs.declared.grouping.Side.TheVariants.{Left, Right}
+use Rattle.flow_instance.specs.Grouping.{AreCoGroupsGiven, AreGroupsAt, AreGroupsGiven, AreSides, EachGives, IsCalled, IsCalledAlone, IsCalledFrom, IsCalledIf, IsCoCalled, IsGivenFrom, has_none}
 use Rattle.flow_instance.proofs.BothKeys.{keys_of_both}
 use Rattle.flow_instance.proofs.PairsByKeys.{group_wide}
 
 -- ---- the group of a number
+
+-- each of the keys has a record
+abbrev HaveGroups : List ℕ → Bag → List (List Value) → Type 0
+HaveGroups keys rows ks = AllByRecursion (λ k. 0 < length (group_of_key keys rows k)) ks
 
 -- the key of a number, with its group
 pub record IsNumbered (keys : List ℕ) (rows : Bag) (order : List (List Value)) (n : ℕ) (group : Bag) : Type 0 where
@@ -28,7 +34,7 @@ pub record IsNumbered (keys : List ℕ) (rows : Bag) (order : List (List Value))
   pub same : IsPermutation (group_of_key keys rows key) group
   pub some : 0 < length group
 
-pub numbered : (keys : List ℕ) (rows : Bag) (order : List (List Value)) (n : ℕ) (group : Bag) → n < length order → HaveGroups keys rows order
+numbered : (keys : List ℕ) (rows : Bag) (order : List (List Value)) (n : ℕ) (group : Bag) → n < length order → HaveGroups keys rows order
     → IfSome (slice_get order n) (λ k. IsPermutation (group_of_key keys rows k) group) → IsNumbered keys rows order n group
 numbered keys rows [] n group less h p = absurd (omega (arith, less))
 numbered keys rows (k ∷ order) zero group less h p = record { key = k; is = refl; same = p; some = let some : 0 < length (group_of_key keys rows k) = h.0 in omega (arith, some, length_permutation (group_of_key keys rows k) group p) }
@@ -36,15 +42,24 @@ numbered keys rows (k ∷ order) (suc n) group less h p =
     let r = numbered keys rows order n group (omega (arith, less)) h.1 p in
     record { key = r.key; is = r.is; same = r.same; some = r.some }
 
-pub numbered_wide : (fields : ℕ) (keys : List ℕ) (rows : Bag) (order : List (List Value)) (n : ℕ) (group : Bag) → IsNumbered keys rows order n group → AreWide fields rows → AreWide fields group
-numbered_wide fields keys rows order n group r h = group_wide fields keys rows group r.key h r.same
+all_have_groups : (keys : List ℕ) (rows : Bag) (order : List (List Value)) → IsPermutation (keys_in keys rows) order → HaveGroups keys rows order
+all_have_groups keys rows order o =
+    each_perm (λ (k : List Value). 0 < length (group_of_key keys rows k)) (from_permutation (keys_in keys rows) order o)
+    (all-distinct (λ (k : List Value). 0 < length (group_of_key keys rows k)) (map (key_of keys) rows) (keys_have_groups keys rows))
+
+pub numbered_as : {keys own : List ℕ} (rows : Bag) (order : List (List Value)) (n : ℕ) (group : Bag) → own ≡ keys → n < length order → IsPermutation (keys_in own rows) order
+    → IfSome (slice_get order n) (λ k. IsPermutation (group_of_key own rows k) group) → IsNumbered keys rows order n group
+numbered_as {keys} {own} rows order n group same less o p = subst (λ (ks : List ℕ). IsNumbered ks rows order n group) same (numbered own rows order n group less (all_have_groups own rows order o) p)
+
+pub numbered_wide : {keys : List ℕ} {rows : Bag} {order : List (List Value)} {n : ℕ} {group : Bag} (fields : ℕ) → IsNumbered keys rows order n group → AreWide fields rows → AreWide fields group
+numbered_wide {keys} {rows} {order} {n} {group} fields r wide = group_wide fields keys rows group r.key wide r.same
 
 -- the records of a permuted group have its key
 pub keys_of_group : (keys : List ℕ) (rows group : Bag) (k : List Value) → IsPermutation (group_of_key keys rows k) group → AllByRecursion (λ row. key_of keys row ≡ k) group
 keys_of_group keys rows group k p = each_perm (λ (row : List Value). key_of keys row ≡ k) (from_permutation (group_of_key keys rows k) group p) (group_keys keys rows k)
 
-pub called : (f : List Value → Bag → Bag) (keys : List ℕ) (rows : Bag) (order : List (List Value)) (n : ℕ) (group out : Bag) → (r : IsNumbered keys rows order n group) → out ≡ f r.key group → IfSome (slice_get order n) (λ k. IsCalled f keys rows k out)
-called f keys rows order n group out r told = subst (λ (o : Option (List Value)). IfSome o (λ k. IsCalled f keys rows k out)) (sym r.is) (group, r.same, told)
+pub called : {keys : List ℕ} {rows : Bag} {order : List (List Value)} {n : ℕ} {group : Bag} (f : List Value → Bag → Bag) (out : Bag) (r : IsNumbered keys rows order n group) → out ≡ f r.key group → IfSome (slice_get order n) (λ k. IsCalled f keys rows k out)
+called {keys} {rows} {order} {n} {group} f out r told = subst (λ (o : Option (List Value)). IfSome o (λ k. IsCalled f keys rows k out)) (sym r.is) (group, r.same, told)
 
 -- ---- one key more
 
@@ -108,52 +123,43 @@ groups_given f keys rows order out p g =
     let turned = other_order (IsCalled f keys rows) (keys_in keys rows) order out p g in
     record { other = turned.other; grouped = grouped f keys rows (keys_in keys rows) turned.other turned.each; same = turned.same }
 
-pub all_have_groups : (keys : List ℕ) (rows : Bag) (order : List (List Value)) → IsPermutation (keys_in keys rows) order → HaveGroups keys rows order
-all_have_groups keys rows order o =
-    each_perm (λ (k : List Value). 0 < length (group_of_key keys rows k)) (from_permutation (keys_in keys rows) order o)
-    (all-distinct (λ (k : List Value). 0 < length (group_of_key keys rows k)) (map (key_of keys) rows) (keys_have_groups keys rows))
-
 -- ---- the other side's group
 
-pub numbered_as : (keys own : List ℕ) (rows : Bag) (order : List (List Value)) (n : ℕ) (group : Bag) → own ≡ keys → n < length order → HaveGroups keys rows order
-    → IfSome (slice_get order n) (λ k. IsPermutation (group_of_key own rows k) group) → IsNumbered keys rows order n group
-numbered_as keys own rows order n group same less h p = numbered keys rows order n group less h (subst (λ (ks : List ℕ). IfSome (slice_get order n) (λ k. IsPermutation (group_of_key ks rows k) group)) same p)
+pub row_width : {fields : ℕ} {keys : List ℕ} {rows : Bag} {order : List (List Value)} {n : ℕ} {group : Bag} {row : List Value} → IsNumbered keys rows order n group → AreWide fields rows → slice_get group 0 ≡ Some row → length row ≡ fields
+row_width {fields} {keys} {rows} {order} {n} {group} {row} r wide e = AllByRecursion-slice_get (λ (x : List Value). length x ≡ fields) group 0 row (numbered_wide fields r wide) e
 
-pub row_width : (fields : ℕ) (keys : List ℕ) (rows : Bag) (order : List (List Value)) (n : ℕ) (group : Bag) (row : List Value) → IsNumbered keys rows order n group → AreWide fields rows → slice_get group 0 ≡ Some row → length row ≡ fields
-row_width fields keys rows order n group row r wide e = AllByRecursion-slice_get (λ (x : List Value). length x ≡ fields) group 0 row (numbered_wide fields keys rows order n group r wide) e
-
-pub other_group : (keys others own : List ℕ) (rows other_rows : Bag) (order : List (List Value)) (n : ℕ) (group other : Bag) (row : List Value) → (r : IsNumbered keys rows order n group) → slice_get group 0 ≡ Some row → own ≡ others
-    → IsPermutation (group_of_key own other_rows (key_of keys row)) other → IsPermutation (group_of_key others other_rows r.key) other
-other_group keys others own rows other_rows order n group other row r e same p =
+pub other_group : {keys : List ℕ} {rows : Bag} {order : List (List Value)} {n : ℕ} {group : Bag} {row : List Value} (others : List ℕ) (other_rows other : Bag) (r : IsNumbered keys rows order n group) → slice_get group 0 ≡ Some row
+    → IsPermutation (group_of_key others other_rows (key_of keys row)) other → IsPermutation (group_of_key others other_rows r.key) other
+other_group {keys} {rows} {order} {n} {group} {row} others other_rows other r e p =
     let key : key_of keys row ≡ r.key = AllByRecursion-slice_get (λ (x : List Value). key_of keys x ≡ r.key) group 0 row (keys_of_group keys rows group r.key r.same) e in
-    subst (λ (k : List Value). IsPermutation (group_of_key others other_rows k) other) key (subst (λ (ks : List ℕ). IsPermutation (group_of_key ks other_rows (key_of keys row)) other) same p)
+    subst (λ (k : List Value). IsPermutation (group_of_key others other_rows k) other) key p
 
--- the call for a key of the left side
-pub left_called : (f : List Value → Bag → Bag → Bag) (left_keys right_keys : List ℕ) (ls rs : Bag) (order : List (List Value)) (n : ℕ) (left right out : Bag) → (r : IsNumbered left_keys ls order n left)
-    → IsPermutation (group_of_key right_keys rs r.key) right → out ≡ f r.key left right → IfSome (slice_get order n) (λ k. IsCoCalled f left_keys right_keys ls rs k out)
-left_called f left_keys right_keys ls rs order n left right out r p told =
-    subst (λ (o : Option (List Value)). IfSome o (λ k. IsCoCalled f left_keys right_keys ls rs k out)) (sym r.is) (left, right, r.same, p, told)
+-- a side lacks a key where it has no record of it in another order
+has_none-same : (rows other : Bag) → IsPermutation rows other → has_none rows ≡ has_none other
+has_none-same [] [] p = refl
+has_none-same [] (row ∷ other) p = absurd (omega (arith, length_permutation [] (row ∷ other) p))
+has_none-same (row ∷ rows) [] p = absurd (omega (arith, length_permutation (row ∷ rows) [] p))
+has_none-same (row ∷ rows) (r ∷ other) p = refl
 
--- and of the right side alone
-has_none-yes : (rows other : Bag) → IsPermutation rows other → length other ≤ 0 → has_none rows ≡ true
-has_none-yes [] other p none = refl
-has_none-yes (row ∷ rows) other p none = absurd (omega (arith, none, length_permutation (row ∷ rows) other p))
+alone : (f : List Value → Bag → Bag → Bag) (left_keys right_keys : List ℕ) (ls rs : Bag) (k : List Value) (left right out : Bag) → IsPermutation (group_of_key left_keys ls k) left → IsPermutation (group_of_key right_keys rs k) right
+    → IsCalledIf (has_none left) (λ given. given ≡ f k left right) out → IsCalledIf (has_none left) (IsCoCalled f left_keys right_keys ls rs k) out
+alone f left_keys right_keys ls rs k [] right out p q told = ([], right, p, q, told)
+alone f left_keys right_keys ls rs k (row ∷ left) right out p q told = told
 
-has_none-no : (rows other : Bag) → IsPermutation rows other → 0 < length other → has_none rows ≡ false
-has_none-no [] other p some = absurd (omega (arith, some, length_permutation [] other p))
-has_none-no (row ∷ rows) other p some = refl
+by_side : (side : Side) (f : List Value → Bag → Bag → Bag) (keys other_keys : List ℕ) (rows others : Bag) (k : List Value) (own other out : Bag) → IsPermutation (group_of_key keys rows k) own → IsPermutation (group_of_key other_keys others k) other
+    → IsGivenFrom side f k own other out → IsCalledFrom side f keys other_keys rows others k out
+by_side Left f keys other_keys rows others k own other out p q told = (own, other, p, q, told)
+by_side Right f keys other_keys rows others k own other out p q told =
+    subst (λ (b : Bool). IsCalledIf b (IsCoCalled f other_keys keys others rows k) out) (sym (has_none-same (group_of_key other_keys others k) other q)) (alone f other_keys keys others rows k other own out q p told)
 
-pub right_called : (f : List Value → Bag → Bag → Bag) (left_keys right_keys : List ℕ) (ls rs : Bag) (order : List (List Value)) (n : ℕ) (left right out : Bag) → (r : IsNumbered right_keys rs order n right)
-    → IsPermutation (group_of_key left_keys ls r.key) left → length left ≤ 0 → out ≡ f r.key left right → IfSome (slice_get order n) (λ k. IsCalledAlone f left_keys right_keys ls rs k out)
-right_called f left_keys right_keys ls rs order n left right out r p none told =
-    subst (λ (o : Option (List Value)). IfSome o (λ k. IsCalledAlone f left_keys right_keys ls rs k out)) (sym r.is)
-    (subst (λ (b : Bool). IsCalledIf b (IsCoCalled f left_keys right_keys ls rs r.key) out) (sym (has_none-yes (group_of_key left_keys ls r.key) left p none)) (left, right, p, r.same, told))
-
-pub right_silent : (f : List Value → Bag → Bag → Bag) (left_keys right_keys : List ℕ) (ls rs : Bag) (order : List (List Value)) (n : ℕ) (left right out : Bag) → (r : IsNumbered right_keys rs order n right)
-    → IsPermutation (group_of_key left_keys ls r.key) left → 0 < length left → out ≡ [] → IfSome (slice_get order n) (λ k. IsCalledAlone f left_keys right_keys ls rs k out)
-right_silent f left_keys right_keys ls rs order n left right out r p some told =
-    subst (λ (o : Option (List Value)). IfSome o (λ k. IsCalledAlone f left_keys right_keys ls rs k out)) (sym r.is)
-    (subst (λ (b : Bool). IsCalledIf b (IsCoCalled f left_keys right_keys ls rs r.key) out) (sym (has_none-no (group_of_key left_keys ls r.key) left p some)) told)
+-- what is given for the key with a number
+pub called_from : {keys other_keys fields : List ℕ} {rows others : Bag} {order : List (List Value)} {n : ℕ} {own other : Bag} (side : Side) (f : List Value → Bag → Bag → Bag) (out : Bag) → fields ≡ other_keys → AreGroupsAt keys fields rows others order n own other
+    → ((k : List Value) → AllByRecursion (λ row. key_of keys row ≡ k) own → AllByRecursion (λ row. key_of other_keys row ≡ k) other → IsGivenFrom side f k own other out)
+    → IfSome (slice_get order n) (λ k. IsCalledFrom side f keys other_keys rows others k out)
+called_from {keys} {other_keys} {fields} {rows} {others} {order} {n} {own} {other} side f out same r told =
+    let q = subst (λ (ks : List ℕ). IsPermutation (group_of_key ks others r.key) other) same r.other_same in
+    subst (λ (o : Option (List Value)). IfSome o (λ k. IsCalledFrom side f keys other_keys rows others k out)) (sym r.is)
+    (by_side side f keys other_keys rows others r.key own other out r.same q (told r.key (keys_of_group keys rows own r.key r.same) (keys_of_group other_keys others other r.key q)))
 
 -- ---- what a CoGroup gives
 
@@ -176,21 +182,21 @@ cogrouped f left_keys right_keys ls rs [] out g = g
 cogrouped f left_keys right_keys ls rs (k ∷ ks) out g =
     (g.2.0, g.2.1, g.1, g.2.2, g.2.3, g.3 ∙ ap (λ (l : Bag). l ++ g.1) g.2.4, cogrouped f left_keys right_keys ls rs ks g.1 g.4)
 
-pub cogroups_given : (f : List Value → Bag → Bag → Bag) (left_keys right_keys : List ℕ) (ls rs : Bag) (left_order right_order : List (List Value)) (out other : Bag) → IsPermutation (keys_in left_keys ls) left_order → IsPermutation (keys_in right_keys rs) right_order
-    → EachGives (IsCoCalled f left_keys right_keys ls rs) left_order out → EachGives (IsCalledAlone f left_keys right_keys ls rs) right_order other → AreCoGroupsGiven f left_keys right_keys ls rs (out ++ other)
-cogroups_given f left_keys right_keys ls rs left_order right_order out other p q g h =
+pub cogroups_given : (f : List Value → Bag → Bag → Bag) (left_keys right_keys : List ℕ) (ls rs : Bag) (left_order right_order : List (List Value)) (out other whole : Bag) → whole ≡ out ++ other → IsPermutation (keys_in left_keys ls) left_order → IsPermutation (keys_in right_keys rs) right_order
+    → EachGives (IsCoCalled f left_keys right_keys ls rs) left_order out → EachGives (IsCalledAlone f left_keys right_keys ls rs) right_order other → AreCoGroupsGiven f left_keys right_keys ls rs whole
+cogroups_given f left_keys right_keys ls rs left_order right_order out other whole is p q g h =
     let Gives = IsCoCalled f left_keys right_keys ls rs in
     let lacks : List Value → Bool = λ k. has_none (group_of_key left_keys ls k) in
     let order = left_order ++ filter lacks right_order in
     let all : IsPermutation (keys_in_either left_keys right_keys ls rs) order =
     joined (is_same (keys_of_both left_keys right_keys ls rs)) (beside p (to_permutation (filter_perm lacks (from_permutation (keys_in right_keys rs) right_order q)))) in
     let turned = other_order Gives (keys_in_either left_keys right_keys ls rs) order (out ++ other) all (each_append Gives left_order (filter lacks right_order) out other g (lacking Gives lacks right_order other h)) in
-    record { other = turned.other; grouped = cogrouped f left_keys right_keys ls rs (keys_in_either left_keys right_keys ls rs) turned.other turned.each; same = turned.same }
+    record { other = turned.other; grouped = cogrouped f left_keys right_keys ls rs (keys_in_either left_keys right_keys ls rs) turned.other turned.each; same = joined turned.same (is_same (sym is)) }
 
--- ---- one side behind the other
+-- ---- both sides
 
-pub sides_turned : (f : WithFields) (left_keys right_keys left_fields right_fields : List ℕ) (ls rs : Bag) → AreSides f left_keys right_keys left_fields right_fields ls rs → AreSides f right_keys left_keys right_fields left_fields rs ls
-sides_turned f left_keys right_keys left_fields right_fields ls rs s = record {
+pub sides_turned : {f : WithFields} {left_keys right_keys left_fields right_fields : List ℕ} {ls rs : Bag} → AreSides f left_keys right_keys left_fields right_fields ls rs → AreSides f right_keys left_keys right_fields left_fields rs ls
+sides_turned {f} {left_keys} {right_keys} {left_fields} {right_fields} {ls} {rs} s = record {
   kind = s.kind;
   left_count = s.right_count;
   right_count = s.left_count;
@@ -202,10 +208,10 @@ sides_turned f left_keys right_keys left_fields right_fields ls rs s = record {
   right_wide = s.left_wide;
 }
 
--- those of two groups
-pub sides_of_groups : (f : WithFields) (left_keys right_keys left_fields right_fields : List ℕ) (ls rs left right : Bag) → AreSides f left_keys right_keys left_fields right_fields ls rs → AreWide f.fields left → AreWide f.fields right
-    → AreSides f left_keys right_keys left_keys right_keys left right
-sides_of_groups f left_keys right_keys left_fields right_fields ls rs left right s wide other = record {
+-- those of the groups of a key
+pub sides_at : {f : WithFields} {keys other_keys own_fields other_fields : List ℕ} {rows others : Bag} {order : List (List Value)} {n : ℕ} {own other : Bag} → AreSides f keys other_keys own_fields other_fields rows others
+    → AreGroupsAt keys other_fields rows others order n own other → AreSides f keys other_keys keys other_keys own other
+sides_at {f} {keys} {other_keys} {own_fields} {other_fields} {rows} {others} {order} {n} {own} {other} s r = record {
   kind = s.kind;
   left_count = s.left_count;
   right_count = s.right_count;
@@ -213,42 +219,11 @@ sides_of_groups f left_keys right_keys left_fields right_fields ls rs left right
   right_below = s.right_below;
   left_same = refl;
   right_same = refl;
-  left_wide = wide;
-  right_wide = other;
+  left_wide = group_wide f.fields keys rows own r.key s.left_wide r.same;
+  right_wide = group_wide f.fields other_fields others other r.key s.right_wide r.other_same;
 }
 
-pub right_told : (f : List Value → Bag → Bag → Bag) (left_keys right_keys : List ℕ) (ls rs : Bag) (order : List (List Value)) (n : ℕ) (left right out : Bag) → (r : IsNumbered right_keys rs order n right)
-    → IsPermutation (group_of_key left_keys ls r.key) left → IsCalledIf (has_none left) (λ o. o ≡ f r.key left right) out → IfSome (slice_get order n) (λ k. IsCalledAlone f left_keys right_keys ls rs k out)
-right_told f left_keys right_keys ls rs order n [] right out r p told = right_called f left_keys right_keys ls rs order n [] right out r p (omega arith) told
-right_told f left_keys right_keys ls rs order n (row ∷ left) right out r p told = right_silent f left_keys right_keys ls rs order n (row ∷ left) right out r p (omega arith) told
-
-pub silent_alone : (left : Bag) (Gives : Bag → Type 0) (out : Bag) → 0 < length left → out ≡ [] → IsCalledIf (has_none left) Gives out
-silent_alone [] Gives out some e = absurd (omega (arith, some))
-silent_alone (row ∷ left) Gives out some e = e
-
-pub called_alone : (left : Bag) (Gives : Bag → Type 0) (out : Bag) → length left ≤ 0 → Gives out → IsCalledIf (has_none left) Gives out
-called_alone [] Gives out none e = e
-called_alone (row ∷ left) Gives out none e = absurd (omega (arith, none))
-
-pub none_behind : (fields : ℕ) (Gives : List Value → Bag → Type 0) (old : Bag) → AreWide fields old → IsGivenBehind fields Gives [] old old
-none_behind fields Gives old wide = record { other = []; behind = sym (append-nil old); each = refl; wide = wide }
-
-pub one_behind : (fields : ℕ) (Gives : List Value → Bag → Type 0) (order : List (List Value)) (n : ℕ) (old new given whole : Bag) → n < length order → IsGivenBehind fields Gives (take n order) old new
-    → IfSome (slice_get order n) (λ k. Gives k given) → AreWide fields given → whole ≡ new ++ given → IsGivenBehind fields Gives (take (n + 1) order) old whole
-one_behind fields Gives order n old new given whole less h g wide is = record {
-  other = h.other ++ given;
-  behind = is ∙ ap (λ (l : Bag). l ++ given) h.behind ∙ append_assoc old h.other given;
-  each = subst (λ (m : ℕ). EachGives Gives (take m order) (h.other ++ given)) (sym (add-one n)) (each_more Gives order n h.other given less h.each g);
-  wide = subst (AreWide fields) (sym is) (AllByRecursion-append (λ (row : List Value). length row ≡ fields) new given h.wide wide);
-}
-
-pub all_behind : (fields : ℕ) (Gives : List Value → Bag → Type 0) (order : List (List Value)) (n : ℕ) (old new : Bag) → length order ≤ n → IsGivenBehind fields Gives (take n order) old new → IsGivenBehind fields Gives order old new
-all_behind fields Gives order n old new past h = subst (λ (ks : List (List Value)). IsGivenBehind fields Gives ks old new) (take_all n order past) h
-
--- the calls for both sides
-pub cogroups_behind : (fields : ℕ) (f : List Value → Bag → Bag → Bag) (left_keys right_keys : List ℕ) (ls rs : Bag) (left_order right_order : List (List Value)) (none out whole : Bag) → none ≡ [] → IsPermutation (keys_in left_keys ls) left_order → IsPermutation (keys_in right_keys rs) right_order
-    → IsGivenBehind fields (IsCalledFrom false f left_keys right_keys ls rs) left_order none out → IsGivenBehind fields (IsCalledFrom true f right_keys left_keys rs ls) right_order out whole → AreCoGroupsGiven f left_keys right_keys ls rs whole
-cogroups_behind fields f left_keys right_keys ls rs left_order right_order none out whole e p q g h =
-    let first : out ≡ g.other = g.behind ∙ ap (λ (l : Bag). l ++ g.other) e in
-    subst (AreCoGroupsGiven f left_keys right_keys ls rs) (sym (h.behind ∙ ap (λ (l : Bag). l ++ h.other) first))
-    (cogroups_given f left_keys right_keys ls rs left_order right_order g.other h.other p q g.each h.each)
+-- the call for a key that the other side lacks
+pub given_alone : (side : Side) (f : List Value → Bag → Bag → Bag) (k : List Value) (own other out : Bag) → side ≡ Right → length other ≤ 0 → out ≡ f k other own → IsGivenFrom side f k own other out
+given_alone side f k own [] out e none told = subst (λ (s : Side). IsGivenFrom s f k own [] out) (sym e) told
+given_alone side f k own (row ∷ other) out e none told = absurd (omega (arith, none))

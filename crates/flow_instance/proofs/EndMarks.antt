@@ -1,7 +1,6 @@
 -- End marks that an instance takes.
-use Rattle.std.proofs.Common.{◌≡◌, ◌≤◌, ◌+◌, ◌&&◌, ◌==◌, ℕ, Bool, true, false, cond, Some, List, [], ◌∷◌, ◌++◌, length, map, refl, ap, sym, ◌∙◌, subst, arith, append-nil, length-set}
+use Rattle.std.proofs.Common.{◌≡◌, ◌≤◌, ◌+◌, ◌&&◌, ◌==◌, ℕ, Bool, true, false, cond, Some, List, [], ◌∷◌, ◌++◌, length, map, refl, ap, sym, ◌∙◌, subst, arith, append-nil}
 use Rattle.std.specs.List.Sorted.{IsPermutation}
-use Rattle.std.specs.Vec.{with_item}
 use Rattle.std.proofs.Math.Nat.{add-zero}
 use Rattle.std.proofs.lemmas.List.{length-map}
 use Rattle.std.proofs.lemmas.List.Sorted.{IsPermutation-refl}
@@ -9,7 +8,7 @@ use Rattle.flow_model.proofs.Bags.{is_same, joined}
 use Rattle.flow_model.proofs.GivenForNotes.{none_at_end}
 use Rattle.flow_model.specs.Instances.{Instance, Part as PartData, all_ended, ended_at, kept_at, port_ended}
 use Rattle.flow_model.specs.Local.{Calls, Gave, IsGiven, KeepsRows, MayGive, works_at_once}
-use Rattle.flow_model.specs.Notes.{all_below}
+use Rattle.plan_trees.specs.Senders.{all_below}
 use Rattle.flow_model.specs.Spots.{Port as PortData, Spot}
 use Rattle.flow_model.specs.Steps.{Carry, GivesNow, Mark, Took, kept_with}
 use Rattle.flow_model.specs.declared.notes.Note.TheVariants.{End}
@@ -23,10 +22,10 @@ use Rattle.tac_syntax.specs.Valid.{WithFields}
 use Rattle.tac_syntax.specs.declared.declarations.OpKind.{OpKind}
 use Rattle.tac_syntax.specs.declared.declarations.OpKind.TheVariants.{Source, Map, Reduce, Match, Cross, CoGroup}
 use Rattle.flow_instance.specs.Grouping.{AreCoGroupsGiven, AreGroupsGiven}
-use Rattle.flow_instance.specs.Sending.{AreFew, batches_in, batch_parcel, mark_parcel, marks_in}
+use Rattle.flow_model.specs.Sending.{AreFew, batches_in, batch_parcel, mark_parcel, marks_in}
 use Rattle.flow_instance.specs.States.{AreGivenLast, AreOpsOf, AreOrderly, GivesLast, HasEnded, HasFlags, HasTaken, IsOperator, IsReady, IsSound, IsSoundIfTaking, body_in, is_built, is_reduce, part_of, port_of, seen, spot_of}
 use Rattle.flow_instance.specs.Steps.{HasGiven, HasMarked, Takes}
-use Rattle.flow_instance.specs.declared.parcels.Parcel.{Parcel}
+use Rattle.flow_model.specs.declared.parcels.Parcel.{Parcel}
 use Rattle.flow_instance.specs.declared.parts.Part.{Part}
 use Rattle.flow_instance.specs.declared.states.State.{State}
 use Rattle.flow_instance.proofs.RowsSentOrPlaced.{batches_in-queue, marks_in-queue, orderly_marked}
@@ -35,7 +34,7 @@ use Rattle.flow_instance.proofs.TakenNotes.{each_wide, its_fields, no_marks, not
 
 -- ---- a side that is sealed
 
-pub sound_built : {L : Type 0} (rows : L → Bag) (keys : L → List ℕ) (is_sealed : L → Bool) (s t : State L) → IsSound rows keys is_sealed s → t ≡ record s { left_ended = t.left_ended; left = t.left } → length t.left_ended.items ≡ s.part.workers
+pub sound_built : {L : Type 0} (rows : L → Bag) (keys : L → List ℕ) (is_sealed : L → Bool) (s t : State L) → IsSound rows keys is_sealed s → t ≡ record s { left_ended = t.left_ended; left = t.left } → length t.left_ended ≡ s.part.workers
     → IsPermutation (rows s.left) (rows t.left) → keys t.left ≡ keys s.left → is_sealed t.left ≡ true → is_pair_kind s.part.kind ≡ true → all_below s.part.workers (ended_at (seen rows t) 0) ≡ true → IsSound rows keys is_sealed t
 sound_built rows keys is_sealed s t h frame long p k sealed pairs ended = subst (IsSound rows keys is_sealed) (sym frame) (record {
   batch = h.batch;
@@ -54,14 +53,14 @@ sound_built rows keys is_sealed s t h frame long p k sealed pairs ended = subst 
   counted = h.counted;
 })
 
--- one flag more of port 0
-pub sound_flagged : {L : Type 0} (rows : L → Bag) (keys : L → List ℕ) (is_sealed : L → Bool) (s : State L) (from : ℕ) → IsSound rows keys is_sealed s
-    → is_sealed s.left ≡ is_built s.part.kind (port_ended (seen rows (record s { left_ended = with_item s.left_ended from true })) 0) → IsSound rows keys is_sealed (record s { left_ended = with_item s.left_ended from true })
-sound_flagged rows keys is_sealed s from h e = record {
+-- other senders of port 0 have ended
+pub sound_flagged : {L : Type 0} (rows : L → Bag) (keys : L → List ℕ) (is_sealed : L → Bool) (s : State L) (ended : List Bool) → IsSound rows keys is_sealed s → length ended ≡ s.part.workers
+    → is_sealed s.left ≡ is_built s.part.kind (port_ended (seen rows (record s { left_ended = ended })) 0) → IsSound rows keys is_sealed (record s { left_ended = ended })
+sound_flagged rows keys is_sealed s ended h long e = record {
   batch = h.batch;
   worker = h.worker;
   operator = h.operator;
-  left_flags = length-set s.left_ended.items from true ∙ h.left_flags;
+  left_flags = long;
   right_flags = h.right_flags;
   left_wide = h.left_wide;
   right_wide = h.right_wide;
@@ -246,9 +245,9 @@ module _ {L : Type 0} (rows : L → Bag) (keys : L → List ℕ) (is_sealed : L 
 
   pub flags_last : IsSound rows keys is_sealed a → HasFlags d
   flags_last sound =
-      let left : length a.left_ended.items ≤ a.part.workers = omega (arith, sound.left_flags) in
-      let right : length a.right_ended.items ≤ a.part.workers = omega (arith, sound.right_flags) in
-      subst HasFlags (sym is_last) (record { left = subst (λ (p : Part). length a.left_ended.items ≤ p.workers) part_a left; right = subst (λ (p : Part). length a.right_ended.items ≤ p.workers) part_a right })
+      let left : length a.left_ended ≤ a.part.workers = omega (arith, sound.left_flags) in
+      let right : length a.right_ended ≤ a.part.workers = omega (arith, sound.right_flags) in
+      subst HasFlags (sym is_last) (record { left = subst (λ (p : Part). length a.left_ended ≤ p.workers) part_a left; right = subst (λ (p : Part). length a.right_ended ≤ p.workers) part_a right })
 
   placed_b : b.placed ≡ s.placed
   placed_b = ap (λ (u : State L). u.placed) grouped ∙ ap (λ (u : State L). u.placed) ended.same

@@ -6,7 +6,7 @@ use Rattle.pact_operators.specs.Allowed.{Bag, count_of}
 use Rattle.flow_model.specs.Local.{Placed}
 use Rattle.plan_trees.specs.declared.physicals.Ship.{Ship}
 use Rattle.pact_record.specs.Widths.{AreWide}
-use Rattle.flow_instance.specs.Sending.{batches_in, batch_parcel, mark_parcel, marks_in}
+use Rattle.flow_model.specs.Sending.{batches_in, batch_parcel, mark_parcel, marks_in}
 use Rattle.flow_instance.specs.States.{AreOrderly, HasBegun, part_of, seen, spot_of}
 use Rattle.flow_instance.specs.Steps.{HasGiven, HasMarked}
 use Rattle.flow_instance.specs.declared.parts.Part.{Part}

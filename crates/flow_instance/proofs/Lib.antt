@@ -1,8 +1,3 @@
-pub mod FilledRecords
-pub mod CarriedBatches
-pub mod SplitRows
-pub mod NotesForReceivers
-pub mod EndedSenders
 pub mod RowsSentOrPlaced
 pub mod SmallBatches
 pub mod KeptRecords

@@ -5,7 +5,7 @@ use Rattle.std.proofs.lemmas.Bool.{and_left, and_parts, and_right, eq-eqb}
 use Rattle.std.proofs.lemmas.List.{length-map}
 use Rattle.std.proofs.lemmas.List.Sorted.{IsPermutation-refl}
 use Rattle.flow_model.proofs.Bags.{is_same}
-use Rattle.flow_model.proofs.EndMarksAndWants.{all_below_from, all_below_none}
+use Rattle.plan_trees.proofs.NumbersBelow.{all_below_from, all_below_none}
 use Rattle.flow_model.specs.Instances.{all_ended, ended_at, kept_at, port_ended}
 use Rattle.flow_model.specs.Local.{Calls, Gave, IsGiven, IsPartOf, KeepsRows, Placed, sender_ended, works_at_once}
 use Rattle.flow_model.specs.Spots.{Port as PortData, Spot, is_edge, ports_of, setting, spot}
@@ -28,7 +28,7 @@ use Rattle.tac_syntax.specs.declared.declarations.OpKind.{OpKind}
 use Rattle.tac_syntax.specs.declared.declarations.OpKind.TheVariants.{Source, Map, Reduce, Match, Cross, CoGroup}
 use Rattle.flow_instance.specs.Starting.{IsCalledAt, IsPartAt, IsShareOf}
 use Rattle.flow_instance.specs.States.{AreOrderly, HasBegun, IsFresh, IsOperator, IsSound, IsWhole, body_in, part_of, port_of, seen, spot_of}
-use Rattle.flow_instance.specs.Sending.{batches_in, marks_in}
+use Rattle.flow_model.specs.Sending.{batches_in, marks_in}
 use Rattle.flow_instance.specs.declared.parts.Part.{Part}
 use Rattle.flow_instance.specs.declared.states.State.{State}
 use Rattle.flow_instance.proofs.PartsOfPlans.{arity_at}
@@ -191,8 +191,8 @@ module _ {L : Type 0} (rows : L → Bag) (keys : L → List ℕ) (is_sealed : L 
 
   pub whole : 1 ≤ batch → IsWhole rows keys is_sealed t
   whole some =
-      let left : length t.left_ended.items ≡ t.part.workers = ap (λ (u : State L). length u.left_ended.items) b.same ∙ f.left_flags ∙ ap (λ (q : Part). q.workers) (sym f.part) ∙ ap (λ (u : State L). u.part.workers) (sym b.same) in
-      let right : length t.right_ended.items ≡ t.part.workers = ap (λ (u : State L). length u.right_ended.items) b.same ∙ f.right_flags ∙ ap (λ (q : Part). q.workers) (sym f.part) ∙ ap (λ (u : State L). u.part.workers) (sym b.same) in
+      let left : length t.left_ended ≡ t.part.workers = ap (λ (u : State L). length u.left_ended) b.same ∙ f.left_flags ∙ ap (λ (q : Part). q.workers) (sym f.part) ∙ ap (λ (u : State L). u.part.workers) (sym b.same) in
+      let right : length t.right_ended ≡ t.part.workers = ap (λ (u : State L). length u.right_ended) b.same ∙ f.right_flags ∙ ap (λ (q : Part). q.workers) (sym f.part) ∙ ap (λ (u : State L). u.part.workers) (sym b.same) in
       let receiver : t.receiver ≡ t.part.workers = ap (λ (u : State L). u.receiver) b.same ∙ f.receiver ∙ ap (λ (q : Part). q.workers) (sym f.part) ∙ ap (λ (u : State L). u.part.workers) (sym b.same) in
       record {
         taking = λ not_yet. sound some (operates (is_source_kind part.kind) refl not_yet);

@@ -8,8 +8,9 @@ use Rattle.std.proofs.lemmas.Bool.{and_left, and_right}
 use Rattle.std.proofs.lemmas.List.Sorted.{IsPermutation-refl, length_permutation}
 use Rattle.flow_model.proofs.Bags.{beside, is_same, joined}
 use Rattle.flow_model.specs.Instances.{Instance, all_ended, ended_at, kept_at, port_ended}
-use Rattle.flow_model.specs.Local.{IsReceiver, KeepsRows, Placed, marks_for, one_if, works_at_once}
-use Rattle.flow_model.specs.Spots.{Spot, has_out, sent}
+use Rattle.flow_model.specs.Local.{IsReceiver, KeepsRows, Placed, marks_for, one_if, works_at_once, Calls}
+use Rattle.flow_model.specs.Spots.{Spot, sent}
+use Rattle.plan_trees.specs.Sending.{has_out, goes}
 use Rattle.flow_model.specs.Steps.{Carry, GivesAtOnce, GivesNow, Mark, Took, is_end, kept_with}
 use Rattle.flow_model.specs.declared.notes.Note.{Note}
 use Rattle.flow_model.specs.declared.notes.Note.TheVariants.{Batch}
@@ -19,18 +20,16 @@ use Rattle.pact_operators.specs.Programs.{HasKeyLists, is_pair_kind, takes}
 use Rattle.pact_record.proofs.Permutations.{filter_perm, from_permutation, to_permutation}
 use Rattle.pact_record.specs.Widths.{AreWide}
 use Rattle.pact_record.specs.declared.values.Value.{Value}
-use Rattle.plan_trees.specs.Sending.{goes}
 use Rattle.plan_trees.specs.declared.physicals.Ship.{Ship}
 use Rattle.std.proofs.lemmas.Option.{same_Some}
-use Rattle.flow_model.specs.Local.{Calls}
 use Rattle.tac_syntax.specs.Call.{Out, of_pair, of_record}
 use Rattle.tac_syntax.specs.Valid.{WithFields}
 use Rattle.tac_syntax.specs.declared.declarations.OpKind.{OpKind}
-use Rattle.flow_instance.specs.Sending.{AreFew, batch_parcel, batches_in, marks_in}
+use Rattle.flow_model.specs.Sending.{AreFew, batch_parcel, batches_in, marks_in}
 use Rattle.flow_instance.specs.States.{AreOpsOf, AreOrderly, ArePairsGiven, HasFlags, HasTaken, IsSound, IsOperator, IsReady, PlacesAtRoot, body_in, is_cross, is_map, part_of, seen, spot_of}
 use Rattle.flow_instance.specs.Steps.{Gives, HasGiven, Takes}
 use Rattle.flow_instance.specs.Keeping.{IsKept}
-use Rattle.flow_instance.proofs.NotesForReceivers.{none_few}
+use Rattle.flow_model.proofs.NotesForReceivers.{none_few}
 use Rattle.flow_instance.proofs.SoundInstances.{sound_given}
 use Rattle.flow_instance.specs.declared.parts.Part.{Part}
 use Rattle.flow_instance.specs.declared.states.State.{State}

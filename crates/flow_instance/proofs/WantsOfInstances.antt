@@ -3,15 +3,16 @@ use Rattle.std.proofs.Common.{◌≡◌, ◌<◌, ◌≤◌, ◌+◌, ◌-◌, �
 use Rattle.std.specs.Prelude.{IsSome, ◌↔◌}
 use Rattle.flow_model.proofs.LocalAfterTakes.{IsTaking, not_all, taking_by}
 use Rattle.flow_model.specs.Instances.{Instance, all_ended, port_ended, want, want_by}
-use Rattle.flow_model.specs.Notes.{AreNotes, IsNote, all_below}
+use Rattle.flow_model.specs.Notes.{AreNotes, IsNote}
+use Rattle.plan_trees.specs.Senders.{all_below}
 use Rattle.flow_model.specs.Spots.{is_edge}
 use Rattle.flow_model.specs.declared.notes.Note.{Note}
 use Rattle.flow_model.specs.declared.notes.Note.TheVariants as notes
 use Rattle.flow_model.specs.declared.notes.Want.TheVariants.{Done, End, Take}
 use Rattle.pact_operators.specs.Allowed.{Bag}
-use Rattle.flow_instance.specs.Sending.{batches_in, marks_in, with_batch, with_mark}
+use Rattle.flow_model.specs.Sending.{batches_in, marks_in, with_batch, with_mark}
 use Rattle.flow_instance.specs.States.{AreOrderly, IsReady, IsWhole, part_of, port_of, seen}
-use Rattle.flow_instance.specs.declared.parcels.Parcel.{Parcel}
+use Rattle.flow_model.specs.declared.parcels.Parcel.{Parcel}
 use Rattle.flow_instance.specs.declared.parts.Port.{Port}
 use Rattle.flow_instance.specs.declared.states.State.{State}
 
@@ -28,11 +29,10 @@ past (x ∷ flags) zero le = absurd (omega (arith, le))
 past (x ∷ flags) (suc m) le = past flags m (omega (arith, le))
 
 -- the flags tell whether all of so many senders have ended
-pub all_flags : (flags read : List Bool) (workers : ℕ) (all b : Bool) → length flags ≤ workers → read ≡ flags → all ≡ all_below (length read) (λ k. get_or read k true) → all ≡ b → all_below workers (λ k. get_or flags k true) ≡ b
-all_flags flags read workers all b le same told is =
-    let own : all_below (length flags) (λ k. get_or flags k true) ≡ b = (λ i. all_below (length (sym same i)) (λ k. get_or (sym same i) k true)) ∙ sym told ∙ is in
+pub all_flags : (flags : List Bool) (workers : ℕ) (all b : Bool) → length flags ≤ workers → all ≡ all_below (length flags) (λ k. get_or flags k true) → all ≡ b → all_below workers (λ k. get_or flags k true) ≡ b
+all_flags flags workers all b le told is =
     let split : workers ≡ (workers - length flags) + length flags = omega (arith, le) in
-    all_below-more (length flags) (workers - length flags) workers (λ k. get_or flags k true) split (past flags) ∙ own
+    all_below-more (length flags) (workers - length flags) workers (λ k. get_or flags k true) split (past flags) ∙ sym told ∙ is
 
 pub wants_left : (i : Instance) → i.waiting ≡ [] → i.marks ≡ [] → port_ended i 0 ≡ false → Take 0 ≡ want i
 wants_left i w m e = λ x. want_by (sym w x) (sym m x) (sym e x) (port_ended i 1) i.finished
@@ -93,7 +93,7 @@ all_true : (n : ℕ) → all_below n (λ k. true) ≡ true
 all_true zero = refl
 all_true (suc n) = all_true n
 
-pub closed : {L : Type 0} (rows : L → Bag) (keys : L → List ℕ) (is_sealed : L → Bool) (s : State L) → s.left_ended.items ≡ [] → s.right_ended.items ≡ [] → s.queue.items ≡ [] → s.receiver ≡ s.part.workers → IsWhole rows keys is_sealed s
+pub closed : {L : Type 0} (rows : L → Bag) (keys : L → List ℕ) (is_sealed : L → Bool) (s : State L) → s.left_ended ≡ [] → s.right_ended ≡ [] → s.queue.items ≡ [] → s.receiver ≡ s.part.workers → IsWhole rows keys is_sealed s
 closed rows keys is_sealed s l r q o =
     let n = s.part.workers in
     let all : all_ended (seen rows s) ≡ true = (λ i. all_below n (λ k. get_or (l i) k true) && all_below n (λ k. get_or (r i) k true)) ∙ (λ i. all_true n i && all_true n i) in

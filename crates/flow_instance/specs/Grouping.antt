@@ -1,6 +1,5 @@
 -- What is given for groups of kept records.
-use Rattle.std.specs.Prelude.{◌≡◌, ◌<◌, ◌++◌, ℕ, Bool, true, false, List, [], ◌∷◌, length}
-use Rattle.std.specs.List.{AllByRecursion}
+use Rattle.std.specs.Prelude.{◌≡◌, ◌<◌, ◌++◌, ℕ, Bool, true, false, Some, List, [], ◌∷◌, length, slice_get}
 use Rattle.std.specs.List.Sorted.{IsPermutation}
 use Rattle.pact_bag.specs.Groups.{group_of_key}
 use Rattle.pact_operators.specs.Allowed.{Bag, CoGrouped, Grouped, keys_in, keys_in_either}
@@ -8,15 +7,13 @@ use Rattle.pact_record.specs.Widths.{AreBelow, AreWide}
 use Rattle.pact_record.specs.declared.values.Value.{Value}
 use Rattle.tac_syntax.specs.Valid.{WithFields}
 use Rattle.tac_syntax.specs.declared.functions.Kind.TheVariants.{CoGroup}
+use Rattle.flow_instance.specs.declared.grouping.Side.{Side}
+use Rattle.flow_instance.specs.declared.grouping.Side.TheVariants.{Left, Right}
 
 -- for each of the keys a part
 abbrev pub EachGives : (List Value → Bag → Type 0) → List (List Value) → Bag → Type 0
 EachGives Gives [] out = out ≡ []
 EachGives Gives (k ∷ ks) out = (part : Bag) × (rest : Bag) × Gives k part × (out ≡ part ++ rest) × EachGives Gives ks rest
-
--- each of the keys has a record
-abbrev pub HaveGroups : List ℕ → Bag → List (List Value) → Type 0
-HaveGroups keys rows ks = AllByRecursion (λ k. 0 < length (group_of_key keys rows k)) ks
 
 -- ---- of one bag
 
@@ -69,14 +66,22 @@ pub record AreCoGroupsGiven (f : List Value → Bag → Bag → Bag) (left_keys 
   pub grouped : CoGrouped f left_keys right_keys ls rs (keys_in_either left_keys right_keys ls rs) other
   pub same : IsPermutation other out
 
--- the call for a key of one side: of the left one, or of the right one alone
-abbrev pub IsCalledFrom : (is_right : Bool) → (List Value → Bag → Bag → Bag) → (keys other_keys : List ℕ) → (own others : Bag) → List Value → Bag → Type 0
-IsCalledFrom false f keys other_keys own others k out = IsCoCalled f keys other_keys own others k out
-IsCalledFrom true f keys other_keys own others k out = IsCalledAlone f other_keys keys others own k out
+-- ---- of the keys of one side
 
--- for each of the keys a part came behind what was there, and all have so many fields
-pub record IsGivenBehind (fields : ℕ) (Gives : List Value → Bag → Type 0) (ks : List (List Value)) (old new : Bag) : Type 0 where
-  pub other : Bag
-  pub behind : new ≡ old ++ other
-  pub each : EachGives Gives ks other
-  pub wide : AreWide fields new
+-- both groups of the key with a number, each in some order. The own one isn't empty
+pub record AreGroupsAt (keys other_keys : List ℕ) (rows others : Bag) (order : List (List Value)) (n : ℕ) (own other : Bag) : Type 0 where
+  pub key : List Value
+  pub is : slice_get order n ≡ Some key
+  pub same : IsPermutation (group_of_key keys rows key) own
+  pub some : 0 < length own
+  pub other_same : IsPermutation (group_of_key other_keys others key) other
+
+-- what is given for both groups of a key: of the left side always, of the right one where the left has none
+abbrev pub IsGivenFrom : Side → (List Value → Bag → Bag → Bag) → List Value → (own other : Bag) → Bag → Type 0
+IsGivenFrom Left f k own other out = out ≡ f k own other
+IsGivenFrom Right f k own other out = IsCalledIf (has_none other) (λ given. given ≡ f k other own) out
+
+-- the call for a key of one side: of the left one, or of the right one alone
+abbrev pub IsCalledFrom : Side → (List Value → Bag → Bag → Bag) → (keys other_keys : List ℕ) → (own others : Bag) → List Value → Bag → Type 0
+IsCalledFrom Left f keys other_keys own others k out = IsCoCalled f keys other_keys own others k out
+IsCalledFrom Right f keys other_keys own others k out = IsCalledAlone f other_keys keys others own k out

@@ -1,20 +1,20 @@
 -- What a fresh state holds in memory.
-use Rattle.std.specs.Prelude.{◌≡◌, ◌<◌, ℕ, Bool, true, false, List, [], get_or, length, map, not, slice_get}
-use Rattle.flow_model.specs.Spots.{is_edge}
+use Rattle.std.specs.Prelude.{◌≡◌, ℕ, Bool, false, List, [], map, slice_get}
+use Rattle.flow_model.specs.Spots.{ship_in}
 use Rattle.pact_operators.specs.Allowed.{Bag}
+use Rattle.plan_trees.specs.Senders.{AreEndedAtStart}
 use Rattle.flow_instance.specs.States.{port_of}
 use Rattle.flow_instance.specs.declared.parts.Part.{Part}
 use Rattle.flow_instance.specs.declared.states.Held.{Held}
 
 -- flags of who has ended before any note has come
-pub record AreFlagsOf (own : Part) (port : ℕ) (flags : List Bool) : Type 0 where
-  pub long : length flags ≡ own.workers
-  pub each : (from : ℕ) → from < own.workers → get_or flags from true ≡ not (is_edge (slice_get (map port_of own.ports.items) port) from own.worker)
+abbrev pub AreFlagsOf : Part → (port : ℕ) → List Bool → Type 0
+AreFlagsOf own port flags = AreEndedAtStart (ship_in (slice_get (map port_of own.ports.items) port)) own.workers own.worker flags
 
 -- it keeps no records, and waits for whoever may send
 pub record IsHeldAtStart {L : Type 0} (rows : L → Bag) (keys : L → List ℕ) (is_sealed : L → Bool) (own : Part) (held : Held L) : Type 0 where
-  pub left_flags : AreFlagsOf own 0 held.left_ended.items
-  pub right_flags : AreFlagsOf own 1 held.right_ended.items
+  pub left_flags : AreFlagsOf own 0 held.left_ended
+  pub right_flags : AreFlagsOf own 1 held.right_ended
   pub left_none : rows held.left ≡ []
   pub right_none : rows held.right ≡ []
   pub left_keys : keys held.left ≡ own.left_keys

@@ -1,4 +1,3 @@
-pub mod Sending
 pub mod States
 pub mod Steps
 pub mod Keeping

@@ -18,8 +18,8 @@ use Rattle.tac_syntax.specs.declared.declarations.OpKind.TheVariants.{Map, Reduc
 use Rattle.std.specs.List.{AllByRecursion}
 use Rattle.std.specs.VecDeque.{deque_capacity, deque_len}
 use Rattle.std.specs.List.Sorted.{IsPermutation}
-use Rattle.flow_instance.specs.Sending.{IsInOrder, batches_in, marks_in}
-use Rattle.flow_instance.specs.declared.parcels.Parcel.{Parcel}
+use Rattle.flow_model.specs.Sending.{IsInOrder, batches_in, marks_in}
+use Rattle.flow_model.specs.declared.parcels.Parcel.{Parcel}
 use Rattle.flow_instance.specs.declared.parts.Part.{Part}
 use Rattle.flow_instance.specs.declared.parts.Port.{Port}
 use Rattle.flow_instance.specs.declared.states.State.{State}
@@ -55,8 +55,8 @@ part_of p = record {
 abbrev pub seen : {L : Type 0} → (L → Bag) → State L → Instance
 seen rows s = record {
   part = part_of s.part;
-  left_ended = s.left_ended.items;
-  right_ended = s.right_ended.items;
+  left_ended = s.left_ended;
+  right_ended = s.right_ended;
   left_kept = rows s.left;
   right_kept = rows s.right;
   waiting = batches_in s.queue.items;
@@ -114,8 +114,8 @@ HasTaken rows s port from note t = (ops : PlanOps) → AreOpsOf ops (part_of s.p
 -- nothing was taken or given, and nothing waits
 pub record IsFresh {L : Type 0} (rows : L → Bag) (keys : L → List ℕ) (is_sealed : L → Bool) (own : Part) (s : State L) : Type 0 where
   pub part : s.part ≡ own
-  pub left_flags : length s.left_ended.items ≡ own.workers
-  pub right_flags : length s.right_ended.items ≡ own.workers
+  pub left_flags : length s.left_ended ≡ own.workers
+  pub right_flags : length s.right_ended ≡ own.workers
   pub left_ended : (from : ℕ) → from < own.workers → ended_at (seen rows s) 0 from ≡ not (is_edge (slice_get (map port_of own.ports.items) 0) from own.worker)
   pub right_ended : (from : ℕ) → from < own.workers → ended_at (seen rows s) 1 from ≡ not (is_edge (slice_get (map port_of own.ports.items) 1) from own.worker)
   pub left_none : rows s.left ≡ []
@@ -180,8 +180,8 @@ pub record IsSound {L : Type 0} (rows : L → Bag) (keys : L → List ℕ) (is_s
   pub batch : 1 ≤ s.part.batch
   pub worker : s.part.worker < s.part.workers
   pub operator : IsOperator s.part
-  pub left_flags : length s.left_ended.items ≡ s.part.workers
-  pub right_flags : length s.right_ended.items ≡ s.part.workers
+  pub left_flags : length s.left_ended ≡ s.part.workers
+  pub right_flags : length s.right_ended ≡ s.part.workers
   pub left_wide : AreWide s.part.fields (rows s.left)
   pub right_wide : AreWide s.part.fields (rows s.right)
   pub left_keys : keys s.left ≡ s.part.left_keys
@@ -202,8 +202,8 @@ pub record IsReady {L : Type 0} (rows : L → Bag) (keys : L → List ℕ) (is_s
 
 -- no more flags than workers
 pub record HasFlags {L : Type 0} (s : State L) : Type 0 where
-  pub left : length s.left_ended.items ≤ s.part.workers
-  pub right : length s.right_ended.items ≤ s.part.workers
+  pub left : length s.left_ended ≤ s.part.workers
+  pub right : length s.right_ended ≤ s.part.workers
 
 -- once every sender has ended, nothing more is taken
 abbrev pub IsSoundIfTaking : {L : Type 0} → (L → Bag) → (L → List ℕ) → (L → Bool) → State L → Type 0

@@ -7,9 +7,9 @@ use Rattle.flow_model.specs.declared.notes.Note.{Note}
 use Rattle.pact_operators.specs.Allowed.{Bag, count_of}
 use Rattle.pact_operators.specs.PlanOps.{PlanOps}
 use Rattle.pact_record.specs.Widths.{AreWide}
-use Rattle.flow_instance.specs.Sending.{AreFew, batch_parcel, mark_parcel}
+use Rattle.flow_model.specs.Sending.{AreFew, batch_parcel, mark_parcel}
 use Rattle.flow_instance.specs.States.{AreGivenLast, AreOrderly, HasFlags, HasTaken, IsSoundIfTaking, part_of, spot_of}
-use Rattle.flow_instance.specs.declared.parcels.Parcel.{Parcel}
+use Rattle.flow_model.specs.declared.parcels.Parcel.{Parcel}
 use Rattle.flow_instance.specs.declared.states.State.{State}
 
 -- The records were placed, or wait in a queue of batches.

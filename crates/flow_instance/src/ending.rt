@@ -5,7 +5,6 @@ ghost use Rattle.flow_model.specs.declared.notes.Note.TheVariants.{End};
 ghost use Rattle.flow_instance.specs.States.{HasEnded, IsReady, IsSound, IsWhole};
 ghost use Rattle.flow_instance.specs.Steps.{GivesGroups, Takes};
 
-use crate::flags::all_set;
 use crate::grouping::{cogroup_kept, reduce_kept};
 use crate::states::State;
 use local_strategy::Local;
@@ -21,11 +20,11 @@ impl<L: Local> State<L> {
         ensures ended { OnOk result (HasEnded L.rows self.old 0 from self.new) }
         ensures sound { OnOk result (IsSound L.rows L.key_fields L.is_sealed self.new) }
     {
-        self.left_ended[from as usize] = true;
+        self.left_ended.end(from);
         if !self.part.pairs() {
             return Ok(());
         }
-        if !all_set(&self.left_ended) {
+        if !self.left_ended.have_all_ended() {
             return Ok(());
         }
         self.left.seal()
@@ -40,7 +39,7 @@ impl<L: Local> State<L> {
         if port == 0 {
             return self.end_left(from);
         }
-        self.right_ended[from as usize] = true;
+        self.right_ended.end(from);
         Ok(())
     }
 

@@ -1,6 +1,6 @@
 //! Calls for the groups of kept records.
 
-ghost use Rattle.std.specs.Prelude.{◌≡◌, ◌<◌, true, List, length, slice_get, IfOk, IfSome, OnOk};
+ghost use Rattle.std.specs.Prelude.{◌≡◌, ◌<◌, ℕ, true, List, length, slice_get, IfOk, IfSome, OnOk};
 ghost use Rattle.std.specs.List.{AllByRecursion};
 ghost use Rattle.std.specs.List.Sorted.{IsPermutation};
 ghost use Rattle.pact_operators.specs.Allowed.{keys_in};
@@ -9,7 +9,7 @@ ghost use Rattle.pact_record.specs.Widths.{AreBelow, AreWide};
 ghost use Rattle.pact_record.specs.declared.values.Value.{Value as FieldValue};
 ghost use Rattle.tac_syntax.specs.Call.{Out, of_group, of_groups};
 ghost use Rattle.tac_syntax.specs.declared.functions.Kind.TheVariants.{Reduce};
-ghost use Rattle.flow_instance.specs.Grouping.{AreCoGroupsGiven, AreGroupsGiven, AreSides, HaveGroups, IsCalled, IsCalledFrom, IsCalledIf, IsGivenBehind, has_none};
+ghost use Rattle.flow_instance.specs.Grouping.{AreCoGroupsGiven, AreGroupsAt, AreGroupsGiven, AreSides, EachGives, IsCalled, IsCalledFrom, IsGivenFrom};
 
 use local_strategy::Local;
 use pact_bag::Rows;
@@ -33,7 +33,7 @@ fn reduce_one<L: Local>(
     requires sealed { L.is_sealed kept.now ≡ true }
     requires widths { AreWide f.now.fields (L.rows kept.now) }
     requires number { n < length (L.order kept.now) }
-    requires groups { HaveGroups keys.now (L.rows kept.now) (L.order kept.now) }
+    requires order { IsPermutation (keys_in (L.key_fields kept.now) (L.rows kept.now)) (L.order kept.now) }
     ensures given { IfOk result (λ out. IfSome (slice_get (L.order kept.now) n) (λ key. IsCalled (λ k group. Out f.now.fields f.now.function.body (of_group k group)) keys.now (L.rows kept.now) key out)) }
     ensures widths { IfOk result (AreWide f.now.fields) }
 {
@@ -65,55 +65,73 @@ pub(crate) fn reduce_kept<L: Local>(
     Ok(out)
 }
 
-// The call for the groups of a key, where the left side has none.
-fn call_alone(
-    alloc: Global,
-    f: &Valid,
-    left_keys: &Keys,
-    right_keys: &Keys,
-    left: &Rows,
-    right: &Rows,
-) -> Result<Rows, OutOfMemory>
-    requires sides { AreSides f.now left_keys.now right_keys.now left_keys.now right_keys.now left.now right.now }
-    requires some { 0 < length right.now }
-    ensures given { (key : List FieldValue) → AllByRecursion (λ row. key_of left_keys.now row ≡ key) left.now → AllByRecursion (λ row. key_of right_keys.now row ≡ key) right.now
-        → IfOk result (IsCalledIf (has_none left.now) (λ out. out ≡ Out f.now.fields f.now.function.body (of_groups key left.now right.now))) }
-    ensures widths { IfOk result (AreWide f.now.fields) }
-{
-    if left.len() > 0 {
-        return Ok(Rows::new(alloc));
-    }
-    call_cogroup(alloc, f, left_keys, right_keys, left, right)
+// The side whose keys are gone through.
+#[derive(Clone, Copy)]
+enum Side {
+    Left,
+    Right,
 }
 
-// The call for the key with this number of one side. That of the right side is made where the left side lacks it.
-fn cogroup_one<L: Local>(
+// The groups of one key.
+#[derive(Drop)]
+struct Groups {
+    own: Rows,
+    other: Rows,
+}
+
+// Both groups of the key with this number of one side. Only the other one may be empty.
+fn groups_at<L: Local>(
+    alloc: Global,
+    keys: &Keys,
+    own: &L,
+    others: &L,
+    n: usize,
+) -> Result<Groups, OutOfMemory>
+    requires own_sealed { L.is_sealed own.now ≡ true }
+    requires others_sealed { L.is_sealed others.now ≡ true }
+    requires same { L.key_fields own.now ≡ keys.now }
+    requires count { length keys.now ≡ length (L.key_fields others.now) }
+    requires below { (fields : ℕ) × AreBelow fields keys.now × AreWide fields (L.rows own.now) }
+    requires number { n < length (L.order own.now) }
+    requires order { IsPermutation (keys_in (L.key_fields own.now) (L.rows own.now)) (L.order own.now) }
+    ensures { IfOk result (λ groups. AreGroupsAt keys.now (L.key_fields others.now) (L.rows own.now) (L.rows others.now) (L.order own.now) n groups.own groups.other) }
+{
+    let own_group = own.group_at(alloc, n)?;
+    let other = others.group_of(alloc, own_group.at(0), keys)?;
+    Ok(Groups {
+        own: own_group,
+        other,
+    })
+}
+
+// The call for the groups of a key. Of the right side it is made where the left one has none, so that each key has one call.
+fn call_from(
     alloc: Global,
     f: &Valid,
     keys: &Keys,
     other_keys: &Keys,
-    own: &L,
-    others: &L,
-    is_right: bool,
-    n: usize,
+    own: &Rows,
+    other: &Rows,
+    side: Side,
 ) -> Result<Rows, OutOfMemory>
-    requires sides { AreSides f.now keys.now other_keys.now (L.key_fields own.now) (L.key_fields others.now) (L.rows own.now) (L.rows others.now) }
-    requires own_sealed { L.is_sealed own.now ≡ true }
-    requires others_sealed { L.is_sealed others.now ≡ true }
-    requires number { n < length (L.order own.now) }
-    requires groups { HaveGroups keys.now (L.rows own.now) (L.order own.now) }
-    ensures given { IfOk result (λ out. IfSome (slice_get (L.order own.now) n) (λ key. IsCalledFrom is_right (λ k l r. Out f.now.fields f.now.function.body (of_groups k l r)) keys.now other_keys.now (L.rows own.now) (L.rows others.now) key out)) }
+    requires sides { AreSides f.now keys.now other_keys.now keys.now other_keys.now own.now other.now }
+    requires some { 0 < length own.now }
+    ensures given { (key : List FieldValue) → AllByRecursion (λ row. key_of keys.now row ≡ key) own.now → AllByRecursion (λ row. key_of other_keys.now row ≡ key) other.now
+        → IfOk result (IsGivenFrom side (λ k l r. Out f.now.fields f.now.function.body (of_groups k l r)) key own.now other.now) }
     ensures widths { IfOk result (AreWide f.now.fields) }
 {
-    let group = own.group_at(alloc, n)?;
-    let other = others.group_of(alloc, group.at(0), keys)?;
-    if is_right {
-        return call_alone(alloc, f, other_keys, keys, &other, &group);
+    match side {
+        Side::Left => call_cogroup(alloc, f, keys, other_keys, own, other),
+        Side::Right => {
+            if other.len() > 0 {
+                return Ok(Rows::new(alloc));
+            }
+            call_cogroup(alloc, f, other_keys, keys, other, own)
+        }
     }
-    call_cogroup(alloc, f, keys, other_keys, &group, &other)
 }
 
-// The calls for the keys of one side, behind what was given before.
+// The calls for the keys of one side.
 fn cogroup_side<L: Local>(
     alloc: Global,
     f: &Valid,
@@ -121,21 +139,22 @@ fn cogroup_side<L: Local>(
     other_keys: &Keys,
     own: &L,
     others: &L,
-    is_right: bool,
-    out: &mut Rows,
-) -> Result<(), OutOfMemory>
+    side: Side,
+) -> Result<Rows, OutOfMemory>
     requires sides { AreSides f.now keys.now other_keys.now (L.key_fields own.now) (L.key_fields others.now) (L.rows own.now) (L.rows others.now) }
     requires own_sealed { L.is_sealed own.now ≡ true }
     requires others_sealed { L.is_sealed others.now ≡ true }
-    requires widths { AreWide f.now.fields out.old }
-    ensures given { OnOk result (IsGivenBehind f.now.fields (IsCalledFrom is_right (λ k l r. Out f.now.fields f.now.function.body (of_groups k l r)) keys.now other_keys.now (L.rows own.now) (L.rows others.now)) (L.order own.now) out.old out.new) }
+    ensures given { IfOk result (EachGives (IsCalledFrom side (λ k l r. Out f.now.fields f.now.function.body (of_groups k l r)) keys.now other_keys.now (L.rows own.now) (L.rows others.now)) (L.order own.now)) }
     ensures order { OnOk result (IsPermutation (keys_in keys.now (L.rows own.now)) (L.order own.now)) }
+    ensures widths { IfOk result (AreWide f.now.fields) }
 {
+    let mut out = Rows::new(alloc);
     for n in 0..own.key_count() {
-        let mut given = cogroup_one(alloc, f, keys, other_keys, own, others, is_right, n)?;
+        let groups = groups_at(alloc, keys, own, others, n)?;
+        let mut given = call_from(alloc, f, keys, other_keys, &groups.own, &groups.other, side)?;
         out.append(&mut given)?;
     }
-    Ok(())
+    Ok(out)
 }
 
 /// What a CoGroup gives for its kept records, in any order.
@@ -153,12 +172,8 @@ pub(crate) fn cogroup_kept<L: Local>(
     ensures given { IfOk result (AreCoGroupsGiven (λ k l r. Out f.now.fields f.now.function.body (of_groups k l r)) left_keys.now right_keys.now (L.rows lefts.now) (L.rows rights.now)) }
     ensures widths { IfOk result (AreWide f.now.fields) }
 {
-    let mut out = Rows::new(alloc);
-    cogroup_side(
-        alloc, f, left_keys, right_keys, lefts, rights, false, &mut out,
-    )?;
-    cogroup_side(
-        alloc, f, right_keys, left_keys, rights, lefts, true, &mut out,
-    )?;
+    let mut out = cogroup_side(alloc, f, left_keys, right_keys, lefts, rights, Side::Left)?;
+    let mut alone = cogroup_side(alloc, f, right_keys, left_keys, rights, lefts, Side::Right)?;
+    out.append(&mut alone)?;
     Ok(out)
 }

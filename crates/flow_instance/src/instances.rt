@@ -15,11 +15,9 @@ ghost use Rattle.plan_trees.specs.Plans.{has, subtree_of};
 ghost use Rattle.flow_instance.specs.Limits.{batch_limit};
 ghost use Rattle.flow_instance.specs.Starting.{IsShareOf};
 
-use crate::flags::{all_set, is_set};
-use crate::parcels::Parcel;
 use crate::starting::part_at;
 use crate::states::State;
-use flow_model::{Note, Want};
+use flow_model::{Note, Parcel, Want};
 use local_strategy::Local;
 use pact_bag::Rows;
 use pact_operators::{Physical, Program};
@@ -90,10 +88,10 @@ impl<L: Local> Instance<L> {
         if let Some(parcel) = self.state.queue.front() {
             return Want::Put(parcel.to);
         }
-        if !all_set(&self.state.left_ended) {
+        if !self.state.left_ended.have_all_ended() {
             return Want::Take(0);
         }
-        if !all_set(&self.state.right_ended) {
+        if !self.state.right_ended.have_all_ended() {
             return Want::Take(1);
         }
         if self.state.finished {
@@ -202,8 +200,8 @@ impl<L: Local> Instance<L> {
         ensures { result ≡ ended_at self.now port from }
     {
         match port {
-            0 => is_set(&self.state.left_ended, from),
-            1 => is_set(&self.state.right_ended, from),
+            0 => self.state.left_ended.has_ended(from),
+            1 => self.state.right_ended.has_ended(from),
             _ => true,
         }
     }

@@ -3,29 +3,30 @@
 ghost use Rattle.std.specs.Prelude.{◌≡◌, ◌≤◌, ◌<◌, [], true, length, IfOk, OnOk};
 ghost use Rattle.flow_model.specs.Instances.{all_ended};
 ghost use Rattle.pact_record.specs.Widths.{AreWide};
-ghost use Rattle.flow_instance.specs.Sending.{AreFew};
+ghost use Rattle.flow_model.specs.Sending.{AreFew};
 ghost use Rattle.flow_instance.specs.Steps.{Gives, HasMarked};
 ghost use Rattle.flow_instance.specs.Held.{IsHeldAtStart};
 ghost use Rattle.flow_instance.specs.States.{HasBegun, IsFresh, PlacesAtRoot, part_of, seen};
 
-use crate::flags::{all_set, ended_at_start};
-use crate::parcels::Parcel;
 use crate::parts::Part;
-use crate::sending::{mark, send};
+use crate::senders::senders_at;
+use flow_model::{Parcel, queue_end_marks, queue_rows};
 use local_strategy::Local;
 use pact_bag::Rows;
 use pact_record::OutOfMemory;
+use plan_trees::EndedSenders;
 use std::alloc::Global;
 use std::collections::VecDeque;
+use std::mem;
 
-/// For each port the senders that have ended, by their numbers, and the rows that are kept; what waits, with its receivers, batches before end
+/// For each port the senders that have ended, and the rows that are kept; what waits, with its receivers, batches before end
 /// marks; what the root gave, and how many records were given.
 #[derive(Drop)]
 pub(crate) struct State<L: Local> {
     pub(crate) alloc: Global,
     pub(crate) part: Part,
-    pub(crate) left_ended: Vec<bool>,
-    pub(crate) right_ended: Vec<bool>,
+    pub(crate) left_ended: EndedSenders,
+    pub(crate) right_ended: EndedSenders,
     pub(crate) left: L,
     pub(crate) right: L,
     pub(crate) queue: VecDeque<Parcel>,
@@ -38,8 +39,8 @@ pub(crate) struct State<L: Local> {
 // What a fresh state needs memory for: made while its part is lent, so that no part has to be given up where memory is wanting.
 #[derive(Drop)]
 struct Held<L: Local> {
-    left_ended: Vec<bool>,
-    right_ended: Vec<bool>,
+    left_ended: EndedSenders,
+    right_ended: EndedSenders,
     left: L,
     right: L,
 }
@@ -49,8 +50,8 @@ fn held_at_start<L: Local>(alloc: Global, part: &Part) -> Result<Held<L>, OutOfM
 {
     let left = L::start(alloc, &part.left_keys)?;
     let right = L::start(alloc, &part.right_keys)?;
-    let left_ended = ended_at_start(alloc, part, 0)?;
-    let right_ended = ended_at_start(alloc, part, 1)?;
+    let left_ended = senders_at(alloc, part, 0)?;
+    let right_ended = senders_at(alloc, part, 1)?;
     Ok(Held {
         left_ended,
         right_ended,
@@ -82,19 +83,19 @@ impl<L: Local> State<L> {
     }
 
     pub(crate) fn all_ended(&self) -> bool
-        requires left { length self.now.left_ended.items ≡ self.now.part.workers }
-        requires right { length self.now.right_ended.items ≡ self.now.part.workers }
+        requires left { length self.now.left_ended ≡ self.now.part.workers }
+        requires right { length self.now.right_ended ≡ self.now.part.workers }
         ensures { result ≡ all_ended (seen L.rows self.now) }
     {
-        all_set(&self.left_ended) && all_set(&self.right_ended)
+        self.left_ended.have_all_ended() && self.right_ended.have_all_ended()
     }
 
     /// A source gives its rows and owes its end marks.
     pub(crate) fn begin(&mut self, rows: Rows) -> Result<(), OutOfMemory>
         requires batch { 1 ≤ self.old.part.batch }
         requires worker { self.old.part.worker < self.old.part.workers }
-        requires left { length self.old.left_ended.items ≡ self.old.part.workers }
-        requires right { length self.old.right_ended.items ≡ self.old.part.workers }
+        requires left { length self.old.left_ended ≡ self.old.part.workers }
+        requires right { length self.old.right_ended ≡ self.old.part.workers }
         requires wide { AreWide self.old.part.fields rows }
         requires placed { self.old.placed ≡ [] }
         requires none { self.old.queue.items ≡ [] }
@@ -123,15 +124,17 @@ impl<L: Local> State<L> {
             let mut rows = rows;
             return self.placed.append(&mut rows);
         };
-        send(
+        let queue = mem::replace(&mut self.queue, VecDeque::new(self.alloc));
+        self.queue = queue_rows(
             self.alloc,
             ship,
             self.part.worker,
             self.part.workers,
             self.part.batch,
             rows,
-            &mut self.queue,
-        )
+            queue,
+        )?;
+        Ok(())
     }
 
     /// Puts the end marks behind what waits.
@@ -139,9 +142,11 @@ impl<L: Local> State<L> {
         ensures same { OnOk result (self.new ≡ record self.old { queue = self.new.queue }) }
         ensures marked { OnOk result (HasMarked (part_of self.old.part) self.old.queue.items self.new.queue.items) }
     {
-        match &self.part.out {
-            Some(ship) => mark(ship, self.part.worker, self.part.workers, &mut self.queue),
-            None => Ok(()),
-        }
+        let Some(ship) = &self.part.out else {
+            return Ok(());
+        };
+        let queue = mem::replace(&mut self.queue, VecDeque::new(self.alloc));
+        self.queue = queue_end_marks(ship, self.part.worker, self.part.workers, queue)?;
+        Ok(())
     }
 }

@@ -10,11 +10,12 @@ use Rattle.flow_model.specs.declared.notes.Note.{Note}
 use Rattle.flow_model.specs.Instances.{Instance, ended_at, port_ended}
 use Rattle.flow_model.specs.Local.{sender_ended}
 use Rattle.flow_model.specs.Notes.{AreNotes, has_end}
-use Rattle.plan_trees.specs.Sending.{has_pipe}
-use Rattle.flow_model.specs.Spots.{Port, Setting, has_out, ports_of, spot}
+use Rattle.plan_trees.specs.Sending.{has_pipe, has_out}
+use Rattle.flow_model.specs.Spots.{Port, Setting, ports_of, spot}
 use Rattle.flow_model.specs.Spread.{Spread, given_in, placed_in}
 use Rattle.flow_model.specs.Worlds.{World, History, AreDone, Stands, first_of, lists_at, reader_of}
-use Rattle.flow_model.proofs.EndMarksAndWants.{all_below_at, finished_by, nothing_behind}
+use Rattle.flow_model.proofs.EndMarksAndWants.{finished_by, nothing_behind}
+use Rattle.plan_trees.proofs.NumbersBelow.{all_below_at}
 use Rattle.flow_model.proofs.StandsAfterEvents.{left_nil, local_same, no_out, nothing_put}
 use Rattle.flow_model.proofs.Readers.{found, input_there, port_for}
 use Rattle.plan_trees.proofs.SubtreesOfPlans.{root_of-subtree}

@@ -11,7 +11,7 @@ use Rattle.flow_model.specs.declared.notes.PipeId.{PipeId}
 use Rattle.flow_model.specs.declared.notes.Event.{Event}
 use Rattle.flow_model.specs.declared.notes.Event.TheVariants as events
 use Rattle.flow_model.specs.declared.notes.Want.{Want}
-use Rattle.flow_model.specs.declared.notes.Want.TheVariants.{Take, Put, End, Done}
+use Rattle.flow_model.specs.declared.notes.Want.TheVariants.{Take, End, Done}
 use Rattle.flow_model.specs.Instances.{Instance, port_ended, want, want_by}
 use Rattle.flow_model.specs.Local.{one_if}
 use Rattle.flow_model.specs.Most.{done_at, events_at, notes_on, tree_sum}

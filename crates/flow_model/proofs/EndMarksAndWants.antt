@@ -1,13 +1,12 @@
--- End marks in lists of notes, and tests of all senders.
-use Rattle.std.proofs.Common.{◌≡◌, ◌≢◌, ◌<◌, ◌⊎◌, inl, inr, ℕ, zero, suc, Bool, true, false, List, [], ◌∷◌, ◌++◌, refl, sym, subst, arith}
+-- End marks in lists of notes, and what an instance wants.
+use Rattle.std.proofs.Common.{◌≡◌, ◌≢◌, ℕ, Bool, true, false, List, [], ◌∷◌, ◌++◌, refl, subst}
 use Rattle.std.specs.List.{AllByRecursion}
-use Rattle.std.proofs.lemmas.Bool.{cases_eq, and_parts, and_from, and_left, and_right}
 use Rattle.pact_operators.specs.Allowed.{Bag}
 use Rattle.flow_model.specs.declared.notes.Note.{Note}
 use Rattle.flow_model.specs.declared.notes.Note.TheVariants.{Batch, End as EndNote}
 use Rattle.flow_model.specs.declared.notes.Want.TheVariants.{Take, Put, End, Done}
 use Rattle.flow_model.specs.Instances.{want_by}
-use Rattle.flow_model.specs.Notes.{has_end, AreNotes, all_below}
+use Rattle.flow_model.specs.Notes.{has_end, AreNotes}
 
 -- behind an end mark nothing stands
 pub nothing_behind : (fields : ℕ) (xs ys : List Note) → AreNotes fields (xs ++ ys) → has_end xs ≡ true → ys ≡ []
@@ -15,31 +14,6 @@ nothing_behind fields [] ys h e = absurd cc
 nothing_behind fields (Batch rows ∷ xs) ys h e = nothing_behind fields xs ys h.2 e
 nothing_behind fields (EndNote ∷ []) ys h e = h
 nothing_behind fields (EndNote ∷ x ∷ xs) ys h e = absurd (cc)
-
--- ---- tests of all numbers below
-
-pub eq_or : (n k : ℕ) → k < suc n → (k ≡ n) ⊎ (k < n)
-eq_or n k h = elim (cases_eq k n) as (λ _. (k ≡ n) ⊎ (k < n)) [ inl e ↦ inl e | inr e ↦ inr (omega arith) ]
-
-pub all_below_none : (n k : ℕ) (test : ℕ → Bool) → k < n → test k ≡ false → all_below n test ≡ false
-all_below_none zero k test h e = absurd (omega arith)
-all_below_none (suc n) k test h e = elim (eq_or n k h) as (λ _. all_below (suc n) test ≡ false) [
-  | inl same ↦ and_left (test n) (all_below n test) (subst (λ (m : ℕ). test m ≡ false) same e)
-  | inr less ↦ and_right (test n) (all_below n test) (all_below_none n k test less e)
-]
-
-pub all_below_from : (n : ℕ) (test : ℕ → Bool) → ((k : ℕ) → k < n → test k ≡ true) → all_below n test ≡ true
-all_below_from zero test h = refl
-all_below_from (suc n) test h = and_from (test n) (all_below n test) (h n (omega arith)) (all_below_from n test (λ k less. h k (omega arith)))
-
-pub all_below_at : (n k : ℕ) (test : ℕ → Bool) → k < n → all_below n test ≡ true → test k ≡ true
-all_below_at zero k test h e = absurd (omega arith)
-all_below_at (suc n) k test h e =
-    let parts = and_parts (test n) (all_below n test) e in
-    elim (eq_or n k h) as (λ _. test k ≡ true) [
-      | inl same ↦ subst (λ (m : ℕ). test m ≡ true) (sym same) parts.0
-      | inr less ↦ all_below_at n k test less parts.1
-    ]
 
 -- ---- what an instance wants
 

@@ -16,3 +16,7 @@ pub mod Counting
 pub mod Runs
 pub mod DividedRuns
 pub mod CallTurns
+pub mod FilledRecords
+pub mod CarriedBatches
+pub mod SplitRows
+pub mod NotesForReceivers

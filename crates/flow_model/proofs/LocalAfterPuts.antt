@@ -11,7 +11,8 @@ use Rattle.flow_model.specs.Instances.{Instance, all_ended, kept_at, port_ended,
 use Rattle.flow_model.specs.Local.{IsLocal, IsReceiver, IsWaiting, IsGiven, Gave, KeepsRows, one_if, marks_for, rows_for, taken_rows, works_at_once}
 use Rattle.plan_trees.proofs.EachWorker.{none_each}
 use Rattle.flow_model.specs.Notes.{AreNotes, IsNote, has_end, rows_of}
-use Rattle.flow_model.specs.Spots.{Spot, has_out, sent}
+use Rattle.flow_model.specs.Spots.{Spot, sent}
+use Rattle.plan_trees.specs.Sending.{has_out}
 use Rattle.flow_model.specs.Steps.{AddedTo, Started, finish, is_end, later, later_marks, next_note, note_rows, offered}
 use Rattle.flow_model.proofs.Bags.{are_notes-last, has_end-last, is_same, joined, rows_of-last}
 use Rattle.flow_model.proofs.Sums.{at_most}

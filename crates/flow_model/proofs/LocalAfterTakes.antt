@@ -12,11 +12,11 @@ use Rattle.flow_model.specs.declared.notes.Note.{Note}
 use Rattle.flow_model.specs.declared.notes.Want.TheVariants.{Take}
 use Rattle.flow_model.specs.Instances.{Instance, Part, all_ended, ended_at, kept_at, port_ended, want, want_by}
 use Rattle.flow_model.specs.Local.{IsLocal, IsGiven, IsPartOf, Gave, KeepsRows, Placed, sender_ended, one_if, marks_for, rows_for, taken_rows, works_at_once}
-use Rattle.plan_trees.specs.Sending.{goes}
+use Rattle.plan_trees.specs.Sending.{goes, has_out}
 use Rattle.flow_model.specs.Notes.{AreNotes, IsNote, has_end, rows_of}
-use Rattle.flow_model.specs.Spots.{Spot, Port, has_out, is_edge, sent}
+use Rattle.flow_model.specs.Spots.{Spot, Port, is_edge, sent}
 use Rattle.flow_model.specs.Steps.{Added, Took, GivesNow, is_end, kept_with, note_rows}
-use Rattle.flow_model.proofs.EndMarksAndWants.{all_below_from, all_below_at}
+use Rattle.plan_trees.proofs.NumbersBelow.{all_below_from, all_below_at}
 use Rattle.plan_trees.proofs.EachWorker.{none_each, same_each}
 use Rattle.flow_model.proofs.Bags.{are_notes-last, beside, all_of-grown, has_end-last, is_same, joined, rows_of-last}
 use Rattle.flow_model.proofs.GivenForNotes.{Grown, given_last, given_more, kept_more}

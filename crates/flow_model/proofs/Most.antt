@@ -15,8 +15,8 @@ use Rattle.flow_model.specs.Local.{Gave, IsGiven, one_if, rows_for, taken_rows, 
 use Rattle.flow_model.specs.Most.{AreCallsBounded, done_at, events_at, most_below, most_given, most_of, most_of_one, most_of_two, notes_on, own_most, tree_sum}
 use Rattle.plan_trees.specs.declared.physicals.Ship.{Ship}
 use Rattle.flow_model.specs.Notes.{rows_of}
-use Rattle.plan_trees.specs.Sending.{all_of, goes, share_from}
-use Rattle.flow_model.specs.Spots.{Port, Setting, Spot, has_out, port_from, ports_of, sent, spot}
+use Rattle.plan_trees.specs.Sending.{all_of, goes, share_from, has_out}
+use Rattle.flow_model.specs.Spots.{Port, Setting, Spot, port_from, ports_of, sent, spot}
 use Rattle.flow_model.specs.Spread.{sum_below}
 use Rattle.flow_model.specs.Worlds.{History, World, does_want, lists_at}
 use Rattle.flow_model.proofs.Bags.{rows_of-append}

@@ -18,7 +18,7 @@ use Rattle.flow_model.specs.Worlds.{History, LocalAt, Stands, World, does_want, 
 use Rattle.flow_model.proofs.EventsWithinMost.{bound}
 use Rattle.flow_model.proofs.Counting.{step_counted}
 use Rattle.flow_model.proofs.Events.{step_stands}
-use Rattle.flow_model.proofs.EndMarksAndWants.{eq_or}
+use Rattle.plan_trees.proofs.NumbersBelow.{eq_or}
 use Rattle.flow_model.proofs.Stuck.{AreIdle, IsIdle, IsReader, StandsAt, drained, edge_at, fed_whole, is_reader, nothing_there, root_putless}
 use Rattle.plan_trees.proofs.EverySubtree.{AllBelow, all_below, all_below-root}
 use Rattle.flow_model.proofs.Trees.{Reads, each_below, edges, read, within}

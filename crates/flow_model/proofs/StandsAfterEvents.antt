@@ -17,8 +17,8 @@ use Rattle.flow_model.specs.declared.notes.Want.TheVariants.{Take, Put, End}
 use Rattle.flow_model.specs.Instances.{Instance, want, all_ended}
 use Rattle.flow_model.specs.Local.{IsLocal, marks_for, rows_for}
 use Rattle.flow_model.specs.Notes.{AreNotes, IsNote, has_end, rows_of}
-use Rattle.plan_trees.specs.Sending.{goes, has_pipe}
-use Rattle.flow_model.specs.Spots.{Port, Setting, Spot, has_out, is_edge, ports_of, sent, spot}
+use Rattle.plan_trees.specs.Sending.{goes, has_pipe, has_out}
+use Rattle.flow_model.specs.Spots.{Port, Setting, Spot, is_edge, ports_of, sent, spot}
 use Rattle.flow_model.specs.Steps.{Added, later, next_note}
 use Rattle.flow_model.specs.Events.{Ends, Puts, Takes, added, first_note, noted, is_pipe}
 use Rattle.flow_model.specs.Worlds.{World, History, LocalAt, Stands, reader_of, lists_at}

@@ -12,11 +12,12 @@ use Rattle.flow_model.specs.declared.notes.Want.TheVariants.{Take, Put, End, Don
 use Rattle.flow_model.specs.Instances.{all_ended, ended_at, port_ended, want, want_by}
 use Rattle.flow_model.specs.Local.{IsReceiver, IsWaiting, sender_ended, one_if, marks_for}
 use Rattle.flow_model.specs.Notes.{has_end, AreNotes}
-use Rattle.plan_trees.specs.Sending.{has_pipe}
-use Rattle.flow_model.specs.Spots.{Port, Setting, Spot, has_out, port_from, ports_of, spot}
+use Rattle.plan_trees.specs.Sending.{has_pipe, has_out}
+use Rattle.flow_model.specs.Spots.{Port, Setting, Spot, port_from, ports_of, spot}
 use Rattle.flow_model.specs.declared.notes.Event.TheVariants as events
 use Rattle.flow_model.specs.Worlds.{World, History, LocalAt, IsStuck, AreDone, does_want, reader_of, lists_at}
-use Rattle.flow_model.proofs.EndMarksAndWants.{nothing_behind, all_below_none, all_below_from, takes_first, takes_second, ends, finished_by, put_to}
+use Rattle.flow_model.proofs.EndMarksAndWants.{nothing_behind, takes_first, takes_second, ends, finished_by, put_to}
+use Rattle.plan_trees.proofs.NumbersBelow.{all_below_none, all_below_from}
 use Rattle.plan_trees.proofs.EverySubtree.{AllBelow, all_below, all_below-root}
 use Rattle.flow_model.proofs.Trees.{Inside, HasEdge, Reads, each_below, edges, inside_of, read, within}
 use Rattle.plan_trees.proofs.SubtreesOfPlans.{has-root}

@@ -5,7 +5,7 @@ use Rattle.tac_syntax.specs.Code.{Code}
 use Rattle.tac_syntax.specs.declared.declarations.OpKind.{OpKind}
 use Rattle.plan_trees.specs.declared.physicals.Ship.{Ship}
 use Rattle.pact_operators.specs.Allowed.{Bag}
-use Rattle.flow_model.specs.Notes.{all_below}
+use Rattle.plan_trees.specs.Senders.{all_below}
 use Rattle.flow_model.specs.Spots.{Port}
 use Rattle.flow_model.specs.declared.notes.Want.{Want}
 use Rattle.flow_model.specs.declared.notes.Want.TheVariants.{Take, Put, End, Done}

@@ -1,5 +1,5 @@
 -- Lists of notes.
-use Rattle.std.specs.Prelude.{◌≡◌, ◌<◌, ◌&&◌, ℕ, zero, suc, Bool, true, false, List, [], ◌∷◌, ◌++◌, length}
+use Rattle.std.specs.Prelude.{◌≡◌, ◌<◌, ℕ, Bool, true, false, List, [], ◌∷◌, ◌++◌, length}
 use Rattle.pact_record.specs.Widths.{AreWide}
 use Rattle.pact_operators.specs.Allowed.{Bag}
 use Rattle.flow_model.specs.declared.notes.Note.{Note}
@@ -27,8 +27,3 @@ AreNotes fields (End ∷ notes) = notes ≡ []
 abbrev pub IsNote : ℕ → Note → Type 0
 IsNote fields (Batch rows) = (0 < length rows) × AreWide fields rows
 IsNote fields End = Unit {0}
-
--- whether the test passes for each number below n
-abbrev pub all_below : ℕ → (ℕ → Bool) → Bool
-all_below zero test = true
-all_below (suc n) test = test n && all_below n test

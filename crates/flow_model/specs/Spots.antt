@@ -1,11 +1,11 @@
 -- What a program and a physical plan say of the instances of one source or operator.
-use Rattle.std.specs.Prelude.{ℕ, Bool, false, Option, Some, None, List, [], ◌∷◌}
+use Rattle.std.specs.Prelude.{ℕ, Bool, Option, Some, None, List, [], ◌∷◌}
 use Rattle.tac_syntax.specs.declared.declarations.OpKind.{OpKind}
 use Rattle.plan_trees.specs.declared.physicals.Ship.{Ship}
 use Rattle.plan_trees.specs.Physicals.{PhysicalData, ship_at, ship_of}
 use Rattle.plan_trees.specs.Plans.{PlanTree, leaf, over, both, root_of}
 use Rattle.plan_trees.specs.Sending as sending
-use Rattle.plan_trees.specs.Sending.{has_pipe}
+use Rattle.plan_trees.specs.Sending.{has_out}
 use Rattle.pact_operators.specs.Allowed.{Bag}
 use Rattle.pact_operators.specs.PlanOps.{PlanOps, plan_ops}
 use Rattle.pact_operators.specs.Programs.{ProgramData}
@@ -59,15 +59,14 @@ spot setting t = record {
 
 -- ---- its pipes
 
--- whether a worker's instance has a pipe to another worker
-abbrev pub has_out : Option Ship → (from to : ℕ) → Bool
-has_out None from to = false
-has_out (Some ship) from to = has_pipe ship from to
+-- how records come in at a port
+abbrev pub ship_in : Option Port → Option Ship
+ship_in None = None
+ship_in (Some port) = Some port.ship
 
 -- whether a worker's instance has a pipe from another worker at a port
 abbrev pub is_edge : Option Port → (from worker : ℕ) → Bool
-is_edge None from worker = false
-is_edge (Some port) from worker = has_pipe port.ship from worker
+is_edge port from worker = has_out (ship_in port) from worker
 
 -- those of a worker's records that go to another
 abbrev pub sent : Option Ship → (workers from to : ℕ) → Bag → Bag

@@ -10,7 +10,8 @@ use Rattle.flow_model.specs.declared.notes.Note.{Note}
 use Rattle.flow_model.specs.declared.notes.Note.TheVariants.{Batch, End}
 use Rattle.flow_model.specs.Instances.{Instance, all_ended, ended_at, kept_at}
 use Rattle.flow_model.specs.Local.{Gave, IsGiven, IsPartOf, IsReceiver, IsWaiting, KeepsRows, Placed, marks_for, one_if, rows_for, sender_ended, works_at_once}
-use Rattle.flow_model.specs.Spots.{Spot, has_out, sent}
+use Rattle.flow_model.specs.Spots.{Spot, sent}
+use Rattle.plan_trees.specs.Sending.{has_out}
 
 -- whether it is an end mark
 abbrev pub is_end : Note → Bool

@@ -195,18 +195,21 @@ cross x both a b
 sink x 0 2
 ";
 
-// How many notes the source with this number puts in a world of one worker, if not more than five: batches, and an end mark behind them.
+// How many notes the source with this number puts from the last worker to itself, if not more than five: batches, and an end mark behind them.
 fn notes_put(
     alloc: Global,
     text: &str,
     rows: &[&str],
     source: u32,
+    workers: u32,
     batch: u32,
 ) -> Result<usize, Fail>
-    requires { (1 ≤ batch) × (batch ≤ 1024) }
+    requires workers { (1 ≤ workers) × (workers ≤ worker_limit) }
+    requires batch { (1 ≤ batch) × (batch ≤ 1024) }
 {
-    let world = world(alloc, text, rows, 1, batch, 64)?;
-    let note = put(source, 0, 0);
+    let world = world(alloc, text, rows, workers, batch, 64)?;
+    let last = workers - 1;
+    let note = put(source, last, last);
     Ok(followed(world, &[note, note, note, note, note])?.0)
 }
 
@@ -214,14 +217,24 @@ fn notes_put(
 #[test]
 fn batches_have_at_most_so_many_records(rt: HostRuntime) -> Result<(), Fail> {
     let three = "1,5\n2,5\n3,5\n";
-    assert_eq!(rt; notes_put(rt.alloc(), TWICE, &[three], 0, 1)?, 4);
-    assert_eq!(rt; notes_put(rt.alloc(), TWICE, &[three], 0, 2)?, 3);
-    assert_eq!(rt; notes_put(rt.alloc(), TWICE, &[three], 0, 3)?, 2);
-    assert_eq!(rt; notes_put(rt.alloc(), TWICE, &[three], 0, 1024)?, 2);
-    assert_eq!(rt; notes_put(rt.alloc(), GROUP, &[three], 0, 1)?, 4);
-    assert_eq!(rt; notes_put(rt.alloc(), GROUP, &[three], 0, 2)?, 3);
-    assert_eq!(rt; notes_put(rt.alloc(), CROSS, &[three, three], 0, 1)?, 4);
-    assert_eq!(rt; notes_put(rt.alloc(), CROSS, &[three, three], 0, 2)?, 3);
+    assert_eq!(rt; notes_put(rt.alloc(), TWICE, &[three], 0, 1, 1)?, 4);
+    assert_eq!(rt; notes_put(rt.alloc(), TWICE, &[three], 0, 1, 2)?, 3);
+    assert_eq!(rt; notes_put(rt.alloc(), TWICE, &[three], 0, 1, 3)?, 2);
+    assert_eq!(rt; notes_put(rt.alloc(), TWICE, &[three], 0, 1, 1024)?, 2);
+    assert_eq!(rt; notes_put(rt.alloc(), GROUP, &[three], 0, 1, 1)?, 4);
+    assert_eq!(rt; notes_put(rt.alloc(), GROUP, &[three], 0, 1, 2)?, 3);
+    assert_eq!(rt; notes_put(rt.alloc(), CROSS, &[three, three], 0, 1, 1)?, 4);
+    assert_eq!(rt; notes_put(rt.alloc(), CROSS, &[three, three], 0, 1, 2)?, 3);
+    Ok(())
+}
+
+#[test]
+fn workers_share_the_rows_of_a_source_in_turn(rt: HostRuntime) -> Result<(), Fail> {
+    let (two, four) = ("1,5\n2,5\n", "1,5\n2,5\n3,5\n4,5\n");
+    assert_eq!(rt; notes_put(rt.alloc(), TWICE, &[two], 0, 1, 1)?, 3);
+    assert_eq!(rt; notes_put(rt.alloc(), TWICE, &[two], 0, 2, 1)?, 2);
+    assert_eq!(rt; notes_put(rt.alloc(), TWICE, &[two], 0, 3, 1)?, 1);
+    assert_eq!(rt; notes_put(rt.alloc(), TWICE, &[four], 0, 3, 1)?, 2);
     Ok(())
 }
 

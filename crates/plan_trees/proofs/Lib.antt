@@ -15,3 +15,5 @@ pub mod SubtreesOfPlans
 pub mod ExchangedTrees
 pub mod NeighbourTrees
 pub mod EachWorker
+pub mod NumbersBelow
+pub mod FlagsOfSenders

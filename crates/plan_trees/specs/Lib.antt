@@ -9,3 +9,4 @@ pub mod Physicals
 pub mod Sending
 pub mod PhysicalCode
 pub mod Shapes
+pub mod Senders

@@ -1,5 +1,5 @@
 -- Which records go from which worker to which.
-use Rattle.std.specs.Prelude.{◌%◌, ◌==◌, ℕ, zero, suc, Bool, true, cond, filter, flat_map, List, [], ◌∷◌}
+use Rattle.std.specs.Prelude.{◌%◌, ◌==◌, ℕ, zero, suc, Bool, true, false, cond, filter, flat_map, Option, Some, None, List, [], ◌∷◌}
 use Rattle.pact_record.specs.declared.values.Value.{Value}
 use Rattle.pact_record.specs.Hash.{target}
 use Rattle.pact_record.specs.Record.{key_of}
@@ -24,6 +24,11 @@ abbrev pub has_pipe : Ship → (from to : ℕ) → Bool
 has_pipe Forward from to = from == to
 has_pipe (Partition keys) from to = true
 has_pipe Broadcast from to = true
+
+-- whether an edge, where there is one, joins a worker with another
+abbrev pub has_out : Option Ship → (from to : ℕ) → Bool
+has_out None from to = false
+has_out (Some ship) from to = has_pipe ship from to
 
 -- whether an edge takes a record of a worker to another
 abbrev pub goes : Ship → (workers from to : ℕ) → List Value → Bool

@@ -1,4 +1,4 @@
-//! Plans as trees of numbers, and physical plans.
+//! Plans as trees of numbers, and physical plans: how records go from worker to worker, and who sends no more.
 //!
 //! A number stands for an operator or a source of a program. Which of them a number is, and what it
 //! does, is said in the crates above. A `Plan` holds its nodes in an array, each operator before its
@@ -8,9 +8,11 @@
 pub mod physicals;
 pub mod plans;
 mod preorders;
+pub mod senders;
 pub mod shapes;
 
 pub use physicals::{Physical, Ship};
 pub use plans::{Parts, Plan};
 pub use preorders::MAX_NODES;
+pub use senders::EndedSenders;
 pub use shapes::Shape;

@@ -3,6 +3,7 @@
 ghost use Rattle.std.specs.Prelude.{◌≡◌, ◌≢◌, ◌≤◌, ◌↔◌, ℕ, true, Some, IsNone};
 ghost use Rattle.plan_trees.specs.Plans.{root_of, has};
 ghost use Rattle.plan_trees.specs.Physicals.{worker_limit, has_edge, ship_at, with_ship, forwarded, IsPhysical};
+ghost use Rattle.plan_trees.specs.Sending.{has_pipe};
 
 use crate::plans::Plan;
 use crate::preorders::MAX_NODES;
@@ -18,6 +19,18 @@ pub enum Ship {
     Partition(Keys),
     /// Each goes to every worker.
     Broadcast,
+}
+
+impl Ship {
+    /// Whether an edge with this ship joins the one worker with the other.
+    pub fn has_pipe(&self, from: u32, to: u32) -> bool
+        ensures { result ≡ has_pipe self.now from to }
+    {
+        match self {
+            Ship::Forward => from == to,
+            Ship::Partition(_) | Ship::Broadcast => true,
+        }
+    }
 }
 
 /// A plan with a number of workers, and a ship on each edge. An edge is named by the number of

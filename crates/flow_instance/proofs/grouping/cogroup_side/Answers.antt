@@ -5,38 +5,32 @@ use Rattle.pact_operators.specs.Allowed.{Bag, keys_in}
 use Rattle.pact_record.specs.declared.values.Value.{Value}
 use Rattle.tac_syntax.specs.Call.{Out, of_groups}
 use Rattle.flow_instance.specs.Grouping.{IsCalledFrom}
-use Rattle.flow_instance.proofs.CallsForGroups.{all_behind, all_have_groups, none_behind, one_behind}
+use Rattle.flow_instance.proofs.CallsForGroups.{all_given, called_from, given_on, sides_at}
 use Rattle.flow_instance.proofs.grouping.cogroup_side.Goals as goal
 
-pub loop-n-init : goal.loop-n-init
-loop-n-init g c =
-    let f = c.args.f.now in
-    let calls : List Value → Bag → Bag → Bag = λ k x y. Out f.fields f.function.body (of_groups k x y) in
-    none_behind f.fields (IsCalledFrom c.args.is_right calls c.args.keys.now c.args.other_keys.now (g.L.Local.rows c.args.own.now) (g.L.Local.rows c.args.others.now)) c.args.out.now c.requires.widths
+pub groups_at-requires-clause-below : goal.groups_at-requires-clause-below
+groups_at-requires-clause-below g c = λ lifetimes bound. (c.args.f.now.fields, c.requires.sides.left_below, c.requires.sides.left_wide)
+
+pub call_from-requires-clause-sides : goal.call_from-requires-clause-sides
+call_from-requires-clause-sides g c = sides_at c.requires.sides c.in_ok-groups.ensures
 
 pub append-requires : goal.append-requires
-append-requires g c = HaveOneWidth-append c.args.f.now.fields _ _ c.loop-n.invariant.wide c.in_ok-given.ensures.widths
-
-pub cogroup_one-requires-clause-groups : goal.cogroup_one-requires-clause-groups
-cogroup_one-requires-clause-groups g c = λ lifetimes bound.
-    let rows = g.L.Local.rows c.args.own.now in
-    let order = g.L.Local.order c.args.own.now in
-    all_have_groups c.args.keys.now rows order (subst (λ (ks : List ℕ). IsPermutation (keys_in ks rows) order) c.requires.sides.left_same c.key_count-n-end.ensures.order)
+append-requires g c = HaveOneWidth-append c.args.f.now.fields _ _ c.loop-n.invariant.1 c.in_ok-given.ensures.widths
 
 pub loop-n-preserved : goal.loop-n-preserved
 loop-n-preserved g c =
     let f = c.args.f.now in
     let calls : List Value → Bag → Bag → Bag = λ k x y. Out f.fields f.function.body (of_groups k x y) in
-    one_behind f.fields (IsCalledFrom c.args.is_right calls c.args.keys.now c.args.other_keys.now (g.L.Local.rows c.args.own.now) (g.L.Local.rows c.args.others.now))
-    (g.L.Local.order c.args.own.now) c.loop-n.n c.args.out.now c.loop-n.out c.in_ok-given.given _ (omega (arith, c.key_count-n-end.ensures.count, c.loop-n-test.true))
-    c.loop-n.invariant c.in_ok-given.ensures.given c.in_ok-given.ensures.widths c.in_ok-append.ensures.ok
+    given_on f.fields (IsCalledFrom c.args.side calls c.args.keys.now c.args.other_keys.now (g.L.Local.rows c.args.own.now) (g.L.Local.rows c.args.others.now))
+    (g.L.Local.order c.args.own.now) c.loop-n.n c.loop-n.out c.in_ok-given.given _ (omega (arith, c.key_count-n-end.ensures.count, c.loop-n-test.true)) c.loop-n.invariant
+    (called_from c.args.side calls c.in_ok-given.given c.requires.sides.right_same c.in_ok-groups.ensures c.in_ok-given.ensures.given) c.in_ok-given.ensures.widths c.in_ok-append.ensures.ok
 
 pub returns-clause-given : goal.returns-clause-given
 returns-clause-given g c =
     let f = c.args.f.now in
     let calls : List Value → Bag → Bag → Bag = λ k x y. Out f.fields f.function.body (of_groups k x y) in
-    all_behind f.fields (IsCalledFrom c.args.is_right calls c.args.keys.now c.args.other_keys.now (g.L.Local.rows c.args.own.now) (g.L.Local.rows c.args.others.now))
-    (g.L.Local.order c.args.own.now) c.loop-n.n c.args.out.now c.loop-n.out (omega (arith, c.key_count-n-end.ensures.count, c.loop-n-test.false)) c.loop-n.invariant
+    all_given (IsCalledFrom c.args.side calls c.args.keys.now c.args.other_keys.now (g.L.Local.rows c.args.own.now) (g.L.Local.rows c.args.others.now)) (g.L.Local.order c.args.own.now) c.loop-n.n c.loop-n.out
+    (omega (arith, c.key_count-n-end.ensures.count, c.loop-n-test.false)) c.loop-n.invariant.0
 
 pub returns-clause-order : goal.returns-clause-order
 returns-clause-order g c =

@@ -5,17 +5,11 @@ use Rattle.pact_operators.specs.Allowed.{Bag, keys_in}
 use Rattle.pact_record.specs.declared.values.Value.{Value}
 use Rattle.tac_syntax.specs.Call.{Out, of_group}
 use Rattle.flow_instance.specs.Grouping.{IsCalled}
-use Rattle.flow_instance.proofs.CallsForGroups.{all_given, all_have_groups, given_on, groups_given}
+use Rattle.flow_instance.proofs.CallsForGroups.{all_given, given_on, groups_given}
 use Rattle.flow_instance.proofs.grouping.reduce_kept.Goals as goal
 
 pub append-requires : goal.append-requires
 append-requires g c = HaveOneWidth-append c.args.f.now.fields _ _ c.loop-n.invariant.1 c.in_ok-emitted.ensures.widths
-
-pub reduce_one-requires-clause-groups : goal.reduce_one-requires-clause-groups
-reduce_one-requires-clause-groups g c = λ lifetimes bound.
-    let rows = g.L.Local.rows c.args.kept.now in
-    let order = g.L.Local.order c.args.kept.now in
-    all_have_groups c.args.keys.now rows order (subst (λ (ks : List ℕ). IsPermutation (keys_in ks rows) order) c.requires.keys c.key_count-n-end.ensures.order)
 
 pub loop-n-preserved : goal.loop-n-preserved
 loop-n-preserved g c =

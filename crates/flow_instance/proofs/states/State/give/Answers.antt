@@ -1,7 +1,6 @@
 use Rattle.std.proofs.Common.{rules}
 use Rattle.std.proofs.lemmas.Result.{on_ok_weaker}
-use Rattle.flow_instance.proofs.NotesForReceivers.{none_few}
-use Rattle.flow_instance.proofs.OnOkTogether.{on_ok_two}
+use Rattle.flow_model.proofs.NotesForReceivers.{none_few}
 use Rattle.pact_bag.proofs.Widths.{HaveOneWidth-append}
 use Rattle.flow_instance.specs.States.{part_of}
 use Rattle.flow_instance.proofs.RowsSentOrPlaced.{given_placed, given_sent, orderly_given}
@@ -29,13 +28,12 @@ pub returns : goal.returns
 returns g c =
     let s = c.args.self.now in
     let p = part_of s.part in
-    on_ok_two c.send.result (λ told few.
-    let sent = given_sent p c.in-Some.ship c.args.rows s.placed c.send.new.queue.items c.in-Some.is c.requires.at_root c.requires.placed_wide (told s.part.fields c.requires.wide) in
+    let queue = c.in_ok-self.field-0.items in
+    let sent = given_sent p c.in-Some.ship c.args.rows s.placed queue c.in-Some.is c.requires.at_root c.requires.placed_wide (c.in_ok-self.ensures.sent s.part.fields c.requires.wide) in
     record {
       same = search rules;
       counted = search rules;
       sent = sent;
-      orderly = orderly_given p c.args.rows s.placed s.placed c.send.new.queue.items sent;
-      batches = few;
-    })
-    c.send.ensures.sent c.send.ensures.batches
+      orderly = orderly_given p c.args.rows s.placed s.placed queue sent;
+      batches = c.in_ok-self.ensures.batches;
+    }
