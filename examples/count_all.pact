@@ -1,4 +1,5 @@
-# A Reduce needs a key, so a Map makes one that every record has.
+# How many rows there are. A Reduce needs a key, so a Map makes one that every record has.
+# SQL: select count(*) from s
 pact 1
 fields 4
 source s s.csv int:0 int:1
@@ -12,7 +13,7 @@ function count reduce 1
   v0 = int 0
   v1 = int 1
   each x1 of group
-    v0 = add v0 v1
+    v0 = addw v0 v1
   end
   r0 = new
   set r0 3 v0

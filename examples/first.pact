@@ -1,3 +1,5 @@
+# One row of each key, the first that comes. Nothing says which of 1,5 and 1,7 that is: with --workers 1 and with
+# --workers 2 another one is written.
 pact 1
 fields 4
 source s s2.csv int:0 int:1

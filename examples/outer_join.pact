@@ -1,20 +1,25 @@
 # Every member with each of its visits, and those without one too.
+# SQL: select id, name, day from members left join visits on id = member
 pact 1
 fields 4
 source member members.csv int:0 text:1
 source visit visits.csv int:2 int:3
 function outer cogroup 1
+  v0 = int 0
+  v1 = int 1
+  each x1 of right
+    v0 = max v0 v1        # 1 where there is a visit
+  end
   each x1 of left
-    r0 = copy x1
-    v0 = int 0
-    each x2 of right
-      v1 = get x2 3
-      set r0 3 v1
-      emit r0
-      v0 = int 1
-    end
-    v2 = not v0
-    if v2
+    if v0
+      each x2 of right
+        r0 = copy x1
+        v2 = get x2 3
+        set r0 3 v2
+        emit r0
+      end
+    else
+      r0 = copy x1
       emit r0
     end
   end

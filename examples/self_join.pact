@@ -1,4 +1,5 @@
-# One file is named twice: as those who are led, and as those who lead.
+# Each person with who leads them. One file is named twice: as those who are led, and as those who lead.
+# SQL: select person.name, lead.name from staff as person join staff as lead on person.leader = lead.id
 pact 1
 fields 6
 source person staff.csv int:0 text:1 int:2

@@ -1,4 +1,6 @@
 # The three best scores, and all that are as good as the third.
+# SQL: select score, name from scores
+#      where (select count(*) from scores as better where better.score > scores.score) < 3
 pact 1
 fields 3
 source score scores.csv text:0 int:1
@@ -16,7 +18,7 @@ function best reduce 1
     each x2 of group
       v3 = get x2 1
       v4 = lt v1 v3
-      v2 = add v2 v4
+      v2 = addw v2 v4
     end
     v5 = lt v2 v0
     if v5

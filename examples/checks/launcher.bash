@@ -1,111 +1,249 @@
-# When the launcher builds: over a tree of two crates, by a stand-in for the toolchain that counts its builds and makes a program of that number.
+# Which program the launcher runs, and when it builds one: over a tree of two crates and one of tests, by a stand-in for the toolchain that counts
+# its builds and makes a program of that number.
 
 tree=$scratch/tree
-mkdir -p "$tree/bin" "$tree/crates/low/src" "$tree/crates/low/specs" "$tree/crates/pact_program/src"
+mkdir -p "$tree/bin" "$tree/crates/low/src" "$tree/crates/low/specs" "$tree/crates/pact_program/src" "$tree/crates/tests/src" "$tree/release"
 cp ../pact "$tree/pact"
-printf 'low:\npact_program: low\n' >"$tree/crates.txt"
-echo one >"$tree/crates/low/src/lib.rt"
-echo two >"$tree/crates/low/specs/Lib.antt"
-echo three >"$tree/crates/pact_program/src/main.rt"
-echo 0 >"$tree/builds"
-# With a file `hurried` a source changes while it is built; with a file `broken` nothing is made.
+cp ../release/{functions.bash,make,check} "$tree/release"
+# A file `broken` makes it fail in the lower crate, and a file `refused` in the program, which leaves what was linked before; with a file `hurried`
+# a source changes while it proves, and with a file `slow` it takes its time.
 cat >"$tree/bin/rt" <<'END'
 #!/bin/sh
-tree=$(dirname "$(dirname "$0")")
-count=$(($(cat "$tree/builds") + 1))
-echo "$count" >"$tree/builds"
-echo 'rt: chose --jobs 1 for low'
-[ ! -f "$tree/broken" ] || exit 1
-if [ -f "$tree/hurried" ]; then
-    sleep 0.05
-    echo hurried >>"$tree/crates/low/src/lib.rt"
-fi
-printf '#!/bin/sh\necho "build %s of $*"\nexit 5\n' "$count" >"$tree/crates/pact_program/out/pact_program"
-chmod +x "$tree/crates/pact_program/out/pact_program"
-echo stamp >"$tree/crates/pact_program/out/pact_program.stamp"
+top=$(dirname "$(dirname "$0")")
+case $* in
+version) cat "$top/kit" ;;
+'lib --jobs '*)
+    [ ! -f "$top/broken" ] || { echo 'no proof'; exit 1; }
+    [ -f src/lib.rt ] && grep -q '^low:' ../../crates.txt || exit 1
+    [ ! -f "$top/slow" ] || { sleep 30 & wait $!; }
+    mkdir -p out/rlib
+    [ ! -f "$top/hurried" ] || echo hurried >>"$top/crates/low/src/lib.rt"
+    ;;
+run)
+    [ -d ../low/out/rlib ] && [ ! -f "$top/refused" ] || exit 1
+    echo "$(($(cat "$top/builds") + 1))" >"$top/builds"
+    printf '#!/bin/sh\n[ $# -gt 0 ] || exit 2\necho "build %s of $*"\nexit 5\n' "$(cat "$top/builds")" >out/pact_program
+    chmod +x out/pact_program
+    ;;
+esac
 END
 chmod +x "$tree/bin/rt"
+# Commands without the toolchain.
+plain=$scratch/plain
+mkdir "$plain"
+for command in awk basename bash cat chmod cmp cp cut date dirname find flock grep head mkdir mv nproc od readlink rm sed sha256sum sort stat tail tee touch tr wc xargs; do
+    ln -s "$(command -v "$command")" "$plain/$command"
+done
 
-# Whether the launcher runs the program of this build, with its words and its status.
+# The sources as they were at first; nothing was built or found out.
+fresh() {
+    rm -rf "$scratch/cache" "$tree"/{broken,refused,hurried,slow} "$tree"/crates/side_* "$tree/crates/low/src"/* "$tree/crates/low/specs"/* "$tree/crates/low/proofs"
+    echo 0 >"$tree/builds"
+    echo 'kit one' >"$tree/kit"
+    printf 'low:\npact_program: low\ntests: low\n' >"$tree/crates.txt"
+    echo 'Handles allowed: none.' >"$tree/HANDLES"
+    echo one >"$tree/crates/low/src/lib.rt"
+    echo two >"$tree/crates/low/specs/Lib.antt"
+    echo three >"$tree/crates/pact_program/src/main.rt"
+    echo four >"$tree/crates/tests/src/lib.rt"
+    printf '#!/bin/sh\n[ $# -gt 0 ] || exit 2\necho "released, of $*"\nexit 6\n' >"$scratch/released"
+    release "$scratch/released"
+}
+# Makes this the released program, of the sources that are there.
+release() {
+    # shellcheck source=/dev/null
+    (root=$tree && PATH=$tree/bin:$PATH && . "$tree/release/functions.bash" && put_program "$tree/release" "$1" "$(sum_of_sources)")
+}
+# The launcher, where these commands are, its answer, its errors and its status.
+launch() {
+    # a change and what follows a moment later have different times
+    sleep 0.02
+    PATH=$1 XDG_CACHE_HOME=$scratch/cache "$BASH" "${launcher:-$tree/pact}" run 'a b' >"$scratch/out" 2>"$scratch/err"
+}
+# Whether it runs the released program, and builds nothing.
+runs_released() {
+    launch "$1"
+    [ $? = 6 ] && [ "$(cat "$scratch/out")" = 'released, of run a b' ] && [ ! -s "$scratch/err" ] && [ "$(cat "$tree/builds")" = 0 ]
+}
+# Whether it runs the program of this build, which is the last.
 runs_build() {
-    # A change and a build a moment later have different times.
-    sleep 0.05
-    PATH="$tree/bin:$PATH" "$tree/pact" run 'a b' >"$scratch/out" 2>"$scratch/err"
+    launch "$2"
     [ $? = 5 ] && [ "$(cat "$scratch/out")" = "build $1 of run a b" ] && [ "$(cat "$tree/builds")" = "$1" ]
 }
-# Whether it ends with the status of a command that isn't there, and says this.
-fails_with() {
-    sleep 0.05
-    PATH="$2" "$BASH" "$tree/pact" run >"$scratch/out" 2>"$scratch/err"
-    [ $? = 127 ] && [ ! -s "$scratch/out" ] && grep -q "$1" "$scratch/err"
+# Whether it runs the released program where nothing that it finds out can be kept.
+runs_without_cache() {
+    PATH=$plain XDG_CACHE_HOME=/dev/null "$BASH" "$tree/pact" run 'a b' >"$scratch/out" 2>"$scratch/err"
+    [ $? = 6 ] && [ "$(cat "$scratch/out")" = 'released, of run a b' ] && [ ! -s "$scratch/err" ]
 }
+# Whether it ends with the status of a command that isn't there, and says this in its last line.
+fails_with() {
+    launch "$2"
+    [ $? = 127 ] && [ ! -s "$scratch/out" ] && [ "$(tail -n 1 "$scratch/err")" = "$1" ]
+}
+with=$tree/bin:$PATH
 
-count runs_build 1
-count grep -q '^pact: proving low; at most 1 crates are left behind it$' "$scratch/err"
-count runs_build 1
+# The released program is run at once, with the toolchain and without; a link, another folder and no place for what is found out change nothing.
+fresh
+count runs_released "$plain"
+count runs_released "$plain"
+count runs_released "$with"
+ln -s "$tree/pact" "$scratch/linked"
+launcher=$scratch/linked count runs_released "$plain"
+runs_from_elsewhere() { (cd "$tree/bin" && launcher=../pact runs_released "$plain"); }
+count runs_from_elsewhere
+count runs_without_cache
+# A checkout that can't be written: nothing in it is.
+find "$tree" -printf '%p %i %s %C@\n' >"$scratch/before"
+chmod -R a-w "$tree"
+rm -rf "$scratch/cache"
+count runs_released "$plain"
+chmod -R u+w "$tree"
+find "$tree" -newer "$scratch/before" -type f -printf '%p\n' >"$scratch/written"
+count cmp "$scratch/written" /dev/null
+# Two first calls at once.
+two_at_once() {
+    rm -rf "$scratch/cache"
+    (PATH=$1 XDG_CACHE_HOME=$scratch/cache "$BASH" "$tree/pact" run 1 >"$scratch/first" 2>/dev/null) &
+    (PATH=$1 XDG_CACHE_HOME=$scratch/cache "$BASH" "$tree/pact" run 2 >"$scratch/second" 2>/dev/null) &
+    wait
+    [ "$(cat "$scratch/first")" = "$2 of run 1" ] && [ "$(cat "$scratch/second")" = "$2 of run 2" ]
+}
+count two_at_once "$plain" 'released,'
+# What is touched, or written again as it was, is the same.
+touch "$tree/crates/low/src/lib.rt"
+count runs_released "$plain"
+cp "$tree/crates/low/src/lib.rt" "$scratch/same"
+echo other >"$tree/crates/low/src/lib.rt"
+cp "$scratch/same" "$tree/crates/low/src/lib.rt"
+count runs_released "$with"
+# The program doesn't stand on a crate of tests.
+echo more >>"$tree/crates/tests/src/lib.rt"
+count runs_released "$plain"
+
+# A source that has changed, and what else is a source.
+other='pact: the released program is of other sources, and the toolchain'"'"'s command rt isn'"'"'t on the PATH to build another'
+changes() {
+    fresh
+    runs_released "$plain" || return 1
+    "$@"
+    fails_with "$other" "$plain" && fails_with "$other" "$plain"
+}
+appended() { echo more >>"$tree/$1"; }
+renamed() { mv "$tree/crates/low/src/lib.rt" "$tree/crates/low/src/other.rt"; }
+older() { echo older >"$scratch/older"; touch -d 2001-01-01 "$scratch/older"; cp -p "$scratch/older" "$tree/crates/low/src/lib.rt"; }
+linked() { rm "$tree/crates/low/src/lib.rt"; echo new >"$scratch/new"; ln -s "$scratch/new" "$tree/crates/low/src/lib.rt"; }
+added() { mkdir "$tree/crates/low/proofs"; echo five >"$tree/crates/low/proofs/Lib.antt"; }
+count changes appended crates/low/src/lib.rt
+count changes appended crates/low/specs/Lib.antt
+count changes appended crates/pact_program/src/main.rt
+count changes appended crates.txt
+count changes appended HANDLES
+count changes rm "$tree/crates/low/specs/Lib.antt"
+count changes renamed
+count changes older
+count changes linked
+count changes added
+# with the toolchain one is built, once, and again for each change
+fresh
+appended crates/low/src/lib.rt
+count runs_build 1 "$with"
+count grep -q '^pact: the released program is of other sources, so one is built$' "$scratch/err"
+count grep -q '^pact: 1 of 2 crates: low, [0-9]* s$' "$scratch/err"
+count grep -q '^pact: 2 of 2 crates: pact_program, [0-9]* s$' "$scratch/err"
+count grep -q '^pact: built in [0-9]* s$' "$scratch/err"
+count runs_build 1 "$with"
 count test ! -s "$scratch/err"
-echo more >>"$tree/crates/low/src/lib.rt"
-count runs_build 2
-echo more >"$tree/crates/low/specs/More.antt"
-count runs_build 3
-rm "$tree/crates/low/specs/More.antt"
-count runs_build 4
-mkdir "$tree/crates/other"
-count runs_build 5
-echo '# more' >>"$tree/crates.txt"
-count runs_build 6
-rm "$tree/crates/pact_program/out/pact_program.stamp"
-count runs_build 7
-rm "$tree/crates/pact_program/out/sources.marker"
-count runs_build 8
-# What changed while it was built is built again.
-touch "$tree/hurried"
-echo more >>"$tree/crates/low/src/lib.rt"
-count runs_build 9
-rm "$tree/hurried"
-count runs_build 10
-count runs_build 10
-# So is what has an older time, another name, or stands in another folder; what a link leads to; and what another toolchain made.
-echo older >"$tree/older"
-touch -d 2001-01-01 "$tree/older"
-cp -p "$tree/older" "$tree/crates/low/src/lib.rt"
-count runs_build 11
-mv "$tree/crates/low/src/lib.rt" "$tree/crates/low/src/other.rt"
-count runs_build 12
-mkdir "$tree/crates/low/proofs"
-echo four >"$tree/crates/low/proofs/Lib.antt"
-count runs_build 13
-echo more >>"$tree/crates/low/proofs/Lib.antt"
-count runs_build 14
-ln -s "$tree/older" "$tree/crates/low/src/lib.rt"
-count runs_build 15
-echo more >>"$tree/older"
-count runs_build 16
-mkdir "$tree/front"
-cp "$tree/bin/rt" "$tree/front/rt"
+count runs_build 1 "$plain"
+count runs_build 1 "$with"
+touch "$tree/crates/low/src/lib.rt"
+count runs_build 1 "$with"
+count test ! -s "$scratch/err"
+added
+count runs_build 2 "$with"
+rm -r "$tree/crates/low/proofs"
+count runs_build 3 "$with"
+# of another toolchain too, and not where its command alone was written again
 touch "$tree/bin/rt"
-count runs_build 17
-count runs_build 17
-echo part >"$tree/bin/rattle"
-count runs_build 18
-echo part >"$tree/bin/other"
-count runs_build 18
-# Another toolchain in front of it, that was there before the build.
-PATH="$tree/front:$tree/bin:$PATH" "$tree/pact" run >"$scratch/out" 2>"$scratch/err"
-count grep -q '^build 19 of run$' "$scratch/out"
-count runs_build 20
-# A build that fails leaves nothing that passes for a program.
+count runs_build 3 "$with"
+echo 'kit two' >"$tree/kit"
+touch "$tree/bin/rt"
+count runs_build 4 "$with"
+# what changed while it was built is built again
+touch "$tree/hurried"
+appended crates/low/src/lib.rt
+count runs_build 5 "$with"
+rm "$tree/hurried"
+count runs_build 6 "$with"
+count runs_build 6 "$with"
+# the sources of the release again: it is run, and what was built is left
+fresh_release_is_found() { fresh; runs_released "$with"; }
+count fresh_release_is_found
+# two first calls at once build once
+appended crates/low/src/lib.rt
+count two_at_once "$with" 'build 1'
+count test "$(cat "$tree/builds")" = 1
+# A build that fails says where, and leaves nothing that passes for a program.
+fresh
 touch "$tree/broken"
-echo more >>"$tree/crates/low/src/lib.rt"
-count fails_with '^pact: the build failed$' "$tree/bin:$PATH"
-count fails_with '^pact: the build failed$' "$tree/bin:$PATH"
+appended crates/low/src/lib.rt
+count fails_with 'pact: the build failed' "$with"
+count grep -qx "pact: low failed (log: $scratch/cache/pact$tree/@/trees/low.log)" "$scratch/err"
+count grep -qx '    no proof' "$scratch/err"
+count fails_with 'pact: the build failed' "$with"
 rm "$tree/broken"
-count runs_build 23
-# A program that is current needs no toolchain, and another does.
-empty=$scratch/commands
-mkdir -p "$empty"
-for command in awk bash dirname find flock mkdir mv readlink rm tail tee; do
-    ln -sf "$(command -v "$command")" "$empty/$command"
-done
-echo more >>"$tree/crates/low/src/lib.rt"
-count fails_with "rt isn't on the PATH" "$empty"
+count runs_build 1 "$with"
+
+# The program of the build before is no program of a source that was refused.
+echo bad >>"$tree/crates/pact_program/src/main.rt"
+touch "$tree/refused"
+count fails_with 'pact: the build failed' "$with"
+rm "$tree/refused"
+count runs_build 2 "$with"
+# Many crates on one, all of them done in no time.
+fresh
+for number in 1 2 3 4 5 6 7 8 9 10; do
+    mkdir -p "$tree/crates/side_$number/src"
+    echo "$number" >"$tree/crates/side_$number/src/lib.rt"
+    echo "side_$number: low"
+done >"$scratch/sides"
+{ echo low:; cat "$scratch/sides"; echo "pact_program: low $(cut -d : -f 1 "$scratch/sides" | tr '\n' ' ')"; } >"$tree/crates.txt"
+count runs_build 1 "$with"
+count grep -q '^pact: 12 of 12 crates: pact_program, ' "$scratch/err"
+# A build that is ended from outside leaves no lock, and a later call builds.
+fresh
+appended crates/low/src/lib.rt
+touch "$tree/slow"
+PATH=$with XDG_CACHE_HOME=$scratch/cache "$BASH" "$tree/pact" run >/dev/null 2>&1 &
+ended=$!
+sleep 0.5
+kill "$ended"
+wait "$ended"
+count test $? = 143
+rm "$tree/slow"
+count runs_build 1 "$with"
+
+# A released program that is missing, cut, written over, or of another machine.
+without() {
+    fresh
+    runs_released "$plain" || return 1
+    "${@:2}"
+    fails_with "pact: the released program $1, and the toolchain's command rt isn't on the PATH to build another" "$plain" && runs_build 1 "$with"
+}
+cut_short() { head -c 20 "$tree/release/pact_program" >"$scratch/short" && cat "$scratch/short" >"$tree/release/pact_program"; }
+count without 'is missing' rm -r "$tree/release/pact_program"
+count without 'is missing' rm "$tree/release/built_of"
+count without 'is damaged' cut_short
+count without 'is damaged' appended release/pact_program
+count without "doesn't run here (it is for Linux on x86-64 with the GNU C library, 2.34 or later, and has to be executable)" chmod a-x "$tree/release/pact_program"
+# another machine's: the first bytes of a program of this one, and then the number of another kind of processor
+for_another_machine() {
+    head -c 18 "$BASH" >"$scratch/other_machine"
+    printf '\267\0' >>"$scratch/other_machine"
+    release "$scratch/other_machine"
+}
+count without "doesn't run here (it is for Linux on x86-64 with the GNU C library, 2.34 or later, and has to be executable)" for_another_machine
+# Nothing can be built where nothing can be written.
+fresh
+appended crates/low/src/lib.rt
+no_cache() { PATH=$with XDG_CACHE_HOME=/dev/null "$BASH" "$tree/pact" run >"$scratch/out" 2>"$scratch/err"; [ $? = 127 ] && grep -q '^pact: nothing can be built in /dev/null' "$scratch/err"; }
+count no_cache

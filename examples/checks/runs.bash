@@ -74,7 +74,8 @@ printf '# every row four times\npact 1\n\nfields\t4 # two more than there are\ns
 # Each row has the program, the bytes of s.csv, and the rows that are written.
 while IFS='|' read -r program bytes rows; do
     printf '%b' "$bytes" >"$scratch/s.csv"
-    count gives 0 "$rows" '' run "$program.pact"
+    # one thread takes the rows in the file's order
+    count gives 0 "$rows" '' run "$program.pact" --workers 1
 done <<'END'
 emits|1,5\n,-3\n|,\n,\n-3,\n-3,\n5,\n5,1\n
 chain|1,5\n2,-3\n|-3\n-3\n-3\n-3\n5\n5\n5\n5\n

@@ -2,7 +2,7 @@ mod TablesByNumber
 mod StationsAtPlaces
 mod EnabledEvents
 mod WorldsAfterEvents
-mod SharesOfRows
+pub mod SharesOfRows
 mod StartStands
 mod ReplayedEvents
 mod EventsOfWants
@@ -12,3 +12,4 @@ mod RunAlone
 mod WorldLaws
 mod ReadersOfEdges
 mod ChangedStations
+pub mod LeftWorlds

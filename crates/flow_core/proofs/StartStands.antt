@@ -15,7 +15,7 @@ use Rattle.flow_model.proofs.Events.{start_stands}
 use Rattle.flow_core.specs.Starting.{AreStarted}
 use Rattle.flow_core.specs.Worlds.{HasBatchSize, IsStanding, IsWhole, StandsForSome, StationData, WorldData, no_station, queue_in, seen, station_in}
 
-all_empty : (queues : List (List Note)) (to : ℕ) → AllByRecursion (λ q. q ≡ []) queues → get_or queues to [] ≡ []
+pub all_empty : (queues : List (List Note)) (to : ℕ) → AllByRecursion (λ q. q ≡ []) queues → get_or queues to [] ≡ []
 all_empty [] to h = get_or_past [] to [] (omega arith)
 all_empty (q ∷ queues) zero h = h.0
 all_empty (q ∷ queues) (suc to) h = all_empty queues to h.1

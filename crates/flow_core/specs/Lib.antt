@@ -7,3 +7,5 @@ pub mod Replays
 pub mod Idle
 pub mod Laws
 pub mod Outcomes
+pub mod Left
+pub mod LeftCode

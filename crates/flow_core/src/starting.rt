@@ -64,8 +64,8 @@ fn deal(alloc: Global, rows: Rows, workers: u32) -> Result<Vec<Rows>, OutOfMemor
     Ok(shares)
 }
 
-// An empty pipe to each worker.
-fn empty_queues(alloc: Global, workers: u32) -> Result<Vec<Queue>, OutOfMemory>
+/// An empty pipe to each worker.
+pub(crate) fn empty_queues(alloc: Global, workers: u32) -> Result<Vec<Queue>, OutOfMemory>
     ensures long { IfOk result (λ queues. length queues.items ≡ workers) }
     ensures empty { IfOk result (λ queues. AllByRecursion (λ queue. queue ≡ []) queues.items) }
 {

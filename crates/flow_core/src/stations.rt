@@ -6,6 +6,7 @@ ghost use Rattle.plan_trees.specs.Sending.{all_of};
 ghost use Rattle.flow_model.specs.declared.notes.Want.TheVariants.{End, Put};
 ghost use Rattle.flow_model.specs.Events.{first_note};
 ghost use Rattle.flow_model.specs.Instances.{want};
+ghost use Rattle.flow_core.specs.Left.{refilled};
 ghost use Rattle.flow_core.specs.Stations.{CanTake, TakesNote, given, placed_by, total_given, with_end, with_put};
 
 use flow_instance::Instance;
@@ -59,6 +60,16 @@ impl<L: Local> Station<L> {
     {
         let note = self.instance.offer();
         self.queues[to as usize].notes.push_back(note)?;
+        Ok(())
+    }
+
+    /// Notes that were left on the pipe to a receiver come back to it.
+    pub(crate) fn refill(&mut self, to: u32, notes: VecDeque<Note>) -> Result<(), OutOfMemory>
+        requires { to < length self.old.queues }
+        ensures { OnOk result (self.new ≡ refilled self.old to notes.items) }
+    {
+        let mut notes = notes;
+        self.queues[to as usize].notes.append(&mut notes)?;
         Ok(())
     }
 

@@ -35,8 +35,8 @@ use std::marker::Model;
 pub struct World<L: Local> {
     pub(crate) alloc: Global,
     pub(crate) wiring: Wiring,
-    depth: u32,
-    stations: Vec<Row<L>>,
+    pub(crate) depth: u32,
+    pub(crate) stations: Vec<Row<L>>,
 }
 
 impl<L: Local> Model for World<L> {

@@ -2,10 +2,13 @@
 
 ghost use Rattle.pact_outside.specs.Memory.{shown_from_memory};
 
-use pact_outside::{FailList, Failed, Feed, MemFeed, MemFiles, MemSink, NamedFile};
+use pact_outside::{FailList, Failed, Feed, MemFeed, MemFiles, MemSink, NamedFile, Sink};
 use pact_record::{Bytes, OutOfMemory};
-use pact_top::pact_main;
+use pact_top::{pact_alone, pact_main};
 use std::alloc::Global;
+use std::sync::Wait;
+use std::thread::Threads;
+use worker_gate::OpenGate;
 
 /// What a call left.
 #[derive(Drop)]
@@ -80,19 +83,35 @@ pub fn sink(alloc: Global, fail: u64) -> Result<MemSink, OutOfMemory> {
     Ok(sink)
 }
 
-/// The words over these files, with the calls of the feed and of the two sinks that fail; 0 for none.
-pub fn call(
+/// The status of the call on threads, at a gate that is open, or of the one alone.
+pub fn answer<R: Threads + Wait + Sync, F: Feed, O: Sink, E: Sink>(
+    rt: &R,
+    on_threads: bool,
+    alloc: Global,
+    words: &[&str],
+    feed: &mut F,
+    out: &mut O,
+    err: &mut E,
+) -> u8 {
+    if on_threads {
+        return pact_main(rt, alloc, words, feed, out, err, &OpenGate);
+    }
+    pact_alone(alloc, words, feed, out, err)
+}
+
+/// The words over these files by either call, with the calls of the feed and of the two sinks that fail; 0 for none.
+pub fn call<R: Threads + Wait + Sync>(
+    rt: &R,
+    on_threads: bool,
     alloc: Global,
     words: &[&str],
     files: MemFiles,
-    feed_fails: u64,
-    out_fails: u64,
-    err_fails: u64,
+    fails: [u64; 3],
 ) -> Result<Outcome, OutOfMemory> {
-    let mut feed = MemFeed::new(files, 65536, fail_at(alloc, feed_fails)?);
-    let mut out = sink(alloc, out_fails)?;
-    let mut err = sink(alloc, err_fails)?;
-    let status = pact_main(alloc, words, &mut feed, &mut out, &mut err);
+    let mut feed = MemFeed::new(files, 65536, fail_at(alloc, fails[0])?);
+    let mut out = sink(alloc, fails[1])?;
+    let mut err = sink(alloc, fails[2])?;
+    let status = answer(rt, on_threads, alloc, words, &mut feed, &mut out, &mut err);
     Ok(Outcome {
         status,
         out,

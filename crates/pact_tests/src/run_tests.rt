@@ -1,9 +1,12 @@
-use crate::calls::{NotingFeed, Outcome, add_file, call, fail_at, sink};
+use crate::calls::{NotingFeed, Outcome, add_file, answer, call, fail_at, sink};
 use pact_outside::{FailList, MemFeed, MemFiles, MemSink};
 use pact_record::{Bytes, OutOfMemory};
-use pact_top::pact_main;
+use pact_top::{pact_alone, pact_main};
 use std::alloc::Global;
+use std::sync::Wait;
 use std::test::Fail;
+use std::thread::Threads;
+use worker_gate::MeetGate;
 
 const MATCH: &str = "pact 1
 fields 8
@@ -17,16 +20,32 @@ match m both l r by 0 1 = 3 4
 sink m 2 5
 ";
 
-// A file is read until there is none: its bytes, and its end. Nothing is opened behind a program or a row that is refused, and no source for `sets`.
+// A file is read until there is none: its bytes, and its end. Nothing is opened behind a program or a row that is refused, and no source for `sets`. So it
+// is with threads too, of which there are four where the words don't tell.
 #[test]
 fn files_are_read_once_in_order(rt: HostRuntime) -> Result<(), Fail> {
     let alloc = rt.alloc();
     let no_sink = "pact 1\nfields 1\nsource l l.csv int:0\n";
-    for (command, program, left, calls) in [
-        ("run", MATCH, "1,a,10\n", "\np.pact..\nl.csv..\nr.csv.."),
-        ("run", MATCH, "1,a\n", "\np.pact..\nl.csv.."),
-        ("run", no_sink, "1\n", "\np.pact.."),
-        ("sets", MATCH, "1,a,10\n", "\np.pact.."),
+    for (on_threads, command, program, left, calls) in [
+        (
+            false,
+            "run",
+            MATCH,
+            "1,a,10\n",
+            "\np.pact..\nl.csv..\nr.csv..",
+        ),
+        (false, "run", MATCH, "1,a\n", "\np.pact..\nl.csv.."),
+        (false, "run", no_sink, "1\n", "\np.pact.."),
+        (false, "sets", MATCH, "1,a,10\n", "\np.pact.."),
+        (
+            true,
+            "run",
+            MATCH,
+            "1,a,10\n",
+            "\np.pact..\nl.csv..\nr.csv..",
+        ),
+        (true, "run", MATCH, "1,a\n", "\np.pact..\nl.csv.."),
+        (true, "sets", MATCH, "1,a,10\n", "\np.pact.."),
     ] {
         let mut files = MemFiles::new(alloc);
         add_file(alloc, &mut files, "p.pact", program.as_bytes())?;
@@ -38,7 +57,10 @@ fn files_are_read_once_in_order(rt: HostRuntime) -> Result<(), Fail> {
         };
         let mut out = sink(alloc, 0)?;
         let mut err = sink(alloc, 0)?;
-        pact_main(alloc, &[command, "p.pact"], &mut feed, &mut out, &mut err);
+        let words = [command, "p.pact"];
+        answer(
+            &rt, on_threads, alloc, &words, &mut feed, &mut out, &mut err,
+        );
         assert!(rt; feed.calls.bytes() == calls.as_bytes(), "{command} {calls}");
     }
     Ok(())
@@ -57,32 +79,37 @@ sink m 0 1
 ";
 
 // The words over TWICE as `p.pact` and two rows, with the calls of the feed and of the two sinks that fail; 0 for none.
-fn faulty(
+fn faulty<R: Threads + Wait + Sync>(
+    rt: &R,
+    on_threads: bool,
     alloc: Global,
     words: &[&str],
-    feed: u64,
-    out: u64,
-    err: u64,
+    fails: [u64; 3],
 ) -> Result<Outcome, OutOfMemory> {
     let mut files = MemFiles::new(alloc);
     add_file(alloc, &mut files, "p.pact", TWICE.as_bytes())?;
     add_file(alloc, &mut files, "s.csv", b"1,5\n1,5\n")?;
-    call(alloc, words, files, feed, out, err)
+    call(rt, on_threads, alloc, words, files, fails)
 }
 
 // A file is opened, and read in pieces until there is none: three calls a file here. There is an answer though nothing can be told, and what
 // can't be told isn't tried again.
 #[test]
 fn faults_are_told(rt: HostRuntime) -> Result<(), Fail> {
-    for (program, feed, out, err, status, written, line) in [
-        ("p.pact", 2, 0, 0, 3, "", "cannot read p.pact\n"),
-        ("p.pact", 6, 0, 0, 3, "", "cannot read s.csv\n"),
-        ("p.pact", 0, 2, 0, 4, "1,5\n", "cannot write\n"),
-        ("none.pact", 0, 0, 2, 3, "", "cann"),
+    for (on_threads, program, fails, status, written, line) in [
+        (false, "p.pact", [2, 0, 0], 3, "", "cannot read p.pact\n"),
+        (false, "p.pact", [6, 0, 0], 3, "", "cannot read s.csv\n"),
+        (false, "p.pact", [0, 2, 0], 4, "1,5\n", "cannot write\n"),
+        (false, "none.pact", [0, 0, 2], 3, "", "cann"),
+        (true, "p.pact", [2, 0, 0], 3, "", "cannot read p.pact\n"),
+        (true, "p.pact", [6, 0, 0], 3, "", "cannot read s.csv\n"),
+        (true, "p.pact", [0, 2, 0], 4, "1,5\n", "cannot write\n"),
+        (true, "none.pact", [0, 0, 2], 3, "", "cann"),
     ] {
-        let outcome = faulty(rt.alloc(), &["run", program], feed, out, err)?;
+        let words = ["run", program, "--workers", "2"];
+        let outcome = faulty(&rt, on_threads, rt.alloc(), &words, fails)?;
         assert!(rt; outcome.is(status, written, line), "{line}");
-        assert!(rt; (outcome.err.faults() == 1) == (err > 0), "{line}");
+        assert!(rt; (outcome.err.faults() == 1) == (fails[2] > 0), "{line}");
     }
     Ok(())
 }
@@ -91,12 +118,17 @@ fn faults_are_told(rt: HostRuntime) -> Result<(), Fail> {
 #[test]
 fn counts_are_told(rt: HostRuntime) -> Result<(), Fail> {
     let alloc = rt.alloc();
-    let counted = ["run", "p.pact", "--counts"];
+    let counted = ["run", "p.pact", "--counts", "--workers", "2"];
     let rows = "1,5\n1,5\n1,5\n1,5\n";
-    let whole = faulty(alloc, &counted, 0, 0, 0)?;
-    assert!(rt; whole.is(0, rows, "s out 2\nm in 2 out 4\n"));
-    let cut = faulty(alloc, &counted, 0, 0, 2)?;
-    assert!(rt; cut.is(4, rows, "s oucannot write\n"));
+    for (on_threads, fails, status, told) in [
+        (false, [0, 0, 0], 0, "s out 2\nm in 2 out 4\n"),
+        (false, [0, 0, 2], 4, "s oucannot write\n"),
+        (true, [0, 0, 0], 0, "s out 2\nm in 2 out 4\n"),
+        (true, [0, 0, 2], 4, "s oucannot write\n"),
+    ] {
+        let outcome = faulty(&rt, on_threads, alloc, &counted, fails)?;
+        assert!(rt; outcome.is(status, rows, told), "{told}");
+    }
     Ok(())
 }
 
@@ -112,7 +144,14 @@ fn programs_have_a_limit(rt: HostRuntime) -> Result<(), Fail> {
         let mut files = MemFiles::new(alloc);
         let program = vec![in alloc; b'#'; 2097152]?;
         add_file(alloc, &mut files, "p.pact", &program)?;
-        let outcome = call(alloc, &["run", "p.pact"], files, feed_fails, 0, 0)?;
+        let outcome = call(
+            &rt,
+            false,
+            alloc,
+            &["run", "p.pact"],
+            files,
+            [feed_fails, 0, 0],
+        )?;
         assert!(rt; outcome.is(status, "", line), "{line}");
     }
     Ok(())
@@ -141,8 +180,55 @@ fn texts_are_written_in_pieces(rt: HostRuntime) -> Result<(), Fail> {
     let mut out = MemSink::new(alloc, 1048576, fail_at(alloc, 2)?)?;
     out.reserve(1048576)?;
     let mut err = sink(alloc, 0)?;
-    let status = pact_main(alloc, &["run", "p.pact"], &mut feed, &mut out, &mut err);
+    let status = pact_alone(alloc, &["run", "p.pact"], &mut feed, &mut out, &mut err);
     assert!(rt; status == 4 && err.taken() == b"cannot write\n".as_slice());
     assert_eq!(rt; out.taken().len(), 65536);
+    Ok(())
+}
+
+const SUM: &str = "pact 1
+fields 4
+source s s.csv int:0 int:1
+function sum reduce 1
+  v0 = int 0
+  each x1 of group
+    v1 = get x1 1
+    v0 = addw v0 v1
+  end
+  r0 = new
+  v2 = key 0
+  set r0 0 v2
+  set r0 2 v0
+  emit r0
+end
+reduce r sum s by 0
+sink r 0 2
+";
+
+// Each of two workers waits at its first event until the other has come to its own, so there is a thread for each. A worker ends its part of the source
+// and of the Reduce.
+#[test]
+fn two_workers_meet(rt: HostRuntime) -> Result<(), Fail> {
+    let alloc = rt.alloc();
+    let mut files = MemFiles::new(alloc);
+    add_file(alloc, &mut files, "sum.pact", SUM.as_bytes())?;
+    add_file(alloc, &mut files, "s.csv", b"1,5\n2,-3\n1,7\n")?;
+    let mut feed = MemFeed::new(files, 65536, FailList::new(alloc));
+    let mut out = sink(alloc, 0)?;
+    let mut err = sink(alloc, 0)?;
+    let gate = MeetGate::new(2, 10000000);
+    let words = [
+        "run",
+        "sum.pact",
+        "--workers",
+        "2",
+        "--depth",
+        "1",
+        "--batch",
+        "1",
+    ];
+    let status = pact_main(&rt, alloc, &words, &mut feed, &mut out, &mut err, &gate);
+    assert!(rt; status == 0 && out.taken() == b"1,12\n2,-3\n".as_slice());
+    assert!(rt; gate.met() && gate.ends(0) == 2 && gate.ends(1) == 2);
     Ok(())
 }

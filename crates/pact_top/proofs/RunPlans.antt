@@ -1,9 +1,9 @@
--- A world of the chosen plan, run until it is done, gives a bag that the plan as written allows.
-use Rattle.std.proofs.Common.{◌≡◌, ℕ, List, Some, IfOk, Result, Ok, Err, sym, ap, ◌∙◌, subst}
+-- A run of the chosen plan gives a bag that the plan as written allows, and its texts are those of the command.
+use Rattle.std.proofs.Common.{◌≡◌, ℕ, Bool, List, Some, IfOk, Result, Ok, Err, sym, subst}
 use Rattle.std.specs.Prelude.{slice_get}
 use Rattle.flow_core.specs.Worlds.{IsStanding, WorldData}
 use Rattle.flow_model.specs.Events.{no_history}
-use Rattle.flow_model.specs.Spots.{Setting, setting}
+use Rattle.flow_model.specs.Spots.{setting}
 use Rattle.flow_model.specs.Worlds.{History}
 use Rattle.pact_operators.specs.Allowed.{Bag, Counted, count_of}
 use Rattle.pact_operators.specs.Inputs.{AreInputsOf}
@@ -17,7 +17,13 @@ use Rattle.ship_strategy.specs.PlanFacts.{facts_of}
 use Rattle.ship_strategy.specs.Ships.{LegalShip}
 use Rattle.pact_bag.specs.declared.outcomes.Outcome.{Outcome}
 use Rattle.pact_record.specs.Widths.{AreWide}
-use Rattle.pact_top.specs.CommandTexts.{IsOutcome}
+use Rattle.pact_top.specs.declared.choosing.Choice.{Choice}
+use Rattle.pact_top.specs.declared.loaded.Loaded.{Loaded}
+use Rattle.pact_top.specs.declared.texts.Texts.{Texts}
+use Rattle.pact_top.specs.CommandTexts.{AllowsWritten, AreToldCounts, IsAnswerOf, IsChoice, IsOutcome}
+use Rattle.pact_top.specs.Lines.{AreLines}
+use Rattle.pact_top.proofs.ChosenTexts.{told-AreCounts}
+use Rattle.pact_top.proofs.CommandsRun.{is_answer}
 
 -- what is known of every program and history for which the world stands
 abbrev AreCountedFor : WorldData → Bag → List ℕ → Type 0
@@ -25,22 +31,31 @@ AreCountedFor w rows counts =
     (p : ProgramData) (inputs : List Bag) (h : History) → IsProgram p → AreInputsOf p inputs → IsPlanOf p.functions p.ops w.physical.tree → LegalShip (facts_of p w.physical.tree) w.physical
     → IsStanding (setting p inputs w.physical) w h → Counted (plan_ops p inputs) w.physical.tree rows counts
 
-counted_run : (p : ProgramData) (inputs : List Bag) (plan : PlanTree) (physical : PhysicalData) (w : WorldData) (rows : Bag) (counts : List ℕ) → w.physical ≡ physical → physical.tree ≡ plan → IsProgram p → AreInputsOf p inputs
-    → IsPlanOf p.functions p.ops plan → LegalShip (facts_of p physical.tree) physical → IsStanding (setting p inputs physical) w no_history → AreCountedFor w rows counts → Counted (plan_ops p inputs) plan rows counts
-counted_run p inputs plan physical w rows counts e t is_program are_inputs of legal standing all =
-    let same : w.physical.tree ≡ plan = ap (λ (d : PhysicalData). d.tree) e ∙ t in
-    subst (λ (u : PlanTree). Counted (plan_ops p inputs) u rows counts) same
-    (all p inputs no_history is_program are_inputs (subst (λ (u : PlanTree). IsPlanOf p.functions p.ops u) (sym same) of) (subst (λ (d : PhysicalData). LegalShip (facts_of p d.tree) d) (sym e) legal)
-    (subst (λ (d : PhysicalData). IsStanding (setting p inputs d) w no_history) (sym e) standing))
+-- what is known of a run that began with a world at its start
+pub start_counted : {E : Type 0} (p : ProgramData) (inputs : List Bag) (physical : PhysicalData) (w : WorldData) (result : Result Outcome E) → w.physical ≡ physical → IsProgram p → AreInputsOf p inputs
+    → IsPlanOf p.functions p.ops physical.tree → IsStanding (setting p inputs physical) w no_history → IfOk result (λ o. AreCountedFor w o.rows o.counts)
+    → IfOk result (λ o. LegalShip (facts_of p physical.tree) physical → Counted (plan_ops p inputs) physical.tree o.rows o.counts)
+start_counted p inputs physical w (Ok o) same is_program are_inputs of standing all = λ legal.
+    subst (λ (d : PhysicalData). Counted (plan_ops p inputs) d.tree o.rows o.counts) same
+    (all p inputs no_history is_program are_inputs (subst (λ (d : PhysicalData). IsPlanOf p.functions p.ops d.tree) (sym same) of) (subst (λ (d : PhysicalData). LegalShip (facts_of p d.tree) d) (sym same) legal)
+    (subst (λ (d : PhysicalData). IsStanding (setting p inputs d) w no_history) (sym same) standing))
+start_counted p inputs physical w (Err e) same is_program are_inputs of standing all = tt
 
-pub is_outcome : {E : Type 0} (p : ProgramData) (inputs : List Bag) (plan : PlanTree) (physical : PhysicalData) (w : WorldData) (result : Result Outcome E) → w.physical ≡ physical → physical.tree ≡ plan → IsProgram p → AreInputsOf p inputs
-    → IsPlanOf p.functions p.ops plan → LegalShip (facts_of p physical.tree) physical → IsStanding (setting p inputs physical) w no_history → KeepAnswers p p.plan plan → IfOk result (λ o. AreCountedFor w o.rows o.counts)
-    → IfOk result (λ o. (g : Setting) (h : History) → IsStanding g w h → AreWide g.fields o.rows) → IfOk result (IsOutcome (record { program = p; inputs = inputs }) plan)
-is_outcome p inputs plan physical w (Ok o) e t is_program are_inputs of legal standing answers all wide =
-    let counted = counted_run p inputs plan physical w o.rows o.counts e t is_program are_inputs of legal standing all in
+pub is_outcome : {E : Type 0} (p : ProgramData) (inputs : List Bag) (plan : PlanTree) (physical : PhysicalData) (result : Result Outcome E) → physical.tree ≡ plan → AreInputsOf p inputs
+    → LegalShip (facts_of p physical.tree) physical → KeepAnswers p p.plan plan → IfOk result (λ o. LegalShip (facts_of p physical.tree) physical → Counted (plan_ops p inputs) physical.tree o.rows o.counts)
+    → IfOk result (λ o. AreWide p.fields o.rows) → IfOk result (IsOutcome (record { program = p; inputs = inputs }) plan)
+is_outcome p inputs plan physical (Ok o) same are_inputs legal answers all wide =
+    let counted = subst (λ (t : PlanTree). Counted (plan_ops p inputs) t o.rows o.counts) same (all legal) in
     record {
       allowed = (answers inputs are_inputs o.rows).1 (evaluates_allowed (λ (n k : ℕ). slice_get o.counts n ≡ Some (count_of k)) (plan_ops p inputs) plan o.rows counted);
       counted = counted;
-      widths = wide (setting p inputs physical) no_history standing;
+      widths = wide;
     }
-is_outcome p inputs plan physical w (Err e) f t is_program are_inputs of legal standing answers all wide = tt
+is_outcome p inputs plan physical (Err e) same are_inputs legal answers all wide = tt
+
+pub are_answers : {E : Type 0} (l : Loaded) (workers plans : ℕ) (asked : Bool) (result : Result Texts E) (choice : Choice) (o : Outcome) → IsProgram l.program → IsChoice l workers plans choice → AllowsWritten l o.rows
+    → Counted (plan_ops l.program l.inputs) choice.plan o.rows o.counts → IfOk result (λ t. AreLines l.program.sink o.rows t.out) → IfOk result (λ t. AreToldCounts l.program choice.plan o.counts asked t.counts)
+    → IfOk result (IsAnswerOf l workers plans asked)
+are_answers l workers plans asked (Ok t) choice o program chosen allowed counted lines told =
+    is_answer l workers plans asked t o.rows program allowed lines (told-AreCounts l workers plans choice o.rows o.counts asked t.counts chosen counted told)
+are_answers l workers plans asked (Err e) choice o program chosen allowed counted lines told = tt

@@ -3,7 +3,7 @@ use Rattle.std.proofs.Common.{◌≡◌, ◌≤◌, ◌⊎◌, inl, inr, ℕ, Li
 use Rattle.pact_outside.specs.Outside.{Feeding, Rose}
 use Rattle.pact_top.specs.declared.refusals.Refusal.{Refusal}
 use Rattle.pact_top.specs.declared.refusals.Refusal.TheVariants.{OutOfMemory, Usage, CannotRead, CannotWrite, Decided}
-use Rattle.pact_top.specs.Refusal.{AreTold, ComesTo, HasFailed, IsRefused, IsUsageTold, status_of, refusal_line}
+use Rattle.pact_top.specs.Refusal.{AreTold, ComesTo, HasFailed, IsNamed, IsRefused, IsUsageTold, status_of, refusal_line}
 use Rattle.pact_top.specs.RefusalLines.{line_of, usage_line}
 use Rattle.pact_top.specs.Stages.{CanEnd, gives, stops, misses}
 use Rattle.pact_top.specs.CommandTexts.{Ready}
@@ -33,6 +33,14 @@ unread_there words before now Usage h e = absurd (omega (arith, e))
 unread_there words before now (CannotRead name) h e = subst (HasFailed (work words before.files) before now) (sym h.0.named) h.0
 unread_there words before now CannotWrite h e = absurd h
 unread_there words before now (Decided status line) h e = let l = h.0 in absurd (omega (arith, e, l))
+
+-- and the command or a program names it
+pub unread_named : (words : List (List ℕ)) (before now : Feeding) (r : Refusal) → IsRefused words before now r → status_of r ≡ 3 → IsNamed words now.opened
+unread_named words before now OutOfMemory h e = absurd (omega (arith, e))
+unread_named words before now Usage h e = absurd (omega (arith, e))
+unread_named words before now (CannotRead name) h e = subst (IsNamed words) (sym h.0.named) h.1
+unread_named words before now CannotWrite h e = absurd h
+unread_named words before now (Decided status line) h e = let l = h.0 in absurd (omega (arith, e, l))
 
 -- ---- what stands decides the status
 

@@ -9,7 +9,7 @@ ghost use Rattle.pact_top.specs.Work as work;
 ghost use Rattle.pact_words.specs.Words.{AreOptionsInRange, IsInRange, asked, texts_of, to_certify, to_check, to_plan, to_run, to_tell_sets};
 
 use crate::certificates::{certificate_in, rechecked};
-use crate::choosing::{certificate_texts, plan_texts, run_texts};
+use crate::choosing::{certificate_texts, plan_texts, run_texts, run_texts_on_threads};
 use crate::loaded::{Loaded, is_source};
 use crate::loading::{CERTIFICATE_LIMIT, PROGRAM_LIMIT, SOURCE_LIMIT, read_file};
 use crate::programs::program_of;
@@ -25,7 +25,10 @@ use pact_record::{Bytes, MAX_FIELDS, OutOfMemory};
 use pact_words::{Command, Options, Refused, read_words};
 use plan_printer::sets_text;
 use std::alloc::Global;
+use std::sync::Wait;
+use std::thread::Threads;
 use swap_certificate::Certificate;
+use worker_gate::Gate;
 
 fn load_text<F: Feed>(
     alloc: Global,
@@ -135,6 +138,24 @@ fn run<F: Feed>(
     Ok(texts)
 }
 
+// `run PROGRAM` with a thread for each worker.
+fn run_on_threads<R: Threads + Wait + Sync, F: Feed, G: Gate>(
+    rt: &R,
+    alloc: Global,
+    feed: &mut F,
+    name: &[u8],
+    options: Options,
+    counts: bool,
+    gate: &G,
+) -> Result<Texts, Refusal>
+    requires { AreOptionsInRange options }
+    ensures { Comes (λ files. work.texts_for files (to_run name.now options counts)) (F.shows feed.old) (F.shows feed.new) result }
+{
+    let loaded = load(alloc, feed, name)?;
+    let texts = run_texts_on_threads(rt, alloc, loaded, options, counts, gate)?;
+    Ok(texts)
+}
+
 // `plan PROGRAM`.
 fn plan<F: Feed>(
     alloc: Global,
@@ -229,12 +250,50 @@ fn texts_for<F: Feed>(alloc: Global, command: Command, feed: &mut F) -> Result<T
     }
 }
 
+// The same, where a run has a thread for each worker.
+fn texts_on_threads<R: Threads + Wait + Sync, F: Feed, G: Gate>(
+    rt: &R,
+    alloc: Global,
+    command: Command,
+    feed: &mut F,
+    gate: &G,
+) -> Result<Texts, Refusal>
+    requires { IsInRange (asked command) }
+    ensures { Comes (λ files. work.texts_for files (asked command.entry)) (F.shows feed.old) (F.shows feed.new) result }
+{
+    match command {
+        Command::Run {
+            program,
+            options,
+            counts,
+        } => run_on_threads(rt, alloc, feed, program.as_bytes(), options, counts, gate),
+        other => texts_for(alloc, other, feed),
+    }
+}
+
 /// The texts that the words ask for, or the first refusal that stands, one stage after the other.
 pub fn answer<F: Feed>(alloc: Global, words: &[&str], feed: &mut F) -> Result<Texts, Refusal>
     ensures { IsAnswered (texts_of words.now) (feed.new ≡ feed.old) (F.shows feed.old) (F.shows feed.new) result }
 {
     match read_words(alloc, words) {
         Ok(command) => texts_for(alloc, command, feed),
+        Err(Refused::Usage) => Err(Refusal::Usage),
+        Err(Refused::OutOfMemory) => Err(Refusal::OutOfMemory),
+    }
+}
+
+/// The same, where a run has a thread for each worker.
+pub fn answer_on_threads<R: Threads + Wait + Sync, F: Feed, G: Gate>(
+    rt: &R,
+    alloc: Global,
+    words: &[&str],
+    feed: &mut F,
+    gate: &G,
+) -> Result<Texts, Refusal>
+    ensures { IsAnswered (texts_of words.now) (feed.new ≡ feed.old) (F.shows feed.old) (F.shows feed.new) result }
+{
+    match read_words(alloc, words) {
+        Ok(command) => texts_on_threads(rt, alloc, command, feed, gate),
         Err(Refused::Usage) => Err(Refusal::Usage),
         Err(Refused::OutOfMemory) => Err(Refusal::OutOfMemory),
     }

@@ -3,20 +3,25 @@
 ghost use Rattle.std.specs.Prelude.{◌≡◌, ◌≤◌, ◌<◌, ◌+◌, ◌++◌, ◌∷◌, [], ℕ, true, cond, get_or, length, IfOk, OnOk};
 ghost use Rattle.pact_operators.specs.Inputs.{AreInputsOf};
 ghost use Rattle.pact_operators.specs.PlanOps.{is_source_kind};
-ghost use Rattle.pact_operators.specs.Programs.{AreNames, IsPlanOf};
+ghost use Rattle.pact_operators.specs.Programs.{AreNames, IsPlanOf, IsProgram};
+ghost use Rattle.pact_record.specs.Widths.{AreWide};
 ghost use Rattle.plan_trees.specs.Physicals.{worker_limit};
 ghost use Rattle.plan_enumerate.specs.Listing.{entry_limit};
 ghost use Rattle.pact_words.specs.Words.{AreOptionsInRange};
 ghost use Rattle.reorder_pair.specs.Legal.{KeepAnswers};
+ghost use Rattle.pact_top.specs.Lines.{AreLines};
 ghost use Rattle.pact_top.specs.CommandTexts as texts;
 ghost use Rattle.pact_top.specs.declared.loaded.Loaded.{Loaded as LoadedData};
-ghost use Rattle.ship_strategy.specs.Layouts.{layout_count};
+ghost use Rattle.ship_strategy.specs.Layouts.{layout_count, layout_of};
+ghost use Rattle.ship_strategy.specs.PlanFacts.{facts_of};
+ghost use Rattle.ship_strategy.specs.Ships.{LegalShip};
 ghost use Rattle.pact_top.specs.CommandTexts.{AreToldCounts, IsAnswerOf, IsCertificateLine, IsChoice, IsDerived, IsOutAlone, IsOutcome, IsPlanChosen, IsPlanText};
 
 use crate::lines::sorted_lines;
 use crate::loaded::{Loaded, is_source};
+use crate::tasks::{Task, run_task};
 use crate::texts::Texts;
-use flow_core::{World, run_alone};
+use flow_run::run_owned;
 use local_strategy::ListLocal;
 use pact_bag::{Counts, Inputs, Outcome};
 use pact_operators::{Op, Plan, Program};
@@ -27,7 +32,10 @@ use plan_printer::{Shown, counts_text, plan_text};
 use reorder_pair::ConditionList;
 use ship_strategy::layout;
 use std::alloc::Global;
+use std::sync::Wait;
+use std::thread::Threads;
 use swap_certificate::{certificate, certificate_line};
+use worker_gate::Gate;
 
 /// The plans that are listed, which of them is chosen with which layout, and the plan itself.
 #[derive(Drop)]
@@ -98,6 +106,33 @@ pub fn choose_plan(
     })
 }
 
+// What is run of a choice: its plan in its layout, as the options say.
+fn task_of(program: &Program, choice: &Choice, options: Options) -> Task
+    requires options { AreOptionsInRange options }
+    requires plan { IsPlanOf program.now.functions program.now.ops choice.now.plan }
+    requires layout { choice.now.chosen.layout < layout_count program.now.ops }
+    ensures physical { result.physical ≡ layout_of (facts_of program.now choice.now.plan) program.now.ops choice.now.plan choice.now.chosen.layout options.workers }
+    ensures workers { result.options.workers ≡ options.workers }
+    ensures batch { result.options.batch ≡ options.batch }
+    ensures depth { result.options.depth ≡ options.depth }
+    ensures tree { result.physical.tree ≡ choice.now.plan }
+    ensures legal { LegalShip (facts_of program.now result.physical.tree) result.physical }
+{
+    let physical = layout(program, &choice.plan, choice.chosen.layout, options.workers);
+    let Options {
+        workers,
+        batch,
+        depth,
+        ..
+    } = options;
+    let options = flow_run::Options {
+        workers,
+        batch,
+        depth,
+    };
+    Task { physical, options }
+}
+
 // What a run of the chosen plan in parts gives: a bag that the plan as written allows too.
 fn run_plan(
     alloc: Global,
@@ -113,12 +148,29 @@ fn run_plan(
     requires answers { KeepAnswers program.now program.now.plan choice.now.plan }
     ensures { IfOk result (IsOutcome (record { program = program.now; inputs = inputs }) choice.now.plan) }
 {
-    // a program tells that it is one
-    let _fields = program.fields();
-    let physical = layout(program, &choice.plan, choice.chosen.layout, options.workers);
-    let (batch, depth) = (options.batch, options.depth);
-    let world = World::<ListLocal>::start_owned(alloc, program, &physical, inputs, batch, depth)?;
-    run_alone(world)
+    let task = task_of(program, choice, options);
+    run_task(alloc, program, &task, inputs)
+}
+
+// The same of a run with a thread for each worker.
+fn run_plan_on_threads<R: Threads + Wait + Sync, G: Gate>(
+    rt: &R,
+    alloc: Global,
+    program: &Program,
+    inputs: Inputs,
+    choice: &Choice,
+    options: Options,
+    gate: &G,
+) -> Result<Outcome, OutOfMemory>
+    requires inputs { AreInputsOf program.now inputs }
+    requires options { AreOptionsInRange options }
+    requires plan { IsPlanOf program.now.functions program.now.ops choice.now.plan }
+    requires layout { choice.now.chosen.layout < layout_count program.now.ops }
+    requires answers { KeepAnswers program.now program.now.plan choice.now.plan }
+    ensures { IfOk result (IsOutcome (record { program = program.now; inputs = inputs }) choice.now.plan) }
+{
+    let Task { physical, options } = task_of(program, choice, options);
+    run_owned::<ListLocal, R, G>(rt, alloc, program, &physical, inputs, options, gate)
 }
 
 // The counts of a run of the chosen plan, where they are asked for.
@@ -139,6 +191,25 @@ fn told_counts(
     Ok(Some(text))
 }
 
+// The sorted rows that a run of the chosen plan gave, and its counts where they are asked for.
+fn outcome_texts(
+    alloc: Global,
+    program: &Program,
+    choice: &Choice,
+    outcome: &Outcome,
+    counts: bool,
+) -> Result<Texts, OutOfMemory>
+    requires plan { IsPlanOf program.now.functions program.now.ops choice.now.plan }
+    requires widths { AreWide program.now.fields outcome.now.rows }
+    ensures lines { IfOk result (λ texts. AreLines program.now.sink outcome.now.rows texts.out) }
+    ensures counts { IfOk result (λ texts. AreToldCounts program.now choice.now.plan outcome.now.counts counts texts.counts) }
+    ensures program { IsProgram program.now }
+{
+    let out = sorted_lines(alloc, &outcome.rows, program.sink())?;
+    let counts = told_counts(alloc, program, choice, &outcome.counts, counts)?;
+    Ok(Texts { out, counts })
+}
+
 /// The sorted rows of a run of the chosen plan, and its counts where they are asked for. The rows of the sources go into the run.
 pub fn run_texts(
     alloc: Global,
@@ -153,9 +224,26 @@ pub fn run_texts(
     let choice = choose_plan(alloc, &loaded, options.workers, options.plans)?;
     let Loaded { program, inputs } = loaded;
     let outcome = run_plan(alloc, &program, inputs, &choice, options)?;
-    let out = sorted_lines(alloc, &outcome.rows, program.sink())?;
-    let counts = told_counts(alloc, &program, &choice, &outcome.counts, counts)?;
-    Ok(Texts { out, counts })
+    outcome_texts(alloc, &program, &choice, &outcome, counts)
+}
+
+/// The same of a run with a thread for each worker.
+pub fn run_texts_on_threads<R: Threads + Wait + Sync, G: Gate>(
+    rt: &R,
+    alloc: Global,
+    loaded: Loaded,
+    options: Options,
+    counts: bool,
+    gate: &G,
+) -> Result<Texts, OutOfMemory>
+    requires inputs { AreInputsOf loaded.program loaded.inputs }
+    requires options { AreOptionsInRange options }
+    ensures { IfOk result (IsAnswerOf loaded options.workers options.plans counts) }
+{
+    let choice = choose_plan(alloc, &loaded, options.workers, options.plans)?;
+    let Loaded { program, inputs } = loaded;
+    let outcome = run_plan_on_threads(rt, alloc, &program, inputs, &choice, options, gate)?;
+    outcome_texts(alloc, &program, &choice, &outcome, counts)
 }
 
 // The exchanges that lead to the chosen plan.

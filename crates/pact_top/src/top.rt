@@ -1,20 +1,25 @@
-//! The call that the program makes.
+//! The call that the program makes, and the same without threads.
 
-ghost use Rattle.std.specs.Prelude.{◌≡◌, ◌≢◌, ◌≤◌, false};
+ghost use Rattle.std.specs.Prelude.{◌≡◌, ◌≢◌, ◌≤◌, ℕ, Bool, false, List, IsTrue};
 ghost use Rattle.pact_outside.specs.Outside.{Rose};
 ghost use Rattle.pact_top.specs.Headline.{Answered, AnsweredQuietly, Complete, MissingFile, NoOther, NothingWritten, Refused, RefusedAlways, Told, UnreadName, UnreadOpened, Unwritten, UnwrittenCause, Usage, UsageAlways, UsageUnnamed};
 ghost use Rattle.pact_top.specs.Refusal.{status_of, refusal_line};
 ghost use Rattle.pact_top.specs.Statuses.{TellsCounts, WritesTexts};
 ghost use Rattle.pact_top.specs.Transfer.{Tells};
-ghost use Rattle.pact_words.specs.Words.{AreRefused, texts_of};
+ghost use Rattle.pact_words.specs.declared.commands.Options.{Options};
+ghost use Rattle.pact_words.specs.Words.{AreRefused, IsAsked, texts_of, to_run};
 
-use crate::answering::answer;
+use crate::answering::{answer, answer_on_threads};
 use crate::refusals::{Refusal, tell};
 use crate::texts::Texts;
 use crate::transfer::write_all;
 use pact_outside::{Failed, Feed, Sink};
 use pact_record::Bytes;
+use pact_words::{Command, read_words};
 use std::alloc::Global;
+use std::sync::Wait;
+use std::thread::Threads;
+use worker_gate::Gate;
 
 fn refuse<E: Sink>(err: &mut E, refusal: &Refusal) -> u8
     ensures status { result ≡ status_of refusal.now }
@@ -48,24 +53,11 @@ fn write_texts<O: Sink, E: Sink>(out: &mut O, err: &mut E, texts: &Texts) -> u8
     }
 }
 
-/// Does what the command line's words ask for, and answers the exit status.
+/// Does what the command line's words ask for on the calling thread, and answers the exit status.
 ///
-/// `words` are without the program's own name. Of `run PROGRAM`, the program's file and then those
-/// of its sources are opened and read, in text order, the plan that is expected to cost least is
-/// chosen and run in parts, and the sorted rows are written on `out`; with `--counts`, how many records
-/// each operator had is told on `err` behind that. Of `plan PROGRAM` the chosen plan is written, and
-/// of `cert PROGRAM` its certificate. Of `sets PROGRAM`, its file alone is read, and what the
-/// analysis finds of each operator is written. Of `check PROGRAM CERT`, the program's file is read
-/// and then the certificate's, and `accepted` is written where each step of it is found again.
-/// Nothing is written before all of the texts are made. What goes wrong is told on `err` in one
-/// line; of a certificate with other sets or another plan the lines behind it have both.
-/// `specs/Headline.antt` has the clauses, with what each says.
-///
-/// The statuses: 0 the text was written whole, 1 out of memory, 2 the words are no command, 3 a
-/// file can't be read, 4 `out` failed, or `err` in telling the counts, 5 the program's text is
-/// faulty, 6 a function or a declaration of it breaks a rule, 7 a row of a source is bad, 8 a file
-/// is longer than its limit, 9 the certificate is refused.
-pub fn pact_main<F: Feed, O: Sink, E: Sink>(
+/// It does what `pact_main` does, with the same clauses and statuses, and starts no thread: the instances of all workers are stepped
+/// in turn. So it waits for nobody, and always returns.
+pub fn pact_alone<F: Feed, O: Sink, E: Sink>(
     alloc: Global,
     words: &[&str],
     feed: &mut F,
@@ -99,6 +91,81 @@ pub fn pact_main<F: Feed, O: Sink, E: Sink>(
     ensures no_other { NoOther result }
 {
     match answer(alloc, words, feed) {
+        Ok(texts) => write_texts(out, err, &texts),
+        Err(refusal) => refuse(err, &refusal),
+    }
+}
+
+// Whether the words ask for a run with two workers or more. Where memory is wanting to read them, nothing is asked.
+fn asks_for_threads(alloc: Global, words: &[&str]) -> bool
+    ensures { IsTrue result → (program : List ℕ) × (options : Options) × (counts : Bool) × IsAsked (texts_of words.now) (to_run program options counts) × (2 ≤ options.workers) }
+{
+    match read_words(alloc, words) {
+        Ok(Command::Run { options, .. }) => options.workers >= 2,
+        _ => false,
+    }
+}
+
+/// Does what the command line's words ask for, and answers the exit status.
+///
+/// `words` are without the program's own name. Of `run PROGRAM`, the program's file and then those
+/// of its sources are opened and read, in text order, the plan that is expected to cost least is
+/// chosen and run in parts, and the sorted rows are written on `out`; with `--counts`, how many records
+/// each operator had is told on `err` behind that. Of `plan PROGRAM` the chosen plan is written, and
+/// of `cert PROGRAM` its certificate. Of `sets PROGRAM`, its file alone is read, and what the
+/// analysis finds of each operator is written. Of `check PROGRAM CERT`, the program's file is read
+/// and then the certificate's, and `accepted` is written where each step of it is found again.
+/// Nothing is written before all of the texts are made. What goes wrong is told on `err` in one
+/// line; of a certificate with other sets or another plan the lines behind it have both.
+/// `specs/Headline.antt` has the clauses, with what each says.
+///
+/// A run with two workers or more has a thread for each, as far as the system gives them, and `gate` is called there before each event of the
+/// worker's instances. The workers wait for one another's notes, so the call may wait, and what is promised holds if it returns. With one worker, and
+/// for every other command, it is `pact_alone`, which waits for nobody; that is how it is built, and no clause tells it.
+///
+/// The statuses: 0 the text was written whole, 1 out of memory, 2 the words are no command, 3 a
+/// file can't be read, 4 `out` failed, or `err` in telling the counts, 5 the program's text is
+/// faulty, 6 a function or a declaration of it breaks a rule, 7 a row of a source is bad, 8 a file
+/// is longer than its limit, 9 the certificate is refused.
+pub fn pact_main<R: Threads + Wait + Sync, F: Feed, O: Sink, E: Sink, G: Gate>(
+    rt: &R,
+    alloc: Global,
+    words: &[&str],
+    feed: &mut F,
+    out: &mut O,
+    err: &mut E,
+    gate: &G,
+) -> u8
+    ensures answered { Answered (texts_of words.now) (F.shows feed.old) (F.shows feed.new) (O.taken out.old) (O.taken out.new) (E.taken err.old) (E.taken err.new) result }
+    ensures answered_quietly { AnsweredQuietly (texts_of words.now) (E.taken err.old) (E.taken err.new) result }
+    ensures complete { Complete (texts_of words.now) (F.shows feed.old) (F.shows feed.new) (O.faults out.old) (O.faults out.new) (E.faults err.old) (E.faults err.new) result }
+
+    ensures usage { Usage (texts_of words.now) result }
+    ensures usage_always { UsageAlways (texts_of words.now) result }
+    ensures usage_unnamed { UsageUnnamed (texts_of words.now) result }
+    ensures usage_untouched { AreRefused (texts_of words.now) → feed.new ≡ feed.old }
+
+    ensures unread { result ≡ 3 → Rose (F.shows feed.old).faults (F.shows feed.new).faults }
+    ensures unread_closed { result ≡ 3 → (F.shows feed.new).is_open ≡ false }
+    ensures unread_name { UnreadName (texts_of words.now) (F.shows feed.new) result }
+    ensures unread_opened { UnreadOpened (texts_of words.now) (F.shows feed.old) (F.shows feed.new) result }
+    ensures missing_file { MissingFile (texts_of words.now) (F.shows feed.old) result }
+
+    ensures unwritten { Unwritten (texts_of words.now) (F.shows feed.old) (F.shows feed.new) (O.taken out.old) (O.taken out.new) (E.taken err.old) (E.taken err.new) (O.faults out.old) (O.faults out.new) (E.faults err.old) (E.faults err.new) result }
+    ensures unwritten_cause { UnwrittenCause (texts_of words.now) (O.faults out.old) (O.faults out.new) (E.faults err.old) (E.faults err.new) result }
+
+    ensures refused { Refused (texts_of words.now) (F.shows feed.old) (F.shows feed.new) (E.taken err.old) (E.taken err.new) (E.faults err.old) (E.faults err.new) result }
+    ensures refused_always { RefusedAlways (texts_of words.now) (F.shows feed.old) result }
+
+    ensures nothing_written { NothingWritten (O.taken out.old) (O.taken out.new) result }
+    ensures output_untouched { result ≢ 0 → result ≢ 4 → O.faults out.new ≡ O.faults out.old }
+    ensures told { Told (F.shows feed.new) (E.taken err.old) (E.taken err.new) (E.faults err.old) (E.faults err.new) result }
+    ensures no_other { NoOther result }
+{
+    if !asks_for_threads(alloc, words) {
+        return pact_alone(alloc, words, feed, out, err);
+    }
+    match answer_on_threads(rt, alloc, words, feed, gate) {
         Ok(texts) => write_texts(out, err, &texts),
         Err(refusal) => refuse(err, &refusal),
     }

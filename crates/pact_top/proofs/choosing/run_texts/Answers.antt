@@ -1,9 +1,7 @@
-use Rattle.pact_top.proofs.ChosenTexts.{told-AreCounts}
-use Rattle.pact_top.proofs.CommandsRun.{is_answer}
+use Rattle.pact_top.proofs.RunPlans.{are_answers}
 use Rattle.pact_top.proofs.choosing.run_texts.Goals as goal
 
 pub returns : goal.returns
 returns c =
-    is_answer c.args.loaded c.args.options.workers c.args.options.plans c.args.counts _ c.in_ok-outcome.outcome.rows c.sink.ensures.keeps c.in_ok-outcome.ensures.allowed (rw (← c.sink.ensures.sink) c.in_ok-out.ensures)
-    (told-AreCounts c.args.loaded c.args.options.workers c.args.options.plans c.in_ok-choice.choice c.in_ok-outcome.outcome.rows c.in_ok-outcome.outcome.counts c.args.counts c.in_ok-counts.counts c.in_ok-choice.ensures.choice
-    c.in_ok-outcome.ensures.counted c.in_ok-counts.ensures)
+    are_answers c.args.loaded c.args.options.workers c.args.options.plans c.args.counts c.outcome_texts.result c.in_ok-choice.choice c.in_ok-outcome.outcome c.outcome_texts.ensures.program c.in_ok-choice.ensures.choice
+    c.in_ok-outcome.ensures.allowed c.in_ok-outcome.ensures.counted c.outcome_texts.ensures.lines c.outcome_texts.ensures.counts

@@ -1,7 +1,7 @@
 use Rattle.std.proofs.Common.{◌≡◌, ◌≤◌, ◌⊎◌, inl, inr}
 use Rattle.pact_top.specs.Refusal.{refusal_line, status_of}
 use Rattle.pact_words.specs.Words.{texts_of}
-use Rattle.pact_top.proofs.StatusesOfRefusals.{line_is, not_missing, not_stopped, stopped, unnamed_refused, unread_there, usage_told, usage_unnamed, where_ready, where_missing, where_stopped}
+use Rattle.pact_top.proofs.StatusesOfRefusals.{line_is, not_missing, not_stopped, stopped, unnamed_refused, unread_named, unread_there, usage_told, usage_unnamed, where_ready, where_missing, where_stopped}
 use Rattle.pact_top.proofs.top.pact_main.Goals as goal
 
 pub returns-in-Ok-clause-missing_file : goal.returns-in-Ok-clause-missing_file
@@ -56,6 +56,10 @@ returns-in-Err-clause-refused g c =
 pub returns-in-Err-clause-unread_opened : goal.returns-in-Err-clause-unread_opened
 returns-in-Err-clause-unread_opened g c =
     rw c.refuse.ensures.status (unread_there (texts_of c.args.words.now) (g.F.Feed.shows c.args.feed.now) _ c.in-Err.refusal c.in-Err.ensures.told)
+
+pub returns-in-Err-clause-unread_name : goal.returns-in-Err-clause-unread_name
+returns-in-Err-clause-unread_name g c =
+    rw c.refuse.ensures.status (unread_named (texts_of c.args.words.now) (g.F.Feed.shows c.args.feed.now) _ c.in-Err.refusal c.in-Err.ensures.told)
 
 pub returns-in-Ok-clause-usage_always : goal.returns-in-Ok-clause-usage_always
 returns-in-Ok-clause-usage_always g c = λ refused. absurd (c.in-Ok.ensures.usage refused)

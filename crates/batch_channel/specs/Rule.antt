@@ -1,0 +1,35 @@
+-- The rule of a pipe: what was put is what was taken, followed by what the queue holds, and each record has the pipe's number of values.
+use Rattle.std.specs.Prelude.{◌≡◌, ℕ, Bool, true, List, ◌++◌}
+use mathlib.Core.Option.{some}
+use lib.ListN.{get_elem?}
+use Rattle.flow_model.specs.declared.notes.Note.{Note}
+use Rattle.batch_channel.specs.declared.rules.View.{View}
+use Rattle.std.specs.List.{AllByRecursion}
+use Rattle.flow_model.specs.Notes.{IsNote}
+
+-- each record of the notes has so many values
+abbrev pub HoldsNotes : ℕ → List Note → Type 0
+HoldsNotes fields notes = AllByRecursion (IsNote fields) notes
+
+-- what a pass knows, from its parts
+abbrev pub view_of : Bool → Bool → List Note → List Note → View
+view_of puts takes put taken = record { puts = puts; takes = takes; put = put; taken = taken }
+
+-- The view that may put is of one pass, the writer, and knows the notes put; the view that may take is of one pass and knows those taken.
+pub record IsView (writer reader : ℕ) (put taken : List Note) (pass : ℕ) (v : View) : Type 0 where
+  pub puts : v.puts ≡ true → (pass ≡ writer) × (v.put ≡ put)
+  pub takes : v.takes ≡ true → (pass ≡ reader) × (v.taken ≡ taken)
+
+-- Of the queue's notes, the oldest first, and of the view of each pass.
+pub record IsPiped (fields : ℕ) (items : List Note) (views : List View) : Type 0 where
+  pub writer : ℕ
+  pub reader : ℕ
+  pub put : List Note
+  pub taken : List Note
+  pub whole : put ≡ taken ++ items
+  pub notes : HoldsNotes fields items
+  pub knows : (pass : ℕ) (v : View) → get_elem? views pass ≡ some v → IsView writer reader put taken pass v
+
+-- at one moment of the call the queue held the last of the notes put
+abbrev pub IsBehind : View → List Note → Type 0
+IsBehind v items = (taken : List Note) × (v.put ≡ taken ++ items)

@@ -1,0 +1,110 @@
+//! The rule of a pipe's queue, and what each step tells the end that takes it.
+
+use crate::widths::Width;
+use crossbeam_queue::protocol::{Join, Lesson, Outcome, Protocol, Split};
+use crossbeam_queue::{Pass, RuledArrayQueue};
+use flow_model::Note;
+use std::collections::LinkedList;
+use std::marker::PhantomData;
+
+/// What a pass knows: whether it may put and take, the notes put and the notes taken. It exists in contracts alone; no value of it is made.
+pub struct View {
+    pub puts: bool,
+    pub takes: bool,
+    pub put: LinkedList<Note>,
+    pub taken: LinkedList<Note>,
+}
+
+/// The rule, for records with so many values.
+pub struct Piped<W: Width> {
+    width: PhantomData<W>,
+}
+
+impl<W: Width> Protocol<Note, View> for Piped<W> {
+    ghost use Rattle.std.specs.Prelude.{true, []};
+    ghost use Rattle.batch_channel.specs.Rule.{view_of, IsPiped};
+
+    ghost holds = { IsPiped W.fields };
+
+    ghost first = { view_of true true [] [] };
+}
+
+/// The first pass is cut into those of the two ends, and they are joined again.
+pub struct BothEnds;
+
+impl Split<View> for BothEnds {
+    ghost use Rattle.std.specs.Prelude.{true, false, []};
+    ghost use Rattle.batch_channel.specs.Rule.{view_of};
+
+    ghost left = { λ v. view_of true false v.put [] };
+
+    ghost right = { λ v. view_of false true [] v.taken };
+}
+
+impl Join<View> for BothEnds {
+    ghost use Rattle.std.specs.Prelude.{true, false, []};
+    ghost use Rattle.batch_channel.specs.Rule.{view_of};
+
+    ghost both = { λ v w. view_of true true v.put w.taken };
+
+    ghost spent = { view_of false false [] [] };
+}
+
+/// One note more is put. Where the queue is full, what it holds is the last of the notes put.
+pub struct Puts;
+
+impl Outcome<Note, View> for Puts {
+    ghost use Rattle.std.specs.Prelude.{◌≡◌, ◌++◌, ◌∷◌, []};
+    ghost use Rattle.batch_channel.specs.Rule.{view_of};
+
+    ghost then = { λ v x w. w ≡ view_of v.puts v.takes (v.put ++ x ∷ []) v.taken };
+}
+
+impl Lesson<Note, View> for Puts {
+    ghost use Rattle.batch_channel.specs.Rule.{IsBehind};
+
+    ghost fact = { IsBehind };
+}
+
+/// One note more is taken, and its records have the pipe's number of values. Where the queue is empty, nothing is learned.
+pub struct Takes<W: Width> {
+    width: PhantomData<W>,
+}
+
+impl<W: Width> Outcome<Note, View> for Takes<W> {
+    ghost use Rattle.std.specs.Prelude.{◌≡◌, ◌++◌, ◌∷◌, []};
+    ghost use Rattle.flow_model.specs.Notes.{IsNote};
+    ghost use Rattle.batch_channel.specs.Rule.{view_of};
+
+    ghost then = { λ v x w. IsNote W.fields x × (w ≡ view_of v.puts v.takes v.put (v.taken ++ x ∷ [])) };
+}
+
+impl<W: Width> Lesson<Note, View> for Takes<W> {
+    ghost use Rattle.std.specs.Prelude.{⊤};
+
+    ghost fact = { λ v items. ⊤ };
+}
+
+/// After the ends are joined, a note that is taken is the next of those put, and what the queue holds is all of them that weren't taken.
+pub struct Leaves<W: Width> {
+    width: PhantomData<W>,
+}
+
+impl<W: Width> Outcome<Note, View> for Leaves<W> {
+    ghost use Rattle.std.specs.Prelude.{◌≡◌, ◌++◌, ◌∷◌, [], List};
+    ghost use Rattle.flow_model.specs.Notes.{IsNote};
+    ghost use Rattle.batch_channel.specs.Rule.{view_of};
+    ghost use Rattle.flow_model.specs.declared.notes.Note.{Note};
+
+    ghost then = { λ v x w. IsNote W.fields x × ((rest : List Note) × (v.put ≡ v.taken ++ x ∷ rest)) × (w ≡ view_of v.puts v.takes v.put (v.taken ++ x ∷ [])) };
+}
+
+impl<W: Width> Lesson<Note, View> for Leaves<W> {
+    ghost use Rattle.std.specs.Prelude.{◌≡◌, ◌++◌};
+
+    ghost fact = { λ v items. v.put ≡ v.taken ++ items };
+}
+
+pub type Queue<W> = RuledArrayQueue<Note, View, Piped<W>>;
+
+pub type NotePass = Pass<Note, View>;

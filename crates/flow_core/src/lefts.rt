@@ -1,0 +1,177 @@
+//! What a run has left: instances, and notes on pipes.
+
+ghost use Rattle.std.specs.Prelude.{◌≡◌, ◌<◌, ◌++◌, ◌∷◌, [], get_or, length, map, replicate, set, IfOk, OnOk};
+ghost use Rattle.flow_core.specs.Left.{all_unstationed, unstationed};
+
+use crate::stations::{Row, Station};
+use crate::worlds::World;
+use flow_instance::Instance;
+use flow_model::{Note, PipeId};
+use local_strategy::Local;
+use pact_record::OutOfMemory;
+use std::alloc::Global;
+use std::collections::VecDeque;
+use std::marker::Model;
+use std::mem;
+
+/// The instances of one source or operator, by worker.
+#[derive(Drop)]
+pub(crate) struct Instances<L: Local> {
+    pub(crate) held: Vec<Instance<L>>,
+}
+
+impl<L: Local> Model for Instances<L> {
+    ghost use Rattle.std.specs.Prelude.{List};
+    ghost use Rattle.flow_model.specs.Instances.{Instance as InstanceData};
+    ghost use Rattle.flow_core.specs.LeftCode.{coded_instances};
+
+    ghost Value = { List InstanceData };
+
+    ghost coded = { coded_instances };
+
+    ghost view = { λ i. i.held.items };
+}
+
+/// Instances by the number of their source or operator, and then by worker.
+#[derive(Drop)]
+pub struct InstanceList<L: Local> {
+    pub(crate) rows: Vec<Instances<L>>,
+}
+
+impl<L: Local> Model for InstanceList<L> {
+    ghost use Rattle.std.specs.Prelude.{List};
+    ghost use Rattle.flow_model.specs.Instances.{Instance as InstanceData};
+    ghost use Rattle.flow_core.specs.LeftCode.{coded_all};
+
+    ghost Value = { List (List InstanceData) };
+
+    ghost coded = { coded_all };
+
+    ghost view = { λ i. i.rows.items };
+}
+
+impl<L: Local> InstanceList<L> {
+    /// For so many sources and operators, with room for so many workers; no instance is listed yet.
+    pub fn new(alloc: Global, ops: usize, workers: usize) -> Result<InstanceList<L>, OutOfMemory>
+        ensures { IfOk result (λ list. list ≡ replicate ops []) }
+    {
+        let mut rows = Vec::with_capacity(alloc, ops)?;
+        for _ in 0..ops {
+            rows.push_reserved(Instances {
+                held: Vec::with_capacity(alloc, workers)?,
+            });
+        }
+        Ok(InstanceList { rows })
+    }
+
+    /// Lists the instance of a source or operator on its next worker.
+    pub fn push(&mut self, at: usize, instance: Instance<L>) -> Result<(), OutOfMemory>
+        requires at { at < length self.old }
+        ensures { OnOk result (self.new ≡ set self.old at (get_or self.old at [] ++ instance ∷ [])) }
+    {
+        self.rows[at].held.push(instance)?;
+        Ok(())
+    }
+
+    /// The instances of a row leave the list, and the row is empty then.
+    pub fn take(&mut self, alloc: Global, at: usize) -> Vec<Instance<L>>
+        requires { at < length self.old }
+        ensures taken { result.items ≡ get_or self.old at [] }
+        ensures left { self.new ≡ set self.old at [] }
+    {
+        mem::replace(&mut self.rows[at].held, Vec::new(alloc))
+    }
+}
+
+// The instances of a row of stations.
+fn unstation<L: Local>(alloc: Global, row: Row<L>) -> Result<Instances<L>, OutOfMemory>
+    ensures { IfOk result (λ own. own ≡ unstationed row) }
+{
+    let mut held = Vec::new(alloc);
+    for station in row.held {
+        let Station {
+            instance,
+            queues: _,
+        } = station;
+        held.push(instance)?;
+    }
+    Ok(Instances { held })
+}
+
+// The instances of all rows.
+fn unstation_all<L: Local>(
+    alloc: Global,
+    stations: Vec<Row<L>>,
+) -> Result<InstanceList<L>, OutOfMemory>
+    ensures { IfOk result (λ list. list ≡ all_unstationed stations.items) }
+{
+    let mut rows = Vec::new(alloc);
+    for row in stations {
+        rows.push(unstation(alloc, row)?)?;
+    }
+    Ok(InstanceList { rows })
+}
+
+impl<L: Local> World<L> {
+    /// The instances of a world, by the number of their source or operator, and then by worker. The notes on its pipes are gone.
+    pub fn into_instances(self) -> Result<InstanceList<L>, OutOfMemory>
+        ensures { IfOk result (λ list. list ≡ all_unstationed self.stations) }
+    {
+        unstation_all(self.alloc, self.stations)
+    }
+}
+
+/// The notes that are left on a pipe, the next one first.
+#[derive(Drop)]
+pub(crate) struct NoteList {
+    pub(crate) pipe: PipeId,
+    pub(crate) notes: VecDeque<Note>,
+}
+
+impl Model for NoteList {
+    ghost use Rattle.flow_core.specs.Left.{LeftOn};
+    ghost use Rattle.flow_core.specs.LeftCode.{coded_left};
+
+    ghost Value = { LeftOn };
+
+    ghost coded = { coded_left };
+
+    ghost view = { λ l. record { pipe = l.pipe; notes = l.notes.items } };
+}
+
+/// Pipes with the notes that are left on them.
+#[derive(Drop)]
+pub struct NoteLists {
+    pub(crate) lists: Vec<NoteList>,
+}
+
+impl Model for NoteLists {
+    ghost use Rattle.std.specs.Prelude.{List};
+    ghost use Rattle.flow_core.specs.Left.{LeftOn};
+    ghost use Rattle.flow_core.specs.LeftCode.{coded_lists};
+
+    ghost Value = { List LeftOn };
+
+    ghost coded = { coded_lists };
+
+    ghost view = { λ l. l.lists.items };
+}
+
+impl NoteLists {
+    /// No pipe is listed.
+    pub fn new(alloc: Global) -> NoteLists
+        ensures { result ≡ [] }
+    {
+        NoteLists {
+            lists: Vec::new(alloc),
+        }
+    }
+
+    /// Lists a pipe with its notes, the next one first. A pipe may be listed more than once: the notes listed later come behind.
+    pub fn push(&mut self, pipe: PipeId, notes: VecDeque<Note>) -> Result<(), OutOfMemory>
+        ensures { OnOk result (self.new ≡ self.old ++ record { pipe = pipe; notes = notes.items } ∷ []) }
+    {
+        self.lists.push(NoteList { pipe, notes })?;
+        Ok(())
+    }
+}

@@ -1,0 +1,118 @@
+//! Worlds of what a run has left.
+
+ghost use Rattle.std.specs.Prelude.{◌≡◌, ◌≤◌, ◌∷◌, [], ℕ, length, IfOk, OnOk};
+ghost use Rattle.std.specs.List.{AllByRecursion};
+ghost use Rattle.pact_operators.specs.Programs.{IsPlanOf};
+ghost use Rattle.flow_instance.specs.Limits.{batch_limit};
+ghost use Rattle.flow_model.specs.Spots.{Setting};
+ghost use Rattle.flow_model.specs.Worlds.{History, Stands};
+ghost use Rattle.flow_core.specs.Laws.{ObeysLaws};
+ghost use Rattle.flow_core.specs.Left.{AreAllEmptied, AreEmptied, AreFilled, AreOfPlan, IsPipeOf, LeftOn, StandForSome, instance_of, left_world};
+ghost use Rattle.flow_core.specs.Worlds.{IsStanding, IsWhole, StandsForSome, depth_limit, instance_in, seen};
+
+use crate::lefts::{InstanceList, Instances, NoteList, NoteLists};
+use crate::starting::empty_queues;
+use crate::stations::{Row, Station};
+use crate::wirings::Wiring;
+use crate::worlds::World;
+use local_strategy::Local;
+use pact_operators::{Physical, Program};
+use pact_record::OutOfMemory;
+use std::alloc::Global;
+
+// The instances of one source or operator, each with an empty pipe to every worker.
+fn empty_row<L: Local>(
+    alloc: Global,
+    workers: u32,
+    own: Instances<L>,
+) -> Result<Row<L>, OutOfMemory>
+    ensures { IfOk result (AreEmptied workers (length own) own) }
+{
+    let mut held = Vec::with_capacity(alloc, own.held.len())?;
+    for instance in own.held {
+        let queues = empty_queues(alloc, workers)?;
+        held.push_reserved(Station { instance, queues });
+    }
+    Ok(Row { held })
+}
+
+// Those of all sources and operators.
+fn empty_rows<L: Local>(
+    alloc: Global,
+    workers: u32,
+    instances: InstanceList<L>,
+) -> Result<Vec<Row<L>>, OutOfMemory>
+    ensures { IfOk result (λ rows. AreAllEmptied workers (length instances) instances rows.items) }
+{
+    let mut rows = Vec::with_capacity(alloc, instances.rows.len())?;
+    for own in instances.rows {
+        rows.push_reserved(empty_row(alloc, workers, own)?);
+    }
+    Ok(rows)
+}
+
+// The notes that are left on a pipe come back to it.
+fn refill<L: Local>(world: &mut World<L>, left: NoteList) -> Result<(), OutOfMemory>
+    requires whole { IsWhole world.old.physical world.old.stations }
+    requires pipe { IsPipeOf world.old.physical left.pipe }
+    ensures filled { OnOk result (AreFilled world.old.physical world.old.stations (left ∷ []) world.new.stations) }
+    ensures physical { world.new.physical ≡ world.old.physical }
+    ensures depth { world.new.depth ≡ world.old.depth }
+{
+    let NoteList { pipe, notes } = left;
+    world.stations[pipe.edge as usize].held[pipe.from as usize].refill(pipe.to, notes)
+}
+
+// Those of all pipes.
+fn refill_all<L: Local>(world: &mut World<L>, lists: NoteLists) -> Result<(), OutOfMemory>
+    requires whole { IsWhole world.old.physical world.old.stations }
+    requires pipes { AllByRecursion (λ (l : LeftOn). IsPipeOf world.old.physical l.pipe) lists }
+    ensures filled { OnOk result (AreFilled world.old.physical world.old.stations lists world.new.stations) }
+    ensures physical { world.new.physical ≡ world.old.physical }
+    ensures depth { world.new.depth ≡ world.old.depth }
+{
+    for left in lists.lists {
+        refill(world, left)?;
+    }
+    Ok(())
+}
+
+impl<L: Local> World<L> {
+    /// The world of instances and of notes on pipes that a run has left. It stands for each history for which they do. Each instance keeps the size of
+    /// batch with which it was started. A pipe may have more notes left than `depth`: none is put there until it has fewer. After want of memory the
+    /// instances and the notes are gone.
+    pub fn resume(
+        alloc: Global,
+        program: &Program,
+        physical: &Physical,
+        instances: InstanceList<L>,
+        notes: NoteLists,
+        _batch: u32,
+        depth: u32,
+    ) -> Result<World<L>, OutOfMemory>
+        requires plan { IsPlanOf program.now.functions program.now.ops physical.now.tree }
+        requires of_plan { AreOfPlan physical.now instances notes }
+        requires stand { StandForSome program.now physical.now instances notes }
+        requires batch { (1 ≤ _batch) × (_batch ≤ batch_limit) }
+        requires depth { (1 ≤ depth) × (depth ≤ depth_limit) }
+        ensures same { IfOk result (λ w. seen w ≡ left_world instances notes) }
+        ensures standing { IfOk result (λ w. (g : Setting) (h : History) → g.physical ≡ physical.now → Stands g (left_world instances notes) h → IsStanding g w h) }
+        ensures stands { IfOk result StandsForSome }
+        ensures laws { IfOk result ObeysLaws }
+        ensures physical { IfOk result (λ w. w.physical ≡ physical.now) }
+        ensures depth { IfOk result (λ w. w.depth ≡ depth) }
+        ensures batch { IfOk result (λ w. (at worker : ℕ) → (instance_in w.stations at worker).part.batch ≡ (instance_of instances at worker).part.batch) }
+    {
+        // a program tells that it is one, and a physical plan too
+        let (_fields, workers) = (program.fields(), physical.workers());
+        let stations = empty_rows(alloc, workers, instances)?;
+        let mut world = World {
+            alloc,
+            wiring: Wiring::new(physical),
+            depth,
+            stations,
+        };
+        refill_all(&mut world, notes)?;
+        Ok(world)
+    }
+}

@@ -1,0 +1,13 @@
+pub mod BlankTables
+pub mod BenchLaws
+pub mod ReadyWorkers
+pub mod TakenFrom
+pub mod Turning
+pub mod WiredPipes
+pub mod StartedWorkers
+mod Arranged
+mod Closing
+mod EndsOut
+mod Finished
+mod Sendable
+mod RunsOfWorkers

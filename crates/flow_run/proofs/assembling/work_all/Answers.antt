@@ -1,0 +1,31 @@
+use Rattle.std.proofs.Common.{◌≡◌, ◌<◌, ap, arith, length, subst, sym, ◌∙◌}
+use Rattle.std.specs.Prelude.{slice_index_or}
+use Rattle.std.specs.List.{All}
+use Rattle.std.proofs.lemmas.Result.{IfOk-weaker}
+use Rattle.flow_run.specs.Returns.{all_remains}
+use Rattle.flow_run.specs.Runs.{HaveReturnedFrom}
+use Rattle.flow_run.specs.Slots.{HasWorkedIn, IsSlotReady}
+use Rattle.flow_run.proofs.EndsOut.{whole_loan}
+use Rattle.flow_run.proofs.RunsOfWorkers.{all_left, ready_slots}
+use Rattle.flow_run.proofs.assembling.work_all.Goals as goal
+
+pub run_workers-requires-clause-some : goal.run_workers-requires-clause-some
+run_workers-requires-clause-some g c κs within =
+    let long = ap length c.deref_mut.ensures.value ∙ c.in_ok-slots.ensures.long in
+    omega (arith, c.requires.some, long)
+
+pub run_workers-requires-clause-ready : goal.run_workers-requires-clause-ready
+run_workers-requires-clause-ready g c κs within =
+    subst (All (IsSlotReady g.W.Width.fields)) (sym c.deref_mut.ensures.value)
+    (ready_slots c.args.pipes.now c.args.dealt.instances c.args.dealt.puts c.args.dealt.takes g.W.Width.fields c.args.workers c.in_ok-slots.slots.items c.in_ok-slots.ensures c.requires.ready)
+
+pub returns : goal.returns
+returns g c =
+    let old = c.in_ok-slots.slots.items in
+    let new = c.run_workers.new.slots in
+    let value = c.deref_mut.ensures.value in
+    let same : length new ≡ length old = c.run_workers.ensures.len ∙ ap length value in
+    let loan = whole_loan c.in_ok-slots.slots.len old new c.in_ok-slots.slots.ok.0 same in
+    IfOk-weaker c.leave.result _ _ (λ ws h. all_left c.args.pipes.now c.args.dealt.instances c.args.dealt.puts c.args.dealt.takes g.W.Width.fields c.args.workers old new (all_remains ws.items) c.in_ok-slots.ensures same
+    (λ k d less. subst (λ l. HasWorkedIn g.W.Width.fields (slice_index_or l k d) (slice_index_or new k d)) value (c.run_workers.ensures.each k d (subst (λ l. k < length l) (sym value) less)))
+    (subst (λ l. HaveReturnedFrom l (all_remains ws.items)) loan h)) c.leave.ensures

@@ -1,0 +1,77 @@
+//! Turns over all instances of a worker.
+
+ghost use Rattle.std.specs.Prelude.{◌≡◌, ◌<◌, length, IfOk, OnOk};
+ghost use Rattle.flow_run.specs.Benches.{AllHeld, IsReady, Works, bench};
+ghost use Rattle.flow_run.specs.Ends.{ArePuts, AreTakes};
+ghost use Rattle.flow_run.specs.Tries.{HasStepped, WhenTried};
+
+use crate::outcomes::Tried;
+use crate::seats::Seat;
+use crate::tables::{Table, Tables};
+use crate::tries::{try_put, try_take};
+use batch_channel::{Pipe, PutEnd, TakeEnd, Width};
+use flow_instance::{Instance, Want};
+use flow_model::PipeId;
+use local_strategy::Local;
+use pact_record::OutOfMemory;
+use std::sync::Wait;
+use worker_gate::{Act, Gate};
+
+// Tries what the instance of an operator wants.
+fn step<L: Local, W: Width, R: Wait, G: Gate>(
+    seat: &Seat<'_, R, G>,
+    at: u32,
+    instances: &mut [Instance<L>],
+    puts: &mut Table<PutEnd<W>>,
+    takes: &mut Table<TakeEnd<W>>,
+    pipes: &Tables<Pipe<W>>,
+) -> Result<Tried, OutOfMemory>
+    requires at { at < length instances.old }
+    requires ready { IsReady W.fields seat.now.number pipes.now instances.old puts.old takes.old }
+    ensures count { length instances.new ≡ length instances.old }
+    ensures puts { OnOk result (ArePuts pipes.now seat.now.number puts.new) }
+    ensures takes { OnOk result (AreTakes pipes.now seat.now.number takes.new) }
+    ensures stepped { IfOk result (HasStepped pipes.now seat.now.number (bench instances.old puts.old takes.old) at (bench instances.new puts.new takes.new)) }
+{
+    let i = &mut instances[at as usize];
+    match i.want() {
+        Want::Put(to) => {
+            let id = PipeId {
+                edge: at,
+                from: seat.number,
+                to,
+            };
+            Ok(try_put(seat, i, id, puts, pipes))
+        }
+        Want::Take(port) => try_take(seat, i, port, takes, pipes),
+        Want::End => {
+            seat.before(Act::End);
+            i.end();
+            Ok(Tried::Event)
+        }
+        Want::Done => Ok(Tried::Idle),
+    }
+}
+
+/// Tries what each instance wants, one after the other.
+pub(crate) fn turn<L: Local, W: Width, R: Wait, G: Gate>(
+    seat: &Seat<'_, R, G>,
+    instances: &mut [Instance<L>],
+    puts: &mut Table<PutEnd<W>>,
+    takes: &mut Table<TakeEnd<W>>,
+    pipes: &Tables<Pipe<W>>,
+) -> Result<Tried, OutOfMemory>
+    requires ready { IsReady W.fields seat.now.number pipes.now instances.old puts.old takes.old }
+    ensures count { length instances.new ≡ length instances.old }
+    ensures ready { OnOk result (IsReady W.fields seat.now.number pipes.now instances.new puts.new takes.new) }
+    ensures works { OnOk result (Works seat.now.number (length instances.old) (bench instances.old puts.old takes.old) (bench instances.new puts.new takes.new)) }
+    ensures held { IfOk result (λ tried. WhenTried tried (Unit {0}) (AllHeld pipes.now seat.now.number (length instances.new) (bench instances.new puts.new takes.new))) }
+{
+    let count = instances.len() as u32;
+    let mut tried = Tried::Idle;
+    for at in 0..count {
+        let now = step(seat, at, instances, puts, takes, pipes)?;
+        tried = tried.and(now);
+    }
+    Ok(tried)
+}

@@ -1,0 +1,26 @@
+use Rattle.std.proofs.Common.{ap, subst, sym, ◌∙◌}
+use Rattle.plan_trees.specs.Physicals.{PhysicalData, forwarded}
+use Rattle.plan_trees.specs.Plans.{PlanTree}
+use Rattle.pact_operators.specs.Programs.{IsPlanOf}
+use Rattle.ship_strategy.specs.Layouts.{ways_of}
+use Rattle.ship_strategy.specs.PlanFacts.{facts_of}
+use Rattle.ship_strategy.proofs.LaidSteps.{laid_workers}
+use Rattle.pact_top.proofs.RunPlans.{is_outcome}
+use Rattle.pact_top.proofs.choosing.run_plan_on_threads.Goals as goal
+
+pub run_owned-requires-clause-plan : goal.run_owned-requires-clause-plan
+run_owned-requires-clause-plan g c κs within =
+    let p = c.args.program.now in
+    subst (λ (t : PlanTree). IsPlanOf p.functions p.ops t) (sym c.task_of-physical.ensures.tree) c.requires.plan
+
+pub run_owned-requires-clause-workers : goal.run_owned-requires-clause-workers
+run_owned-requires-clause-workers g c κs within =
+    let p = c.args.program.now in
+    let plan = c.args.choice.now.plan in
+    c.task_of-physical.ensures.workers
+    ∙ sym (ap (λ (d : PhysicalData). d.workers) c.task_of-physical.ensures.physical ∙ laid_workers (facts_of p plan) (ways_of p.ops c.args.choice.now.chosen.layout) plan (forwarded plan c.args.options.workers))
+
+pub returns : goal.returns
+returns g c =
+    is_outcome c.args.program.now c.args.inputs c.args.choice.now.plan c.task_of-physical.result.physical c.run_owned.result c.task_of-physical.ensures.tree c.requires.inputs c.task_of-physical.ensures.legal c.requires.answers
+    c.run_owned.ensures.counted c.run_owned.ensures.widths

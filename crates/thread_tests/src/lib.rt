@@ -1,0 +1,16 @@
+//! Tests of pipes, gates and runs on threads, over what the libraries make public: what a pipe holds and in which order it gives it, what gates and
+//! flags answer, and that a run on threads gives what the run on one thread and the plain evaluation give.
+//!
+//! `programs` makes programs and the rows of their sources of texts, and `outcomes` compares what runs gave.
+#![tactic(auto)]
+
+#[cfg(test)]
+mod gate_tests;
+#[cfg(test)]
+mod outcomes;
+#[cfg(test)]
+mod pipe_tests;
+#[cfg(test)]
+mod programs;
+#[cfg(test)]
+mod run_tests;

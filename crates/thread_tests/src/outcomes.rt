@@ -1,0 +1,28 @@
+//! What runs gave, beside each other.
+
+use pact_bag::{Counts, Outcome, Rows, sort_rows};
+use std::test::Fail;
+
+fn are_equal(found: &Counts, wanted: &Counts) -> bool {
+    for at in 0..wanted.len().min(found.len()) {
+        if found.at(at) != wanted.at(at) {
+            return false;
+        }
+    }
+    found.len() == wanted.len()
+}
+
+// Whether these are the same rows, in some order.
+fn are_same(found: Rows, wanted: Rows) -> Result<bool, Fail> {
+    let found = sort_rows(found)?;
+    let wanted = sort_rows(wanted)?;
+    Ok(found.rows() == wanted.rows())
+}
+
+/// Whether two runs gave the same counts, and the same rows in some order.
+pub fn same_outcomes(found: Outcome, wanted: Outcome) -> Result<bool, Fail> {
+    if !are_equal(&found.counts, &wanted.counts) {
+        return Ok(false);
+    }
+    are_same(found.rows, wanted.rows)
+}

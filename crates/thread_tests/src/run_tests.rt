@@ -1,0 +1,257 @@
+//! Runs on threads, beside the run on one thread and the plain evaluation.
+
+ghost use Rattle.std.specs.Prelude.{◌≤◌};
+ghost use Rattle.plan_trees.specs.Physicals.{worker_limit};
+
+use crate::outcomes::same_outcomes;
+use crate::programs::{inputs, program};
+use flow_core::{World, run_alone};
+use flow_run::{Options, run, run_owned};
+use local_strategy::ListLocal;
+use ship_strategy::{layout, layouts};
+use slow_eval::evaluate;
+use std::alloc::Global;
+use std::sync::Wait;
+use std::sync::atomic::{AtomicU64, Ordering};
+use std::test::Fail;
+use std::thread;
+use std::thread::Threads;
+use worker_gate::{Act, Gate, MeetGate, OpenGate};
+
+const SUM: &str = "pact 1
+fields 4
+source s s.csv int:0 int:1
+function sum reduce 1
+  v0 = int 0
+  each x1 of group
+    v1 = get x1 1
+    v0 = addw v0 v1
+  end
+  r0 = new
+  v2 = key 0
+  set r0 0 v2
+  set r0 2 v0
+  emit r0
+end
+reduce r sum s by 0
+sink r 0 2
+";
+
+const MATCH: &str = "pact 1
+fields 4
+source a a.csv int:0 int:1
+source b b.csv int:2 int:3
+function both match
+  r0 = copy join
+  emit r0
+end
+match j both a b by 0 = 2
+sink j 0 1 3
+";
+
+const CROSS: &str = "pact 1
+fields 4
+source a a.csv int:0 int:1
+source b b.csv int:2 int:3
+function both cross
+  r0 = copy join
+  emit r0
+end
+cross x both a b
+sink x 0 2
+";
+
+const PAIRS: &str = "pact 1
+fields 6
+source l l.csv int:0 int:1
+source r r.csv int:2 int:3
+source t t.csv int:4 int:5
+function equal cross
+  v0 = get left 0
+  v1 = get right 2
+  v2 = eq v0 v1
+  if v2
+    r0 = copy join
+    emit r0
+    emit r0
+  end
+end
+function all cogroup 1
+  each x1 of left
+    r0 = copy x1
+    emit r0
+  end
+  each x1 of right
+    r0 = copy x1
+    emit r0
+  end
+end
+cross x equal l r
+cogroup g all x t by 0 = 4
+sink g 0 1
+";
+
+const SUMMED: &str = "1,1\n2,1\n3,1\n4,1\n5,1\n1,1\n2,1\n3,1\n4,1\n5,1\n1,2\n";
+
+const MATCHED: [&str; 2] = [
+    "1,10\n2,20\n1,10\n3,7\n5,5\n",
+    "1,5\n4,5\n1,6\n9,9\n5,1\n5,2\n",
+];
+
+const PAIRED: [&str; 3] = ["1,10\n2,20\n1,10\n", "1,5\n4,5\n1,6\n9,9\n", "1,0\n7,0\n"];
+
+// Whether a run on threads gives what the evaluation gives, where the numbers are within their limits.
+fn agrees<R: Threads + Wait + Sync, G: Gate>(
+    rt: &R,
+    alloc: Global,
+    text: &str,
+    rows: &[&str],
+    options: Options,
+    gate: &G,
+) -> Result<bool, Fail>
+    requires workers { (1 ≤ options.workers) × (options.workers ≤ worker_limit) }
+    requires batch { (1 ≤ options.batch) × (options.batch ≤ 1024) }
+    requires depth { (1 ≤ options.depth) × (options.depth ≤ 64) }
+{
+    let program = program(alloc, text.as_bytes())?;
+    let inputs = inputs(alloc, &program, rows)?;
+    let _some = layouts(&program, program.plan());
+    let physical = layout(&program, program.plan(), 0, options.workers);
+    // a layout tells for how many workers it is
+    let workers = physical.workers();
+    let options = Options { workers, ..options };
+    let found = run::<ListLocal, R, G>(rt, alloc, &program, &physical, &inputs, options, gate)?;
+    let wanted = evaluate(alloc, &program, program.plan(), &inputs)?;
+    same_outcomes(found, wanted)
+}
+
+// Whether runs of each kind of operator agree, and of several.
+fn all_agree<R: Threads + Wait + Sync>(
+    rt: &R,
+    alloc: Global,
+    workers: u32,
+    batch: u32,
+    depth: u32,
+) -> Result<bool, Fail>
+    requires workers { (1 ≤ workers) × (workers ≤ worker_limit) }
+    requires batch { (1 ≤ batch) × (batch ≤ 1024) }
+    requires depth { (1 ≤ depth) × (depth ≤ 64) }
+{
+    let options = Options {
+        workers,
+        batch,
+        depth,
+    };
+    Ok(
+        agrees(rt, alloc, SUM, &[SUMMED], options, &OpenGate)?
+            && agrees(rt, alloc, MATCH, &MATCHED, options, &OpenGate)?
+            && agrees(rt, alloc, CROSS, &MATCHED, options, &OpenGate)?
+            && agrees(rt, alloc, PAIRS, &PAIRED, options, &OpenGate)?,
+    )
+}
+
+#[test]
+fn runs_on_threads_give_what_the_evaluation_gives(rt: HostRuntime) -> Result<(), Fail> {
+    assert!(rt; all_agree(&rt, rt.alloc(), 1, 1, 1)?);
+    assert!(rt; all_agree(&rt, rt.alloc(), 1, 64, 64)?);
+    assert!(rt; all_agree(&rt, rt.alloc(), 2, 1, 1)?);
+    assert!(rt; all_agree(&rt, rt.alloc(), 2, 1, 64)?);
+    assert!(rt; all_agree(&rt, rt.alloc(), 2, 64, 1)?);
+    assert!(rt; all_agree(&rt, rt.alloc(), 2, 64, 64)?);
+    assert!(rt; all_agree(&rt, rt.alloc(), 3, 1, 1)?);
+    assert!(rt; all_agree(&rt, rt.alloc(), 3, 64, 64)?);
+    assert!(rt; all_agree(&rt, rt.alloc(), 16, 1, 1)?);
+    assert!(rt; all_agree(&rt, rt.alloc(), 16, 64, 64)?);
+    Ok(())
+}
+
+// Whether the sums by two workers, who hand over one record at a time, are those of one thread.
+fn sums_agree<R: Threads + Wait + Sync, G: Gate>(
+    rt: &R,
+    alloc: Global,
+    gate: &G,
+) -> Result<bool, Fail> {
+    let program = program(alloc, SUM.as_bytes())?;
+    let inputs = inputs(alloc, &program, &[SUMMED])?;
+    let _some = layouts(&program, program.plan());
+    let physical = layout(&program, program.plan(), 0, 2);
+    let options = Options {
+        workers: physical.workers(),
+        batch: 1,
+        depth: 1,
+    };
+    let alone = World::<ListLocal>::start(alloc, &program, &physical, &inputs, 1, 1)?;
+    let wanted = run_alone(alone)?;
+    let found = run_owned::<ListLocal, R, G>(
+        rt, alloc, &program, &physical, inputs, options, gate,
+    )?;
+    same_outcomes(found, wanted)
+}
+
+#[test]
+fn two_workers_sum_side_by_side(rt: HostRuntime) -> Result<(), Fail> {
+    let gate = MeetGate::new(2, 10000000);
+    assert!(rt; sums_agree(&rt, rt.alloc(), &gate)?);
+    assert!(rt; gate.met());
+    assert_eq!(rt; (gate.ends(0), gate.ends(1)), (2, 2));
+    Ok(())
+}
+
+// Holds one worker back for so many turns at each of its events.
+#[derive(Drop)]
+struct SlowGate {
+    worker: u32,
+    turns: u32,
+}
+
+impl Gate for SlowGate {
+    fn before(&self, worker: u32, _act: Act) {
+        if worker == self.worker {
+            wait(self.turns);
+        }
+    }
+}
+
+// Holds whoever comes with this event for so many turns.
+#[derive(Drop)]
+struct StopGate {
+    event: u64,
+    turns: u32,
+    events: AtomicU64,
+}
+
+impl Gate for StopGate {
+    fn before(&self, _worker: u32, _act: Act) {
+        if self.events.fetch_add(1, Ordering::SeqCst) == self.event {
+            wait(self.turns);
+        }
+    }
+}
+
+fn wait(turns: u32) {
+    for _ in 0..turns {
+        thread::yield_now();
+    }
+}
+
+#[test]
+fn a_worker_that_is_held_back_changes_no_answer(rt: HostRuntime) -> Result<(), Fail> {
+    let options = Options {
+        workers: 3,
+        batch: 1,
+        depth: 1,
+    };
+    for worker in 0..3u32 {
+        let gate = SlowGate { worker, turns: 20 };
+        assert!(rt; agrees(&rt, rt.alloc(), PAIRS, &PAIRED, options, &gate)?);
+    }
+    for event in 0..40u64 {
+        let gate = StopGate {
+            event,
+            turns: 2000,
+            events: AtomicU64::new(0),
+        };
+        assert!(rt; agrees(&rt, rt.alloc(), PAIRS, &PAIRED, options, &gate)?);
+    }
+    Ok(())
+}

@@ -1,0 +1,43 @@
+//! What workers tell each other.
+
+use crossbeam_utils::CachePadded;
+use std::sync::atomic::{AtomicU64, Ordering};
+
+/// How many workers have started, and whether one has left unfinished. No contract says what a flag holds.
+#[derive(Drop)]
+pub struct Flags {
+    workers: u32,
+    started: CachePadded<AtomicU64>,
+    gone: CachePadded<AtomicU64>,
+}
+
+impl Flags {
+    /// For so many workers, of whom none has started or left.
+    pub fn new(workers: u32) -> Flags {
+        Flags {
+            workers,
+            started: CachePadded::new(AtomicU64::new(0)),
+            gone: CachePadded::new(AtomicU64::new(0)),
+        }
+    }
+
+    /// One worker more has started. Each calls it once.
+    pub fn start(&self) {
+        self.started.fetch_add(1, Ordering::SeqCst);
+    }
+
+    /// A worker leaves unfinished.
+    pub fn leave(&self) {
+        self.gone.store(1, Ordering::SeqCst);
+    }
+
+    /// Whether as many workers have started as there are.
+    pub fn all_started(&self) -> bool {
+        self.started.load(Ordering::SeqCst) >= u64::from(self.workers)
+    }
+
+    /// Whether a worker has left unfinished.
+    pub fn left(&self) -> bool {
+        self.gone.load(Ordering::SeqCst) != 0
+    }
+}

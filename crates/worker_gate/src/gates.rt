@@ -1,0 +1,26 @@
+//! What a worker calls before each of its events.
+
+/// What kind of event comes.
+#[derive(Clone, Copy, Debug, PartialEq, Eq)]
+pub enum Act {
+    /// A note is put.
+    Put,
+    /// A note is taken.
+    Take,
+    /// An instance ends.
+    End,
+}
+
+/// A place at which workers can be held.
+pub trait Gate: Sync {
+    /// Called before every event, on the thread of the worker whose event it is, and also before a put or a take that then finds its pipe full or empty.
+    /// It may take a while, but always returns, and tells nothing.
+    fn before(&self, worker: u32, act: Act);
+}
+
+/// A gate that does nothing.
+pub struct OpenGate;
+
+impl Gate for OpenGate {
+    fn before(&self, _worker: u32, _act: Act) {}
+}

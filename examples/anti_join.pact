@@ -1,0 +1,22 @@
+# The members that have no visit.
+# SQL: select id, name from members where not exists (select 1 from visits where member = id)
+pact 1
+fields 4
+source member members.csv int:0 text:1
+source visit visits.csv int:2 int:3
+function unknown cogroup 1
+  v0 = int 0
+  v1 = int 1
+  each x1 of right
+    v0 = max v0 v1        # 1 where there is a visit
+  end
+  v0 = not v0
+  if v0
+    each x1 of left
+      r0 = copy x1
+      emit r0
+    end
+  end
+end
+cogroup unseen unknown member visit by 0 = 2
+sink unseen 0 1

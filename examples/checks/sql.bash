@@ -1,0 +1,42 @@
+# Where sqlite3 is there: the query in a program's comment gives the rows that expected/ has of it. It stands behind
+# "# SQL:", and goes on in the comments below.
+
+tables=$scratch/tables.db
+
+query_of() {
+    awk '/^# SQL: / { sub(/^# SQL:/, "#"); query = 1 } !/^#/ { exit } query { sub(/^#/, ""); print }' "$1"
+}
+
+# Whether a query gives the rows of a file, whose order says nothing of an answer.
+gives_rows() {
+    sqlite3 -batch -list -separator , "$tables" "$1" >"$scratch/out" 2>"$scratch/err" &&
+        [ ! -s "$scratch/err" ] && cmp -s <(LC_ALL=C sort "$scratch/out") <(LC_ALL=C sort "$2")
+}
+
+# An empty cell is Null.
+if command -v sqlite3 >/dev/null; then
+    sqlite3 -batch -csv "$tables" <<'END'
+create table members(id int, name text);
+create table visits(member int, day int);
+create table guests(id int, name text);
+create table sales(region text, quarter int, amount int);
+create table basket(item text, quantity int, price int);
+create table staff(id int, name text, leader int);
+create table scores(name text, score int);
+create table s(key int, value int);
+.import members.csv members
+.import visits.csv visits
+.import guests.csv guests
+.import sales.csv sales
+.import basket.csv basket
+.import staff.csv staff
+.import scores.csv scores
+.import s.csv s
+update sales set amount = null where amount = '';
+update staff set leader = null where leader = '';
+END
+    for program in *.pact; do
+        query=$(query_of "$program")
+        [ -z "$query" ] || count gives_rows "$query" "expected/${program%.pact}.stdout"
+    done
+fi

@@ -1,0 +1,27 @@
+# What runs on threads write: each program that allows one answer, on 2 to 16 of them, with batches of one record and of 64, and pipes of one note
+# and of 64, again and again. Threads fall differently each time, and no byte may.
+
+# By the launcher, which takes its time, once; by the program itself twenty times.
+times=20
+[ -n "${PACT_PROGRAM-}" ] || times=1
+# Whether the program writes its rows each time, with these numbers of workers, of records and of notes.
+writes_the_same() {
+    local name=$1 workers=$2 batch=$3 depth=$4 i
+    for ((i = 0; i < times; i++)); do
+        "$pact" run "$name.pact" --workers "$workers" --batch "$batch" --depth "$depth"
+    done >"$scratch/again" 2>"$scratch/err"
+    [ ! -s "$scratch/err" ] && cmp -s "$scratch/again" "$scratch/often"
+}
+for program in *.pact; do
+    name=${program%.pact}
+    # Not those that are refused, or allow several answers.
+    [ -s "expected/$name.stdout" ] && ! "$pact" sets "$program" | grep -q 'order no$' || continue
+    for ((i = 0; i < times; i++)); do cat "expected/$name.stdout"; done >"$scratch/often"
+    for workers in 2 3 4 8 16; do
+        for batch in 1 64; do
+            for depth in 1 64; do
+                count writes_the_same "$name" "$workers" "$batch" "$depth"
+            done
+        done
+    done
+done

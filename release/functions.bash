@@ -1,0 +1,320 @@
+# shellcheck shell=bash
+# What the launcher, the release and the gate share: which sources the program is made of, of which a program was made, and how one is built.
+# Whoever reads this in has set `root`, the top of the repository. A folder with a program holds `pact_program` and `built_of`, whose lines are
+#   sources SUM       the checksum of the sources, as sum_of_sources has it
+#   toolchain LINE    what `rt version` prints
+#   program SUM       the checksum of the program
+#   size BYTES        its size
+# Checksums are SHA-256.
+
+: "${root:?}"
+released=$root/release
+# What belongs to this checkout alone lies outside of it, since it may be read-only: the program that was built here, the trees in which it was
+# proved, and the folder that was chosen last.
+own=${XDG_CACHE_HOME-}
+[[ $own == /* ]] || own=${HOME:-/dev/null}/.cache
+own=$own/pact$root/@
+built=$own/built
+marker=$own/marker
+
+# ---- sources
+
+# The crates that a crate stands on, itself among them, in the order of crates.txt.
+crates_of() {
+    awk -F: -v top="$1" '
+        /^[a-z0-9_]+.*:/ { split($1, words, " "); name[++lines] = words[1]; below[words[1]] = $2 }
+        function visit(crate, names, count, i) {
+            if (!(crate in below) || crate in visited) return
+            visited[crate] = 1
+            count = split(below[crate], names, " ")
+            for (i = 1; i <= count; i++) visit(names[i])
+        }
+        END { visit(top); for (i = 1; i <= lines; i++) if (name[i] in visited) print name[i] }' "$root/crates.txt"
+}
+
+# The checksum of standard input.
+sum_of() {
+    local sum
+    sum=$(sha256sum) && echo "${sum%% *}"
+}
+
+# The checksum over crates.txt, HANDLES and every file below src/, specs/ and proofs/ of those crates, with their names. The toolchain refuses links
+# there, so none is followed.
+sum_of_sources() (
+    cd "$root" || exit 1
+    places=(crates.txt HANDLES)
+    for crate in $(crates_of pact_program); do
+        for part in "crates/$crate"/{src,specs,proofs}; do
+            [ ! -d "$part" ] || places+=("$part")
+        done
+    done
+    find "${places[@]}" -type f -print0 | LC_ALL=C sort -z | xargs -0 sha256sum | sum_of
+)
+
+# ---- programs
+
+# What a folder's `built_of` has behind a word.
+built_of() {
+    sed -n "s/^$2 //p" "$1/built_of" 2>/dev/null
+}
+
+# Puts a program into a folder, the sources having this checksum.
+put_program() {
+    local folder=$1 program=$2 sources=$3 toolchain
+    trap 'rm -f "$folder/program.$$" "$folder/built_of.$$"' RETURN
+    toolchain=$(rt version) && mkdir -p "$folder" && cp "$program" "$folder/program.$$" && chmod 755 "$folder/program.$$" || return 1
+    printf '%s\n' "sources $sources" "toolchain $toolchain" "program $(sum_of <"$folder/program.$$")" \
+        "size $(stat -c %s "$folder/program.$$")" >"$folder/built_of.$$" || return 1
+    # Whoever looks between the two finds another checksum, and so no program.
+    mv -T "$folder/program.$$" "$folder/pact_program" && mv -T "$folder/built_of.$$" "$folder/built_of"
+}
+
+# A number at a place of an ELF file: how many bytes it has, and where.
+number_at() {
+    local number
+    read -r number < <(od -An -t "u$2" -j "$3" -N "$2" "$1") && echo "$number"
+}
+
+# The linked program up to the end of what is loaded when it runs. What lies behind that serves debuggers alone.
+loaded_part() {
+    local program=$1 headers size count i at end=0 last=0
+    # the four bytes with which such a file begins
+    [ "$(number_at "$program" 4 0)" = $((0x464c457f)) ] || return 1
+    headers=$(number_at "$program" 8 32) && size=$(number_at "$program" 2 54) && count=$(number_at "$program" 2 56) || return 1
+    for ((i = 0; i < count; i++)); do
+        at=$((headers + i * size))
+        end=$(($(number_at "$program" 8 $((at + 8))) + $(number_at "$program" 8 $((at + 32)))))
+        [ "$end" -le "$last" ] || last=$end
+    done
+    head -c "$last" "$program"
+}
+
+# Whether this machine can start the program, which without words tells the usage and ends with 2.
+runs_here() {
+    "$1" >/dev/null 2>&1
+    [ $? -eq 2 ]
+} 2>/dev/null
+
+# Why the program of a folder can't stand for the sources with this checksum; nothing, where it can.
+why_not() {
+    local folder=$1 sources=$2
+    if ! [ -f "$folder/pact_program" ] || ! [ -f "$folder/built_of" ]; then
+        echo 'is missing'
+    elif [ "$(built_of "$folder" sources)" != "$sources" ]; then
+        echo 'is of other sources'
+    elif [ "$(sum_of <"$folder/pact_program")" != "$(built_of "$folder" program)" ]; then
+        echo 'is damaged'
+    elif ! runs_here "$folder/pact_program"; then
+        echo "doesn't run here (it is for Linux on x86-64 with the GNU C library, 2.34 or later, and has to be executable)"
+    fi
+}
+
+# Whether the program that was built here is of the sources with this checksum, and of the toolchain that is there, if there is one.
+is_built_of() {
+    [ -z "$(why_not "$built" "$1")" ] || return 1
+    ! command -v rt >/dev/null || [ "$(rt version)" = "$(built_of "$built" toolchain)" ]
+}
+
+# ---- the choice
+
+# All that a choice of this folder rests on, as the file system has it: where something was written, made, renamed or moved since, the lists differ.
+# A program that was built here is of one toolchain: the command, and the compiler and its parts that stand beside it.
+listing() {
+    local places=("$root"/{crates.txt,HANDLES,release} "$root"/crates/*/{src,specs,proofs} "$1") toolchain
+    if [ "$1" = "$built" ] && toolchain=$(command -v rt); then
+        toolchain=$(readlink -f -- "$toolchain")
+        places+=("${toolchain%/*}"/{rt,rt-*,rtlib*,rattle,rattle-*})
+    fi
+    echo "$1"
+    find "${places[@]}" -printf '%p %i %s %C@\n' 2>/dev/null
+}
+
+# Sets `folder` to the one that was chosen last, where nothing has changed since.
+find_last_choice() {
+    { read -r folder <"$marker"; } 2>/dev/null && listing "$folder" | cmp -s - "$marker"
+}
+
+# Keeps what was chosen while the file system was as this listing says, so that later calls take no checksums.
+keep_choice() {
+    # A `find` without -printf lists nothing, which would never change.
+    [[ $1 == *$'\n'* ]] && mkdir -p "$own" || return
+    { printf '%s\n' "$1" >"$marker.$$" && mv -T "$marker.$$" "$marker"; } || rm -f "$marker.$$"
+} 2>/dev/null
+
+# Sets `folder` to the one whose program is to run, and builds that where there is none. What is listed is listed before it is read, so that the
+# next call sees what changed in between.
+choose_folder() {
+    local of_built of_released sources why
+    of_built=$(listing "$built")
+    of_released=$(listing "$released")
+    sources=$(sum_of_sources) || return 1
+    folder=$built
+    if is_built_of "$sources"; then
+        keep_choice "$of_built"
+        return 0
+    fi
+    why=$(why_not "$released" "$sources")
+    if [ -z "$why" ]; then
+        folder=$released
+        keep_choice "$of_released"
+        return 0
+    fi
+    if ! command -v rt >/dev/null; then
+        echo "pact: the released program $why, and the toolchain's command rt isn't on the PATH to build another" >&2
+        return 1
+    fi
+    echo "pact: the released program $why, so one is built" >&2
+    build_alone >&2
+}
+
+# ---- a build
+
+# Each crate has a tree of its own with the crates below it, since the toolchain lets one command at a time work in a tree. What is proved in one is
+# linked into those of the crates above. `trees` is the folder that has them.
+
+# Puts a crate and those below it, as they stand in the copy of the sources, into the crate's tree, and the libraries that were built of these.
+# What was proved there before stays beside them.
+fill_tree() {
+    local crate=$1 tree=$trees/$1 below other part
+    below=$(crates_of "$crate")
+    mkdir -p "$tree/crates" && cp "$root/HANDLES" "$tree/HANDLES" || return 1
+    grep -E "^($(paste -sd '|' <<<"$below"))( [^:]*)?:" "$root/crates.txt" >"$tree/crates.txt" || return 1
+    for other in "$tree"/crates/*/; do
+        grep -qx "$(basename "$other")" <<<"$below" || rm -rf "$other"
+    done
+    for other in $below; do
+        mkdir -p "$tree/crates/$other/out" || return 1
+        for part in src specs proofs; do
+            rm -rf "${tree:?}/crates/$other/$part"
+            [ ! -d "$trees/sources/$other/$part" ] || cp -al "$trees/sources/$other/$part" "$tree/crates/$other" || return 1
+        done
+        [ "$other" != "$crate" ] || continue
+        rm -rf "$tree/crates/$other/out/rlib"
+        cp -al "$trees/$other/crates/$other/out/rlib" "$tree/crates/$other/out" || return 1
+    done
+}
+
+# Proves a crate with so many processors, and builds its library or, of the program, links it.
+prove_crate() {
+    fill_tree "$1" && cd "$trees/$1/crates/$1" || return 1
+    if [ "$1" = pact_program ]; then
+        # What an older build linked may not pass for what this one links.
+        rm -f out/pact_program
+        # rt runs what it links; with no words that does nothing but tell the usage
+        exec rt run
+    fi
+    exec rt lib --jobs "$2"
+} </dev/null >"$trees/$1.log" 2>&1
+
+# How many crates are proved at a time at most: one for each processor, as far as there are three gigabytes for each.
+crates_at_a_time() {
+    awk -v processors="$(nproc)" '
+        $1 == "MemAvailable:" { room = int($2 / 3000000) }
+        END { print room < 1 ? 1 : room < processors ? room : processors }' /proc/meminfo
+}
+
+# The program's crates, those first on which most others stand.
+crates_by_weight() {
+    local crate
+    for crate in $(crates_of pact_program); do
+        crates_of "$crate"
+    done | sort | uniq -c | sort -k 1,1nr -k 2 | awk '{ print $2 }'
+}
+
+# Proves all crates of the program, each as soon as those below it are proved.
+prove_crates() {
+    local -A waits_for=() begun=() crate_of=() used=()
+    local waiting=() ready left crate other free jobs failed='' done_count=0 total process status
+    mapfile -t waiting < <(crates_by_weight)
+    total=${#waiting[@]}
+    free=$(crates_at_a_time)
+    for crate in "${waiting[@]}"; do
+        waits_for[$crate]=$(crates_of "$crate" | grep -vx "$crate")
+    done
+    while :; do
+        ready=()
+        for crate in "${waiting[@]}"; do
+            [ -n "${waits_for[$crate]}" ] || ready+=("$crate")
+        done
+        # The first of those that can begin gets half of what is free, so that what most others wait for isn't done last.
+        left=${#ready[@]}
+        for crate in "${ready[@]}"; do
+            if [ "$free" -eq 0 ] || [ -n "$failed" ]; then break; fi
+            jobs=$((left == 1 ? free : (free + 1) / 2))
+            left=$((left - 1))
+            free=$((free - jobs))
+            used[$crate]=$jobs
+            begun[$crate]=$(date +%s)
+            prove_crate "$crate" "$jobs" &
+            crate_of[$!]=$crate
+            mapfile -t waiting < <(printf '%s\n' "${waiting[@]}" | grep -vx "$crate")
+        done
+        [ ${#crate_of[@]} -gt 0 ] || break
+        while :; do
+            for process in "${!crate_of[@]}"; do
+                # `wait -n` would miss one that ends while another is begun
+                kill -0 "$process" 2>/dev/null || break 2
+            done
+            sleep 0.1
+        done
+        wait "$process"
+        status=$?
+        crate=${crate_of[$process]}
+        unset "crate_of[$process]"
+        free=$((free + used[$crate]))
+        # the program's own status is that of a call without words
+        if [ "$crate" = pact_program ]; then [ -x "$trees/$crate/crates/$crate/out/pact_program" ]; status=$?; fi
+        if [ "$status" -ne 0 ]; then
+            failed=$crate
+            echo "pact: $crate failed (log: $trees/$crate.log)"
+            tail -n 20 "$trees/$crate.log" | sed 's/^/    /'
+            continue
+        fi
+        done_count=$((done_count + 1))
+        echo "pact: $done_count of $total crates: $crate, $(($(date +%s) - begun[$crate])) s"
+        for other in "${waiting[@]}"; do
+            waits_for[$other]=$(grep -vx "$crate" <<<"${waits_for[$other]}")
+        done
+    done
+    [ -z "$failed" ]
+}
+
+# Proves and links the program of the sources that are there.
+build() {
+    local trees=$own/trees sources started crate part
+    started=$(date +%s)
+    while :; do
+        sources=$(sum_of_sources) && rm -rf "$trees/sources" || return 1
+        for crate in $(crates_of pact_program); do
+            mkdir -p "$trees/sources/$crate" || return 1
+            for part in "$root/crates/$crate"/{src,specs,proofs}; do
+                [ ! -d "$part" ] || cp -R "$part" "$trees/sources/$crate" || return 1
+            done
+        done
+        # What changed while it was copied is copied again.
+        [ "$sources" != "$(sum_of_sources)" ] || break
+    done
+    echo "pact: each proof is checked, at most $(crates_at_a_time) crates at a time; from nothing that is some 90 processor minutes"
+    # A build that is ended from outside ends what it began.
+    trap 'kill $(jobs -p) 2>/dev/null; exit 143' INT TERM HUP
+    prove_crates || return 1
+    put_program "$built" "$trees/pact_program/crates/pact_program/out/pact_program" "$sources" && echo "pact: built in $(($(date +%s) - started)) s"
+}
+
+# One builds at a time, and one that has waited finds the program built.
+build_alone() {
+    if ! mkdir -p "$own" 2>/dev/null || ! [ -w "$own" ]; then
+        echo "pact: nothing can be built in $own; XDG_CACHE_HOME may name another place"
+        return 1
+    fi
+    exec 9>"$own/build.lock"
+    if command -v flock >/dev/null && ! flock -n 9; then
+        echo 'pact: another call is building it, which is waited for'
+        flock 9
+    fi
+    is_built_of "$(sum_of_sources)" || build
+    local status=$?
+    exec 9>&-
+    [ "$status" -eq 0 ] || echo 'pact: the build failed'
+    return "$status"
+}
