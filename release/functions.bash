@@ -194,7 +194,7 @@ fill_tree() {
     done
 }
 
-# Proves a crate with so many processors, and builds its library or, of the program, links it.
+# Proves a crate by so many processes, less eagerly by so much, and builds its library or, of the program, links it.
 prove_crate() {
     fill_tree "$1" && cd "$trees/$1/crates/$1" || return 1
     if [ "$1" = pact_program ]; then
@@ -203,51 +203,64 @@ prove_crate() {
         # rt runs what it links; with no words that does nothing but tell the usage
         exec rt run
     fi
-    exec rt lib --jobs "$2"
+    exec nice -n "$3" rt lib --jobs "$2"
 } </dev/null >"$trees/$1.log" 2>&1
 
-# How many crates are proved at a time at most: one for each processor, as far as there are three gigabytes for each.
-crates_at_a_time() {
+# How many processes there may be: two for each processor, as far as there are three gigabytes for each.
+processes_at_most() {
     awk -v processors="$(nproc)" '
         $1 == "MemAvailable:" { room = int($2 / 3000000) }
-        END { print room < 1 ? 1 : room < processors ? room : processors }' /proc/meminfo
+        END { print room < 1 ? 1 : room < 2 * processors ? room : 2 * processors }' /proc/meminfo
 }
 
-# The program's crates, those first on which most others stand.
-crates_by_weight() {
-    local crate
-    for crate in $(crates_of pact_program); do
-        crates_of "$crate"
-    done | sort | uniq -c | sort -k 1,1nr -k 2 | awk '{ print $2 }'
+# The program's crates, each behind how many stand above it in the longest chain of crates that stand on each other; the longest first.
+crates_by_chain() {
+    awk -F: -v wanted="$(crates_of pact_program)" '
+        BEGIN { count = split(wanted, names, "\n"); for (i = 1; i <= count; i++) chain[names[i]] = 0 }
+        /^[a-z0-9_]+.*:/ { split($1, words, " "); name[++lines] = words[1]; below[words[1]] = $2 }
+        END {
+            for (line = lines; line > 0; line--) {
+                if (!(name[line] in chain)) continue
+                count = split(below[name[line]], names, " ")
+                for (i = 1; i <= count; i++)
+                    if (names[i] in chain && chain[names[i]] <= chain[name[line]]) chain[names[i]] = chain[name[line]] + 1
+            }
+            for (crate in chain) print chain[crate], crate
+        }' "$root/crates.txt" | sort -k 1,1nr -k 2
 }
 
-# Proves all crates of the program, each as soon as those below it are proved.
+# Proves all crates of the program, each as soon as those below it are proved. One of them, that with most above it, may use all processors; the
+# others have one process each, and what it leaves.
 prove_crates() {
-    local -A waits_for=() begun=() crate_of=() used=()
-    local waiting=() ready left crate other free jobs failed='' done_count=0 total process status
-    mapfile -t waiting < <(crates_by_weight)
+    local -A waits_for=() begun=() crate_of=()
+    local waiting=() crate other processes jobs beside first='' failed='' done_count=0 total process status
+    mapfile -t waiting < <(crates_by_chain | cut -d ' ' -f 2)
     total=${#waiting[@]}
-    free=$(crates_at_a_time)
+    processes=$(processes_at_most)
+    jobs=$(nproc)
+    [ "$jobs" -lt "$processes" ] || jobs=$(((processes + 1) / 2))
+    beside=$((processes - jobs))
     for crate in "${waiting[@]}"; do
         waits_for[$crate]=$(crates_of "$crate" | grep -vx "$crate")
     done
     while :; do
-        ready=()
         for crate in "${waiting[@]}"; do
-            [ -n "${waits_for[$crate]}" ] || ready+=("$crate")
-        done
-        # The first of those that can begin gets half of what is free, so that what most others wait for isn't done last.
-        left=${#ready[@]}
-        for crate in "${ready[@]}"; do
-            if [ "$free" -eq 0 ] || [ -n "$failed" ]; then break; fi
-            jobs=$((left == 1 ? free : (free + 1) / 2))
-            left=$((left - 1))
-            free=$((free - jobs))
-            used[$crate]=$jobs
+            [ -z "$failed" ] || break
+            [ -z "${waits_for[$crate]}" ] || continue
+            if [ -z "$first" ]; then
+                first=$crate
+                prove_crate "$crate" "$jobs" 0 &
+            elif [ "$beside" -gt 0 ]; then
+                beside=$((beside - 1))
+                prove_crate "$crate" 1 10 &
+            else
+                break
+            fi
             begun[$crate]=$(date +%s)
-            prove_crate "$crate" "$jobs" &
             crate_of[$!]=$crate
-            mapfile -t waiting < <(printf '%s\n' "${waiting[@]}" | grep -vx "$crate")
+        done
+        for crate in "${crate_of[@]}"; do
+            mapfile -t waiting < <(printf '%s\n' "${waiting[@]}" | grep -vx -e "$crate" -e '')
         done
         [ ${#crate_of[@]} -gt 0 ] || break
         while :; do
@@ -261,7 +274,7 @@ prove_crates() {
         status=$?
         crate=${crate_of[$process]}
         unset "crate_of[$process]"
-        free=$((free + used[$crate]))
+        if [ "$crate" = "$first" ]; then first=''; else beside=$((beside + 1)); fi
         # the program's own status is that of a call without words
         if [ "$crate" = pact_program ]; then [ -x "$trees/$crate/crates/$crate/out/pact_program" ]; status=$?; fi
         if [ "$status" -ne 0 ]; then
@@ -294,7 +307,7 @@ build() {
         # What changed while it was copied is copied again.
         [ "$sources" != "$(sum_of_sources)" ] || break
     done
-    echo "pact: each proof is checked, at most $(crates_at_a_time) crates at a time; from nothing that is some 90 processor minutes"
+    echo "pact: each proof is checked, by $(nproc) processors; from nothing that is some 90 processor minutes"
     # A build that is ended from outside ends what it began.
     trap 'kill $(jobs -p) 2>/dev/null; exit 143' INT TERM HUP
     prove_crates || return 1

@@ -103,6 +103,13 @@ for program in *.pact; do
             done
         done
     done
+    # And however the records of a key are found.
+    for local in hash sort; do
+        for workers in 1 4 16; do
+            count answers "$name" --workers "$workers" --local "$local"
+            count answers "$name" --workers "$workers" --local "$local" --depth 1 --batch 1
+        done
+    done
 done
 while IFS='|' read -r words counts; do
     printf '%b' "$counts" >"$scratch/counts"

@@ -152,7 +152,7 @@ while IFS= read -r line; do
     case $line in
     --counts*) row="| \`--counts\` | none |" ;;
     --*)
-        row="| \`${line%% N:*}\` | ${line#*: } |"
+        row="| \`${line%% *}\` | ${line#*: } |"
         row=${row/, by default / | }
         ;;
     *) row="| \`$line\` |" ;;

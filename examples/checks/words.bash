@@ -33,6 +33,12 @@ run sum.pact --depth 65
 run sum.pact --depth 0
 run sum.pact --depth 1 --depth 1
 run sum.pact --local list
+run sum.pact --local Hash
+run sum.pact --local
+run sum.pact --local=
+run sum.pact --local hash --local hash
+plan sum.pact --local hash
+sets sum.pact --local sort
 run sum.pact -c
 run sum.pact --count
 plan sum.pact --counts
@@ -71,6 +77,8 @@ run sum.pact --workers=16 --plans=1000
 run sum.pact --workers +3 --plans=007
 run sum.pact --workers 1 --plans 1 --batch 1 --depth=64
 run --depth 1 --batch=1024 sum.pact
+run sum.pact --local hash
+run --local=sort sum.pact
 run -- sum.pact
 END
 while IFS= read -r words; do

@@ -1,6 +1,6 @@
 //! What a run has left: instances, and notes on pipes.
 
-ghost use Rattle.std.specs.Prelude.{◌≡◌, ◌<◌, ◌++◌, ◌∷◌, [], get_or, length, map, replicate, set, IfOk, OnOk};
+ghost use Rattle.std.specs.Prelude.{◌≡◌, ◌<◌, ◌++◌, ◌∷◌, [], get_or, length, replicate, set, IfOk, OnErr, OnOk};
 ghost use Rattle.flow_core.specs.Left.{all_unstationed, unstationed};
 
 use crate::stations::{Row, Station};
@@ -64,10 +64,11 @@ impl<L: Local> InstanceList<L> {
         Ok(InstanceList { rows })
     }
 
-    /// Lists the instance of a source or operator on its next worker.
+    /// Lists the instance of a source or operator on its next worker. Where memory is wanting, the instance is dropped.
     pub fn push(&mut self, at: usize, instance: Instance<L>) -> Result<(), OutOfMemory>
         requires at { at < length self.old }
-        ensures { OnOk result (self.new ≡ set self.old at (get_or self.old at [] ++ instance ∷ [])) }
+        ensures ok { OnOk result (self.new ≡ set self.old at (get_or self.old at [] ++ instance ∷ [])) }
+        ensures err { OnErr result (self.new ≡ self.old) }
     {
         self.rows[at].held.push(instance)?;
         Ok(())
@@ -167,9 +168,11 @@ impl NoteLists {
         }
     }
 
-    /// Lists a pipe with its notes, the next one first. A pipe may be listed more than once: the notes listed later come behind.
+    /// Lists a pipe with its notes, the next one first. A pipe may be listed more than once: the notes listed later come behind. Where memory is
+    /// wanting, the notes are dropped.
     pub fn push(&mut self, pipe: PipeId, notes: VecDeque<Note>) -> Result<(), OutOfMemory>
-        ensures { OnOk result (self.new ≡ self.old ++ record { pipe = pipe; notes = notes.items } ∷ []) }
+        ensures ok { OnOk result (self.new ≡ self.old ++ record { pipe = pipe; notes = notes.items } ∷ []) }
+        ensures err { OnErr result (self.new ≡ self.old) }
     {
         self.lists.push(NoteList { pipe, notes })?;
         Ok(())

@@ -37,8 +37,8 @@ fn reduce_one<L: Local>(
     ensures given { IfOk result (λ out. IfSome (slice_get (L.order kept.now) n) (λ key. IsCalled (λ k group. Out f.now.fields f.now.function.body (of_group k group)) keys.now (L.rows kept.now) key out)) }
     ensures widths { IfOk result (AreWide f.now.fields) }
 {
-    let group = kept.group_at(alloc, n)?;
-    call_group(alloc, f, keys, &group)
+    let group = kept.group_at(n);
+    call_group(alloc, f, keys, group)
 }
 
 /// What a Reduce gives for its kept records, in any order.
@@ -72,21 +72,15 @@ enum Side {
     Right,
 }
 
-// The groups of one key.
-#[derive(Drop)]
-struct Groups {
-    own: Rows,
-    other: Rows,
+// The groups of one key, as they are lent.
+#[derive(Clone, Copy)]
+struct Groups<'a> {
+    own: &'a Rows,
+    other: &'a Rows,
 }
 
 // Both groups of the key with this number of one side. Only the other one may be empty.
-fn groups_at<L: Local>(
-    alloc: Global,
-    keys: &Keys,
-    own: &L,
-    others: &L,
-    n: usize,
-) -> Result<Groups, OutOfMemory>
+fn groups_at<'a, L: Local>(keys: &Keys, own: &'a L, others: &'a L, n: usize) -> Groups<'a>
     requires own_sealed { L.is_sealed own.now ≡ true }
     requires others_sealed { L.is_sealed others.now ≡ true }
     requires same { L.key_fields own.now ≡ keys.now }
@@ -94,14 +88,14 @@ fn groups_at<L: Local>(
     requires below { (fields : ℕ) × AreBelow fields keys.now × AreWide fields (L.rows own.now) }
     requires number { n < length (L.order own.now) }
     requires order { IsPermutation (keys_in (L.key_fields own.now) (L.rows own.now)) (L.order own.now) }
-    ensures { IfOk result (λ groups. AreGroupsAt keys.now (L.key_fields others.now) (L.rows own.now) (L.rows others.now) (L.order own.now) n groups.own groups.other) }
+    ensures { AreGroupsAt keys.now (L.key_fields others.now) (L.rows own.now) (L.rows others.now) (L.order own.now) n result.own.now result.other.now }
 {
-    let own_group = own.group_at(alloc, n)?;
-    let other = others.group_of(alloc, own_group.at(0), keys)?;
-    Ok(Groups {
+    let own_group = own.group_at(n);
+    let other = others.group_of(own_group.at(0), keys);
+    Groups {
         own: own_group,
         other,
-    })
+    }
 }
 
 // The call for the groups of a key. Of the right side it is made where the left one has none, so that each key has one call.
@@ -150,8 +144,8 @@ fn cogroup_side<L: Local>(
 {
     let mut out = Rows::new(alloc);
     for n in 0..own.key_count() {
-        let groups = groups_at(alloc, keys, own, others, n)?;
-        let mut given = call_from(alloc, f, keys, other_keys, &groups.own, &groups.other, side)?;
+        let groups = groups_at(keys, own, others, n);
+        let mut given = call_from(alloc, f, keys, other_keys, groups.own, groups.other, side)?;
         out.append(&mut given)?;
     }
     Ok(out)

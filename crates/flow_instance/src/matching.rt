@@ -56,8 +56,8 @@ pub(crate) fn match_kept<L: Local>(
 {
     let mut out = Rows::new(alloc);
     for right in rights.rows() {
-        let lefts = kept.group_of(alloc, right, right_keys)?;
-        append_pairs(alloc, f, &lefts, right, &mut out)?;
+        let lefts = kept.group_of(right, right_keys);
+        append_pairs(alloc, f, lefts, right, &mut out)?;
     }
     Ok(out)
 }
@@ -80,6 +80,6 @@ pub(crate) fn cross_kept<L: Local>(
     if rights.len() == 0 {
         return Ok(Rows::new(alloc));
     }
-    let lefts = kept.group_of(alloc, rights.at(0), &Keys::new())?;
-    cross_rows(alloc, f, &lefts, rights)
+    let lefts = kept.group_of(rights.at(0), &Keys::new());
+    cross_rows(alloc, f, lefts, rights)
 }

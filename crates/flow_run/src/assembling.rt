@@ -60,7 +60,7 @@ fn assemble<'a, L: Local, W: Width>(
 }
 
 // What the workers have left, where no work was refused for want of memory.
-fn leave<L: Local, W: Width>(
+fn collect<L: Local, W: Width>(
     alloc: Global,
     slots: Vec<Slot<'_, L, W>>,
 ) -> Result<Vec<Returned<L, W>>, OutOfMemory>
@@ -106,5 +106,5 @@ pub(crate) fn work_all<L: Local, W: Width + Sync + Send, R: Threads + Wait + Syn
     let flags = Flags::new(workers);
     let mut slots = assemble(alloc, workers, dealt, pipes, &flags)?;
     run_workers(rt, &mut slots, gate);
-    leave(alloc, slots)
+    collect(alloc, slots)
 }

@@ -1,78 +1,71 @@
-//! Records by key as one list.
+//! Records by key in groups that are gone through.
 
 ghost use Rattle.std.specs.Prelude.{◌≡◌, ◌<◌, ◌++◌, ◌∷◌, [], true, false, length, map, slice_get, IfOk, IfSome, OnOk};
 ghost use Rattle.std.specs.List.Sorted.{IsPermutation};
 ghost use Rattle.pact_bag.specs.Groups.{distinct_keys, group_of_key};
 ghost use Rattle.pact_record.specs.Record.{key_of};
 ghost use Rattle.pact_record.specs.Widths.{AreBelow, AreWide};
-ghost use Rattle.local_strategy.specs.Listed.{order_of};
+ghost use Rattle.grouped_rows.specs.Grouped.{order_of, rows_of};
 
 use crate::locals::Local;
-use crate::scanning::{find_firsts, group_like};
+use crate::scanning::find;
+use grouped_rows::Groups;
 use pact_bag::Rows;
 use pact_record::{Keys, OutOfMemory, Record};
 use std::alloc::Global;
 use std::marker::Model;
 
-/// Records in the order in which they came. Each question goes through all of them, so it is slow where they are many.
+/// Records in a group for each key. Each question, and each record that is added, goes through all groups, so it is slow where there are many
+/// keys: it is a yardstick for the others, and no command uses it.
 #[derive(Drop)]
 pub struct ListLocal {
-    keys: Keys,
-    rows: Rows,
-    firsts: Vec<usize>,
+    groups: Groups,
     sealed: bool,
 }
 
 impl Model for ListLocal {
-    ghost use Rattle.local_strategy.specs.Listed.{ListData, IsListed};
+    ghost use Rattle.local_strategy.specs.Listed.{ListData};
 
     ghost Value = { ListData };
 
-    ghost view = { λ l. record { keys = l.keys; rows = l.rows; firsts = l.firsts.items; is_sealed = l.sealed } };
-
-    ghost invariant = { λ l. IsListed l.sealed l.keys l.rows l.firsts.items };
+    ghost view = { λ l. record { keys = l.groups.keys; groups = l.groups.groups; is_sealed = l.sealed } };
 }
 
 impl Local for ListLocal {
-    ghost rows = { λ l. l.rows };
+    ghost rows = { λ l. rows_of l.groups };
 
     ghost key_fields = { λ l. l.keys };
 
     ghost is_sealed = { λ l. l.is_sealed };
 
-    ghost order = { order_of };
+    ghost order = { λ l. order_of l.keys l.groups };
 
     fn start(alloc: Global, keys: &Keys) -> Result<ListLocal, OutOfMemory> {
         Ok(ListLocal {
-            keys: *keys,
-            rows: Rows::new(alloc),
-            firsts: Vec::new(alloc),
+            groups: Groups::new(alloc, keys),
             sealed: false,
         })
     }
 
     fn add(&mut self, row: Record) -> Result<(), OutOfMemory> {
-        self.rows.push(row)?;
-        Ok(())
+        let found = find(&self.groups, &row, self.groups.keys());
+        self.groups.put(found, row)
     }
 
     fn seal(&mut self) -> Result<(), OutOfMemory> {
-        self.firsts.clear();
-        find_firsts(&self.keys, self.rows.rows(), &mut self.firsts)?;
         self.sealed = true;
         Ok(())
     }
 
     fn key_count(&self) -> usize {
-        self.firsts.len()
+        self.groups.len()
     }
 
-    fn group_at(&self, alloc: Global, n: usize) -> Result<Rows, OutOfMemory> {
-        let row = self.rows.at(self.firsts[n]);
-        group_like(alloc, &self.keys, &self.rows, row, &self.keys)
+    fn group_at(&self, n: usize) -> &Rows {
+        self.groups.at(n)
     }
 
-    fn group_of(&self, alloc: Global, row: &Record, keys: &Keys) -> Result<Rows, OutOfMemory> {
-        group_like(alloc, &self.keys, &self.rows, row, keys)
+    fn group_of(&self, row: &Record, keys: &Keys) -> &Rows {
+        self.groups.of(find(&self.groups, row, keys))
     }
 }

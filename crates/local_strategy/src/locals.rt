@@ -11,8 +11,8 @@ use pact_bag::Rows;
 use pact_record::{Keys, OutOfMemory, Record};
 use std::alloc::Global;
 
-/// Records by the values of their key fields. They are added while it is open, and asked for once it is sealed. It may have them in any order
-/// of its own, and numbers their key values in any order.
+/// Records by the values of their key fields. They are added while it is open; once it is sealed it lends the records of a key, side by side. It may
+/// have them in any order of its own, and numbers their key values in any order.
 pub trait Local: Sized + Send + Drop {
     ghost rows: { Self → List (List FieldValue) };
 
@@ -51,16 +51,16 @@ pub trait Local: Sized + Send + Drop {
         ensures count { result ≡ length (order self.now) }
         ensures order { IsPermutation (distinct_keys (map (key_of (key_fields self.now)) (rows self.now))) (order self.now) };
 
-    /// The records of the key values with this number, in any order.
-    fn group_at(&self, alloc: Global, n: usize) -> Result<Rows, OutOfMemory>
+    /// The records of the key values with this number, in any order. It takes no memory.
+    fn group_at(&self, n: usize) -> &Rows
         requires sealed { is_sealed self.now ≡ true }
         requires below { n < length (order self.now) }
-        ensures { IfOk result (λ group. IfSome (slice_get (order self.now) n) (λ key. IsPermutation (group_of_key (key_fields self.now) (rows self.now) key) group)) };
+        ensures { IfSome (slice_get (order self.now) n) (λ key. IsPermutation (group_of_key (key_fields self.now) (rows self.now) key) result.now) };
 
-    /// The records with the key values that the row has at these fields, in any order; none where there is none.
-    fn group_of(&self, alloc: Global, row: &Record, keys: &Keys) -> Result<Rows, OutOfMemory>
+    /// The records with the key values that the row has at these fields, in any order; none where there is none. It takes no memory.
+    fn group_of(&self, row: &Record, keys: &Keys) -> &Rows
         requires sealed { is_sealed self.now ≡ true }
         requires length { length keys.now ≡ length (key_fields self.now) }
         requires below { AreBelow (length row.now) keys.now }
-        ensures { IfOk result (IsPermutation (group_of_key (key_fields self.now) (rows self.now) (key_of keys.now row.now))) };
+        ensures { IsPermutation (group_of_key (key_fields self.now) (rows self.now) (key_of keys.now row.now)) result.now };
 }

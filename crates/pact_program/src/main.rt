@@ -44,6 +44,10 @@ fn run<R: Env + Files + AllocGlobal + Threads + Wait + Sync>(
 fn main(rt: HostRuntime) -> ExitCode {
     match run(&rt, rt.stdout(), rt.stderr()) {
         Ok(status) => ExitCode::from(status),
-        Err(_) => ExitCode::from(1),
+        Err(_) => {
+            // where the line can't be written, the status alone tells it
+            let _ = eprintln!(rt; "out of memory");
+            ExitCode::from(1)
+        }
     }
 }

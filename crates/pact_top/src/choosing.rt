@@ -19,10 +19,8 @@ ghost use Rattle.pact_top.specs.CommandTexts.{AreToldCounts, IsAnswerOf, IsCerti
 
 use crate::lines::sorted_lines;
 use crate::loaded::{Loaded, is_source};
-use crate::tasks::{Task, run_task};
+use crate::tasks::{Task, run_task, run_task_on_threads};
 use crate::texts::Texts;
-use flow_run::run_owned;
-use local_strategy::ListLocal;
 use pact_bag::{Counts, Inputs, Outcome};
 use pact_operators::{Op, Plan, Program};
 use pact_record::{Bytes, OutOfMemory};
@@ -115,6 +113,7 @@ fn task_of(program: &Program, choice: &Choice, options: Options) -> Task
     ensures workers { result.options.workers ≡ options.workers }
     ensures batch { result.options.batch ≡ options.batch }
     ensures depth { result.options.depth ≡ options.depth }
+    ensures local { result.local ≡ options.local }
     ensures tree { result.physical.tree ≡ choice.now.plan }
     ensures legal { LegalShip (facts_of program.now result.physical.tree) result.physical }
 {
@@ -123,6 +122,7 @@ fn task_of(program: &Program, choice: &Choice, options: Options) -> Task
         workers,
         batch,
         depth,
+        local,
         ..
     } = options;
     let options = flow_run::Options {
@@ -130,7 +130,11 @@ fn task_of(program: &Program, choice: &Choice, options: Options) -> Task
         batch,
         depth,
     };
-    Task { physical, options }
+    Task {
+        physical,
+        options,
+        local,
+    }
 }
 
 // What a run of the chosen plan in parts gives: a bag that the plan as written allows too.
@@ -169,8 +173,8 @@ fn run_plan_on_threads<R: Threads + Wait + Sync, G: Gate>(
     requires answers { KeepAnswers program.now program.now.plan choice.now.plan }
     ensures { IfOk result (IsOutcome (record { program = program.now; inputs = inputs }) choice.now.plan) }
 {
-    let Task { physical, options } = task_of(program, choice, options);
-    run_owned::<ListLocal, R, G>(rt, alloc, program, &physical, inputs, options, gate)
+    let task = task_of(program, choice, options);
+    run_task_on_threads(rt, alloc, program, &task, inputs, gate)
 }
 
 // The counts of a run of the chosen plan, where they are asked for.

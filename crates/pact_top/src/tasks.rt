@@ -1,4 +1,4 @@
-//! What is run, and a run of it on the calling thread.
+//! What is run, and a run of it on the calling thread or on several, with either way to find the records of a key.
 
 ghost use Rattle.std.specs.Prelude.{◌≡◌, ◌≤◌, IfOk};
 ghost use Rattle.flow_core.specs.Worlds.{HasBatchSize, IsStanding, StandsForSome, depth_limit};
@@ -14,26 +14,34 @@ ghost use Rattle.ship_strategy.specs.PlanFacts.{facts_of};
 ghost use Rattle.ship_strategy.specs.Ships.{LegalShip};
 
 use flow_core::{World, run_alone};
-use local_strategy::ListLocal;
+use flow_run::run_owned;
+use group_table::GroupTable;
+use local_strategy::Local;
 use pact_bag::{Inputs, Outcome};
 use pact_operators::{Physical, Program};
 use pact_record::OutOfMemory;
+use pact_words::LocalStrategy;
+use sort_local::SortLocal;
 use std::alloc::Global;
+use std::sync::Wait;
+use std::thread::Threads;
+use worker_gate::Gate;
 
-/// What is run: a physical plan, and how many workers it has, records a batch and notes a pipe.
+/// What is run: a physical plan, how many workers it has, records a batch and notes a pipe, and how the records of a key are found.
 #[derive(Drop)]
 pub struct Task {
     pub physical: Physical,
     pub options: flow_run::Options,
+    pub local: LocalStrategy,
 }
 
 // The world of the task's plan at its start.
-fn world_of(
+fn world_of<L: Local>(
     alloc: Global,
     program: &Program,
     task: &Task,
     inputs: Inputs,
-) -> Result<World<ListLocal>, OutOfMemory>
+) -> Result<World<L>, OutOfMemory>
     requires plan { IsPlanOf program.now.functions program.now.ops task.now.physical.tree }
     requires inputs { AreInputsOf program.now inputs }
     requires batch { (1 ≤ task.now.options.batch) × (task.now.options.batch ≤ batch_limit) }
@@ -44,7 +52,11 @@ fn world_of(
     ensures depth { IfOk result (λ w. w.depth ≡ task.now.options.depth) }
     ensures batch { IfOk result (λ w. HasBatchSize w task.now.options.batch) }
 {
-    let Task { physical, options } = task;
+    let Task {
+        physical,
+        options,
+        ..
+    } = task;
     World::start_owned(
         alloc,
         program,
@@ -53,6 +65,26 @@ fn world_of(
         options.batch,
         options.depth,
     )
+}
+
+// A run on the calling thread, with one way to find the records of a key.
+fn run_with<L: Local>(
+    alloc: Global,
+    program: &Program,
+    task: &Task,
+    inputs: Inputs,
+) -> Result<Outcome, OutOfMemory>
+    requires plan { IsPlanOf program.now.functions program.now.ops task.now.physical.tree }
+    requires inputs { AreInputsOf program.now inputs }
+    requires batch { (1 ≤ task.now.options.batch) × (task.now.options.batch ≤ batch_limit) }
+    requires depth { (1 ≤ task.now.options.depth) × (task.now.options.depth ≤ depth_limit) }
+    ensures counted { IfOk result (λ o. LegalShip (facts_of program.now task.now.physical.tree) task.now.physical → Counted (plan_ops program.now inputs) task.now.physical.tree o.rows o.counts) }
+    ensures widths { IfOk result (λ o. AreWide program.now.fields o.rows) }
+{
+    // a program tells that it is one
+    let _fields = program.fields();
+    let world = world_of::<L>(alloc, program, task, inputs)?;
+    run_alone(world)
 }
 
 /// The rows of a run on the calling thread, which steps the instances of all workers, and how many records each source and operator gave. It waits for
@@ -70,8 +102,40 @@ pub fn run_task(
     ensures counted { IfOk result (λ o. LegalShip (facts_of program.now task.now.physical.tree) task.now.physical → Counted (plan_ops program.now inputs) task.now.physical.tree o.rows o.counts) }
     ensures widths { IfOk result (λ o. AreWide program.now.fields o.rows) }
 {
-    // a program tells that it is one
-    let _fields = program.fields();
-    let world = world_of(alloc, program, task, inputs)?;
-    run_alone(world)
+    match task.local {
+        LocalStrategy::Hash => run_with::<GroupTable>(alloc, program, task, inputs),
+        LocalStrategy::Sort => run_with::<SortLocal>(alloc, program, task, inputs),
+    }
+}
+
+/// The same of a run with a thread for each worker.
+pub fn run_task_on_threads<R: Threads + Wait + Sync, G: Gate>(
+    rt: &R,
+    alloc: Global,
+    program: &Program,
+    task: &Task,
+    inputs: Inputs,
+    gate: &G,
+) -> Result<Outcome, OutOfMemory>
+    requires plan { IsPlanOf program.now.functions program.now.ops task.now.physical.tree }
+    requires inputs { AreInputsOf program.now inputs }
+    requires workers { task.now.options.workers ≡ task.now.physical.workers }
+    requires batch { (1 ≤ task.now.options.batch) × (task.now.options.batch ≤ batch_limit) }
+    requires depth { (1 ≤ task.now.options.depth) × (task.now.options.depth ≤ depth_limit) }
+    ensures counted { IfOk result (λ o. LegalShip (facts_of program.now task.now.physical.tree) task.now.physical → Counted (plan_ops program.now inputs) task.now.physical.tree o.rows o.counts) }
+    ensures widths { IfOk result (λ o. AreWide program.now.fields o.rows) }
+{
+    let Task {
+        physical,
+        options,
+        ..
+    } = task;
+    match task.local {
+        LocalStrategy::Hash => {
+            run_owned::<GroupTable, R, G>(rt, alloc, program, physical, inputs, *options, gate)
+        }
+        LocalStrategy::Sort => {
+            run_owned::<SortLocal, R, G>(rt, alloc, program, physical, inputs, *options, gate)
+        }
+    }
 }

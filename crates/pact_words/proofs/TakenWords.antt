@@ -1,5 +1,5 @@
--- Words that clap takes ask for a command, with its numbers in their ranges.
-use Rattle.std.proofs.Common.{◌≡◌, ◌∙◌, inl, inr, refl, ap, subst, arith, ℕ, List, [], drop, pos, Option, Some, None, option_map, codes}
+-- Words that clap takes ask for a command, with its numbers in their ranges, where `--local` names a strategy.
+use Rattle.std.proofs.Common.{◌≡◌, ◌⊎◌, ◌∙◌, inl, inr, refl, ap, subst, arith, ℕ, List, [], drop, pos, Option, Some, None, option_map, codes}
 use Rattle.clap.specs.Walk.{Row, Rule, Text, arg_by_id, first_of}
 use Rattle.clap.specs.Simple.{built, matches_of}
 use Rattle.clap.specs.Faults.{fault_of}
@@ -7,17 +7,17 @@ use Rattle.clap.specs.declared.builder.value_parser.ValueParser.TheVariants as v
 use Rattle.pact_words.specs.declared.commands.Kind.{Kind}
 use Rattle.pact_words.specs.declared.commands.Kind.TheVariants.{Run, Plan, Cert, Check, Sets}
 use Rattle.pact_words.specs.Definitions.{app_for}
-use Rattle.pact_words.specs.FoundValues.{all_four, all_three, all_two, number_of}
-use Rattle.pact_words.specs.Words.{AreInRange, Asked, IsInRange, asked_of, options, to_certify, to_check, to_plan, to_run, to_tell_sets}
+use Rattle.pact_words.specs.FoundValues.{all_five, all_three, all_two, local_of, number_of}
+use Rattle.pact_words.specs.Words.{AreInRange, Asked, IsInRange, NamesNoStrategy, asked_of, options, to_certify, to_check, to_plan, to_run, to_tell_sets}
 use Rattle.pact_words.proofs.FittingRows.{AllKnown}
 use Rattle.pact_words.proofs.GivenValues.{Holds, IsSure, held}
-use Rattle.pact_words.proofs.OneAsked.{not_both, one_of}
+use Rattle.pact_words.proofs.OneAsked.{none_asked, not_both, one_of}
 use Rattle.pact_words.proofs.SaidValues.{HasNumber, HasText, has_flag, has_number, has_text}
 
 -- ---- what each command has
 
 known : (k : Kind) → AllKnown (built (app_for k)).top.rules (built (app_for k)).top.rules
-known Run = ((refl, inl (refl, refl)), ((refl, inl (refl, refl)), ((refl, inl (refl, refl)), ((refl, inl (refl, refl)), ((refl, inl (refl, refl)), ((refl, inr (inl (refl, (_, _, refl)))), ((refl, inr (inr refl)), tt)))))))
+known Run = ((refl, inl (refl, refl)), ((refl, inl (refl, refl)), ((refl, inl (refl, refl)), ((refl, inl (refl, refl)), ((refl, inl (refl, refl)), ((refl, inl (refl, refl)), ((refl, inr (inl (refl, (_, _, refl)))), ((refl, inr (inr refl)), tt))))))))
 known Plan = ((refl, inl (refl, refl)), ((refl, inl (refl, refl)), ((refl, inl (refl, refl)), ((refl, inr (inr refl)), tt))))
 known Cert = ((refl, inl (refl, refl)), ((refl, inl (refl, refl)), ((refl, inl (refl, refl)), ((refl, inr (inr refl)), tt))))
 known Check = ((refl, inl (refl, refl)), ((refl, inl (refl, refl)), ((refl, inr (inr refl)), tt)))
@@ -41,9 +41,13 @@ three_are : {A B C D : Type 0} (f : A → B → C → D) (a : Option A) (b : Opt
     → a ≡ Some x → b ≡ Some y → c ≡ Some z → all_three f a b c ≡ Some (f x y z)
 three_are f a b c x y z p q r = rw (p, q, r) refl
 
-four_are : {A B C D E : Type 0} (f : A → B → C → D → E) (a : Option A) (b : Option B) (c : Option C) (d : Option D) (w : A) (x : B) (y : C) (z : D)
-    → a ≡ Some w → b ≡ Some x → c ≡ Some y → d ≡ Some z → all_four f a b c d ≡ Some (f w x y z)
-four_are f a b c d w x y z p q r s = rw (p, q, r, s) refl
+five_are : {A B C D E F : Type 0} (f : A → B → C → D → E → F) (a : Option A) (b : Option B) (c : Option C) (d : Option D) (e : Option E) (v : A) (w : B) (x : C) (y : D) (z : E)
+    → a ≡ Some v → b ≡ Some w → c ≡ Some x → d ≡ Some y → e ≡ Some z → all_five f a b c d e ≡ Some (f v w x y z)
+five_are f a b c d e v w x y z p q r s t = rw (p, q, r, s, t) refl
+
+some_or_none : {A : Type 0} (B : Type 0) (o : Option A) → ((x : A) → o ≡ Some x → B) → B ⊎ (o ≡ None)
+some_or_none B (Some x) f = inl (f x refl)
+some_or_none B None f = inr refl
 
 -- ---- the arguments
 
@@ -80,7 +84,7 @@ asks_limited k words to is ranged program limits =
       in_range = ranged program.text limits.workers.number limits.plans.number (in_range rows limits);
     }
 
-pub asks : (k : Kind) (words : List Text) → fault_of (app_for k) words ≡ [] → Asks k words
+pub asks : (k : Kind) (words : List Text) → fault_of (app_for k) words ≡ [] → Asks k words ⊎ NamesNoStrategy k (matches_of (app_for k) words)
 asks Run words e =
     let rows = matches_of (app_for Run) words in
     let at = each_holds Run words e in
@@ -89,11 +93,12 @@ asks Run words e =
     let batch = has_number (codes "batch") rows _ 1 1024 (omega arith) refl (at (codes "batch") _ refl (inr (_, _, refl))) in
     let depth = has_number (codes "depth") rows _ 1 64 (omega arith) refl (at (codes "depth") _ refl (inr (_, _, refl))) in
     let counts = has_flag (codes "counts") rows _ refl (at (codes "counts") _ refl (inr (_, _, refl))) in
-    let chosen = options limits.workers.number limits.plans.number batch.number depth.number in
+    some_or_none (Asks Run words) (local_of (codes "local") rows) (λ local is.
+    let chosen = options limits.workers.number limits.plans.number batch.number depth.number local in
     record {
       command = to_run program.text chosen counts.flag;
       values = three_are to_run _ _ _ program.text chosen counts.flag program.is
-          (four_are options _ _ _ _ limits.workers.number limits.plans.number batch.number depth.number limits.workers.is limits.plans.is batch.is depth.is) counts.is;
+          (five_are options _ _ _ _ _ limits.workers.number limits.plans.number batch.number depth.number local limits.workers.is limits.plans.is batch.is depth.is is) counts.is;
       in_range = record {
         limits = in_range rows limits;
         least_batch = batch.least_of;
@@ -101,37 +106,43 @@ asks Run words e =
         least_depth = depth.least_of;
         most_depth = depth.most_of;
       };
-    }
+    })
 asks Plan words e =
     let rows = matches_of (app_for Plan) words in
     let at = each_holds Plan words e in
     let program = has_text (codes "program") rows _ (at (codes "program") _ refl (inl refl)) in
     let limits = has_limits rows _ _ refl refl (at (codes "workers") _ refl (inr (_, _, refl))) (at (codes "plans") _ refl (inr (_, _, refl))) in
-    asks_limited Plan words to_plan (λ found. refl) (λ name workers plans h. h) program limits
+    inl (asks_limited Plan words to_plan (λ found. refl) (λ name workers plans h. h) program limits)
 asks Cert words e =
     let rows = matches_of (app_for Cert) words in
     let at = each_holds Cert words e in
     let program = has_text (codes "program") rows _ (at (codes "program") _ refl (inl refl)) in
     let limits = has_limits rows _ _ refl refl (at (codes "workers") _ refl (inr (_, _, refl))) (at (codes "plans") _ refl (inr (_, _, refl))) in
-    asks_limited Cert words to_certify (λ found. refl) (λ name workers plans h. h) program limits
+    inl (asks_limited Cert words to_certify (λ found. refl) (λ name workers plans h. h) program limits)
 asks Check words e =
     let rows = matches_of (app_for Check) words in
     let at = each_holds Check words e in
     let program = has_text (codes "program") rows _ (at (codes "program") _ refl (inl refl)) in
     let certificate = has_text (codes "certificate") rows _ (at (codes "certificate") _ refl (inl refl)) in
-    record { command = to_check program.text certificate.text; values = two_are to_check _ _ program.text certificate.text program.is certificate.is; in_range = tt }
+    inl (record { command = to_check program.text certificate.text; values = two_are to_check _ _ program.text certificate.text program.is certificate.is; in_range = tt })
 asks Sets words e =
     let rows = matches_of (app_for Sets) words in
     let at = each_holds Sets words e in
     let program = has_text (codes "program") rows _ (at (codes "program") _ refl (inl refl)) in
-    record { command = to_tell_sets program.text; values = ap (option_map to_tell_sets) program.is; in_range = tt }
+    inl (record { command = to_tell_sets program.text; values = ap (option_map to_tell_sets) program.is; in_range = tt })
 
--- what is asked for is there, and lies in its range
-pub taken_is_asked : (k : Kind) (words : List Text) → fault_of (app_for k) words ≡ [] → asked_of k (matches_of (app_for k) words) ≡ None → ⊥
-taken_is_asked k words taken none = let h = asks k words taken in not_both _ h.command h.values none
+-- where nothing is asked for, `--local` names no strategy
+pub taken_names_none : (k : Kind) (words : List Text) → fault_of (app_for k) words ≡ [] → asked_of k (matches_of (app_for k) words) ≡ None
+    → NamesNoStrategy k (matches_of (app_for k) words)
+taken_names_none k words taken none = elim (asks k words taken) [
+  | inl h ↦ absurd (not_both _ h.command h.values none)
+  | inr other ↦ other
+]
 
+-- what is asked for lies in its range
 pub taken_in_range : (k : Kind) (words : List Text) (a : Asked) → fault_of (app_for k) words ≡ []
     → asked_of k (matches_of (app_for k) words) ≡ Some a → IsInRange a
-taken_in_range k words a taken values =
-    let h = asks k words taken in
-    subst IsInRange (one_of _ h.command a h.values values) h.in_range
+taken_in_range k words a taken values = elim (asks k words taken) [
+  | inl h ↦ subst IsInRange (one_of _ h.command a h.values values) h.in_range
+  | inr other ↦ absurd (not_both _ a values (none_asked k (matches_of (app_for k) words) other))
+]

@@ -14,6 +14,11 @@ operand_rule name = record (new_rule name) { required = true }
 abbrev pub number_rule : Text → ℤ → ℤ → Text → Rule
 number_rule name least most usual = record (new_rule name) { long = Some name; defaults = usual ∷ []; parser = Some (Signed least most) }
 
+-- An option with a word, which is `usual` where the option isn't given. Clap takes any word, and which are right is said where it is read: in
+-- clap's rules a list of possible values has the addresses of its texts, which no definition can name.
+abbrev pub word_rule : Text → Text → Rule
+word_rule name usual = record (new_rule name) { long = Some name; defaults = usual ∷ [] }
+
 -- an option without a value
 abbrev pub flag_rule : Text → Rule
 flag_rule name = record (new_rule name) { long = Some name; action = Some SetTrue }
@@ -43,6 +48,10 @@ batch_rule = number_rule (codes "batch") (pos 1) (pos 1024) (codes "64")
 -- `--depth`
 abbrev pub depth_rule : Rule
 depth_rule = number_rule (codes "depth") (pos 1) (pos 64) (codes "4")
+
+-- `--local`
+abbrev pub local_rule : Rule
+local_rule = word_rule (codes "local") (codes "hash")
 
 -- `--counts`
 abbrev pub counts_rule : Rule

@@ -3,7 +3,7 @@ use Rattle.std.specs.Prelude.{codes}
 use Rattle.clap.specs.Words.{App, Text, new_app, with_rule}
 use Rattle.pact_words.specs.declared.commands.Kind.{Kind}
 use Rattle.pact_words.specs.declared.commands.Kind.TheVariants.{Run, Plan, Cert, Check, Sets}
-use Rattle.pact_words.specs.Arguments.{batch_rule, certificate_rule, counts_rule, depth_rule, plans_rule, program_rule, workers_rule}
+use Rattle.pact_words.specs.Arguments.{batch_rule, certificate_rule, counts_rule, depth_rule, local_rule, plans_rule, program_rule, workers_rule}
 
 -- a command of a program
 abbrev pub program_app : Text → App
@@ -23,7 +23,7 @@ with_pipes app = with_rule (with_rule app batch_rule) depth_rule
 
 -- `run PROGRAM`
 abbrev pub run_app : App
-run_app = with_rule (with_pipes (planning_app (codes "run"))) counts_rule
+run_app = with_rule (with_rule (with_pipes (planning_app (codes "run"))) local_rule) counts_rule
 
 -- `check PROGRAM CERT`
 abbrev pub check_app : App

@@ -3,7 +3,9 @@ use Rattle.std.specs.Prelude.{◌^◌, ◌&&◌, nat_lt, List, ℕ, Bool, true, 
 use Rattle.std.specs.Str.{bytes_eq}
 use Rattle.std.specs.Str.Parse.{digits_value, without_leading_plus}
 use Rattle.clap.specs.ValueTests.{is_numeral}
-use Rattle.clap.specs.Words.{Row, Text, one_of}
+use Rattle.clap.specs.Words.{Row, Text, first_of, one_of}
+use Rattle.pact_words.specs.declared.commands.LocalStrategy.{LocalStrategy}
+use Rattle.pact_words.specs.declared.commands.LocalStrategy.TheVariants.{Hash, Sort}
 
 -- the number that digits write, if it has 32 bits
 abbrev pub number_written : List ℕ → Option ℕ
@@ -25,6 +27,14 @@ flag_said text = cond (bytes_eq text (codes "true")) (Some true) (cond (bytes_eq
 abbrev pub flag_of : Text → List Row → Option Bool
 flag_of name rows = option_and_then flag_said (one_of name rows)
 
+-- the strategy that a word names
+abbrev pub local_said : Text → Option LocalStrategy
+local_said text = cond (bytes_eq text (codes "hash")) (Some Hash) (cond (bytes_eq text (codes "sort")) (Some Sort) None)
+
+-- the strategy of an option of that name
+abbrev pub local_of : Text → List Row → Option LocalStrategy
+local_of name rows = option_and_then local_said (first_of name rows)
+
 -- ---- several values, where each is there
 
 -- a function of two of them
@@ -38,3 +48,7 @@ all_three f a b c = option_and_then (λ x. all_two (f x) b c) a
 -- of four
 abbrev pub all_four : {A B C D E : Type 0} → (A → B → C → D → E) → Option A → Option B → Option C → Option D → Option E
 all_four f a b c d = option_and_then (λ x. all_three (f x) b c d) a
+
+-- of five
+abbrev pub all_five : {A B C D E F : Type 0} → (A → B → C → D → E → F) → Option A → Option B → Option C → Option D → Option E → Option F
+all_five f a b c d e = option_and_then (λ x. all_four (f x) b c d e) a

@@ -1,17 +1,18 @@
 -- What the words of the command line ask for.
-use Rattle.std.specs.Prelude.{◌≡◌, ◌≢◌, ◌≤◌, ℕ, Bool, List, [], ◌∷◌, map, option_map, Option, Some, None, Result, Ok, Err, cond, codes}
+use Rattle.std.specs.Prelude.{◌≡◌, ◌≢◌, ◌⊎◌, ◌≤◌, ℕ, Bool, List, [], ◌∷◌, map, option_map, Option, Some, None, Result, Ok, Err, cond, codes}
 use Rattle.std.specs.Borrow.{Bor}
 use Rattle.std.specs.Str.{bytes_eq}
 use Rattle.clap.specs.Words.{Row, fault_of, first_of, matches_of}
 use Rattle.pact_words.specs.declared.commands.Command.{Command}
 use Rattle.pact_words.specs.declared.commands.Command.TheVariants as commands
+use Rattle.pact_words.specs.declared.commands.LocalStrategy.{LocalStrategy}
 use Rattle.pact_words.specs.declared.commands.Options.{Options}
 use Rattle.pact_words.specs.declared.commands.Kind.{Kind}
 use Rattle.pact_words.specs.declared.commands.Kind.TheVariants.{Run, Plan, Cert, Check, Sets}
 use Rattle.pact_words.specs.declared.commands.Refused.{Refused}
 use Rattle.pact_words.specs.declared.commands.Refused.TheVariants.{Usage, OutOfMemory}
 use Rattle.pact_words.specs.Definitions.{app_for}
-use Rattle.pact_words.specs.FoundValues.{all_four, all_three, all_two, flag_of, number_of}
+use Rattle.pact_words.specs.FoundValues.{all_five, all_three, all_two, flag_of, local_of, number_of}
 
 -- the texts that words point to
 abbrev pub texts_of : List (Bor (List ℕ)) → List (List ℕ)
@@ -87,12 +88,14 @@ kind_in [] = None
 kind_in (word ∷ words) = kind_named word
 
 -- as one record
-abbrev pub options : (workers plans batch depth : ℕ) → Options
-options workers plans batch depth = record { workers = workers; plans = plans; batch = batch; depth = depth }
+abbrev pub options : (workers plans batch depth : ℕ) (local : LocalStrategy) → Options
+options workers plans batch depth local = record { workers = workers; plans = plans; batch = batch; depth = depth; local = local }
 
 -- those that clap found, where it found each
 abbrev pub options_of : List Row → Option Options
-options_of rows = all_four options (number_of (codes "workers") rows) (number_of (codes "plans") rows) (number_of (codes "batch") rows) (number_of (codes "depth") rows)
+options_of rows =
+    all_five options (number_of (codes "workers") rows) (number_of (codes "plans") rows) (number_of (codes "batch") rows) (number_of (codes "depth") rows)
+    (local_of (codes "local") rows)
 
 -- there is no word, or the first is no command
 abbrev pub AreUnnamed : List (List ℕ) → Type 0
@@ -114,12 +117,17 @@ pub record IsAsked (words : List (List ℕ)) (command : Asked) : Type 0 where
   pub taken : fault_of (app_for kind) words ≡ []
   pub values : asked_of kind (matches_of (app_for kind) words) ≡ Some command
 
--- no command takes them, or the named one refuses them
+-- the word of `--local` is neither `hash` nor `sort`
+abbrev pub NamesNoStrategy : Kind → List Row → Type 0
+NamesNoStrategy Run rows = local_of (codes "local") rows ≡ None
+NamesNoStrategy _ rows = ⊥
+
+-- no command takes them, clap refuses them by the named one's definition, or `--local` names no strategy
 abbrev pub AreRefusedBy : Option Kind → List (List ℕ) → Type 0
 AreRefusedBy None words = Unit {0}
-AreRefusedBy (Some kind) words = fault_of (app_for kind) words ≢ []
+AreRefusedBy (Some kind) words = (fault_of (app_for kind) words ≢ []) ⊎ NamesNoStrategy kind (matches_of (app_for kind) words)
 
--- there is no word, the first is no command, or clap refuses the words by that command's definition
+-- there is no word, the first is no command, clap refuses the words by that command's definition, or `--local` names no strategy
 abbrev pub AreRefused : List (List ℕ) → Type 0
 AreRefused words = AreRefusedBy (kind_in words) words
 

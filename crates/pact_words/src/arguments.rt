@@ -2,7 +2,7 @@
 
 ghost use Rattle.std.specs.Prelude.{◌≡◌, false};
 ghost use Rattle.clap.specs.Words.{rule_of};
-ghost use Rattle.pact_words.specs.Arguments.{batch_rule, certificate_rule, counts_rule, depth_rule, flag_rule, number_rule, operand_rule, plans_rule, program_rule, workers_rule};
+ghost use Rattle.pact_words.specs.Arguments.{batch_rule, certificate_rule, counts_rule, depth_rule, flag_rule, local_rule, number_rule, operand_rule, plans_rule, program_rule, word_rule, workers_rule};
 
 use clap::builder::ValueParser;
 use clap::{Arg, ArgAction};
@@ -50,6 +50,13 @@ pub(crate) fn depth<'a>(alloc: Global) -> Arg<'a>
     number(alloc, "depth", 1, 64, "4")
 }
 
+pub(crate) fn local<'a>(alloc: Global) -> Arg<'a>
+    ensures rule { rule_of result ≡ local_rule }
+    ensures local { result.global ≡ false }
+{
+    word(alloc, "local", "hash")
+}
+
 pub(crate) fn counts<'a>(alloc: Global) -> Arg<'a>
     ensures rule { rule_of result ≡ counts_rule }
     ensures local { result.global ≡ false }
@@ -74,6 +81,14 @@ fn number<'a>(alloc: Global, name: &'a str, least: i64, most: i64, usual: &'a st
         .long(name)
         .value_parser(ValueParser::signed(least, most))
         .default_value(usual)
+}
+
+// An option with any word, which is `usual` where the option isn't given.
+fn word<'a>(alloc: Global, name: &'a str, usual: &'a str) -> Arg<'a>
+    ensures rule { rule_of result ≡ word_rule name.entry.now usual.entry.now }
+    ensures local { result.global ≡ false }
+{
+    Arg::new(alloc, name).long(name).default_value(usual)
 }
 
 // An option without a value.

@@ -1,5 +1,14 @@
 //! What the words ask for, or why they ask for nothing.
 
+/// `--local`: how an instance finds the records of a key.
+#[derive(Clone, Copy, Debug, PartialEq, Eq)]
+pub enum LocalStrategy {
+    /// By a hash table.
+    Hash,
+    /// By sorting and binary search.
+    Sort,
+}
+
 /// How a plan is chosen and run.
 #[derive(Clone, Copy, Debug, PartialEq, Eq)]
 pub struct Options {
@@ -11,12 +20,14 @@ pub struct Options {
     pub batch: u32,
     /// `--depth`: how many notes, batches and end marks, a pipe holds at most.
     pub depth: u32,
+    /// `--local`: how an instance finds the records of a key.
+    pub local: LocalStrategy,
 }
 
 /// A command with its operands and options.
 ///
 /// Where the words don't tell, there are 4 workers (1 to 16), at most 256 plans (1 to 1,000), batches of 64 records (1 to 1,024) and pipes of
-/// 4 notes (1 to 64).
+/// 4 notes (1 to 64), and the records of a key are found by a hash table (`hash`, not `sort`).
 #[derive(Clone, Copy, Debug, PartialEq, Eq)]
 pub enum Command<'a> {
     /// `run PROGRAM`: the program in the file of that name is run, and its rows are written.

@@ -4,7 +4,7 @@ ghost use Rattle.std.specs.Prelude.{◌≡◌, IfOk};
 ghost use Rattle.clap.specs.Words.{app_of};
 ghost use Rattle.pact_words.specs.Definitions.{app_for, check_app, planning_app, run_app, sets_app, with_limits, with_pipes};
 
-use crate::arguments::{batch, certificate, counts, depth, plans, program, workers};
+use crate::arguments::{batch, certificate, counts, depth, local, plans, program, workers};
 use crate::commands::Kind;
 use clap::Command;
 use std::alloc::{AllocError, Global};
@@ -25,7 +25,9 @@ pub(crate) fn definition<'a>(alloc: Global, kind: Kind) -> Result<Command<'a>, A
 fn run<'a>(alloc: Global) -> Result<Command<'a>, AllocError>
     ensures { IfOk result (λ c. app_of c ≡ run_app) }
 {
-    with_pipes(alloc, planning(alloc, "run")?)?.arg(counts(alloc))
+    with_pipes(alloc, planning(alloc, "run")?)?
+        .arg(local(alloc))?
+        .arg(counts(alloc))
 }
 
 // A command that chooses a plan.

@@ -24,10 +24,10 @@ pub fn read_words<'a>(alloc: Global, words: &'a [&'a str]) -> Result<Command<'a>
         return Err(Refused::Usage);
     };
     let matches = parse(alloc, kind, words)?;
-    // Each argument has a value in words that are taken.
+    // In words that clap takes each argument has a value, and only that of `--local` may be none of its words.
     match command_in(kind, &matches) {
         Some(command) => Ok(command),
-        None => unreachable!(),
+        None => Err(Refused::Usage),
     }
 }
 

@@ -2,10 +2,10 @@
 
 ghost use Rattle.std.specs.Prelude.{◌≡◌, option_map};
 ghost use Rattle.clap.specs.Words.{first_of, found_of, rows_of};
-ghost use Rattle.pact_words.specs.FoundValues.{flag_of, number_of};
+ghost use Rattle.pact_words.specs.FoundValues.{flag_of, local_of, local_said, number_of};
 ghost use Rattle.pact_words.specs.Words.{asked, asked_of, options_of};
 
-use crate::commands::{Command, Kind, Options};
+use crate::commands::{Command, Kind, LocalStrategy, Options};
 use clap::ArgMatches;
 
 /// The command that the values of its words make, where each of them is there.
@@ -41,11 +41,13 @@ fn options(matches: &ArgMatches<'_>) -> Option<Options>
     let plans = number(matches, "plans")?;
     let batch = number(matches, "batch")?;
     let depth = number(matches, "depth")?;
+    let local = local(matches, "local")?;
     Some(Options {
         workers,
         plans,
         batch,
         depth,
+        local,
     })
 }
 
@@ -109,4 +111,20 @@ fn flag<'a>(matches: &ArgMatches<'a>, name: &str) -> Option<bool>
     ensures { result ≡ flag_of name.now (rows_of (found_of matches.now)) }
 {
     matches.get_one::<bool>(name)
+}
+
+fn local(matches: &ArgMatches<'_>, name: &str) -> Option<LocalStrategy>
+    ensures { result ≡ local_of name.now (rows_of (found_of matches.now)) }
+{
+    local_said(text(matches, name)?)
+}
+
+fn local_said(word: &str) -> Option<LocalStrategy>
+    ensures { result ≡ local_said word.now }
+{
+    match word {
+        "hash" => Some(LocalStrategy::Hash),
+        "sort" => Some(LocalStrategy::Sort),
+        _ => None,
+    }
 }

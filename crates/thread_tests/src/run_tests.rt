@@ -7,7 +7,7 @@ use crate::outcomes::same_outcomes;
 use crate::programs::{inputs, program};
 use flow_core::{World, run_alone};
 use flow_run::{Options, run, run_owned};
-use local_strategy::ListLocal;
+use group_table::GroupTable;
 use ship_strategy::{layout, layouts};
 use slow_eval::evaluate;
 use std::alloc::Global;
@@ -120,7 +120,7 @@ fn agrees<R: Threads + Wait + Sync, G: Gate>(
     // a layout tells for how many workers it is
     let workers = physical.workers();
     let options = Options { workers, ..options };
-    let found = run::<ListLocal, R, G>(rt, alloc, &program, &physical, &inputs, options, gate)?;
+    let found = run::<GroupTable, R, G>(rt, alloc, &program, &physical, &inputs, options, gate)?;
     let wanted = evaluate(alloc, &program, program.plan(), &inputs)?;
     same_outcomes(found, wanted)
 }
@@ -165,24 +165,27 @@ fn runs_on_threads_give_what_the_evaluation_gives(rt: HostRuntime) -> Result<(),
     Ok(())
 }
 
-// Whether the sums by two workers, who hand over one record at a time, are those of one thread.
+// Whether the sums by workers who hand over one record at a time are those of one thread.
 fn sums_agree<R: Threads + Wait + Sync, G: Gate>(
     rt: &R,
     alloc: Global,
+    workers: u32,
     gate: &G,
-) -> Result<bool, Fail> {
+) -> Result<bool, Fail>
+    requires { (1 ≤ workers) × (workers ≤ worker_limit) }
+{
     let program = program(alloc, SUM.as_bytes())?;
     let inputs = inputs(alloc, &program, &[SUMMED])?;
     let _some = layouts(&program, program.plan());
-    let physical = layout(&program, program.plan(), 0, 2);
+    let physical = layout(&program, program.plan(), 0, workers);
     let options = Options {
         workers: physical.workers(),
         batch: 1,
         depth: 1,
     };
-    let alone = World::<ListLocal>::start(alloc, &program, &physical, &inputs, 1, 1)?;
+    let alone = World::<GroupTable>::start(alloc, &program, &physical, &inputs, 1, 1)?;
     let wanted = run_alone(alone)?;
-    let found = run_owned::<ListLocal, R, G>(
+    let found = run_owned::<GroupTable, R, G>(
         rt, alloc, &program, &physical, inputs, options, gate,
     )?;
     same_outcomes(found, wanted)
@@ -191,9 +194,21 @@ fn sums_agree<R: Threads + Wait + Sync, G: Gate>(
 #[test]
 fn two_workers_sum_side_by_side(rt: HostRuntime) -> Result<(), Fail> {
     let gate = MeetGate::new(2, 10000000);
-    assert!(rt; sums_agree(&rt, rt.alloc(), &gate)?);
+    assert!(rt; sums_agree(&rt, rt.alloc(), 2, &gate)?);
     assert!(rt; gate.met());
     assert_eq!(rt; (gate.ends(0), gate.ends(1)), (2, 2));
+    Ok(())
+}
+
+#[test]
+fn each_of_four_workers_ends_its_own_instances(rt: HostRuntime) -> Result<(), Fail> {
+    let gate = MeetGate::new(4, 10000000);
+    assert!(rt; sums_agree(&rt, rt.alloc(), 4, &gate)?);
+    assert!(rt; gate.met());
+    assert_eq!(rt;
+        (gate.ends(0), gate.ends(1), gate.ends(2), gate.ends(3)),
+        (2, 2, 2, 2)
+    );
     Ok(())
 }
 

@@ -8,11 +8,11 @@ use Rattle.flow_instance.specs.Grouping.{IsCalledFrom}
 use Rattle.flow_instance.proofs.CallsForGroups.{all_given, called_from, given_on, sides_at}
 use Rattle.flow_instance.proofs.grouping.cogroup_side.Goals as goal
 
-pub groups_at-requires-clause-below : goal.groups_at-requires-clause-below
-groups_at-requires-clause-below g c = λ lifetimes bound. (c.args.f.now.fields, c.requires.sides.left_below, c.requires.sides.left_wide)
+pub groups_at-groups-requires-clause-below : goal.groups_at-groups-requires-clause-below
+groups_at-groups-requires-clause-below g c = λ lifetimes bound. (c.args.f.now.fields, c.requires.sides.left_below, c.requires.sides.left_wide)
 
 pub call_from-requires-clause-sides : goal.call_from-requires-clause-sides
-call_from-requires-clause-sides g c = sides_at c.requires.sides c.in_ok-groups.ensures
+call_from-requires-clause-sides g c = sides_at c.requires.sides c.groups_at-groups.ensures
 
 pub append-requires : goal.append-requires
 append-requires g c = HaveOneWidth-append c.args.f.now.fields _ _ c.loop-n.invariant.1 c.in_ok-given.ensures.widths
@@ -23,7 +23,7 @@ loop-n-preserved g c =
     let calls : List Value → Bag → Bag → Bag = λ k x y. Out f.fields f.function.body (of_groups k x y) in
     given_on f.fields (IsCalledFrom c.args.side calls c.args.keys.now c.args.other_keys.now (g.L.Local.rows c.args.own.now) (g.L.Local.rows c.args.others.now))
     (g.L.Local.order c.args.own.now) c.loop-n.n c.loop-n.out c.in_ok-given.given _ (omega (arith, c.key_count-n-end.ensures.count, c.loop-n-test.true)) c.loop-n.invariant
-    (called_from c.args.side calls c.in_ok-given.given c.requires.sides.right_same c.in_ok-groups.ensures c.in_ok-given.ensures.given) c.in_ok-given.ensures.widths c.in_ok-append.ensures.ok
+    (called_from c.args.side calls c.in_ok-given.given c.requires.sides.right_same c.groups_at-groups.ensures c.in_ok-given.ensures.given) c.in_ok-given.ensures.widths c.in_ok-append.ensures.ok
 
 pub returns-clause-given : goal.returns-clause-given
 returns-clause-given g c =

@@ -35,7 +35,7 @@ loop-instance-preserved g c =
     let same : c.loop-instance.list ≡ with_column rows done = c.loop-instance.invariant.1 in
     let less : length done < length rows = omega (arith, t.0, c.requires) in (
       omega (arith, c.loop-instance.invariant.0, length-append done (i ∷ [])),
-      c.in_ok-push.ensures ∙ (λ x. set (same x) (c.loop-instance.invariant.0 x) (get_or (same x) (c.loop-instance.invariant.0 x) [] ++ i ∷ [])) ∙ column_next rows done i less,
+      c.in_ok-push.ensures.ok ∙ (λ x. set (same x) (c.loop-instance.invariant.0 x) (get_or (same x) (c.loop-instance.invariant.0 x) [] ++ i ∷ [])) ∙ column_next rows done i less,
     )
 
 pub returns : goal.returns

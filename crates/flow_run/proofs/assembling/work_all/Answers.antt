@@ -26,6 +26,6 @@ returns g c =
     let value = c.deref_mut.ensures.value in
     let same : length new ≡ length old = c.run_workers.ensures.len ∙ ap length value in
     let loan = whole_loan c.in_ok-slots.slots.len old new c.in_ok-slots.slots.ok.0 same in
-    IfOk-weaker c.leave.result _ _ (λ ws h. all_left c.args.pipes.now c.args.dealt.instances c.args.dealt.puts c.args.dealt.takes g.W.Width.fields c.args.workers old new (all_remains ws.items) c.in_ok-slots.ensures same
+    IfOk-weaker c.collect.result _ _ (λ ws h. all_left c.args.pipes.now c.args.dealt.instances c.args.dealt.puts c.args.dealt.takes g.W.Width.fields c.args.workers old new (all_remains ws.items) c.in_ok-slots.ensures same
     (λ k d less. subst (λ l. HasWorkedIn g.W.Width.fields (slice_index_or l k d) (slice_index_or new k d)) value (c.run_workers.ensures.each k d (subst (λ l. k < length l) (sym value) less)))
-    (subst (λ l. HaveReturnedFrom l (all_remains ws.items)) loan h)) c.leave.ensures
+    (subst (λ l. HaveReturnedFrom l (all_remains ws.items)) loan h)) c.collect.ensures

@@ -8,19 +8,19 @@ use Rattle.ship_strategy.proofs.LaidSteps.{laid_workers}
 use Rattle.pact_top.proofs.RunPlans.{is_outcome}
 use Rattle.pact_top.proofs.choosing.run_plan_on_threads.Goals as goal
 
-pub run_owned-requires-clause-plan : goal.run_owned-requires-clause-plan
-run_owned-requires-clause-plan g c κs within =
+pub run_task_on_threads-requires-clause-plan : goal.run_task_on_threads-requires-clause-plan
+run_task_on_threads-requires-clause-plan g c κs within =
     let p = c.args.program.now in
-    subst (λ (t : PlanTree). IsPlanOf p.functions p.ops t) (sym c.task_of-physical.ensures.tree) c.requires.plan
+    subst (λ (t : PlanTree). IsPlanOf p.functions p.ops t) (sym c.task_of-task.ensures.tree) c.requires.plan
 
-pub run_owned-requires-clause-workers : goal.run_owned-requires-clause-workers
-run_owned-requires-clause-workers g c κs within =
+pub run_task_on_threads-requires-clause-workers : goal.run_task_on_threads-requires-clause-workers
+run_task_on_threads-requires-clause-workers g c κs within =
     let p = c.args.program.now in
     let plan = c.args.choice.now.plan in
-    c.task_of-physical.ensures.workers
-    ∙ sym (ap (λ (d : PhysicalData). d.workers) c.task_of-physical.ensures.physical ∙ laid_workers (facts_of p plan) (ways_of p.ops c.args.choice.now.chosen.layout) plan (forwarded plan c.args.options.workers))
+    c.task_of-task.ensures.workers
+    ∙ sym (ap (λ (d : PhysicalData). d.workers) c.task_of-task.ensures.physical ∙ laid_workers (facts_of p plan) (ways_of p.ops c.args.choice.now.chosen.layout) plan (forwarded plan c.args.options.workers))
 
 pub returns : goal.returns
 returns g c =
-    is_outcome c.args.program.now c.args.inputs c.args.choice.now.plan c.task_of-physical.result.physical c.run_owned.result c.task_of-physical.ensures.tree c.requires.inputs c.task_of-physical.ensures.legal c.requires.answers
-    c.run_owned.ensures.counted c.run_owned.ensures.widths
+    is_outcome c.args.program.now c.args.inputs c.args.choice.now.plan c.task_of-task.result.physical c.run_task_on_threads.result c.task_of-task.ensures.tree c.requires.inputs c.task_of-task.ensures.legal c.requires.answers
+    c.run_task_on_threads.ensures.counted c.run_task_on_threads.ensures.widths

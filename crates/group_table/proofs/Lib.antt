@@ -1,0 +1,3 @@
+pub mod FoundByCode
+pub mod GrownBuckets
+pub mod StoredRows

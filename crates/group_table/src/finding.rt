@@ -1,0 +1,40 @@
+//! The group with the key values of a row, found by its hash code.
+
+ghost use Rattle.std.specs.Prelude.{◌≡◌, ◌<◌, [], get_or, length};
+ghost use Rattle.pact_bag.specs.Groups.{is_same_key};
+ghost use Rattle.pact_record.specs.Record.{key_of};
+ghost use Rattle.pact_record.specs.Widths.{AreBelow};
+ghost use Rattle.grouped_rows.specs.Grouped.{IsFound, order_of};
+ghost use Rattle.group_table.specs.Tables.{IsIndex};
+
+use crate::buckets::Buckets;
+use crate::codes::row_code;
+use grouped_rows::Groups;
+use pact_record::{Keys, Record};
+
+// Whether the group's key values are those that the row has at these fields.
+fn has_key(groups: &Groups, n: usize, row: &Record, keys: &Keys) -> bool
+    requires number { n < length (order_of groups.now.keys groups.now.groups) }
+    requires length { length keys.now ≡ length groups.now.keys }
+    requires below { AreBelow (length row.now) keys.now }
+    ensures { result ≡ is_same_key (get_or (order_of groups.now.keys groups.now.groups) n []) (key_of keys.now row.now) }
+{
+    groups.key_compare(n, row, keys).is_eq()
+}
+
+/// Where the groups have the key values that the row has at these fields. Only the keys in one bucket are compared. It takes no memory.
+pub(crate) fn find(buckets: &Buckets, groups: &Groups, row: &Record, keys: &Keys) -> Option<usize>
+    requires index { IsIndex buckets.now (order_of groups.now.keys groups.now.groups) }
+    requires length { length keys.now ≡ length groups.now.keys }
+    requires below { AreBelow (length row.now) keys.now }
+    ensures { IsFound (order_of groups.now.keys groups.now.groups) (key_of keys.now row.now) result }
+{
+    let mut at = buckets.head(row_code(row, keys));
+    while let Some(n) = at {
+        if has_key(groups, n, row, keys) {
+            return Some(n);
+        }
+        at = buckets.next(n);
+    }
+    None
+}

@@ -1,0 +1,35 @@
+//! The records of lists in their groups.
+
+ghost use Rattle.std.specs.Prelude.{◌≡◌, ◌<◌, [], length, slice_set, OnOk};
+ghost use Rattle.grouped_rows.specs.Grouped.{rows_of};
+ghost use Rattle.group_table.specs.Stored.{AreBehind, AreMoved};
+
+use chain_arena::Chains;
+use grouped_rows::Groups;
+use pact_record::{OutOfMemory, Record};
+
+// Moves the records of one list to the group with its number.
+fn gather_list(groups: &mut Groups, lists: &mut Chains<Record>, n: usize) -> Result<(), OutOfMemory>
+    requires behind { AreBehind groups.old.keys groups.old.groups lists.old.lists }
+    requires number { n < length lists.old.lists }
+    ensures moved { OnOk result (AreMoved groups.old lists.old.lists groups.new lists.new.lists) }
+    ensures emptied { OnOk result (lists.new.lists ≡ slice_set lists.old.lists n []) }
+{
+    while lists.items(n) > 0 {
+        let row = lists.take_first(n);
+        groups.put(Some(n), row)?;
+    }
+    Ok(())
+}
+
+/// Moves the records of all lists to the groups with their numbers. After want of memory some may be lost.
+pub(crate) fn gather(groups: &mut Groups, lists: &mut Chains<Record>) -> Result<(), OutOfMemory>
+    requires { AreBehind groups.old.keys groups.old.groups lists.old.lists }
+    ensures moved { OnOk result (AreMoved groups.old lists.old.lists groups.new lists.new.lists) }
+    ensures emptied { OnOk result (rows_of lists.new.lists ≡ []) }
+{
+    for n in 0..lists.count() {
+        gather_list(groups, lists, n)?;
+    }
+    Ok(())
+}

@@ -1,0 +1,11 @@
+//! Tests of records by key, over what the libraries make public: lists in an arena, and both strategies beside the plain one.
+//!
+//! A crate with tests is proved twice, with them and without, so the tests stand apart.
+#![tactic(auto)]
+
+#[cfg(test)]
+mod chain_tests;
+#[cfg(test)]
+mod strategy_tests;
+#[cfg(test)]
+mod tables;
