@@ -307,7 +307,7 @@ build() {
         # What changed while it was copied is copied again.
         [ "$sources" != "$(sum_of_sources)" ] || break
     done
-    echo "pact: each proof is checked, by $(nproc) processors; from nothing that is some 90 processor minutes"
+    echo "pact: each proof is checked, by $(nproc) processors; from nothing that is some 105 processor minutes"
     # A build that is ended from outside ends what it began.
     trap 'kill $(jobs -p) 2>/dev/null; exit 143' INT TERM HUP
     prove_crates || return 1

@@ -45,6 +45,30 @@ plan sum.pact --counts
 cert sum.pact --counts
 check sum.pact certificates/push.good.json --workers 4
 sets sum.pact --plans 1
+gen
+gen 0
+gen 0 1 2
+gen -1 1
+gen 2147483647 1
+gen 0 1000001
+gen 0 -1
+gen zero 1
+gen 0 1.0
+gen 0 1 --workers 2
+gen 0 1 --local sort
+drill
+drill 0
+drill 0 1 2
+drill 2147483647 1
+drill 0 1000001
+drill 0 1 --counts
+drill 0 1 --workers 17
+drill 0 1 --workers 0
+drill 0 1 --plans 1001
+drill 0 1 --batch 1025
+drill 0 1 --depth 65
+drill 0 1 --local list
+drill drill.pact
 run sum.pact --workers 0
 run sum.pact --workers 17
 run sum.pact --workers -4

@@ -1,8 +1,10 @@
 //! Rows as lines of text.
 
-ghost use Rattle.std.specs.Prelude.{◌≡◌, ◌<◌, ◌++◌, ◌∷◌, [], ℕ, List, Option, map, IfOk, OnOk};
+ghost use Rattle.std.specs.Prelude.{◌≡◌, ◌≤◌, ◌<◌, ◌++◌, ◌∷◌, [], ℕ, List, Option, length, map, IfOk, OnOk};
+ghost use Rattle.std.specs.List.{AllByRecursion};
 ghost use Rattle.std.specs.Io.KnownBytes.{Appends};
 ghost use Rattle.csv.specs.Writing.{default_writer, fields_written, row_text, text_written};
+ghost use Rattle.pact_bag.specs.Rows.{cut};
 ghost use Rattle.pact_record.specs.declared.records.TheConstants.{MAX_FIELDS};
 ghost use Rattle.csv_sink.specs.CsvText.{csv_text, value_text};
 ghost use Rattle.csv_sink.specs.RowsWritten.{HasTexts, IsBetweenRows};
@@ -14,27 +16,35 @@ use pact_record::{Bytes, OutOfMemory, Record, Value};
 use std::alloc::Global;
 use std::io::Write;
 
-/// The CSV text of rows, one after the other, in their order. A field is empty where the value is
-/// Null, or a text without bytes. Want of memory is the only error.
-pub fn write_rows(alloc: Global, rows: &Rows) -> Result<Bytes, OutOfMemory>
-    ensures { IfOk result (λ text. text ≡ csv_text rows.now) }
+/// The CSV text of the listed fields of rows, one row after the other, in their order. A field is empty
+/// where the value is Null, or a text without bytes. Want of memory is the only error.
+pub fn write_rows(alloc: Global, rows: &Rows, fields: &[u32]) -> Result<Bytes, OutOfMemory>
+    requires few { length fields.now ≤ MAX_FIELDS }
+    requires within { AllByRecursion (λ row. AllByRecursion (λ field. field < length row) fields.now) rows.now }
+    ensures { IfOk result (λ text. text ≡ csv_text (map (cut fields.now) rows.now)) }
 {
     let mut writer = WriterBuilder::new().from_writer(Vec::new(alloc));
     for row in rows.rows() {
-        write_row(&mut writer, row)?;
+        write_row(&mut writer, row, fields)?;
     }
     let text = writer.into_inner().map_err(|_| OutOfMemory)?;
     Ok(Bytes::from_vec(text))
 }
 
 // Rows have one width, so that a writer to memory has no other reason than want of memory.
-fn write_row<W: Write + Drop>(writer: &mut Writer<W>, row: &Record) -> Result<(), OutOfMemory>
-    requires { IsBetweenRows writer.old }
-    ensures text { OnOk result (Appends (text_written W.contents writer.old) (text_written W.contents writer.new) (row_text default_writer (map value_text row.now))) }
+fn write_row<W: Write + Drop>(
+    writer: &mut Writer<W>,
+    row: &Record,
+    fields: &[u32],
+) -> Result<(), OutOfMemory>
+    requires between { IsBetweenRows writer.old }
+    requires few { length fields.now ≤ MAX_FIELDS }
+    requires within { AllByRecursion (λ field. field < length row.now) fields.now }
+    ensures text { OnOk result (Appends (text_written W.contents writer.old) (text_written W.contents writer.new) (row_text default_writer (map value_text (cut fields.now row.now)))) }
     ensures between { OnOk result (IsBetweenRows writer.new) }
 {
-    for field in 0..row.len() {
-        write_value(writer, row.get(field))?;
+    for field in fields {
+        write_value(writer, row.get(*field))?;
     }
     let Ok(()) = writer.end_record() else {
         return Err(OutOfMemory);

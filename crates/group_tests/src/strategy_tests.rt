@@ -6,7 +6,7 @@ ghost use Rattle.pact_record.specs.Widths.{AreBelow, AreWide};
 use crate::tables::{colliding, crowded, table};
 use group_table::GroupTable;
 use local_strategy::{ListLocal, Local};
-use pact_bag::{Rows, sort_rows};
+use pact_bag::Rows;
 use pact_record::Keys;
 use sort_local::SortLocal;
 use std::alloc::Global;
@@ -30,9 +30,11 @@ fn kept<L: Local>(alloc: Global, keys: &Keys, rows: &Rows) -> Result<L, Fail>
 
 // Whether these are the same records, in some order.
 fn are_same(alloc: Global, found: &Rows, wanted: &Rows) -> Result<bool, Fail> {
-    let found = sort_rows(found.copy(alloc)?)?;
-    let wanted = sort_rows(wanted.copy(alloc)?)?;
-    Ok(found.rows() == wanted.rows())
+    let mut found = found.copy(alloc)?.into_records();
+    let mut wanted = wanted.copy(alloc)?.into_records();
+    found.sort()?;
+    wanted.sort()?;
+    Ok(found == wanted)
 }
 
 // Whether both find the same records for the key values of each of these.

@@ -2,11 +2,11 @@
 #![tactic(auto)]
 
 pub mod counts;
+pub mod orders;
 pub mod outcomes;
-pub mod projecting;
 pub mod rows;
 
 pub use counts::Counts;
+pub use orders::compare_at;
 pub use outcomes::Outcome;
-pub use projecting::project;
 pub use rows::{Inputs, NoRoom, Rows, sort_rows};

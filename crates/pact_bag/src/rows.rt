@@ -2,8 +2,9 @@ ghost use Rattle.std.specs.Prelude.{◌≡◌, ◌<◌, ◌++◌, ◌∷◌, [],
 ghost use Rattle.std.specs.List.{AllByRecursion};
 ghost use Rattle.std.specs.List.Sorted.{IsPermutation, IsSorted};
 ghost use Rattle.pact_record.specs.Record.{record_cmp};
-ghost use Rattle.pact_bag.specs.Rows.{HaveOneWidth};
+ghost use Rattle.pact_bag.specs.Rows.{HaveOneWidth, cut};
 
+use crate::orders::compare_fields;
 use pact_record::{OutOfMemory, Record};
 use std::alloc::{AllocFailed, Global};
 use std::marker::Model;
@@ -122,13 +123,13 @@ impl Rows {
     }
 }
 
-/// The same rows, sorted by their values from left to right.
-pub fn sort_rows(rows: Rows) -> Result<Rows, OutOfMemory>
+/// The same rows, sorted by the listed fields. Where rows are equal in all of these, any of them comes first.
+pub fn sort_rows(rows: Rows, fields: &[u32]) -> Result<Rows, OutOfMemory>
     ensures permuted { IfOk result (λ sorted. IsPermutation rows sorted) }
-    ensures sorted { IfOk result (λ sorted. IsSorted record_cmp sorted) }
+    ensures sorted { IfOk result (λ sorted. IsSorted (λ a b. record_cmp (cut fields.now a) (cut fields.now b)) sorted) }
 {
     let mut held = rows.held;
-    held.sort()?;
+    held.sort_by(|a, b| compare_fields(fields, a, b))?;
     Ok(Rows { held })
 }
 

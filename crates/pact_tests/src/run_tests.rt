@@ -66,6 +66,38 @@ fn files_are_read_once_in_order(rt: HostRuntime) -> Result<(), Fail> {
     Ok(())
 }
 
+// Neither reads a file, and a drill tells the same whatever it runs on.
+#[test]
+fn generated_rows_are_read_from_no_file(rt: HostRuntime) -> Result<(), Fail> {
+    let alloc = rt.alloc();
+    let one = "rows 1\nout 1\ncheck 44790612456\n";
+    for (on_threads, command, rows, text) in [
+        (false, "gen", "0", ""),
+        (false, "gen", "1", "1,-752,t66\n"),
+        (true, "gen", "1", "1,-752,t66\n"),
+        (false, "drill", "0", "rows 0\nout 0\ncheck 0\n"),
+        (false, "drill", "1", one),
+        (true, "drill", "1", one),
+    ] {
+        let mut feed = NotingFeed {
+            feed: MemFeed::new(MemFiles::new(alloc), 65536, FailList::new(alloc)),
+            calls: Bytes::new(alloc),
+        };
+        let mut out = sink(alloc, 0)?;
+        let mut err = sink(alloc, 0)?;
+        let words = [command, "0", rows];
+        let status = answer(
+            &rt, on_threads, alloc, &words, &mut feed, &mut out, &mut err,
+        );
+        assert!(rt;
+            status == 0 && out.taken() == text.as_bytes(),
+            "{command} {rows}"
+        );
+        assert!(rt; feed.calls.bytes().is_empty(), "{command} {rows}");
+    }
+    Ok(())
+}
+
 const TWICE: &str = "pact 1
 fields 4
 source s s.csv int:0 int:1

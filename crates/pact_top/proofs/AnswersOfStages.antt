@@ -135,6 +135,9 @@ answers_of s feed (Err (CannotRead name)) h = absurd h
 answers_of s feed (Err CannotWrite) h = absurd h
 answers_of s feed (Err (Decided status line)) h = record { readings = []; read = none_read feed; ends = h }
 
+pub comes_alone : {A : Type 0} (s : Stage A) (feed : Feeding) (r : Result A Refusal) → Decides s r → Comes (λ f. s) feed feed r
+comes_alone s feed r h = record { files = refl; later = omega arith; told = answers_of s feed r h }
+
 pub comes_decided : {A B : Type 0} {s : Option (List NamedFile) → Stage A} (k : A → Stage B) {before now : Feeding} (a : A) (r : Result B Refusal)
     → Comes s before now (Ok a) → Decides (k a) r → Comes (λ f. and_then (s f) k) before now r
 comes_decided {A} {B} {s} k {before} {now} a r h g = record { files = h.files; later = h.later; told = on (s before.files) k before now now a r h.files h.later h.told (answers_of (k a) now r g) }

@@ -8,7 +8,7 @@ use Rattle.pact_outside.specs.Outside.{Feeding}
 use Rattle.plan_trees.specs.Plans.{PlanTree}
 use Rattle.swap_certificate.specs.declared.certificates.Certificate.{Certificate}
 use Rattle.plan_printer.specs.SetsText.{IsSetsText}
-use Rattle.pact_top.specs.CommandTexts.{Accepted, AllowsWritten, AreCounts, AreTextsOf, IsAcceptance, IsAnswerOf, IsOutAlone, Ready, to_accept, to_analyse, to_evaluate, to_justify, to_show}
+use Rattle.pact_top.specs.CommandTexts.{Accepted, AllowsWritten, AreCounts, AreTextsOf, IsAcceptance, IsAnswerOf, IsOutAlone, Ready, to_accept, to_analyse, to_evaluate, to_justify, to_make, to_show, to_sum_up}
 use Rattle.pact_top.specs.Lines.{AreLines}
 use Rattle.pact_top.specs.declared.loaded.Loaded.{Loaded}
 use Rattle.pact_top.specs.declared.refusals.Refusal.{Refusal}
@@ -17,9 +17,9 @@ use Rattle.pact_top.specs.declared.texts.Texts.{Texts}
 use Rattle.pact_top.specs.Refusal.{Answers, AskForCounts, Comes, ComesTo, Decides, IsAnswered, IsRefused, IsTold, IsUsageTold}
 use Rattle.pact_top.specs.Stages.{Reading, Stage, and_then, give, gives, stops}
 use Rattle.pact_top.specs.RefusalLines.{usage_line}
-use Rattle.pact_top.specs.Work.{accepted, certificate_file, command, loaded, program_file, ready_for, rechecked, sources, texts_for, work}
+use Rattle.pact_top.specs.Work.{accepted, at_once, certificate_file, command, loaded, program_file, ready_for, rechecked, sources, texts_for, work}
 use Rattle.pact_words.specs.declared.commands.Options.{Options}
-use Rattle.pact_words.specs.Words.{AreRefused, Asked, IsAsked, to_certify, to_check, to_plan, to_run, to_tell_sets}
+use Rattle.pact_words.specs.Words.{AreRefused, Asked, IsAsked, to_certify, to_check, to_drill, to_generate, to_plan, to_run, to_tell_sets}
 use Rattle.pact_top.proofs.AnswersOfStages.{comes_decided, comes_err, comes_then, decides_err, decides_then}
 use Rattle.pact_top.proofs.DecidedStages.{IsKnown, file-AreNames, work_known}
 use Rattle.pact_top.proofs.OnlyBag.{one_text, only_bag}
@@ -144,6 +144,12 @@ module _ {before now : Feeding} (name other : List ℕ) where
           (refl, refl))
           (refl, acceptance)
 
+-- ---- gen and drill
+
+-- what is made of no file
+pub made_alone : (y : Ready) (texts : Texts) → AreTextsOf y texts → Decides (at_once y) (Ok texts)
+made_alone y texts are = decides_then (give (λ r. r ≡ y)) (λ r. give (AreTextsOf r)) y (Ok texts) (refl, refl) (refl, are)
+
 -- ---- all commands
 
 no_words : (words : List (List ℕ)) (status : ℕ) (line : List ℕ) → IsKnown words status line → status ≡ 2 → AreRefused words
@@ -171,6 +177,8 @@ counted_texts (to_show l workers plans) texts text are told = let none = are.1 i
 counted_texts (to_justify l workers plans) texts text are told = let none = are.1 in absurd cc
 counted_texts (to_analyse p) texts text are told = let none = are.1 in absurd cc
 counted_texts (to_accept a) texts text are told = let none = are.1 in absurd cc
+counted_texts (to_make seed rows) texts text are told = let none = are.1 in absurd cc
+counted_texts (to_sum_up seed rows) texts text are told = let none = are.1 in absurd cc
 
 -- what a command has read is what it makes of what it came to
 gave_made : {A : Type 0} (s : Stage A) (make : A → Ready) (p : List Reading) (y : Ready) → (and_then s (λ x. give (λ r. r ≡ make x))).Ends p (gives y) → (x : A) × (y ≡ make x)
@@ -184,6 +192,8 @@ asks files (to_plan name w n) p l workers plans h = let e = (gave_made (loaded f
 asks files (to_certify name w n) p l workers plans h = let e = (gave_made (loaded files name) (λ x. to_justify x w n) p _ h).1 in absurd cc
 asks files (to_tell_sets name) p l workers plans h = let e = (gave_made (program_file files name) to_analyse p _ h).1 in absurd cc
 asks files (to_check name other) p l workers plans h = let e = (gave_made (accepted files name other) to_accept p _ h).1 in absurd cc
+asks files (to_generate seed rows) p l workers plans h = let e = h.1 in absurd cc
+asks files (to_drill seed rows o) p l workers plans h = let e = h.1 in absurd cc
 
 counts_for : (words : List (List ℕ)) (files : Option (List NamedFile)) (c : Asked) (p : List Reading) (texts : Texts) (text : List ℕ) → IsAsked words c → (texts_for files c).Ends p (gives texts) → texts.counts ≡ Some text
     → AskForCounts words

@@ -26,7 +26,7 @@ use Rattle.pact_top.specs.Stages.{End, gives, stops, misses, fails, Reading, eac
 use Rattle.pact_top.specs.RefusalLines.{usage_line}
 use Rattle.pact_top.specs.CommandTexts.{AreTextsOf}
 use Rattle.pact_top.specs.Work.{FileEnds, accepted, certificate, certificate_file, certificate_limit, command, draft, file, loaded, program, program_file, program_limit, program_of, ready, ready_for, rechecked, rows, source_file, sources, texts_for, valid, valids, work}
-use Rattle.pact_words.specs.Words.{Asked, to_run, to_plan, to_certify, to_tell_sets, to_check, AreRefused}
+use Rattle.pact_words.specs.Words.{Asked, to_run, to_plan, to_certify, to_tell_sets, to_check, to_generate, to_drill, AreRefused}
 use Rattle.pact_words.proofs.OneAsked.{never_both, not_both, one_asked, one_of}
 use Rattle.pact_operators.proofs.DifferentNames.{kept-NamesDiffer, spelled-AreNames}
 use Rattle.pact_operators.proofs.OneProgram.{one_program}
@@ -190,6 +190,8 @@ ready_for_decided files told (to_plan name workers plans) = agree_then _ _ (load
 ready_for_decided files told (to_certify name workers plans) = agree_then _ _ (loaded_decided files told name) (λ a b _ _. give_agrees _ _)
 ready_for_decided files told (to_tell_sets name) = agree_then _ _ (program_file_decided files told name) (λ a b _ _. give_agrees _ _)
 ready_for_decided files told (to_check name other) = agree_then _ _ (accepted_decided files told name other) (λ a b _ _. give_agrees _ _)
+ready_for_decided files told (to_generate seed rows) = give_agrees _ _
+ready_for_decided files told (to_drill seed rows o) = give_agrees _ _
 
 pub work_decided : (words : List (List ℕ)) (files : Option (List NamedFile)) → AreTold files → IsDecided (work words files)
 work_decided words files told = decided_then _ (command_one words) (command_decided words) (λ c _. agree_then _ _ (ready_for_decided files told c) (λ a b _ _. give_agrees _ _))
@@ -247,6 +249,8 @@ ready_for_known words files (to_check name other) =
     (λ p. stops_then (IsKnown words) _ (certificate_file_known words files other)
     (λ c. stops_then (IsKnown words) _ (rechecked_known words p c) (λ plan. stops_give (IsKnown words) _))))
     (λ a. stops_give (IsKnown words) _)
+ready_for_known words files (to_generate seed rows) = stops_give (IsKnown words) _
+ready_for_known words files (to_drill seed rows o) = stops_give (IsKnown words) _
 
 pub work_known : (words : List (List ℕ)) (files : Option (List NamedFile)) → StopsSo (IsKnown words) (work words files)
 work_known words files = stops_then (IsKnown words) _ (record { so = λ s l p h. inl h.1 }) (λ c. stops_then (IsKnown words) _ (ready_for_known words files c) (λ r. stops_give (IsKnown words) _))

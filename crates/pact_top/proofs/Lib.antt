@@ -17,3 +17,4 @@ pub mod CertificateEnds
 pub mod RowCounts
 pub mod ChosenTexts
 pub mod RunPlans
+pub mod Drills

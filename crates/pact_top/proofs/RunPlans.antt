@@ -18,9 +18,10 @@ use Rattle.ship_strategy.specs.Ships.{LegalShip}
 use Rattle.pact_bag.specs.declared.outcomes.Outcome.{Outcome}
 use Rattle.pact_record.specs.Widths.{AreWide}
 use Rattle.pact_top.specs.declared.choosing.Choice.{Choice}
+use Rattle.pact_top.specs.declared.choosing.FinishedRun.{FinishedRun}
 use Rattle.pact_top.specs.declared.loaded.Loaded.{Loaded}
 use Rattle.pact_top.specs.declared.texts.Texts.{Texts}
-use Rattle.pact_top.specs.CommandTexts.{AllowsWritten, AreToldCounts, IsAnswerOf, IsChoice, IsOutcome}
+use Rattle.pact_top.specs.CommandTexts.{AllowsWritten, AreToldCounts, IsAnswerOf, IsChoice, IsOutcome, IsRun}
 use Rattle.pact_top.specs.Lines.{AreLines}
 use Rattle.pact_top.proofs.ChosenTexts.{told-AreCounts}
 use Rattle.pact_top.proofs.CommandsRun.{is_answer}
@@ -59,3 +60,18 @@ pub are_answers : {E : Type 0} (l : Loaded) (workers plans : ℕ) (asked : Bool)
 are_answers l workers plans asked (Ok t) choice o program chosen allowed counted lines told =
     is_answer l workers plans asked t o.rows program allowed lines (told-AreCounts l workers plans choice o.rows o.counts asked t.counts chosen counted told)
 are_answers l workers plans asked (Err e) choice o program chosen allowed counted lines told = tt
+
+-- the texts of a run of the chosen plan
+pub run_answers : {E : Type 0} (l : Loaded) (workers plans : ℕ) (asked : Bool) (run : FinishedRun) (result : Result Texts E) → IsRun l workers plans run → IsProgram run.program
+    → IfOk result (λ t. AreLines run.program.sink run.outcome.rows t.out) → IfOk result (λ t. AreToldCounts run.program run.choice.plan run.outcome.counts asked t.counts) → IfOk result (IsAnswerOf l workers plans asked)
+run_answers l workers plans asked run result is program lines told =
+    are_answers l workers plans asked result run.choice run.outcome (subst IsProgram is.program program) is.chosen.choice is.outcome.allowed is.outcome.counted
+    (subst (λ (p : ProgramData). IfOk result (λ t. AreLines p.sink run.outcome.rows t.out)) is.program lines)
+    (subst (λ (p : ProgramData). IfOk result (λ t. AreToldCounts p run.choice.plan run.outcome.counts asked t.counts)) is.program told)
+
+-- what is known of the program that was run
+pub run-IsPlanOf : (l : Loaded) (workers plans : ℕ) (run : FinishedRun) → IsRun l workers plans run → IsPlanOf run.program.functions run.program.ops run.choice.plan
+run-IsPlanOf l workers plans run is = subst (λ (p : ProgramData). IsPlanOf p.functions p.ops run.choice.plan) (sym is.program) is.chosen.plan
+
+pub run-AreWide : (l : Loaded) (workers plans : ℕ) (run : FinishedRun) → IsRun l workers plans run → AreWide run.program.fields run.outcome.rows
+run-AreWide l workers plans run is = subst (λ (p : ProgramData). AreWide p.fields run.outcome.rows) (sym is.program) is.outcome.widths

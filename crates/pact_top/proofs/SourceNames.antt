@@ -13,7 +13,7 @@ use Rattle.pact_operators.specs.Programs.{ProgramData}
 use Rattle.pact_operators.specs.Resolved.{function_names, ops_of}
 use Rattle.pact_operators.proofs.SourceKinds.{source_kind}
 use Rattle.pact_outside.specs.declared.files.NamedFile.{NamedFile}
-use Rattle.pact_words.specs.Words.{Asked, to_run, to_plan, to_certify, to_tell_sets, to_check, IsAsked}
+use Rattle.pact_words.specs.Words.{Asked, IsAsked, to_certify, to_check, to_drill, to_generate, to_plan, to_run, to_tell_sets}
 use Rattle.tac_syntax.specs.declared.functions.Function.{Function as FunctionValue}
 use Rattle.tac_syntax.specs.Names.{is_file_name}
 use Rattle.pact_top.specs.Refusal.{IsNamed, Names}
@@ -99,6 +99,8 @@ ready_for_fails files (to_check name other) =
     (fails_then (NamedFor (to_check name other)) _ (file_fails (NamedFor (to_check name other)) files other certificate_limit (inl (inr refl))) (λ text _. fails_plain (NamedFor (to_check name other)) _ _))
     (λ c _. fails_then (NamedFor (to_check name other)) _ (fails_plain (NamedFor (to_check name other)) _ _) (λ plan _. fails_plain (NamedFor (to_check name other)) _ _))))
     (λ a _. fails_plain (NamedFor (to_check name other)) _ _)
+ready_for_fails files (to_generate seed rows) = fails_plain (NamedFor (to_generate seed rows)) _ _
+ready_for_fails files (to_drill seed rows o) = fails_plain (NamedFor (to_drill seed rows o)) _ _
 
 pub work_fails : (words : List (List ℕ)) (files : Option (List NamedFile)) → FailsSo (IsNamed words) (work words files)
 work_fails words files =

@@ -1,8 +1,13 @@
 -- What each command writes, from what it has read.
-use Rattle.std.specs.Prelude.{◌≡◌, ◌<◌, ◌++◌, ℕ, Bool, true, false, cond, List, [], ◌∷◌, drop, get_or, length, Option, Some, None, Ok, codes}
+use Rattle.std.specs.Prelude.{◌≡◌, ◌<◌, ◌++◌, ℕ, Bool, true, false, cond, List, [], ◌∷◌, drop, get_or, length, map, Option, Some, None, Ok, codes}
 use Rattle.std.specs.List.Sorted.{IsPermutation}
 use Rattle.serde_json.specs.Written.{compact_text}
+use Rattle.csv_sink.specs.CsvText.{csv_text}
+use Rattle.drill_program.specs.Drill.{drill_program}
+use Rattle.drill_program.specs.Summary.{summary_text}
+use Rattle.pact_bag.specs.Rows.{cut}
 use Rattle.pact_bag.specs.declared.outcomes.Outcome.{Outcome}
+use Rattle.pact_gen.specs.Generated.{generated, listed}
 use Rattle.pact_record.specs.Widths.{AreWide}
 use Rattle.pact_operators.specs.declared.operators.Op.{Op}
 use Rattle.pact_operators.specs.Allowed.{Allows, Bag, Counted}
@@ -29,6 +34,7 @@ use Rattle.swap_certificate.specs.Shape.{IsCertificateText, certificate_data}
 use Rattle.pact_top.specs.Lines.{AreLines}
 use Rattle.pact_top.specs.OrderFreePrograms.{AreGroupsFree}
 use Rattle.pact_top.specs.declared.choosing.Choice.{Choice}
+use Rattle.pact_top.specs.declared.choosing.FinishedRun.{FinishedRun}
 use Rattle.pact_top.specs.declared.loaded.Loaded.{Loaded}
 use Rattle.pact_top.specs.declared.texts.Texts.{Texts}
 
@@ -45,6 +51,8 @@ pub data Ready : Type 0 where
   to_justify : (loaded : Loaded) → (workers plans : ℕ) → Ready
   to_analyse : (program : ProgramData) → Ready
   to_accept : (accepted : Accepted) → Ready
+  to_make : (seed rows : ℕ) → Ready
+  to_sum_up : (seed rows : ℕ) → Ready
 
 -- ---- the choice
 
@@ -85,6 +93,12 @@ pub record IsOutcome (l : Loaded) (plan : PlanTree) (o : Outcome) : Type 0 where
   pub allowed : AllowsWritten l o.rows
   pub counted : Counted (plan_ops l.program l.inputs) plan o.rows o.counts
   pub widths : AreWide l.program.fields o.rows
+
+-- The plan that is chosen was run, and gave this.
+pub record IsRun (l : Loaded) (workers plans : ℕ) (run : FinishedRun) : Type 0 where
+  pub program : run.program ≡ l.program
+  pub chosen : IsPlanChosen l workers plans run.choice
+  pub outcome : IsOutcome l run.choice.plan run.outcome
 
 -- counts of a plan as text, where they are asked for
 abbrev pub AreToldCounts : ProgramData → PlanTree → List ℕ → Bool → Option (List ℕ) → Type 0
@@ -159,6 +173,33 @@ pub record IsAcceptance (a : Accepted) (text : List ℕ) : Type 0 where
   pub reached : Reach a.program a.plan
   pub answers : KeepAnswers a.program a.program.plan a.plan
 
+-- ---- `gen`
+
+-- the fields of the generated rows that have values, in the rows' own order
+abbrev pub IsGeneratedText : (seed rows : ℕ) → List ℕ → Type 0
+IsGeneratedText seed rows text = text ≡ csv_text (map (cut listed) (generated seed rows))
+
+-- ---- `drill`
+
+-- the program of a drill, with the generated rows in place of its file's
+abbrev pub drilled : (seed rows : ℕ) → Loaded
+drilled seed rows = record { program = drill_program; inputs = generated seed rows ∷ [] }
+
+-- how many rows went in, how many came out, and the check of the bytes that `run` would write of these
+pub record IsSummary (rows : ℕ) (sink : List ℕ) (bag : Bag) (text : List ℕ) : Type 0 where
+  pub lines : List ℕ
+  pub spelled : AreLines sink bag lines
+  pub told : text ≡ summary_text rows (length bag) lines
+
+-- The summary of a bag that the program of the drill allows on the generated rows. Each such bag is this one, up to order, and each summary of it is this
+-- text.
+pub record IsDrillText (seed rows : ℕ) (text : List ℕ) : Type 0 where
+  pub bag : Bag
+  pub allowed : AllowsWritten (drilled seed rows) bag
+  pub summary : IsSummary rows drill_program.sink bag text
+  pub only_bag : (other : Bag) → AllowsWritten (drilled seed rows) other → IsPermutation bag other
+  pub only_text : (other : Bag) (told : List ℕ) → AllowsWritten (drilled seed rows) other → IsSummary rows drill_program.sink other told → told ≡ text
+
 -- ---- all commands
 
 -- a text for the output, and no counts
@@ -171,3 +212,5 @@ AreTextsOf (to_show l workers plans) t = IsOutAlone (IsPlanText l workers plans)
 AreTextsOf (to_justify l workers plans) t = IsOutAlone (IsCertificateLine l workers plans) t
 AreTextsOf (to_analyse p) t = IsOutAlone (IsSetsText p) t
 AreTextsOf (to_accept a) t = IsOutAlone (IsAcceptance a) t
+AreTextsOf (to_make seed rows) t = IsOutAlone (IsGeneratedText seed rows) t
+AreTextsOf (to_sum_up seed rows) t = IsOutAlone (IsDrillText seed rows) t

@@ -1,8 +1,8 @@
 -- What the program promises of a call: the clauses of `pact_main`, and word for word those of `pact_alone`, by their names; what four more say is told
 -- in brackets. `pact_alone` runs a plan on one thread, waits for nobody and always returns. `pact_main` has a thread for each worker where the words ask
--- for a run with two workers or more: then it may wait, and its clauses hold if it returns. That it waits for nobody else is how it is built and no
--- clause. Statuses.antt has what the clauses speak of. `before` and `now` are what the feed shows, `old` and `new` what a sink took, `first` and `last`
--- its faults: the output's, and with `told_` those of the other sink.
+-- for a run or a drill with two workers or more: then it may wait, and its clauses hold if it returns. That it waits for nobody else is how it is
+-- built and no clause. Statuses.antt has what the clauses speak of. `before` and `now` are what the feed shows, `old` and `new` what a sink took, `first`
+-- and `last` its faults: the output's, and with `told_` those of the other sink.
 use Rattle.std.specs.Prelude.{◌≡◌, ◌≢◌, ◌≤◌, ◌⊎◌, ℕ, List, Option}
 use Rattle.pact_outside.specs.Outside.{Feeding, Rose}
 use Rattle.pact_words.specs.Words.{AreRefused, AreUnnamed}

@@ -1,9 +1,9 @@
 -- The status and the line of a refusal, and what a call's answer says of a stage.
-use Rattle.std.specs.Prelude.{◌≡◌, ◌≤◌, ◌⊎◌, ℕ, true, false, List, [], Option, Some, None, Result, Ok, Err, IsTrue}
+use Rattle.std.specs.Prelude.{◌≡◌, ◌≤◌, ◌⊎◌, ℕ, Bool, true, false, List, [], Option, Some, None, Result, Ok, Err, IsTrue}
 use Rattle.pact_outside.specs.declared.files.NamedFile.{NamedFile}
 use Rattle.pact_outside.specs.Outside.{Feeding, Rose}
 use Rattle.pact_words.specs.declared.commands.Options.{Options}
-use Rattle.pact_words.specs.Words.{Asked, to_run, to_plan, to_certify, to_tell_sets, to_check, AreRefused, AreUnnamed, IsAsked}
+use Rattle.pact_words.specs.Words.{Asked, to_run, to_plan, to_certify, to_tell_sets, to_check, to_generate, to_drill, AreRefused, AreUnnamed, IsAsked}
 use Rattle.pact_operators.specs.declared.checking.NotProgram.{NotProgram}
 use Rattle.pact_operators.specs.declared.checking.NotProgram.TheVariants as nots
 use Rattle.text_lines.specs.declared.lines.TextFault.{TextFault}
@@ -130,10 +130,17 @@ Names (to_plan program workers plans) name = name ≡ program
 Names (to_certify program workers plans) name = name ≡ program
 Names (to_tell_sets program) name = name ≡ program
 Names (to_check program certificate) name = (name ≡ program) ⊎ (name ≡ certificate)
+Names (to_generate seed rows) name = ⊥
+Names (to_drill seed rows o) name = ⊥
 
 -- the words ask for counts
 abbrev pub AskForCounts : List (List ℕ) → Type 0
 AskForCounts words = (program : List ℕ) × (options : Options) × IsAsked words (to_run program options true)
+
+-- the words ask for a run with two workers or more, of a program or of a drill
+abbrev pub AskForThreads : List (List ℕ) → Type 0
+AskForThreads words = (options : Options) × (2 ≤ options.workers)
+    × (((program : List ℕ) × (counts : Bool) × IsAsked words (to_run program options counts)) ⊎ ((seed : ℕ) × (rows : ℕ) × IsAsked words (to_drill seed rows options)))
 
 -- the words name this file, or a program may
 abbrev pub IsNamed : List (List ℕ) → List ℕ → Type 0

@@ -17,7 +17,7 @@ use Rattle.pact_top.specs.declared.texts.Texts.{Texts}
 -- plan were told on the other sink. Of `plan` it is the chosen plan, what it costs, and the exchanges that lead to it; of `cert` the
 -- certificate of them, which is accepted. Of `sets` it is what the analysis finds of each operator.
 -- Of `check` it tells that the certificate is accepted: legal exchanges lead to the plan that it states, which over every input allows the
--- bags of the plan as written.
+-- bags of the plan as written. Of `gen` it is the generated rows; of `drill` the summary of the one bag that the drill's program allows on them.
 abbrev pub AreWritten : List (List ℕ) → Feeding → Feeding → (old new told_old told_new : Option (List ℕ)) → Type 0
 AreWritten words before now old new told_old told_new =
     (texts : Texts) × ComesTo (work words before.files) before now (gives texts) × Gains old new texts.out × GainsCounts told_old told_new texts.counts

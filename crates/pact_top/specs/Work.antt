@@ -9,7 +9,7 @@ use Rattle.pact_operators.specs.PlanOps.{sources_of}
 use Rattle.pact_operators.specs.Programs.{IsProgramOf, ProgramData}
 use Rattle.pact_operators.specs.ProgramRules.{IsRefused, Keeps}
 use Rattle.pact_outside.specs.declared.files.NamedFile.{NamedFile}
-use Rattle.pact_words.specs.Words.{Asked, to_run, to_plan, to_certify, to_tell_sets, to_check, AreRefused, IsAsked}
+use Rattle.pact_words.specs.Words.{Asked, to_run, to_plan, to_certify, to_tell_sets, to_check, to_generate, to_drill, AreRefused, IsAsked}
 use Rattle.plan_trees.specs.Plans.{PlanTree}
 use Rattle.swap_certificate.specs.declared.certificates.CertFault.{CertFault}
 use Rattle.swap_certificate.specs.declared.certificates.Certificate.{Certificate}
@@ -21,7 +21,7 @@ use Rattle.tac_syntax.specs.declared.functions.Function.{Function}
 use Rattle.tac_syntax.specs.Valid.{IsRefusal, IsValid, WithFields}
 use Rattle.text_lines.specs.FirstFaults.{IsFirstFault}
 use Rattle.text_lines.specs.TextLines.{lines_of}
-use Rattle.pact_top.specs.CommandTexts.{Accepted, Ready, to_evaluate, to_show, to_justify, to_analyse, to_accept, AreTextsOf}
+use Rattle.pact_top.specs.CommandTexts.{Accepted, Ready, to_evaluate, to_show, to_justify, to_analyse, to_accept, to_make, to_sum_up, AreTextsOf}
 use Rattle.pact_top.specs.declared.loaded.Loaded.{Loaded}
 use Rattle.pact_top.specs.declared.texts.Texts.{Texts}
 use Rattle.pact_top.specs.Readings.{Holds, Lacks, only}
@@ -129,13 +129,19 @@ abbrev pub accepted : Option (List NamedFile) → List ℕ → List ℕ → Stag
 accepted files name other =
     and_then (program_file files name) (λ p. and_then (certificate_file files other) (λ c. and_then (rechecked p c) (λ plan. give (λ all. all ≡ record { program = p; certificate = c; plan = plan }))))
 
--- the order of work of each command
+-- what is made of no file
+abbrev pub at_once : Ready → Stage Texts
+at_once y = and_then (give (λ r. r ≡ y)) (λ r. give (AreTextsOf r))
+
+-- the order of work of each command; what is generated is read from no file
 abbrev pub ready_for : Option (List NamedFile) → Asked → Stage Ready
 ready_for files (to_run name o counts) = and_then (loaded files name) (λ l. give (λ r. r ≡ to_evaluate l o.workers o.plans counts))
 ready_for files (to_plan name workers plans) = and_then (loaded files name) (λ l. give (λ r. r ≡ to_show l workers plans))
 ready_for files (to_certify name workers plans) = and_then (loaded files name) (λ l. give (λ r. r ≡ to_justify l workers plans))
 ready_for files (to_tell_sets name) = and_then (program_file files name) (λ p. give (λ r. r ≡ to_analyse p))
 ready_for files (to_check name other) = and_then (accepted files name other) (λ a. give (λ r. r ≡ to_accept a))
+ready_for files (to_generate seed rows) = give (λ r. r ≡ to_make seed rows)
+ready_for files (to_drill seed rows o) = give (λ r. r ≡ to_sum_up seed rows)
 
 abbrev pub texts_for : Option (List NamedFile) → Asked → Stage Texts
 texts_for files asked = and_then (ready_for files asked) (λ r. give (AreTextsOf r))

@@ -1,16 +1,19 @@
 //! From the command line's words and the files to the text that is to be written.
 
-ghost use Rattle.std.specs.Prelude.{◌≡◌, ◌≤◌, ◌<◌, ◌^◌, ◌++◌, ◌∷◌, [], OnOk};
+ghost use Rattle.std.specs.Prelude.{◌≡◌, ◌≤◌, ◌<◌, ◌^◌};
 ghost use Rattle.std.specs.List.{AllByRecursion};
+ghost use Rattle.pact_gen.specs.Generated.{seed_limit};
 ghost use Rattle.plan_enumerate.specs.Listing.{entry_limit};
 ghost use Rattle.plan_trees.specs.Physicals.{worker_limit};
+ghost use Rattle.pact_top.specs.CommandTexts.{to_make, to_sum_up};
 ghost use Rattle.pact_top.specs.Refusal.{Comes, Decides, IsAnswered, RowRefused};
 ghost use Rattle.pact_top.specs.Work as work;
 ghost use Rattle.pact_words.specs.Words.{AreOptionsInRange, IsInRange, asked, texts_of, to_certify, to_check, to_plan, to_run, to_tell_sets};
 
 use crate::certificates::{certificate_in, rechecked};
 use crate::choosing::{certificate_texts, plan_texts, run_texts, run_texts_on_threads};
-use crate::loaded::{Loaded, is_source};
+use crate::generating::{drill_text, drill_text_on_threads, generated_text};
+use crate::loaded::{Loaded, is_source, push_rows};
 use crate::loading::{CERTIFICATE_LIMIT, PROGRAM_LIMIT, SOURCE_LIMIT, read_file};
 use crate::programs::program_of;
 use crate::refusal_lines::{bad_row, too_long};
@@ -103,14 +106,6 @@ fn load_sources<F: Feed>(alloc: Global, feed: &mut F, program: &Program) -> Resu
         }
     }
     Ok(inputs)
-}
-
-// Its clause is what a refused push leaves out: only memory refuses it.
-fn push_rows(inputs: &mut Inputs, rows: Rows) -> Result<(), OutOfMemory>
-    ensures { OnOk result (inputs.new ≡ inputs.old ++ rows ∷ []) }
-{
-    inputs.push(rows)?;
-    Ok(())
 }
 
 /// A program and the rows of its sources.
@@ -221,6 +216,42 @@ fn check<F: Feed>(alloc: Global, feed: &mut F, name: &[u8], other: &[u8]) -> Res
     Ok(Texts::out_alone(text))
 }
 
+// `gen SEED ROWS`, which reads no file.
+fn generate(alloc: Global, seed: u32, rows: u32) -> Result<Texts, Refusal>
+    requires { seed ≤ seed_limit }
+    ensures { Decides (work.at_once (to_make seed rows)) result }
+{
+    let text = generated_text(alloc, seed, rows)?;
+    Ok(Texts::out_alone(text))
+}
+
+// `drill SEED ROWS`, which reads no file either.
+fn drill(alloc: Global, seed: u32, rows: u32, options: Options) -> Result<Texts, Refusal>
+    requires seed { seed ≤ seed_limit }
+    requires options { AreOptionsInRange options }
+    ensures { Decides (work.at_once (to_sum_up seed rows)) result }
+{
+    let text = drill_text(alloc, seed, rows, options)?;
+    Ok(Texts::out_alone(text))
+}
+
+// `drill SEED ROWS` with a thread for each worker.
+fn drill_on_threads<R: Threads + Wait + Sync, G: Gate>(
+    rt: &R,
+    alloc: Global,
+    seed: u32,
+    rows: u32,
+    options: Options,
+    gate: &G,
+) -> Result<Texts, Refusal>
+    requires seed { seed ≤ seed_limit }
+    requires options { AreOptionsInRange options }
+    ensures { Decides (work.at_once (to_sum_up seed rows)) result }
+{
+    let text = drill_text_on_threads(rt, alloc, seed, rows, options, gate)?;
+    Ok(Texts::out_alone(text))
+}
+
 // The texts of a command.
 fn texts_for<F: Feed>(alloc: Global, command: Command, feed: &mut F) -> Result<Texts, Refusal>
     requires { IsInRange (asked command) }
@@ -247,6 +278,12 @@ fn texts_for<F: Feed>(alloc: Global, command: Command, feed: &mut F) -> Result<T
             program,
             certificate,
         } => check(alloc, feed, program.as_bytes(), certificate.as_bytes()),
+        Command::Gen { seed, rows } => generate(alloc, seed, rows),
+        Command::Drill {
+            seed,
+            rows,
+            options,
+        } => drill(alloc, seed, rows, options),
     }
 }
 
@@ -267,6 +304,11 @@ fn texts_on_threads<R: Threads + Wait + Sync, F: Feed, G: Gate>(
             options,
             counts,
         } => run_on_threads(rt, alloc, feed, program.as_bytes(), options, counts, gate),
+        Command::Drill {
+            seed,
+            rows,
+            options,
+        } => drill_on_threads(rt, alloc, seed, rows, options, gate),
         other => texts_for(alloc, other, feed),
     }
 }

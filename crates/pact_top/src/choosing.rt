@@ -15,7 +15,7 @@ ghost use Rattle.pact_top.specs.declared.loaded.Loaded.{Loaded as LoadedData};
 ghost use Rattle.ship_strategy.specs.Layouts.{layout_count, layout_of};
 ghost use Rattle.ship_strategy.specs.PlanFacts.{facts_of};
 ghost use Rattle.ship_strategy.specs.Ships.{LegalShip};
-ghost use Rattle.pact_top.specs.CommandTexts.{AreToldCounts, IsAnswerOf, IsCertificateLine, IsChoice, IsDerived, IsOutAlone, IsOutcome, IsPlanChosen, IsPlanText};
+ghost use Rattle.pact_top.specs.CommandTexts.{AreToldCounts, IsAnswerOf, IsCertificateLine, IsChoice, IsDerived, IsOutAlone, IsOutcome, IsPlanChosen, IsPlanText, IsRun};
 
 use crate::lines::sorted_lines;
 use crate::loaded::{Loaded, is_source};
@@ -41,6 +41,14 @@ pub struct Choice {
     pub listed: Listed,
     pub chosen: Chosen,
     pub plan: Plan,
+}
+
+/// A run of a program by the plan that was chosen for it, and what it gave.
+#[derive(Drop)]
+pub struct FinishedRun {
+    pub program: Program,
+    pub choice: Choice,
+    pub outcome: Outcome,
 }
 
 // How many rows a source or operator has of its own, and the place of the next source. `source` is the place of this one, where it is a source.
@@ -195,26 +203,71 @@ fn told_counts(
     Ok(Some(text))
 }
 
-// The sorted rows that a run of the chosen plan gave, and its counts where they are asked for.
-fn outcome_texts(
+/// Chooses a plan and runs it. The rows of the sources go into the run.
+pub fn run_chosen(
     alloc: Global,
-    program: &Program,
-    choice: &Choice,
-    outcome: &Outcome,
-    counts: bool,
-) -> Result<Texts, OutOfMemory>
-    requires plan { IsPlanOf program.now.functions program.now.ops choice.now.plan }
-    requires widths { AreWide program.now.fields outcome.now.rows }
-    ensures lines { IfOk result (λ texts. AreLines program.now.sink outcome.now.rows texts.out) }
-    ensures counts { IfOk result (λ texts. AreToldCounts program.now choice.now.plan outcome.now.counts counts texts.counts) }
-    ensures program { IsProgram program.now }
+    loaded: Loaded,
+    options: Options,
+) -> Result<FinishedRun, OutOfMemory>
+    requires inputs { AreInputsOf loaded.program loaded.inputs }
+    requires options { AreOptionsInRange options }
+    ensures { IfOk result (IsRun loaded options.workers options.plans) }
 {
-    let out = sorted_lines(alloc, &outcome.rows, program.sink())?;
-    let counts = told_counts(alloc, program, choice, &outcome.counts, counts)?;
+    let choice = choose_plan(alloc, &loaded, options.workers, options.plans)?;
+    let Loaded { program, inputs } = loaded;
+    let outcome = run_plan(alloc, &program, inputs, &choice, options)?;
+    Ok(FinishedRun {
+        program,
+        choice,
+        outcome,
+    })
+}
+
+/// The same with a thread for each worker.
+pub fn run_chosen_on_threads<R: Threads + Wait + Sync, G: Gate>(
+    rt: &R,
+    alloc: Global,
+    loaded: Loaded,
+    options: Options,
+    gate: &G,
+) -> Result<FinishedRun, OutOfMemory>
+    requires inputs { AreInputsOf loaded.program loaded.inputs }
+    requires options { AreOptionsInRange options }
+    ensures { IfOk result (IsRun loaded options.workers options.plans) }
+{
+    let choice = choose_plan(alloc, &loaded, options.workers, options.plans)?;
+    let Loaded { program, inputs } = loaded;
+    let outcome = run_plan_on_threads(rt, alloc, &program, inputs, &choice, options, gate)?;
+    Ok(FinishedRun {
+        program,
+        choice,
+        outcome,
+    })
+}
+
+// The sorted rows that a run of the chosen plan gave, and its counts where they are asked for.
+fn texts_of_run(alloc: Global, run: FinishedRun, counts: bool) -> Result<Texts, OutOfMemory>
+    requires plan { IsPlanOf run.program.functions run.program.ops run.choice.plan }
+    requires widths { AreWide run.program.fields run.outcome.rows }
+    ensures lines { IfOk result (λ texts. AreLines run.program.sink run.outcome.rows texts.out) }
+    ensures counts { IfOk result (λ texts. AreToldCounts run.program run.choice.plan run.outcome.counts counts texts.counts) }
+    ensures program { IsProgram run.program }
+{
+    let FinishedRun {
+        program,
+        choice,
+        outcome,
+    } = run;
+    let Outcome {
+        rows,
+        counts: given,
+    } = outcome;
+    let out = sorted_lines(alloc, rows, program.sink())?;
+    let counts = told_counts(alloc, &program, &choice, &given, counts)?;
     Ok(Texts { out, counts })
 }
 
-/// The sorted rows of a run of the chosen plan, and its counts where they are asked for. The rows of the sources go into the run.
+/// The sorted rows of a run of the chosen plan, and its counts where they are asked for.
 pub fn run_texts(
     alloc: Global,
     loaded: Loaded,
@@ -225,10 +278,8 @@ pub fn run_texts(
     requires options { AreOptionsInRange options }
     ensures { IfOk result (IsAnswerOf loaded options.workers options.plans counts) }
 {
-    let choice = choose_plan(alloc, &loaded, options.workers, options.plans)?;
-    let Loaded { program, inputs } = loaded;
-    let outcome = run_plan(alloc, &program, inputs, &choice, options)?;
-    outcome_texts(alloc, &program, &choice, &outcome, counts)
+    let finished = run_chosen(alloc, loaded, options)?;
+    texts_of_run(alloc, finished, counts)
 }
 
 /// The same of a run with a thread for each worker.
@@ -244,10 +295,8 @@ pub fn run_texts_on_threads<R: Threads + Wait + Sync, G: Gate>(
     requires options { AreOptionsInRange options }
     ensures { IfOk result (IsAnswerOf loaded options.workers options.plans counts) }
 {
-    let choice = choose_plan(alloc, &loaded, options.workers, options.plans)?;
-    let Loaded { program, inputs } = loaded;
-    let outcome = run_plan_on_threads(rt, alloc, &program, inputs, &choice, options, gate)?;
-    outcome_texts(alloc, &program, &choice, &outcome, counts)
+    let finished = run_chosen_on_threads(rt, alloc, loaded, options, gate)?;
+    texts_of_run(alloc, finished, counts)
 }
 
 // The exchanges that lead to the chosen plan.

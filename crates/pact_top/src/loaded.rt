@@ -1,16 +1,25 @@
 //! A program and the rows of its sources.
 
-ghost use Rattle.std.specs.Prelude.{◌≡◌};
+ghost use Rattle.std.specs.Prelude.{◌≡◌, ◌++◌, ◌∷◌, [], OnOk};
 ghost use Rattle.pact_operators.specs.PlanOps.{is_source_kind};
 
-use pact_bag::Inputs;
+use pact_bag::{Inputs, Rows};
 use pact_operators::{OpKind, Program};
+use pact_record::OutOfMemory;
 
 /// A program and the rows of its sources, as the files have them.
 #[derive(Drop)]
 pub struct Loaded {
     pub program: Program,
     pub inputs: Inputs,
+}
+
+/// Puts the rows of one more source behind the others. Its clause is what a refused push leaves out: only memory refuses it.
+pub fn push_rows(inputs: &mut Inputs, rows: Rows) -> Result<(), OutOfMemory>
+    ensures { OnOk result (inputs.new ≡ inputs.old ++ rows ∷ []) }
+{
+    inputs.push(rows)?;
+    Ok(())
 }
 
 pub fn is_source(kind: OpKind) -> bool

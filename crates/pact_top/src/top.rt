@@ -1,13 +1,12 @@
 //! The call that the program makes, and the same without threads.
 
-ghost use Rattle.std.specs.Prelude.{◌≡◌, ◌≢◌, ◌≤◌, ℕ, Bool, false, List, IsTrue};
+ghost use Rattle.std.specs.Prelude.{◌≡◌, ◌≢◌, ◌≤◌, false, IsTrue};
 ghost use Rattle.pact_outside.specs.Outside.{Rose};
 ghost use Rattle.pact_top.specs.Headline.{Answered, AnsweredQuietly, Complete, MissingFile, NoOther, NothingWritten, Refused, RefusedAlways, Told, UnreadName, UnreadOpened, Unwritten, UnwrittenCause, Usage, UsageAlways, UsageUnnamed};
-ghost use Rattle.pact_top.specs.Refusal.{status_of, refusal_line};
+ghost use Rattle.pact_top.specs.Refusal.{AskForThreads, status_of, refusal_line};
 ghost use Rattle.pact_top.specs.Statuses.{TellsCounts, WritesTexts};
 ghost use Rattle.pact_top.specs.Transfer.{Tells};
-ghost use Rattle.pact_words.specs.declared.commands.Options.{Options};
-ghost use Rattle.pact_words.specs.Words.{AreRefused, IsAsked, texts_of, to_run};
+ghost use Rattle.pact_words.specs.Words.{AreRefused, texts_of};
 
 use crate::answering::{answer, answer_on_threads};
 use crate::refusals::{Refusal, tell};
@@ -96,12 +95,13 @@ pub fn pact_alone<F: Feed, O: Sink, E: Sink>(
     }
 }
 
-// Whether the words ask for a run with two workers or more. Where memory is wanting to read them, nothing is asked.
+// Whether the words ask for a run or a drill with two workers or more. Where memory is wanting to read them, nothing is asked.
 fn asks_for_threads(alloc: Global, words: &[&str]) -> bool
-    ensures { IsTrue result → (program : List ℕ) × (options : Options) × (counts : Bool) × IsAsked (texts_of words.now) (to_run program options counts) × (2 ≤ options.workers) }
+    ensures { IsTrue result → AskForThreads (texts_of words.now) }
 {
     match read_words(alloc, words) {
         Ok(Command::Run { options, .. }) => options.workers >= 2,
+        Ok(Command::Drill { options, .. }) => options.workers >= 2,
         _ => false,
     }
 }
@@ -115,11 +115,14 @@ fn asks_for_threads(alloc: Global, words: &[&str]) -> bool
 /// of `cert PROGRAM` its certificate. Of `sets PROGRAM`, its file alone is read, and what the
 /// analysis finds of each operator is written. Of `check PROGRAM CERT`, the program's file is read
 /// and then the certificate's, and `accepted` is written where each step of it is found again.
+/// Of `gen SEED ROWS` and `drill SEED ROWS` no file is read: the one writes rows that the seed
+/// determines, the other runs a program of its own on them and writes a summary, which is the same
+/// for every option.
 /// Nothing is written before all of the texts are made. What goes wrong is told on `err` in one
 /// line; of a certificate with other sets or another plan the lines behind it have both.
 /// `specs/Headline.antt` has the clauses, with what each says.
 ///
-/// A run with two workers or more has a thread for each, as far as the system gives them, and `gate` is called there before each event of the
+/// A run or a drill with two workers or more has a thread for each, as far as the system gives them, and `gate` is called there before each event of the
 /// worker's instances. The workers wait for one another's notes, so the call may wait, and what is promised holds if it returns. With one worker, and
 /// for every other command, it is `pact_alone`, which waits for nobody; that is how it is built, and no clause tells it.
 ///

@@ -2,11 +2,11 @@
 use Rattle.std.proofs.Common.{◌≡◌, ◌∙◌, refl, ap, subst, inl, inr, ℕ, List, Option, Some, None, codes}
 use Rattle.clap.specs.Words.{Row, first_of, matches_of}
 use Rattle.pact_words.specs.declared.commands.Kind.{Kind}
-use Rattle.pact_words.specs.declared.commands.Kind.TheVariants.{Run, Plan, Cert, Check, Sets}
+use Rattle.pact_words.specs.declared.commands.Kind.TheVariants.{Run, Plan, Cert, Check, Sets, Gen, Drill}
 use Rattle.pact_words.specs.declared.commands.Options.{Options}
 use Rattle.pact_words.specs.Definitions.{app_for}
-use Rattle.pact_words.specs.FoundValues.{all_five, all_three, flag_of, number_of}
-use Rattle.pact_words.specs.Words.{AreRefused, AreRefusedBy, Asked, IsAsked, NamesNoStrategy, asked_of, options, options_of, to_run}
+use Rattle.pact_words.specs.FoundValues.{all_five, all_three, flag_of, local_of, number_of}
+use Rattle.pact_words.specs.Words.{AreRefused, AreRefusedBy, Asked, IsAsked, NamesNoStrategy, asked_of, options, options_of, to_drill, to_run}
 
 pub one_of : {A : Type 0} (o : Option A) (a b : A) → o ≡ Some a → o ≡ Some b → a ≡ b
 one_of o a b h g = cc
@@ -20,9 +20,14 @@ one_asked words a b h g =
     one_of (asked_of g.kind (matches_of (app_for g.kind) words)) a b
     (subst (λ (kind : Kind). asked_of kind (matches_of (app_for kind) words) ≡ Some a) kinds h.values) g.values
 
-three_without : {A B C D : Type 0} (f : A → B → C → D) (a : Option A) (c : Option C) → all_three f a None c ≡ None
-three_without f None c = refl
-three_without f (Some x) c = refl
+second_without : {A B C D : Type 0} (f : A → B → C → D) (a : Option A) (c : Option C) → all_three f a None c ≡ None
+second_without f None c = refl
+second_without f (Some x) c = refl
+
+third_without : {A B C D : Type 0} (f : A → B → C → D) (a : Option A) (b : Option B) → all_three f a b None ≡ None
+third_without f None b = refl
+third_without f (Some x) None = refl
+third_without f (Some x) (Some y) = refl
 
 five_without : {A B C D E F : Type 0} (f : A → B → C → D → E → F) (a : Option A) (b : Option B) (c : Option C) (d : Option D) → all_five f a b c d None ≡ None
 five_without f None b c d = refl
@@ -31,21 +36,29 @@ five_without f (Some v) (Some w) None d = refl
 five_without f (Some v) (Some w) (Some x) None = refl
 five_without f (Some v) (Some w) (Some x) (Some y) = refl
 
--- where `--local` names no strategy, nothing is asked for
-pub none_asked : (k : Kind) (rows : List Row) → NamesNoStrategy k rows → asked_of k rows ≡ None
-none_asked Run rows h =
+no_options : (rows : List Row) → local_of (codes "local") rows ≡ None → options_of rows ≡ None
+no_options rows h =
     let workers = number_of (codes "workers") rows in
     let plans = number_of (codes "plans") rows in
     let batch = number_of (codes "batch") rows in
     let depth = number_of (codes "depth") rows in
+    ap (all_five options workers plans batch depth) h ∙ five_without options workers plans batch depth
+
+-- where `--local` names no strategy, nothing is asked for
+pub none_asked : (k : Kind) (rows : List Row) → NamesNoStrategy k rows → asked_of k rows ≡ None
+none_asked Run rows h =
     let program = first_of (codes "program") rows in
     let counts = flag_of (codes "counts") rows in
-    let no_options : options_of rows ≡ None = ap (all_five options workers plans batch depth) h ∙ five_without options workers plans batch depth in
-    ap (λ (o : Option Options). all_three to_run program o counts) no_options ∙ three_without to_run program counts
+    ap (λ (o : Option Options). all_three to_run program o counts) (no_options rows h) ∙ second_without to_run program counts
 none_asked Plan rows h = absurd h
 none_asked Cert rows h = absurd h
 none_asked Check rows h = absurd h
 none_asked Sets rows h = absurd h
+none_asked Gen rows h = absurd h
+none_asked Drill rows h =
+    let seed = number_of (codes "seed") rows in
+    let row_count = number_of (codes "rows") rows in
+    ap (all_three to_drill seed row_count) (no_options rows h) ∙ third_without to_drill seed row_count
 
 pub never_both : (words : List (List ℕ)) (a : Asked) → IsAsked words a → AreRefused words → ⊥
 never_both words a h refused =

@@ -5,10 +5,12 @@ use Rattle.clap.specs.Simple.{built, matches_of}
 use Rattle.clap.specs.Faults.{fault_of}
 use Rattle.clap.specs.declared.builder.value_parser.ValueParser.TheVariants as vp
 use Rattle.pact_words.specs.declared.commands.Kind.{Kind}
-use Rattle.pact_words.specs.declared.commands.Kind.TheVariants.{Run, Plan, Cert, Check, Sets}
+use Rattle.pact_words.specs.declared.commands.Kind.TheVariants.{Run, Plan, Cert, Check, Sets, Gen, Drill}
+use Rattle.pact_words.specs.declared.commands.Options.{Options}
 use Rattle.pact_words.specs.Definitions.{app_for}
 use Rattle.pact_words.specs.FoundValues.{all_five, all_three, all_two, local_of, number_of}
-use Rattle.pact_words.specs.Words.{AreInRange, Asked, IsInRange, NamesNoStrategy, asked_of, options, to_certify, to_check, to_plan, to_run, to_tell_sets}
+use Rattle.pact_words.specs.Limits.{row_limit, seed_limit}
+use Rattle.pact_words.specs.Words.{AreInRange, AreOperandsInRange, AreOptionsInRange, Asked, IsInRange, NamesNoStrategy, asked_of, options, options_of, to_certify, to_check, to_drill, to_generate, to_plan, to_run, to_tell_sets}
 use Rattle.pact_words.proofs.FittingRows.{AllKnown}
 use Rattle.pact_words.proofs.GivenValues.{Holds, IsSure, held}
 use Rattle.pact_words.proofs.OneAsked.{none_asked, not_both, one_of}
@@ -22,6 +24,8 @@ known Plan = ((refl, inl (refl, refl)), ((refl, inl (refl, refl)), ((refl, inl (
 known Cert = ((refl, inl (refl, refl)), ((refl, inl (refl, refl)), ((refl, inl (refl, refl)), ((refl, inr (inr refl)), tt))))
 known Check = ((refl, inl (refl, refl)), ((refl, inl (refl, refl)), ((refl, inr (inr refl)), tt)))
 known Sets = ((refl, inl (refl, refl)), ((refl, inr (inr refl)), tt))
+known Gen = ((refl, inl (refl, refl)), ((refl, inl (refl, refl)), ((refl, inr (inr refl)), tt)))
+known Drill = ((refl, inl (refl, refl)), ((refl, inl (refl, refl)), ((refl, inl (refl, refl)), ((refl, inl (refl, refl)), ((refl, inl (refl, refl)), ((refl, inl (refl, refl)), ((refl, inl (refl, refl)), ((refl, inr (inr refl)), tt))))))))
 
 -- each argument that is required or has a default has a value
 each_holds : (k : Kind) (words : List Text) → fault_of (app_for k) words ≡ [] → (id : Text) (a : Rule) → arg_by_id (built (app_for k)).top.rules id ≡ Some a
@@ -31,6 +35,8 @@ each_holds Plan words e = held (built (app_for Plan)).top (known Plan) refl refl
 each_holds Cert words e = held (built (app_for Cert)).top (known Cert) refl refl (drop 1 words) _ _ e
 each_holds Check words e = held (built (app_for Check)).top (known Check) refl refl (drop 1 words) _ _ e
 each_holds Sets words e = held (built (app_for Sets)).top (known Sets) refl refl (drop 1 words) _ _ e
+each_holds Gen words e = held (built (app_for Gen)).top (known Gen) refl refl (drop 1 words) _ _ e
+each_holds Drill words e = held (built (app_for Drill)).top (known Drill) refl refl (drop 1 words) _ _ e
 
 -- ---- several values
 
@@ -65,6 +71,35 @@ has_limits rows workers plans w p h k = record {
 in_range : (rows : List Row) (h : HasLimits rows) → AreInRange h.workers.number h.plans.number
 in_range rows h = record { least_workers = h.workers.least_of; most_workers = h.workers.most_of; least_plans = h.plans.least_of; most_plans = h.plans.most_of }
 
+-- the options that are numbers
+pub record HasOptions (rows : List Row) : Type 0 where
+  pub limits : HasLimits rows
+  pub batch : HasNumber (codes "batch") rows 1 1024
+  pub depth : HasNumber (codes "depth") rows 1 64
+
+has_options : (rows : List Row) (workers plans batch depth : Rule) → workers.parser ≡ Some (vp.Signed (pos 1) (pos 16)) → plans.parser ≡ Some (vp.Signed (pos 1) (pos 1000))
+    → batch.parser ≡ Some (vp.Signed (pos 1) (pos 1024)) → depth.parser ≡ Some (vp.Signed (pos 1) (pos 64)) → Holds rows (codes "workers") workers
+    → Holds rows (codes "plans") plans → Holds rows (codes "batch") batch → Holds rows (codes "depth") depth → HasOptions rows
+has_options rows workers plans batch depth w p b d has_workers has_plans has_batch has_depth = record {
+  limits = has_limits rows workers plans w p has_workers has_plans;
+  batch = has_number (codes "batch") rows batch 1 1024 (omega arith) b has_batch;
+  depth = has_number (codes "depth") rows depth 1 64 (omega arith) d has_depth;
+}
+
+pub record HasOperands (found : List Row) : Type 0 where
+  pub seed : HasNumber (codes "seed") found 0 seed_limit
+  pub rows : HasNumber (codes "rows") found 0 row_limit
+
+has_operands : (found : List Row) (seed rows : Rule) → seed.parser ≡ Some (vp.Signed (pos 0) (pos seed_limit)) → rows.parser ≡ Some (vp.Signed (pos 0) (pos row_limit))
+    → Holds found (codes "seed") seed → Holds found (codes "rows") rows → HasOperands found
+has_operands found seed rows s r has_seed has_rows = record {
+  seed = has_number (codes "seed") found seed 0 seed_limit (omega arith) s has_seed;
+  rows = has_number (codes "rows") found rows 0 row_limit (omega arith) r has_rows;
+}
+
+operands_in_range : (found : List Row) (h : HasOperands found) → AreOperandsInRange h.seed.number h.rows.number
+operands_in_range found h = record { most_seed = h.seed.most_of; most_rows = h.rows.most_of }
+
 -- clap's definition takes the words: they ask for a command, with its numbers in their ranges
 pub record Asks (k : Kind) (words : List Text) : Type 0 where
   pub command : Asked
@@ -84,29 +119,37 @@ asks_limited k words to is ranged program limits =
       in_range = ranged program.text limits.workers.number limits.plans.number (in_range rows limits);
     }
 
+-- a command that takes all options, where `--local` names a strategy
+asks_chosen : (k : Kind) (words : List Text) (to : Options → Asked)
+    → ((o : Options) → options_of (matches_of (app_for k) words) ≡ Some o → asked_of k (matches_of (app_for k) words) ≡ Some (to o))
+    → ((o : Options) → AreOptionsInRange o → IsInRange (to o)) → HasOptions (matches_of (app_for k) words)
+    → Asks k words ⊎ (local_of (codes "local") (matches_of (app_for k) words) ≡ None)
+asks_chosen k words to says ranged h =
+    let rows = matches_of (app_for k) words in
+    some_or_none (Asks k words) (local_of (codes "local") rows) (λ local is.
+    let chosen = options h.limits.workers.number h.limits.plans.number h.batch.number h.depth.number local in
+    record {
+      command = to chosen;
+      values = says chosen (five_are options _ _ _ _ _ h.limits.workers.number h.limits.plans.number h.batch.number h.depth.number local h.limits.workers.is h.limits.plans.is h.batch.is h.depth.is is);
+      in_range = ranged chosen (record {
+        limits = in_range rows h.limits;
+        least_batch = h.batch.least_of;
+        most_batch = h.batch.most_of;
+        least_depth = h.depth.least_of;
+        most_depth = h.depth.most_of;
+      });
+    })
+
 pub asks : (k : Kind) (words : List Text) → fault_of (app_for k) words ≡ [] → Asks k words ⊎ NamesNoStrategy k (matches_of (app_for k) words)
 asks Run words e =
     let rows = matches_of (app_for Run) words in
     let at = each_holds Run words e in
     let program = has_text (codes "program") rows _ (at (codes "program") _ refl (inl refl)) in
-    let limits = has_limits rows _ _ refl refl (at (codes "workers") _ refl (inr (_, _, refl))) (at (codes "plans") _ refl (inr (_, _, refl))) in
-    let batch = has_number (codes "batch") rows _ 1 1024 (omega arith) refl (at (codes "batch") _ refl (inr (_, _, refl))) in
-    let depth = has_number (codes "depth") rows _ 1 64 (omega arith) refl (at (codes "depth") _ refl (inr (_, _, refl))) in
+    let numbers = has_options rows _ _ _ _ refl refl refl refl (at (codes "workers") _ refl (inr (_, _, refl))) (at (codes "plans") _ refl (inr (_, _, refl)))
+    (at (codes "batch") _ refl (inr (_, _, refl))) (at (codes "depth") _ refl (inr (_, _, refl))) in
     let counts = has_flag (codes "counts") rows _ refl (at (codes "counts") _ refl (inr (_, _, refl))) in
-    some_or_none (Asks Run words) (local_of (codes "local") rows) (λ local is.
-    let chosen = options limits.workers.number limits.plans.number batch.number depth.number local in
-    record {
-      command = to_run program.text chosen counts.flag;
-      values = three_are to_run _ _ _ program.text chosen counts.flag program.is
-          (five_are options _ _ _ _ _ limits.workers.number limits.plans.number batch.number depth.number local limits.workers.is limits.plans.is batch.is depth.is is) counts.is;
-      in_range = record {
-        limits = in_range rows limits;
-        least_batch = batch.least_of;
-        most_batch = batch.most_of;
-        least_depth = depth.least_of;
-        most_depth = depth.most_of;
-      };
-    })
+    asks_chosen Run words (λ o. to_run program.text o counts.flag)
+    (λ o is. three_are to_run _ _ _ program.text o counts.flag program.is is counts.is) (λ o h. h) numbers
 asks Plan words e =
     let rows = matches_of (app_for Plan) words in
     let at = each_holds Plan words e in
@@ -130,6 +173,24 @@ asks Sets words e =
     let at = each_holds Sets words e in
     let program = has_text (codes "program") rows _ (at (codes "program") _ refl (inl refl)) in
     inl (record { command = to_tell_sets program.text; values = ap (option_map to_tell_sets) program.is; in_range = tt })
+asks Gen words e =
+    let rows = matches_of (app_for Gen) words in
+    let at = each_holds Gen words e in
+    let operands = has_operands rows _ _ refl refl (at (codes "seed") _ refl (inl refl)) (at (codes "rows") _ refl (inl refl)) in
+    inl (record {
+      command = to_generate operands.seed.number operands.rows.number;
+      values = two_are to_generate _ _ operands.seed.number operands.rows.number operands.seed.is operands.rows.is;
+      in_range = operands_in_range rows operands;
+    })
+asks Drill words e =
+    let rows = matches_of (app_for Drill) words in
+    let at = each_holds Drill words e in
+    let operands = has_operands rows _ _ refl refl (at (codes "seed") _ refl (inl refl)) (at (codes "rows") _ refl (inl refl)) in
+    let numbers = has_options rows _ _ _ _ refl refl refl refl (at (codes "workers") _ refl (inr (_, _, refl))) (at (codes "plans") _ refl (inr (_, _, refl)))
+    (at (codes "batch") _ refl (inr (_, _, refl))) (at (codes "depth") _ refl (inr (_, _, refl))) in
+    asks_chosen Drill words (λ o. to_drill operands.seed.number operands.rows.number o)
+    (λ o is. three_are to_drill _ _ _ operands.seed.number operands.rows.number o operands.seed.is operands.rows.is is)
+    (λ o h. (operands_in_range rows operands, h)) numbers
 
 -- where nothing is asked for, `--local` names no strategy
 pub taken_names_none : (k : Kind) (words : List Text) → fault_of (app_for k) words ≡ [] → asked_of k (matches_of (app_for k) words) ≡ None

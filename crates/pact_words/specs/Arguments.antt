@@ -3,12 +3,17 @@ use Rattle.std.specs.Prelude.{◌∷◌, [], ℤ, pos, true, Some, codes}
 use Rattle.clap.specs.Words.{Rule, Text, new_rule}
 use Rattle.clap.specs.declared.builder.action.ArgAction.TheVariants.{SetTrue}
 use Rattle.clap.specs.declared.builder.value_parser.ValueParser.TheVariants.{Signed}
+use Rattle.pact_words.specs.Limits.{row_limit, seed_limit}
 
 -- ---- the kinds of argument
 
 -- a word that has to be there
 abbrev pub operand_rule : Text → Rule
 operand_rule name = record (new_rule name) { required = true }
+
+-- a number from `least` to `most` that has to be there
+abbrev pub number_operand_rule : Text → ℤ → ℤ → Rule
+number_operand_rule name least most = record (new_rule name) { required = true; parser = Some (Signed least most) }
 
 -- an option with a number from `least` to `most`, which is `usual` where the option isn't given
 abbrev pub number_rule : Text → ℤ → ℤ → Text → Rule
@@ -32,6 +37,14 @@ program_rule = operand_rule (codes "program")
 -- `CERT`
 abbrev pub certificate_rule : Rule
 certificate_rule = operand_rule (codes "certificate")
+
+-- `SEED`
+abbrev pub seed_rule : Rule
+seed_rule = number_operand_rule (codes "seed") (pos 0) (pos seed_limit)
+
+-- `ROWS`
+abbrev pub rows_rule : Rule
+rows_rule = number_operand_rule (codes "rows") (pos 0) (pos row_limit)
 
 -- `--workers`
 abbrev pub workers_rule : Rule

@@ -2,8 +2,8 @@
 use Rattle.std.specs.Prelude.{codes}
 use Rattle.clap.specs.Words.{App, Text, new_app, with_rule}
 use Rattle.pact_words.specs.declared.commands.Kind.{Kind}
-use Rattle.pact_words.specs.declared.commands.Kind.TheVariants.{Run, Plan, Cert, Check, Sets}
-use Rattle.pact_words.specs.Arguments.{batch_rule, certificate_rule, counts_rule, depth_rule, local_rule, plans_rule, program_rule, workers_rule}
+use Rattle.pact_words.specs.declared.commands.Kind.TheVariants.{Run, Plan, Cert, Check, Sets, Gen, Drill}
+use Rattle.pact_words.specs.Arguments.{batch_rule, certificate_rule, counts_rule, depth_rule, local_rule, plans_rule, program_rule, rows_rule, seed_rule, workers_rule}
 
 -- a command of a program
 abbrev pub program_app : Text → App
@@ -21,9 +21,17 @@ planning_app name = with_limits (program_app name)
 abbrev pub with_pipes : App → App
 with_pipes app = with_rule (with_rule app batch_rule) depth_rule
 
+-- with all that says how a plan is chosen and run
+abbrev pub with_options : App → App
+with_options app = with_rule (with_pipes (with_limits app)) local_rule
+
+-- a command that generates rows
+abbrev pub generating_app : Text → App
+generating_app name = with_rule (with_rule (new_app name) seed_rule) rows_rule
+
 -- `run PROGRAM`
 abbrev pub run_app : App
-run_app = with_rule (with_rule (with_pipes (planning_app (codes "run"))) local_rule) counts_rule
+run_app = with_rule (with_options (program_app (codes "run"))) counts_rule
 
 -- `check PROGRAM CERT`
 abbrev pub check_app : App
@@ -33,9 +41,15 @@ check_app = with_rule (program_app (codes "check")) certificate_rule
 abbrev pub sets_app : App
 sets_app = program_app (codes "sets")
 
+-- `drill SEED ROWS`
+abbrev pub drill_app : App
+drill_app = with_options (generating_app (codes "drill"))
+
 abbrev pub app_for : Kind → App
 app_for Run = run_app
 app_for Plan = planning_app (codes "plan")
 app_for Cert = planning_app (codes "cert")
 app_for Check = check_app
 app_for Sets = sets_app
+app_for Gen = generating_app (codes "gen")
+app_for Drill = drill_app

@@ -8,11 +8,12 @@ use Rattle.pact_words.specs.declared.commands.Command.TheVariants as commands
 use Rattle.pact_words.specs.declared.commands.LocalStrategy.{LocalStrategy}
 use Rattle.pact_words.specs.declared.commands.Options.{Options}
 use Rattle.pact_words.specs.declared.commands.Kind.{Kind}
-use Rattle.pact_words.specs.declared.commands.Kind.TheVariants.{Run, Plan, Cert, Check, Sets}
+use Rattle.pact_words.specs.declared.commands.Kind.TheVariants.{Run, Plan, Cert, Check, Sets, Gen, Drill}
 use Rattle.pact_words.specs.declared.commands.Refused.{Refused}
 use Rattle.pact_words.specs.declared.commands.Refused.TheVariants.{Usage, OutOfMemory}
 use Rattle.pact_words.specs.Definitions.{app_for}
 use Rattle.pact_words.specs.FoundValues.{all_five, all_three, all_two, flag_of, local_of, number_of}
+use Rattle.pact_words.specs.Limits.{row_limit, seed_limit}
 
 -- the texts that words point to
 abbrev pub texts_of : List (Bor (List ℕ)) → List (List ℕ)
@@ -32,6 +33,10 @@ pub data Asked : Type 0 where
   to_check : (program certificate : List ℕ) → Asked
   -- `sets PROGRAM`
   to_tell_sets : (program : List ℕ) → Asked
+  -- `gen SEED ROWS`
+  to_generate : (seed rows : ℕ) → Asked
+  -- `drill SEED ROWS`
+  to_drill : (seed rows : ℕ) → (options : Options) → Asked
 
 -- a command as data
 abbrev pub asked : Command → Asked
@@ -40,6 +45,8 @@ asked (commands.Plan program workers plans) = to_plan program.now workers plans
 asked (commands.Cert program workers plans) = to_certify program.now workers plans
 asked (commands.Check program certificate) = to_check program.now certificate.now
 asked (commands.Sets program) = to_tell_sets program.now
+asked (commands.Gen seed rows) = to_generate seed rows
+asked (commands.Drill seed rows options) = to_drill seed rows options
 
 -- workers and plans
 pub record AreInRange (workers plans : ℕ) : Type 0 where
@@ -56,6 +63,11 @@ pub record AreOptionsInRange (o : Options) : Type 0 where
   pub least_depth : 1 ≤ o.depth
   pub most_depth : o.depth ≤ 64
 
+-- seed and rows
+pub record AreOperandsInRange (seed rows : ℕ) : Type 0 where
+  pub most_seed : seed ≤ seed_limit
+  pub most_rows : rows ≤ row_limit
+
 -- the numbers that are asked for lie in their ranges
 abbrev pub IsInRange : Asked → Type 0
 IsInRange (to_run program options counts) = AreOptionsInRange options
@@ -63,6 +75,8 @@ IsInRange (to_plan program workers plans) = AreInRange workers plans
 IsInRange (to_certify program workers plans) = AreInRange workers plans
 IsInRange (to_check program certificate) = Unit {0}
 IsInRange (to_tell_sets program) = Unit {0}
+IsInRange (to_generate seed rows) = AreOperandsInRange seed rows
+IsInRange (to_drill seed rows options) = AreOperandsInRange seed rows × AreOptionsInRange options
 
 -- ---- words
 
@@ -73,6 +87,8 @@ name_of Plan = codes "plan"
 name_of Cert = codes "cert"
 name_of Check = codes "check"
 name_of Sets = codes "sets"
+name_of Gen = codes "gen"
+name_of Drill = codes "drill"
 
 -- a word's command is this one, or that of the others
 abbrev pub named : List ℕ → Kind → Option Kind → Option Kind
@@ -80,7 +96,7 @@ named word kind other = cond (bytes_eq word (name_of kind)) (Some kind) other
 
 -- the command of that name
 abbrev pub kind_named : List ℕ → Option Kind
-kind_named word = named word Run (named word Plan (named word Cert (named word Check (named word Sets None))))
+kind_named word = named word Run (named word Plan (named word Cert (named word Check (named word Sets (named word Gen (named word Drill None))))))
 
 -- the command that the first word names
 abbrev pub kind_in : List (List ℕ) → Option Kind
@@ -108,6 +124,8 @@ asked_of Plan rows = all_three to_plan (first_of (codes "program") rows) (number
 asked_of Cert rows = all_three to_certify (first_of (codes "program") rows) (number_of (codes "workers") rows) (number_of (codes "plans") rows)
 asked_of Check rows = all_two to_check (first_of (codes "program") rows) (first_of (codes "certificate") rows)
 asked_of Sets rows = option_map to_tell_sets (first_of (codes "program") rows)
+asked_of Gen rows = all_two to_generate (number_of (codes "seed") rows) (number_of (codes "rows") rows)
+asked_of Drill rows = all_three to_drill (number_of (codes "seed") rows) (number_of (codes "rows") rows) (options_of rows)
 
 -- The first word is a command, clap takes the words by that command's definition, and these are the values that it finds. To clap the first
 -- word is the name under which a program is called, and the others are its arguments.
@@ -120,6 +138,7 @@ pub record IsAsked (words : List (List ℕ)) (command : Asked) : Type 0 where
 -- the word of `--local` is neither `hash` nor `sort`
 abbrev pub NamesNoStrategy : Kind → List Row → Type 0
 NamesNoStrategy Run rows = local_of (codes "local") rows ≡ None
+NamesNoStrategy Drill rows = local_of (codes "local") rows ≡ None
 NamesNoStrategy _ rows = ⊥
 
 -- no command takes them, clap refuses them by the named one's definition, or `--local` names no strategy

@@ -2,7 +2,7 @@
 
 ghost use Rattle.std.specs.Prelude.{◌≡◌, false};
 ghost use Rattle.clap.specs.Words.{rule_of};
-ghost use Rattle.pact_words.specs.Arguments.{batch_rule, certificate_rule, counts_rule, depth_rule, flag_rule, local_rule, number_rule, operand_rule, plans_rule, program_rule, word_rule, workers_rule};
+ghost use Rattle.pact_words.specs.Arguments.{batch_rule, certificate_rule, counts_rule, depth_rule, flag_rule, local_rule, number_operand_rule, number_rule, operand_rule, plans_rule, program_rule, rows_rule, seed_rule, word_rule, workers_rule};
 
 use clap::builder::ValueParser;
 use clap::{Arg, ArgAction};
@@ -20,6 +20,20 @@ pub(crate) fn certificate<'a>(alloc: Global) -> Arg<'a>
     ensures local { result.global ≡ false }
 {
     operand(alloc, "certificate")
+}
+
+pub(crate) fn seed<'a>(alloc: Global) -> Arg<'a>
+    ensures rule { rule_of result ≡ seed_rule }
+    ensures local { result.global ≡ false }
+{
+    number_operand(alloc, "seed", 0, 2_147_483_646)
+}
+
+pub(crate) fn rows<'a>(alloc: Global) -> Arg<'a>
+    ensures rule { rule_of result ≡ rows_rule }
+    ensures local { result.global ≡ false }
+{
+    number_operand(alloc, "rows", 0, 1_000_000)
 }
 
 pub(crate) fn workers<'a>(alloc: Global) -> Arg<'a>
@@ -70,6 +84,16 @@ fn operand<'a>(alloc: Global, name: &'a str) -> Arg<'a>
     ensures local { result.global ≡ false }
 {
     Arg::new(alloc, name).required(true)
+}
+
+// A number that has to be there.
+fn number_operand<'a>(alloc: Global, name: &'a str, least: i64, most: i64) -> Arg<'a>
+    ensures rule { rule_of result ≡ number_operand_rule name.entry.now least most }
+    ensures local { result.global ≡ false }
+{
+    Arg::new(alloc, name)
+        .required(true)
+        .value_parser(ValueParser::signed(least, most))
 }
 
 // An option with a number, which is `usual` where the option isn't given.

@@ -27,7 +27,8 @@ pub struct Options {
 /// A command with its operands and options.
 ///
 /// Where the words don't tell, there are 4 workers (1 to 16), at most 256 plans (1 to 1,000), batches of 64 records (1 to 1,024) and pipes of
-/// 4 notes (1 to 64), and the records of a key are found by a hash table (`hash`, not `sort`).
+/// 4 notes (1 to 64), and the records of a key are found by a hash table (`hash`, not `sort`). A seed is at most 2,147,483,646, and there are
+/// at most 1,000,000 rows.
 #[derive(Clone, Copy, Debug, PartialEq, Eq)]
 pub enum Command<'a> {
     /// `run PROGRAM`: the program in the file of that name is run, and its rows are written.
@@ -58,6 +59,17 @@ pub enum Command<'a> {
     Sets {
         program: &'a str,
     },
+    /// `gen SEED ROWS`: so many rows, which the seed determines, are written.
+    Gen {
+        seed: u32,
+        rows: u32,
+    },
+    /// `drill SEED ROWS`: a built-in program is run on these rows, and a summary of what it gives is written.
+    Drill {
+        seed: u32,
+        rows: u32,
+        options: Options,
+    },
 }
 
 /// Which command the first word names.
@@ -68,6 +80,8 @@ pub(crate) enum Kind {
     Cert,
     Check,
     Sets,
+    Gen,
+    Drill,
 }
 
 /// Why words give no command.

@@ -2,9 +2,11 @@
 
 ghost use Rattle.std.specs.Prelude.{◌≡◌, IfOk};
 ghost use Rattle.clap.specs.Words.{app_of};
-ghost use Rattle.pact_words.specs.Definitions.{app_for, check_app, planning_app, run_app, sets_app, with_limits, with_pipes};
+ghost use Rattle.pact_words.specs.Definitions.{app_for, check_app, drill_app, generating_app, planning_app, run_app, sets_app, with_limits, with_options, with_pipes};
 
-use crate::arguments::{batch, certificate, counts, depth, local, plans, program, workers};
+use crate::arguments::{
+    batch, certificate, counts, depth, local, plans, program, rows, seed, workers,
+};
 use crate::commands::Kind;
 use clap::Command;
 use std::alloc::{AllocError, Global};
@@ -19,15 +21,15 @@ pub(crate) fn definition<'a>(alloc: Global, kind: Kind) -> Result<Command<'a>, A
         Kind::Cert => planning(alloc, "cert"),
         Kind::Check => check(alloc),
         Kind::Sets => sets(alloc),
+        Kind::Gen => generating(alloc, "gen"),
+        Kind::Drill => drill(alloc),
     }
 }
 
 fn run<'a>(alloc: Global) -> Result<Command<'a>, AllocError>
     ensures { IfOk result (λ c. app_of c ≡ run_app) }
 {
-    with_pipes(alloc, planning(alloc, "run")?)?
-        .arg(local(alloc))?
-        .arg(counts(alloc))
+    with_options(alloc, Command::new(alloc, "run").arg(program(alloc))?)?.arg(counts(alloc))
 }
 
 // A command that chooses a plan.
@@ -49,6 +51,26 @@ fn sets<'a>(alloc: Global) -> Result<Command<'a>, AllocError>
     ensures { IfOk result (λ c. app_of c ≡ sets_app) }
 {
     Command::new(alloc, "sets").arg(program(alloc))
+}
+
+// A command that generates rows.
+fn generating<'a>(alloc: Global, name: &'a str) -> Result<Command<'a>, AllocError>
+    ensures { IfOk result (λ c. app_of c ≡ generating_app name.entry.now) }
+{
+    Command::new(alloc, name).arg(seed(alloc))?.arg(rows(alloc))
+}
+
+fn drill<'a>(alloc: Global) -> Result<Command<'a>, AllocError>
+    ensures { IfOk result (λ c. app_of c ≡ drill_app) }
+{
+    with_options(alloc, generating(alloc, "drill")?)
+}
+
+// With all that says how a plan is chosen and run.
+fn with_options<'a>(alloc: Global, command: Command<'a>) -> Result<Command<'a>, AllocError>
+    ensures { IfOk result (λ c. app_of c ≡ with_options (app_of command.entry)) }
+{
+    with_pipes(alloc, with_limits(alloc, command)?)?.arg(local(alloc))
 }
 
 fn with_limits<'a>(alloc: Global, command: Command<'a>) -> Result<Command<'a>, AllocError>

@@ -40,6 +40,8 @@ fn kind_named(word: &str) -> Option<Kind>
         "cert" => Some(Kind::Cert),
         "check" => Some(Kind::Check),
         "sets" => Some(Kind::Sets),
+        "gen" => Some(Kind::Gen),
+        "drill" => Some(Kind::Drill),
         _ => None,
     }
 }

@@ -18,6 +18,8 @@ pub(crate) fn command_in<'a>(kind: Kind, matches: &ArgMatches<'a>) -> Option<Com
         Kind::Cert => cert(matches),
         Kind::Check => check(matches),
         Kind::Sets => sets(matches),
+        Kind::Gen => generate(matches),
+        Kind::Drill => drill(matches),
     }
 }
 
@@ -93,6 +95,27 @@ fn sets<'a>(matches: &ArgMatches<'a>) -> Option<Command<'a>>
 {
     let program = text(matches, "program")?;
     Some(Command::Sets { program })
+}
+
+fn generate<'a>(matches: &ArgMatches<'a>) -> Option<Command<'a>>
+    ensures { option_map asked result ≡ asked_of Kind.Gen (rows_of (found_of matches.now)) }
+{
+    let seed = number(matches, "seed")?;
+    let rows = number(matches, "rows")?;
+    Some(Command::Gen { seed, rows })
+}
+
+fn drill<'a>(matches: &ArgMatches<'a>) -> Option<Command<'a>>
+    ensures { option_map asked result ≡ asked_of Kind.Drill (rows_of (found_of matches.now)) }
+{
+    let seed = number(matches, "seed")?;
+    let rows = number(matches, "rows")?;
+    let options = options(matches)?;
+    Some(Command::Drill {
+        seed,
+        rows,
+        options,
+    })
 }
 
 fn text<'a>(matches: &ArgMatches<'a>, name: &str) -> Option<&'a str>

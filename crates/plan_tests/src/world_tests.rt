@@ -11,7 +11,7 @@ use crate::listing_tests::PUSH;
 use crate::programs::{inputs, program};
 use flow_core::{Event, PipeId, Replay, World, replay, run_alone};
 use local_strategy::ListLocal;
-use pact_bag::{Counts, Inputs, Outcome, Rows, sort_rows};
+use pact_bag::{Counts, Inputs, Outcome, Rows};
 use pact_operators::Program;
 use ship_strategy::{layout, layouts};
 use slow_eval::evaluate;
@@ -272,9 +272,11 @@ fn are_equal(found: &Counts, wanted: &Counts) -> bool {
 
 // Whether these are the same rows, in some order.
 fn are_same(found: Rows, wanted: Rows) -> Result<bool, Fail> {
-    let found = sort_rows(found)?;
-    let wanted = sort_rows(wanted)?;
-    Ok(found.rows() == wanted.rows())
+    let mut found = found.into_records();
+    let mut wanted = wanted.into_records();
+    found.sort()?;
+    wanted.sort()?;
+    Ok(found == wanted)
 }
 
 fn same_outcomes(found: Outcome, wanted: Outcome) -> Result<bool, Fail> {

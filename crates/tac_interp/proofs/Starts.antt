@@ -16,7 +16,6 @@ IsReady-start f g fields input start v h e s =
     subst (IsReady g.body) (sym s) (subst (λ (x : Function). IsReady x.body (start_store fields input)) (sym e) here)
 
 -- what is emitted in the end, from the steps of a call
-pub emitted-exec : (f g : Function) (fields : ℕ) (input : CallInput) (start done : Store) (rows : List (List Value)) → rows ≡ done.emitted → done ≡ exec g.body start
-    → g ≡ f → start ≡ start_store fields input → rows ≡ (exec f.body (start_store fields input)).emitted
-emitted-exec f g fields input start done rows r d e s =
-    r ∙ ap (λ (x : Store). x.emitted) (d ∙ ap (exec g.body) s ∙ ap (λ (x : Function). exec x.body (start_store fields input)) e)
+pub emitted-exec : (f g : Function) (fields : ℕ) (input : CallInput) (start : Store) (rows : List (List Value)) → rows ≡ (exec g.body start).emitted → g ≡ f → start ≡ start_store fields input
+    → rows ≡ (exec f.body (start_store fields input)).emitted
+emitted-exec f g fields input start rows r e s = r ∙ ap (λ (x : Store). x.emitted) (ap (exec g.body) s ∙ ap (λ (x : Function). exec x.body (start_store fields input)) e)

@@ -11,9 +11,9 @@ ghost use Rattle.pact_record.specs.Widths.{AreBelow, AreWide};
 ghost use Rattle.tac_syntax.specs.CallInputs.{HasKeys, HasWidth, IsInputOf};
 ghost use Rattle.tac_interp.specs.Machine.{HasKeyFields, input_of};
 
+use crate::endings::finish_body;
 use crate::inputs::Input;
 use crate::machines::Machine;
-use crate::runs::run_body;
 use pact_bag::Rows;
 use pact_record::{Keys, OutOfMemory, Record};
 use std::alloc::Global;
@@ -30,9 +30,8 @@ fn call(alloc: Global, f: &Valid, input: Input<'_>) -> Result<Rows, OutOfMemory>
     ensures widths { IfOk result (AreWide f.now.fields) }
 {
     let function = f.function();
-    let mut machine = Machine::start(alloc, f.fields(), input);
-    run_body(alloc, &function.body, &mut machine)?;
-    Ok(machine.into_emitted())
+    let machine = Machine::start(alloc, f.fields(), input);
+    finish_body(alloc, &function.body, machine)
 }
 
 /// What a Map's function emits for a record, in its order.

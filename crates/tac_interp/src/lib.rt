@@ -6,6 +6,7 @@
 #![tactic(auto)]
 
 mod calls;
+mod endings;
 mod inputs;
 mod machines;
 mod registers;

@@ -265,6 +265,17 @@ impl<'a> Machine<'a> {
         Ok(())
     }
 
+    /// What was emitted once this record is, too. It is moved, since no statement comes behind.
+    pub(crate) fn emit_last(self, alloc: Global, from: u32) -> Result<Rows, OutOfMemory>
+        requires { CanAct (code.emit_record from) self }
+        ensures { IfOk result (λ rows. rows ≡ (after (code.emit_record from) self.entry).emitted) }
+    {
+        let row = self.records.into_record(alloc, from)?;
+        let mut emitted = self.emitted;
+        emitted.push(row)?;
+        Ok(emitted)
+    }
+
     pub(crate) fn into_emitted(self) -> Rows
         ensures { result ≡ self.entry.emitted }
     {

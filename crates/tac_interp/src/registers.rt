@@ -186,6 +186,22 @@ impl RecordRegisters {
         }
     }
 
+    /// The record of a register, which is moved out.
+    pub(crate) fn into_record(self, alloc: Global, at: u32) -> Result<Record, OutOfMemory>
+        requires { at < record_registers }
+        ensures record { IfOk result (λ row. row ≡ get_or self.records at []) }
+        ensures width { IfOk result (λ row. length row ≡ self.fields) }
+    {
+        let mut held = self.held;
+        if at as usize >= held.len() {
+            return Record::empty(alloc, self.fields);
+        }
+        match held[at as usize].take() {
+            Some(row) => Ok(row),
+            None => Record::empty(alloc, self.fields),
+        }
+    }
+
     pub(crate) fn set(&mut self, at: u32, row: Record) -> Result<(), OutOfMemory>
         requires place { at < record_registers }
         requires width { length row ≡ self.old.fields }

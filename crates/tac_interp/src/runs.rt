@@ -11,8 +11,13 @@ use pact_record::OutOfMemory;
 use std::alloc::Global;
 use tac_syntax::{Body, LoopList, Stmt};
 
+/// One statement, with the blocks in it.
 #[cycle(run)]
-fn run_stmt(alloc: Global, stmt: &Stmt, machine: &mut Machine<'_>) -> Result<(), OutOfMemory>
+pub(crate) fn run_stmt(
+    alloc: Global,
+    stmt: &Stmt,
+    machine: &mut Machine<'_>,
+) -> Result<(), OutOfMemory>
     requires { CanStart (statement_of stmt.now) machine.old }
     ensures { OnOk result (machine.new ≡ exec (only stmt.now) machine.old) }
 {
@@ -41,13 +46,9 @@ fn run_stmt(alloc: Global, stmt: &Stmt, machine: &mut Machine<'_>) -> Result<(),
     }
 }
 
-/// The statements of a body, one after the other.
+// The statements of a body, one after the other.
 #[cycle(run)]
-pub(crate) fn run_body(
-    alloc: Global,
-    body: &Body,
-    machine: &mut Machine<'_>,
-) -> Result<(), OutOfMemory>
+fn run_body(alloc: Global, body: &Body, machine: &mut Machine<'_>) -> Result<(), OutOfMemory>
     requires { IsReady body.now machine.old }
     ensures { OnOk result (machine.new ≡ exec body.now machine.old) }
 {

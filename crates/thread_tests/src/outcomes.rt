@@ -1,6 +1,6 @@
 //! What runs gave, beside each other.
 
-use pact_bag::{Counts, Outcome, Rows, sort_rows};
+use pact_bag::{Counts, Outcome, Rows};
 use std::test::Fail;
 
 fn are_equal(found: &Counts, wanted: &Counts) -> bool {
@@ -14,9 +14,11 @@ fn are_equal(found: &Counts, wanted: &Counts) -> bool {
 
 // Whether these are the same rows, in some order.
 fn are_same(found: Rows, wanted: Rows) -> Result<bool, Fail> {
-    let found = sort_rows(found)?;
-    let wanted = sort_rows(wanted)?;
-    Ok(found.rows() == wanted.rows())
+    let mut found = found.into_records();
+    let mut wanted = wanted.into_records();
+    found.sort()?;
+    wanted.sort()?;
+    Ok(found == wanted)
 }
 
 /// Whether two runs gave the same counts, and the same rows in some order.

@@ -1,5 +1,8 @@
 use Rattle.std.proofs.Common.{◌≡◌, sym, ap, ◌∙◌}
-use Rattle.pact_words.specs.Words.{asked, to_certify, to_check, to_plan, to_run, to_tell_sets}
+use Rattle.pact_words.specs.Words.{asked, to_certify, to_check, to_drill, to_generate, to_plan, to_run, to_tell_sets}
+use Rattle.pact_top.specs.CommandTexts.{to_make, to_sum_up}
+use Rattle.pact_top.specs.Work.{at_once}
+use Rattle.pact_top.proofs.AnswersOfStages.{comes_alone}
 use Rattle.pact_top.proofs.answering.texts_for.Goals as goal
 
 pub returns-in-Run : goal.returns-in-Run
@@ -30,3 +33,13 @@ returns-in-Check g c =
     let same : to_check c.as_bytes-in-Check.result.now c.as_bytes-in-Check-2.result.now ≡ asked c.args.command =
     (λ i. to_check (c.as_bytes-in-Check.ensures.value i) (c.as_bytes-in-Check-2.ensures.value i)) ∙ ap asked (sym c.in-Check.is) in
     rw (← same) c.check.ensures
+
+pub returns-in-Gen : goal.returns-in-Gen
+returns-in-Gen g c =
+    let same : to_generate c.in-Gen.seed c.in-Gen.rows ≡ asked c.args.command = ap asked (sym c.in-Gen.is) in
+    rw (← same) (comes_alone (at_once (to_make c.in-Gen.seed c.in-Gen.rows)) (g.F.Feed.shows c.args.feed.now) c.generate.result c.generate.ensures)
+
+pub returns-in-Drill : goal.returns-in-Drill
+returns-in-Drill g c =
+    let same : to_drill c.in-Drill.seed c.in-Drill.rows c.in-Drill.options ≡ asked c.args.command = ap asked (sym c.in-Drill.is) in
+    rw (← same) (comes_alone (at_once (to_sum_up c.in-Drill.seed c.in-Drill.rows)) (g.F.Feed.shows c.args.feed.now) c.drill.result c.drill.ensures)

@@ -1,6 +1,0 @@
-use Rattle.std.proofs.Common.{length, take, vec_capacity, vec_len, ◌≡◌}
-use Rattle.pact_bag.specs.Rows.{cut}
-use Rattle.pact_bag.proofs.projecting.cut_record.Given as goal
-
-abbrev pub invariant-loop-field : goal.invariant-loop-field
-invariant-loop-field l = (l.values.items ≡ cut (take l.field-index l.fields) l.row) × (vec_len l.values ≡ l.field-index) × (vec_capacity l.values ≡ length l.fields)

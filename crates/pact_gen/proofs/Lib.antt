@@ -1,0 +1,3 @@
+mod RowsSoFar
+mod TextsOfNumbers
+mod WorkedRows

@@ -1,0 +1,21 @@
+use Rattle.std.proofs.Common.{subst, sym}
+use Rattle.std.proofs.lemmas.Result.{IfOk-weaker}
+use Rattle.drill_program.proofs.DrillRows.{are_inputs}
+use Rattle.pact_operators.specs.Inputs.{AreInputsOf}
+use Rattle.pact_top.specs.CommandTexts.{IsRun}
+use Rattle.pact_top.specs.declared.loaded.Loaded.{Loaded}
+use Rattle.pact_top.proofs.Drills.{is_drill_text}
+use Rattle.pact_top.proofs.RunPlans.{run-AreWide}
+use Rattle.pact_top.proofs.generating.drill_text_on_threads.Goals as goal
+
+pub run_chosen_on_threads-requires-clause-inputs : goal.run_chosen_on_threads-requires-clause-inputs
+run_chosen_on_threads-requires-clause-inputs g c κs within = subst (λ (l : Loaded). AreInputsOf l.program l.inputs) (sym c.in_ok-loaded.ensures) (are_inputs c.args.seed c.args.rows)
+
+pub summary-requires : goal.summary-requires
+summary-requires g c = run-AreWide c.in_ok-loaded.loaded c.args.options.workers c.args.options.plans c.in_ok-finished.finished c.in_ok-finished.ensures
+
+pub returns : goal.returns
+returns g c =
+    let o = c.args.options in
+    let is = subst (λ (l : Loaded). IsRun l o.workers o.plans c.in_ok-finished.finished) c.in_ok-loaded.ensures c.in_ok-finished.ensures in
+    IfOk-weaker c.summary.result _ _ (λ text told. is_drill_text c.args.seed c.args.rows o.workers o.plans c.in_ok-finished.finished text is told) c.summary.ensures

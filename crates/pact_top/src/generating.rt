@@ -1,0 +1,92 @@
+//! Generated rows, and what a drill tells of its run on them.
+
+ghost use Rattle.std.specs.Prelude.{◌≡◌, ◌≤◌, ◌<◌, length, IfOk};
+ghost use Rattle.pact_gen.specs.Generated.{seed_limit};
+ghost use Rattle.pact_record.specs.Widths.{AreWide};
+ghost use Rattle.pact_words.specs.Words.{AreOptionsInRange};
+ghost use Rattle.pact_top.specs.CommandTexts.{IsDrillText, IsGeneratedText, IsSummary, drilled};
+
+use crate::choosing::{FinishedRun, run_chosen, run_chosen_on_threads};
+use crate::lines::sorted_lines;
+use crate::loaded::{Loaded, push_rows};
+use csv_sink::write_rows;
+use drill_program::{drill_program, summary_text};
+use pact_bag::{Inputs, Outcome};
+use pact_gen::make_input;
+use pact_record::{Bytes, OutOfMemory};
+use pact_words::Options;
+use std::alloc::Global;
+use std::sync::Wait;
+use std::thread::Threads;
+use worker_gate::Gate;
+
+/// The generated rows as CSV text, in their own order.
+pub fn generated_text(alloc: Global, seed: u32, rows: u32) -> Result<Bytes, OutOfMemory>
+    requires { seed ≤ seed_limit }
+    ensures { IfOk result (IsGeneratedText seed rows) }
+{
+    let made = make_input(alloc, seed, rows)?;
+    write_rows(alloc, &made, &[0, 1, 2])
+}
+
+// The program of a drill with the generated rows, as if they had been read.
+fn load_drill(alloc: Global, seed: u32, rows: u32) -> Result<Loaded, OutOfMemory>
+    requires { seed ≤ seed_limit }
+    ensures { IfOk result (λ loaded. loaded ≡ drilled seed rows) }
+{
+    let program = drill_program(alloc)?;
+    let made = make_input(alloc, seed, rows)?;
+    let mut inputs = Inputs::new(alloc);
+    push_rows(&mut inputs, made)?;
+    Ok(Loaded { program, inputs })
+}
+
+// What is told of a run on so many rows.
+fn summary(alloc: Global, rows: u32, run: FinishedRun) -> Result<Bytes, OutOfMemory>
+    requires { AreWide run.program.fields run.outcome.rows }
+    ensures { IfOk result (IsSummary rows run.program.sink run.outcome.rows) }
+{
+    let FinishedRun {
+        program,
+        outcome,
+        ..
+    } = run;
+    let Outcome { rows: bag, .. } = outcome;
+    let out = bag.len() as u64;
+    let lines = sorted_lines(alloc, bag, program.sink())?;
+    summary_text(alloc, u64::from(rows), out, lines.bytes())
+}
+
+/// Runs the program of a drill on so many generated rows, and tells of the run.
+pub fn drill_text(
+    alloc: Global,
+    seed: u32,
+    rows: u32,
+    options: Options,
+) -> Result<Bytes, OutOfMemory>
+    requires seed { seed ≤ seed_limit }
+    requires options { AreOptionsInRange options }
+    ensures { IfOk result (IsDrillText seed rows) }
+{
+    let loaded = load_drill(alloc, seed, rows)?;
+    let finished = run_chosen(alloc, loaded, options)?;
+    summary(alloc, rows, finished)
+}
+
+/// The same with a thread for each worker.
+pub fn drill_text_on_threads<R: Threads + Wait + Sync, G: Gate>(
+    rt: &R,
+    alloc: Global,
+    seed: u32,
+    rows: u32,
+    options: Options,
+    gate: &G,
+) -> Result<Bytes, OutOfMemory>
+    requires seed { seed ≤ seed_limit }
+    requires options { AreOptionsInRange options }
+    ensures { IfOk result (IsDrillText seed rows) }
+{
+    let loaded = load_drill(alloc, seed, rows)?;
+    let finished = run_chosen_on_threads(rt, alloc, loaded, options, gate)?;
+    summary(alloc, rows, finished)
+}
