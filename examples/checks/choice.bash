@@ -97,7 +97,7 @@ for program in *.pact; do
     name=${program%.pact}
     ! [ -f "expected/$name.status" ] || continue
     for workers in 1 2 3 16; do
-        for batch in 1 64; do
+        for batch in 1 1024; do
             for depth in 1 64; do
                 count answers "$name" --workers "$workers" --batch "$batch" --depth "$depth"
             done
@@ -123,6 +123,8 @@ push.pact --plans 1|s out 100\nr in 100 out 10\nm in 10 out 1\n
 shop.pact|c out 2\no out 4\nj in 1 4 out 3\nd in 2 out 1\nr in 3 out 1\n
 shop.pact --plans 1|c out 2\no out 4\nj in 2 4 out 4\nd in 4 out 3\nr in 3 out 1\n
 cogroup.pact|s out 3\nt out 3\ng in 3 3 out 3\n
+revenue.pact --batch 1024 --depth 64|sold out 20\nprices out 9\nshops out 3\npriced in 15 9 out 14\nplaced in 14 3 out 14\nopen in 14 out 9\npositive in 20 out 15\nvalued in 9 out 9\ntakings in 9 out 2\n
+revenue.pact --plans 1|sold out 20\nprices out 9\nshops out 3\npriced in 20 9 out 19\nplaced in 19 3 out 19\nopen in 19 out 13\npositive in 13 out 9\nvalued in 9 out 9\ntakings in 9 out 2\n
 END
 # What all instances of an operator gave is counted together. The Cross gives each pair of equal numbers twice, the CoGroup the records of both groups.
 cat >"$scratch/pairs.pact" <<'END'

@@ -222,6 +222,18 @@ count test $? = 143
 rm "$tree/slow"
 count runs_build 1 "$with"
 
+# Where no file may grow beyond a kilobyte, nothing is ended by the signal for that: not the launcher, which has things to write of its own, and not the
+# program, which it leaves the signal ignored.
+fresh
+printf '#!/bin/sh\n[ $# -gt 0 ] || exit 2\nprintf %%5000s x || echo unwritten >&2\nexit 6\n' >"$scratch/writing"
+release "$scratch/writing"
+is_limited() {
+    (ulimit -c 0 && ulimit -S -f 1 && PATH=$plain XDG_CACHE_HOME=$scratch/cache exec "$BASH" "$tree/pact" run >"$scratch/out" 2>"$scratch/err")
+    [ $? = 6 ] && [ "$(stat -c %s "$scratch/out")" = 1024 ] && [ "$(tail -n 1 "$scratch/err")" = unwritten ]
+}
+count is_limited
+count is_limited
+
 # A released program that is missing, cut, written over, or of another machine.
 without() {
     fresh

@@ -12,3 +12,7 @@ for program in *.pact; do
     *) [ ! -f "expected/$name.sets" ] || count writes 0 "expected/$name.sets" /dev/null sets "$program" ;;
     esac
 done
+
+# The tests that run these programs by picked events have their texts as they stand here.
+are_tested() { PACT_PROGRAM=$pact bash ./as_tests | cmp -s - ../crates/thread_tests/src/example_tests.rt; }
+count are_tested

@@ -24,6 +24,9 @@ create table basket(item text, quantity int, price int);
 create table staff(id int, name text, leader int);
 create table scores(name text, score int);
 create table s(key int, value int);
+create table sold(shop int, item text, quantity int);
+create table prices(shop int, item text, price int);
+create table shops(id int, city text);
 .import members.csv members
 .import visits.csv visits
 .import guests.csv guests
@@ -32,8 +35,12 @@ create table s(key int, value int);
 .import staff.csv staff
 .import scores.csv scores
 .import s.csv s
+.import sold.csv sold
+.import prices.csv prices
+.import shops.csv shops
 update sales set amount = null where amount = '';
 update staff set leader = null where leader = '';
+update sold set quantity = null where quantity = '';
 END
     for program in *.pact; do
         query=$(query_of "$program")

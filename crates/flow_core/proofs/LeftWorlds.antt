@@ -3,11 +3,8 @@ use Rattle.std.proofs.Common.{◌≡◌, ◌<◌, ◌≤◌, ◌+◌, ◌++◌, 
 use Rattle.std.specs.List.{AllByRecursion}
 use Rattle.std.proofs.lemmas.Bool.{and_from, cases_eq, cases_lt, eq-eqb}
 use Rattle.std.proofs.lemmas.List.{get_or_default, get_or_past, length-set}
-use Rattle.pact_operators.specs.Allowed.{Bag}
-use Rattle.pact_operators.specs.Inputs.{AreInputsOf}
 use Rattle.pact_operators.specs.Programs.{IsPlanOf, IsProgram, ProgramData}
 use Rattle.plan_trees.specs.Physicals.{IsPhysical, PhysicalData}
-use Rattle.plan_trees.specs.Plans.{has}
 use Rattle.flow_model.specs.declared.notes.Note.{Note}
 use Rattle.flow_model.specs.declared.notes.PipeId.{PipeId}
 use Rattle.flow_model.specs.Events.{ListChanged, is_pipe}

@@ -13,3 +13,5 @@ mod WorldLaws
 mod ReadersOfEdges
 mod ChangedStations
 pub mod LeftWorlds
+mod KeptMarks
+mod PickedEvents

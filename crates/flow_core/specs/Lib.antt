@@ -9,3 +9,5 @@ pub mod Laws
 pub mod Outcomes
 pub mod Left
 pub mod LeftCode
+pub mod Picks
+pub mod Listed

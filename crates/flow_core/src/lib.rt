@@ -1,13 +1,15 @@
 //! A plan's instances and pipes on one thread, event by event.
 //!
 //! A `World` has an instance of each source and operator on each worker, each with the notes on the pipes that leave it. `enabled` tells whether an event
-//! can happen, and `step` lets it happen; `replay` goes through a list of events, and `run_alone` picks its own until every instance is done. What is
-//! promised of all four is said of histories: a world stands for the notes that were put and taken so far. `World::into_instances` gives the instances
-//! away, and `World::resume` makes a world of instances and of notes that stand for some history, whoever let the events happen.
+//! can happen, and `step` lets it happen; `replay` goes through a list of events, `run_alone` picks its own until every instance is done, and
+//! `run_picked` has them picked by numbers. What is promised of all five is said of histories: a world stands for the notes that were put and taken so
+//! far. `World::into_instances` gives the instances away, and `World::resume` makes a world of instances and of notes that stand for some history,
+//! whoever let the events happen.
 #![tactic(auto)]
 
 pub mod alone;
 pub mod lefts;
+pub mod picks;
 mod ready;
 pub mod replays;
 mod resuming;
@@ -21,6 +23,7 @@ pub mod worlds;
 pub use alone::run_alone;
 pub use flow_model::{Event, PipeId};
 pub use lefts::{InstanceList, NoteLists};
+pub use picks::run_picked;
 pub use replays::replay;
 pub use stops::Replay;
 pub use worlds::World;

@@ -1,7 +1,7 @@
 //! Instances that may be able to go on.
 
-ghost use Rattle.std.specs.Prelude.{◌≡◌, ◌⊎◌, ◌++◌, ◌∷◌, [], OnOk};
-ghost use Rattle.std.specs.Option.{option_to_list};
+ghost use Rattle.std.specs.Prelude.{◌≡◌, [], OnOk, true, false, get_or, replicate, set};
+ghost use Rattle.flow_core.specs.Listed.{IsPopped, is_marked, pushed, with_mark};
 
 use pact_operators::MAX_NODES;
 use pact_record::OutOfMemory;
@@ -11,64 +11,79 @@ use std::marker::Model;
 // As many workers as a physical plan can have.
 const MAX_WORKERS: usize = 16;
 
+type Marks = [[bool; MAX_WORKERS]; MAX_NODES];
+
 /// Instances that may be able to go on, by their numbers and workers, the next one last. Each is listed once, so there are never many. Nothing
 /// rests on the list but speed: one that isn't on it is found by a look at all.
 #[derive(Drop)]
 pub(crate) struct Ready {
     stack: Vec<(u32, u32)>,
-    listed: [[bool; MAX_WORKERS]; MAX_NODES],
+    marks: Marks,
 }
 
 impl Model for Ready {
-    ghost use Rattle.std.specs.Prelude.{List, ℕ};
+    ghost use Rattle.flow_core.specs.Listed.{IsKept, ReadyData};
 
-    ghost Value = { List (ℕ × ℕ) };
+    ghost Value = { ReadyData };
 
-    ghost view = { λ r. r.stack.items };
+    ghost view = { λ r. record { stack = r.stack.items; marks = r.marks } };
+
+    ghost invariant = { λ r. IsKept r.stack.items r.marks };
+}
+
+// Notes whether the instance of a worker is listed, and tells whether it was. What no plan has counts as listed.
+fn mark_of(row: &mut [bool; MAX_WORKERS], worker: u32, is_listed: bool) -> bool
+    ensures was { result ≡ get_or row.old worker true }
+    ensures now { row.new ≡ set row.old worker is_listed }
+{
+    let worker = worker as usize;
+    if worker >= MAX_WORKERS {
+        return true;
+    }
+    let was_listed = row[worker];
+    row[worker] = is_listed;
+    was_listed
+}
+
+// The same of all instances.
+fn mark(marks: &mut Marks, at: u32, worker: u32, is_listed: bool) -> bool
+    ensures was { result ≡ is_marked marks.old at worker }
+    ensures now { marks.new ≡ with_mark marks.old at worker is_listed }
+{
+    let at = at as usize;
+    if at >= MAX_NODES {
+        return true;
+    }
+    mark_of(&mut marks[at], worker, is_listed)
 }
 
 impl Ready {
     pub(crate) fn new(alloc: Global) -> Ready
-        ensures { result ≡ [] }
+        ensures { result ≡ record { stack = []; marks = replicate 33 (replicate 16 false) } }
     {
         Ready {
             stack: Vec::new(alloc),
-            listed: [[false; MAX_WORKERS]; MAX_NODES],
+            marks: [[false; MAX_WORKERS]; MAX_NODES],
         }
-    }
-
-    // Notes whether an instance is listed, and tells whether it was. What no plan has counts as listed.
-    fn mark(&mut self, at: u32, worker: u32, is_listed: bool) -> bool
-        ensures { self.new ≡ self.old }
-    {
-        let Some(row) = self.listed.get_mut(at as usize) else {
-            return true;
-        };
-        let Some(mark) = row.get_mut(worker as usize) else {
-            return true;
-        };
-        let was_listed = *mark;
-        *mark = is_listed;
-        was_listed
     }
 
     /// Lists an instance as the next one, unless it is listed.
     pub(crate) fn push(&mut self, at: u32, worker: u32) -> Result<(), OutOfMemory>
-        ensures { OnOk result ((self.new ≡ self.old) ⊎ (self.new ≡ self.old ++ (at, worker) ∷ [])) }
+        ensures { OnOk result (self.new ≡ pushed self.old at worker) }
     {
-        if self.mark(at, worker, true) {
-            return Ok(());
+        self.stack.reserve(1)?;
+        if !mark(&mut self.marks, at, worker, true) {
+            self.stack.push_reserved((at, worker));
         }
-        self.stack.push((at, worker))?;
         Ok(())
     }
 
     /// Takes the next one off.
     pub(crate) fn pop(&mut self) -> Option<(u32, u32)>
-        ensures { self.old ≡ self.new ++ option_to_list result }
+        ensures { IsPopped self.old result self.new }
     {
         let (at, worker) = self.stack.pop()?;
-        self.mark(at, worker, false);
+        mark(&mut self.marks, at, worker, false);
         Some((at, worker))
     }
 }

@@ -11,3 +11,4 @@ mod EndsOut
 mod Finished
 mod Sendable
 mod RunsOfWorkers
+mod SlotsInTurn

@@ -18,6 +18,7 @@ use Rattle.flow_core.specs.Left.{all_unstationed, unstationed}
 use Rattle.flow_core.specs.Worlds.{IsStanding, IsWhole, StationData, WorldData, instance_in, no_instance, no_station}
 use Rattle.flow_core.proofs.SharesOfRows.{each_last}
 use Rattle.flow_run.specs.Benches.{AllLocal, IsReady, IsReadyFor, Works, bench}
+use Rattle.flow_run.specs.Dealing.{AreDealt}
 use Rattle.flow_run.specs.Ends.{EndTable, PipeTables}
 use Rattle.flow_run.specs.Remains.{AreLocal, HaveReturned, Remains, remains_at, with_column, with_columns}
 use Rattle.flow_run.specs.Runs.{AreAssembled, AreAtStart, AreReady, AreStill, HasLeft, HaveAllLeft, HaveReturnedFrom, IsAssembled, slot_remains}
@@ -210,7 +211,7 @@ module _ (g : Setting) (ops depth : ℕ) (pipes : PipeTables) (puts takes : EndT
   ready_one worker below =
       ready_for g worker ops depth pipes puts takes (get_or all worker []) plan below (start.each worker below) (few_numbers g.physical ops plan all_ops) deep all_ops only wired (λ at there. start.local at worker there below)
 
-  pub are_ready : AreReady g.fields g.physical.workers pipes all puts takes
+  are_ready : AreReady g.fields g.physical.workers pipes all puts takes
   are_ready = record { long = start.long; each = λ worker below. record { setting = g; ready = ready_one worker below } }
 
   module _ (ws : List Remains) (left : HaveAllLeft g.fields g.physical.workers pipes all puts takes ws) where
@@ -218,7 +219,7 @@ module _ (g : Setting) (ops depth : ℕ) (pipes : PipeTables) (puts takes : EndT
     each_long n [] h = tt
     each_long n (x ∷ xs) h = (h 0 (omega arith), each_long n xs (λ k less. h (suc k) (omega (arith, less))))
 
-    pub have_returned : HaveReturned g.physical ops pipes ws
+    have_returned : HaveReturned g.physical ops pipes ws
     have_returned = record {
       workers = left.long;
       instances = each_long ops ws (λ k less. let below : k < g.physical.workers = omega (arith, less, left.long) in (left.each k below).count ∙ start.each k below);
@@ -233,5 +234,8 @@ module _ (g : Setting) (ops depth : ℕ) (pipes : PipeTables) (puts takes : EndT
         works_kept g worker plan.plan.different (length own) (λ at less. all_ops at (omega (arith, less, start.each worker below))) (bench own (get_or puts worker []) (get_or takes worker []))
         (bench (remains_at ws worker).instances (remains_at ws worker).puts (remains_at ws worker).takes) (ready_one worker below).local (left.each worker below).works
 
-    pub are_local : AreLocal g ws
+    are_local : AreLocal g ws
     are_local = all_local g ws (λ worker below at there. kept_local worker below at there)
+
+  pub are_dealt : AreDealt g ops g.fields pipes all puts takes
+  are_dealt = record { ready = are_ready; returned = λ ws left. have_returned ws left; local = λ ws left. are_local ws left }

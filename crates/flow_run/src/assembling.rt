@@ -5,7 +5,7 @@ ghost use Rattle.flow_run.specs.Returns.{all_remains};
 ghost use Rattle.flow_run.specs.Runs.{AreAssembled, AreReady, HaveAllLeft, HaveReturnedFrom};
 
 use crate::returns::Returned;
-use crate::slots::{Slot, run_workers};
+use crate::slots::{Slot, run_workers, work_in_turn};
 use crate::tables::Tables;
 use crate::workers::Worker;
 use batch_channel::{Pipe, PutEnd, TakeEnd, Width};
@@ -106,5 +106,23 @@ pub(crate) fn work_all<L: Local, W: Width + Sync + Send, R: Threads + Wait + Syn
     let flags = Flags::new(workers);
     let mut slots = assemble(alloc, workers, dealt, pipes, &flags)?;
     run_workers(rt, &mut slots, gate);
+    collect(alloc, slots)
+}
+
+/// All workers work one after the other, on the caller's thread. They are given back as by `work_all`.
+pub(crate) fn work_each<L: Local, W: Width, R: Wait, G: Gate>(
+    rt: &R,
+    alloc: Global,
+    gate: &G,
+    workers: u32,
+    dealt: Dealt<L, W>,
+    pipes: &Tables<Pipe<W>>,
+) -> Result<Vec<Returned<L, W>>, OutOfMemory>
+    requires { AreReady W.fields workers pipes.now dealt.instances dealt.puts dealt.takes }
+    ensures { IfOk result (λ ws. HaveAllLeft W.fields workers pipes.now dealt.instances dealt.puts dealt.takes (all_remains ws.items)) }
+{
+    let flags = Flags::new(workers);
+    let mut slots = assemble(alloc, workers, dealt, pipes, &flags)?;
+    work_in_turn(rt, &mut slots, gate);
     collect(alloc, slots)
 }

@@ -12,15 +12,13 @@ ghost use Rattle.flow_instance.specs.Limits.{batch_limit};
 ghost use Rattle.flow_model.specs.Spots.{setting};
 ghost use Rattle.flow_model.specs.Spread.{Spread};
 ghost use Rattle.flow_core.specs.Worlds.{depth_limit};
-ghost use Rattle.flow_run.specs.Runs.{AreAtStart};
 
-use crate::arranging::by_worker;
-use crate::assembling::{Dealt, work_all};
+use crate::assembling::work_all;
+use crate::dealing::{Prepared, deal};
 use crate::finishing::finish;
 use crate::options::Options;
-use crate::wires::{Wired, wire};
 use batch_channel::Width;
-use flow_core::{InstanceList, World, run_alone};
+use flow_core::{World, run_alone};
 use local_strategy::Local;
 use pact_bag::{Inputs, Outcome};
 use pact_operators::{Physical, Program};
@@ -55,26 +53,6 @@ fn run_on_one<L: Local>(
     run_alone(world)
 }
 
-// The instances of each worker at their start.
-fn start_instances<L: Local>(
-    alloc: Global,
-    program: &Program,
-    physical: &Physical,
-    inputs: Inputs,
-    options: Options,
-) -> Result<InstanceList<L>, OutOfMemory>
-    requires plan { IsPlanOf program.now.functions program.now.ops physical.now.tree }
-    requires inputs { AreInputsOf program.now inputs }
-    requires batch { (1 ≤ options.batch) × (options.batch ≤ batch_limit) }
-    requires depth { (1 ≤ options.depth) × (options.depth ≤ depth_limit) }
-    ensures { IfOk result (AreAtStart (setting program.now inputs physical.now) (length program.now.ops)) }
-{
-    let (batch, depth) = (options.batch, options.depth);
-    let world: World<L> = World::start_owned(alloc, program, physical, inputs, batch, depth)?;
-    let list = world.into_instances()?;
-    by_worker(alloc, program.ops().len(), physical.workers(), list)
-}
-
 // The run on threads, with the records' number of fields as a type.
 fn run_wide<L: Local, W: Width + Sync + Send, R: Threads + Wait + Sync, G: Gate>(
     rt: &R,
@@ -95,16 +73,9 @@ fn run_wide<L: Local, W: Width + Sync + Send, R: Threads + Wait + Sync, G: Gate>
     ensures widths { IfOk result (λ o. AreWide program.now.fields o.rows) }
     ensures counts { IfOk result (λ o. length o.counts ≡ length program.now.ops) }
 {
-    let (ops, workers) = (program.ops(), physical.workers());
-    let instances: InstanceList<L> = start_instances(alloc, program, physical, inputs, options)?;
-    let count = ops.len() as u32;
-    let wired = wire::<W, R>(rt, alloc, physical, count, options.depth)?;
-    let Wired { pipes, puts, takes } = wired;
-    let dealt = Dealt {
-        instances,
-        puts,
-        takes,
-    };
+    let workers = physical.workers();
+    let prepared = deal::<L, W, R>(rt, alloc, program, physical, inputs, options)?;
+    let Prepared { dealt, pipes } = prepared;
     let returned = work_all(rt, alloc, gate, workers, dealt, &pipes)?;
     finish(rt, alloc, program, physical, pipes, returned, options)
 }

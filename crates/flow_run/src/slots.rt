@@ -51,3 +51,18 @@ pub(crate) fn run_workers<L: Local, W: Width + Sync + Send, R: Threads + Wait + 
         { work_in(slot, rt, gate) },
     );
 }
+
+/// Lets the workers work one after the other, in the order of their numbers, on the caller's thread. No want of memory stops it.
+pub(crate) fn work_in_turn<L: Local, W: Width, R: Wait, G: Gate>(
+    rt: &R,
+    slots: &mut [Slot<'_, L, W>],
+    gate: &G,
+)
+    requires { All (IsSlotReady W.fields) slots.old }
+    ensures len { length slots.new ≡ length slots.old }
+    ensures each { (i : ℕ) (d : Slot _ _) → i < length slots.old → HasWorkedIn W.fields (slice_index_or slots.old i d) (slice_index_or slots.new i d) }
+{
+    for at in 0..slots.len() {
+        work_in(&mut slots[at], rt, gate);
+    }
+}

@@ -38,3 +38,4 @@ pub mod SourceKinds
 pub mod SourceRows
 pub mod CallsForKeys
 pub mod PermutedPairs
+pub mod TablesOfNames

@@ -64,7 +64,7 @@ only_place name (n ∷ names) (suc m) once e = elim (cases_Bool (bytes_eq name n
   | inr other ↦ place_later name n names other ∙ ap suc (only_place name names m (omega (arith, once, times_later name n names other)) e)
 ]
 
-times-append : (name : List ℕ) (a b : List (List ℕ)) → times_among name (a ++ b) ≡ times_among name a + times_among name b
+pub times-append : (name : List ℕ) (a b : List (List ℕ)) → times_among name (a ++ b) ≡ times_among name a + times_among name b
 times-append name [] b = omega arith
 times-append name (n ∷ a) b = elim (cases_Bool (bytes_eq name n)) as (λ _. times_among name (n ∷ (a ++ b)) ≡ times_among name (n ∷ a) + times_among name b) [
   | inl e ↦ omega (arith, times_here name n (a ++ b) e, times_here name n a e, times-append name a b)

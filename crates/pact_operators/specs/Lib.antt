@@ -13,3 +13,4 @@ pub mod RuleTests
 pub mod PlanReads
 pub mod WrittenOps
 pub mod SoundOps
+pub mod NameTables

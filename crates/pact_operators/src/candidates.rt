@@ -1,20 +1,21 @@
 //! Drafts that may be programs.
 
-ghost use Rattle.std.specs.Prelude.{◌≡◌, ◌≤◌, length, get_or, [], IfOk};
+ghost use Rattle.std.specs.Prelude.{◌≡◌, ◌≤◌, length, get_or, nat_le, [], IfOk};
 ghost use Rattle.pact_record.specs.declared.words.TheConstants.{MAX_WORD};
 ghost use Rattle.pact_operators.specs.Candidates.{CandidateData};
 ghost use Rattle.tac_syntax.specs.Drafts.{IsSpelledDraft};
 ghost use Rattle.pact_operators.specs.ProgramRules.{all_columns, all_inputs, name_at};
 ghost use Rattle.pact_operators.specs.Programs.{AreValidated};
-ghost use Rattle.pact_operators.specs.Resolved.{function_names, node_names, sink_inputs};
+ghost use Rattle.pact_operators.specs.Resolved.{function_names, is_among, node_names, sink_inputs, times_among};
 
 use crate::gathering;
+use crate::name_tables::{NameTable, function_table, node_table};
 use pact_record::{OutOfMemory, Word};
 use std::alloc::Global;
 use std::marker::Model;
 use tac_syntax::{Decl, Draft, Valid, functions_of};
 
-/// A draft and its valid functions, with the names and columns of its declarations gathered once.
+/// A draft and its valid functions, with the names and columns of its declarations gathered once, and names that may be many also by hash.
 #[derive(Drop)]
 pub struct Candidate<'a> {
     draft: &'a Draft,
@@ -24,10 +25,14 @@ pub struct Candidate<'a> {
     inputs: Vec<Word>,
     sinks: Vec<Word>,
     columns: Vec<u32>,
+    by_function: NameTable<'a>,
+    by_node: NameTable<'a>,
 }
 
 impl<'a> Model for Candidate<'a> {
     ghost use Rattle.pact_operators.specs.Candidates.{CandidateData, IsGathered, coded_candidate};
+    ghost use Rattle.pact_operators.specs.NameTables.{IsTableOf};
+    ghost use Rattle.pact_operators.specs.Resolved.{function_names, node_names};
 
     ghost Value = { CandidateData };
 
@@ -35,7 +40,7 @@ impl<'a> Model for Candidate<'a> {
 
     ghost view = { λ c. record { draft = c.draft.now; valids = c.valids.now } };
 
-    ghost invariant = { λ c. IsGathered (record { draft = c.draft.now; valids = c.valids.now }) c.functions.items c.nodes.items c.inputs.items c.sinks.items c.columns.items };
+    ghost invariant = { λ c. IsGathered (record { draft = c.draft.now; valids = c.valids.now }) c.functions.items c.nodes.items c.inputs.items c.sinks.items c.columns.items × IsTableOf (function_names c.draft.now.functions) c.by_function.marks × IsTableOf (node_names c.draft.now.decls) c.by_node.marks };
 }
 
 impl<'a> Candidate<'a> {
@@ -56,6 +61,8 @@ impl<'a> Candidate<'a> {
             inputs: gathering::all_inputs(alloc, decls)?,
             sinks: gathering::sink_inputs(alloc, decls)?,
             columns: gathering::all_columns(alloc, decls)?,
+            by_function: function_table(alloc, functions_of(draft))?,
+            by_node: node_table(alloc, decls)?,
         })
     }
 
@@ -90,6 +97,34 @@ impl<'a> Candidate<'a> {
         ensures { result.now ≡ node_names self.now.draft.decls }
     {
         &self.nodes
+    }
+
+    /// Whether a function has the name.
+    pub fn has_function(&self, name: &[u8]) -> bool
+        ensures { result ≡ is_among name.now (function_names self.now.draft.functions) }
+    {
+        self.by_function.contains(name)
+    }
+
+    /// Whether two functions have the name.
+    pub fn has_function_twice(&self, name: &[u8]) -> bool
+        ensures { result ≡ nat_le 2 (times_among name.now (function_names self.now.draft.functions)) }
+    {
+        self.by_function.has_twice(name)
+    }
+
+    /// Whether a source or an operator has the name.
+    pub fn has_node(&self, name: &[u8]) -> bool
+        ensures { result ≡ is_among name.now (node_names self.now.draft.decls) }
+    {
+        self.by_node.contains(name)
+    }
+
+    /// Whether two of them have it.
+    pub fn has_node_twice(&self, name: &[u8]) -> bool
+        ensures { result ≡ nat_le 2 (times_among name.now (node_names self.now.draft.decls)) }
+    {
+        self.by_node.has_twice(name)
     }
 
     /// The names that stand as inputs.

@@ -13,6 +13,7 @@ mod counts;
 mod first_breaks;
 mod gathering;
 mod name_lists;
+mod name_tables;
 pub mod operators;
 pub mod program_rules;
 pub mod programs;

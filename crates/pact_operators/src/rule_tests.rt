@@ -4,26 +4,26 @@ ghost use Rattle.std.specs.Prelude.{◌≡◌, nat_le, Some, None, IfSome, IfNon
 ghost use Rattle.std.specs.List.{list_any};
 ghost use Rattle.pact_operators.specs.declared.program_rules.ProgramRule.TheVariants.{NotATree};
 ghost use Rattle.pact_operators.specs.ProgramRules.{are_key_counts, column_fields, is_key_count, function_named, has_other_key_count, has_other_kind, has_wrong_field, is_declared_twice, is_of_kind, is_undeclared, some_missing, some_too_large, times_in};
-ghost use Rattle.pact_operators.specs.Resolved.{names_read};
+ghost use Rattle.pact_operators.specs.Resolved.{names_read, node_names};
 ghost use Rattle.pact_operators.specs.RuleTests.{AreReached, breaks};
 
 use crate::candidates::Candidate;
 use crate::counts::Counts;
-use crate::name_lists::{is_among, times_among, times_in};
+use crate::name_lists::times_in;
 use crate::program_rules::ProgramRule;
 use crate::reached::is_not_in_tree;
 use pact_record::{Column, Word};
 use tac_syntax::{Decl, Function, Kind, OpKind, functions_of};
 
-// Whether a name that an operator of this kind reads isn't among the names.
-fn is_some_missing(kind: OpKind, left: &Word, right: &Word, nodes: &[Word]) -> bool
-    ensures { result ≡ some_missing (names_read kind left.now right.now) nodes.now }
+// Whether no source or operator has a name that an operator of this kind reads.
+fn is_some_missing(candidate: &Candidate, kind: OpKind, left: &Word, right: &Word) -> bool
+    ensures { result ≡ some_missing (names_read kind left.now right.now) (node_names candidate.now.draft.decls) }
 {
     match kind {
         OpKind::Source => false,
-        OpKind::Map | OpKind::Reduce => !is_among(left.bytes(), nodes),
+        OpKind::Map | OpKind::Reduce => !candidate.has_node(left.bytes()),
         OpKind::Match | OpKind::Cross | OpKind::CoGroup => {
-            !is_among(left.bytes(), nodes) || !is_among(right.bytes(), nodes)
+            !candidate.has_node(left.bytes()) || !candidate.has_node(right.bytes())
         }
     }
 }
@@ -39,10 +39,10 @@ fn is_undeclared(candidate: &Candidate, decl: &Decl) -> bool
             right,
             ..
         } => {
-            !is_among(function.bytes(), candidate.functions())
-                || is_some_missing(*kind, left, right, candidate.nodes())
+            !candidate.has_function(function.bytes())
+                || is_some_missing(candidate, *kind, left, right)
         }
-        Decl::Sink { input, .. } => !is_among(input.bytes(), candidate.nodes()),
+        Decl::Sink { input, .. } => !candidate.has_node(input.bytes()),
         _ => false,
     }
 }
@@ -51,9 +51,9 @@ fn is_declared_twice(candidate: &Candidate, decl: &Decl) -> bool
     ensures { result ≡ is_declared_twice candidate.now.draft decl.now }
 {
     match decl {
-        Decl::Source { name, .. } => times_among(name.bytes(), candidate.nodes()) >= 2,
-        Decl::Op { name, .. } => times_among(name.bytes(), candidate.nodes()) >= 2,
-        Decl::Function { .. } => times_among(candidate.name_of(decl), candidate.functions()) >= 2,
+        Decl::Source { name, .. } => candidate.has_node_twice(name.bytes()),
+        Decl::Op { name, .. } => candidate.has_node_twice(name.bytes()),
+        Decl::Function { .. } => candidate.has_function_twice(candidate.name_of(decl)),
         Decl::Sink { .. } => false,
     }
 }

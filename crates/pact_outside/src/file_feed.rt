@@ -72,6 +72,8 @@ impl<'a, R: Files> Feed for FileFeed<'a, R> {
 
         ensures shown { AfterOpen (shown_by_files self.old) (shown_by_files self.new) name result }
     {
+        // closed first, so that no more than one file is open
+        self.file = None;
         self.file = match str::from_utf8(name.bytes()) {
             Ok(path) => fs::open(self.rt, path).ok(),
             Err(_) => None,

@@ -237,6 +237,44 @@ reduce r sum s by 0
 sink r 0 2
 ";
 
+// Of the feed and of the two sinks each call fails in turn, up to the run in which none does: what was written is nothing, then a front of the rows, then
+// all of them.
+#[test]
+fn each_call_outside_fails_in_turn(rt: HostRuntime) -> Result<(), Fail> {
+    let alloc = rt.alloc();
+    let words = ["run", "sum.pact", "--workers", "1", "--counts"];
+    let rows = "1,12\n2,-3\n".as_bytes();
+    for (failing, status, least, most, calls) in [
+        (0, 3, 0, 0, 6),
+        (1, 4, 0, 8, 3),
+        (2, 4, 10, 10, 6),
+    ] {
+        for number in 1..8 {
+            let fails = match failing {
+                0 => [number, 0, 0],
+                1 => [0, number, 0],
+                _ => [0, 0, number],
+            };
+            let mut files = MemFiles::new(alloc);
+            add_file(alloc, &mut files, "sum.pact", SUM.as_bytes())?;
+            add_file(alloc, &mut files, "s.csv", b"1,5\n2,-3\n1,7\n")?;
+            let outcome = call(&rt, false, alloc, &words, files, fails)?;
+            let taken = outcome.out.taken();
+            assert!(rt; rows.starts_with(taken), "call {number} of {failing}");
+            if number > calls {
+                assert!(rt; outcome.status == 0 && taken == rows, "{failing}");
+            } else {
+                assert!(rt; outcome.status == status, "call {number} of {failing}");
+                assert!(rt;
+                    least <= taken.len() && taken.len() <= most,
+                    "call {number} of {failing}"
+                );
+            }
+        }
+    }
+    Ok(())
+}
+
 // Each of two workers waits at its first event until the other has come to its own, so there is a thread for each. A worker ends its part of the source
 // and of the Reduce.
 #[test]

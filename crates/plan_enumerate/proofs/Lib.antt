@@ -4,7 +4,6 @@ pub mod PastExchanges
 pub mod ReachedPlans
 pub mod LeadingSteps
 pub mod OneListing
-pub mod KeptFindings
 pub mod WeighedLayouts
 pub mod WeighedRows
 pub mod HeldTrees

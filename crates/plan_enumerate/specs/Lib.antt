@@ -3,7 +3,6 @@ pub mod Steps
 pub mod EntryTable
 pub mod ListedCode
 pub mod Walks
-pub mod FindingTable
 pub mod Leasts
 pub mod Choices
 pub mod Weights

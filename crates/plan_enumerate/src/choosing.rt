@@ -39,11 +39,12 @@ struct Least {
     cost: u64,
 }
 
-// The first row whose operator's way has changed.
+// The first row whose operator's way has changed, or the number of rows where none has.
 fn first_changed(rows: &Rows, old: &Ways, new: &Ways) -> u32
     requires few { rows.now.count ≤ node_limit }
     ensures within { result ≤ rows.now.count }
     ensures same { (k : ℕ) (x : row.Row) → k < result → slice_get rows.now.held k ≡ Some x → ways_in old.now x.at ≡ ways_in new.now x.at }
+    ensures changed { (x : row.Row) → result < rows.now.count → slice_get rows.now.held result ≡ Some x → ways_in old.now x.at ≢ ways_in new.now x.at }
 {
     for n in 0..rows.count {
         let at = rows.held[n as usize].at;

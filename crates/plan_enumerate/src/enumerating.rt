@@ -4,23 +4,22 @@ ghost use Rattle.std.specs.Prelude.{◌≡◌, ◌≤◌, ◌<◌, ◌+◌, ◌�
 ghost use Rattle.plan_trees.specs.Plans.{PlanTree};
 ghost use Rattle.pact_operators.specs.PlanOps.{kind_at};
 ghost use Rattle.pact_operators.specs.Programs.{IsPlanOf};
+ghost use Rattle.reorder_pair.specs.FindingTable.{AreFindings};
 ghost use Rattle.reorder_pair.specs.Legal.{IsConditionOf, IsLegal, KeepAnswers};
 ghost use Rattle.reorder_pair.specs.Rules.{Plays, all_rules, exchange_of};
-ghost use Rattle.plan_enumerate.specs.FindingTable.{AreFindings};
 ghost use Rattle.plan_enumerate.specs.Listing.{IsAt, IsListed, IsListing, IsOpen, ListedPlans, entry_limit};
 ghost use Rattle.reorder_pair.specs.Reach.{Reach};
 ghost use Rattle.plan_enumerate.specs.Walks.{GoesTo, IsNeighbour, IsWalked};
 
 use crate::entries::{Entries, Entry};
-use crate::findings::Findings;
 use crate::listings::Listed;
 use pact_operators::{MAX_NODES, Plan, Program};
 use pact_record::OutOfMemory;
 use reorder_group::{apply, legal_for};
-use reorder_pair::{Condition, Rule, kind_of, neighbours};
+use reorder_pair::{Condition, Findings, Rule, kind_of};
 use std::alloc::Global;
 
-// Whether an operator may be the upper one of an exchange by the rule. This is asked first, since `neighbours` takes the plan apart.
+// Whether an operator may be the upper one of an exchange by the rule. This is asked first, since what is found at a place takes the plan apart.
 fn may_be_upper(program: &Program, at: u32, rule: Rule) -> bool
     ensures { IsTrue result ↔ Plays (exchange_of rule).upper (kind_at program.now.ops at) }
 {
@@ -44,11 +43,9 @@ fn legal_exchange(
     if !may_be_upper(program, at, rule) {
         return Ok(None);
     }
-    let Some(both) = neighbours(program, plan, at, rule) else {
+    let Some((upper, lower)) = findings.found_at(program, plan, at, rule)? else {
         return Ok(None);
     };
-    let upper = findings.found(program, both.upper, &both.upper_context)?;
-    let lower = findings.found(program, both.lower, &both.lower_context)?;
     Ok(legal_for(program, plan, at, rule, &upper, &lower).ok())
 }
 

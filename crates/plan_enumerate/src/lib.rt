@@ -2,7 +2,7 @@
 //!
 //! `enumerate` lists the plan as written, and then, as long as there is room, what the exchanges of listed plans give. Each plan is listed once,
 //! with the exchange that led to it, so `steps_of` tells how it came about. What is found of an operator is kept for each context that listed plans give
-//! it, in `findings`. `reorder_pair` has in `specs/Reach` the plans that there are to list, and
+//! it, in `reorder_pair`'s `Findings`. That crate has in `specs/Reach` the plans that there are to list, and
 //! `specs/Listing` here the list in its order.
 //!
 //! `choose` takes the first of least cost, with one of its layouts; `specs/Choices` says what that is. Each plan is taken apart once, into the rows of
@@ -12,7 +12,6 @@
 pub mod choosing;
 pub mod entries;
 mod enumerating;
-mod findings;
 mod listings;
 mod plan_rows;
 mod steps;

@@ -19,3 +19,4 @@ pub mod JudgedExchanges
 pub mod OneFinding
 pub mod FoundInContexts
 pub mod WordsOfRules
+pub mod KeptFindings

@@ -4,3 +4,4 @@ pub mod Conditions
 pub mod Legal
 pub mod Reach
 pub mod ToldExchanges
+pub mod FindingTable

@@ -6,12 +6,14 @@
 //! `swapped_plan`.
 //!
 //! `neighbours` tells the two operators of an exchange with their contexts, `found_for` what is found of an operator in a context, and `found` both in
-//! one, for a caller that keeps no findings. `found_in_plan` tells what is found of one operator as a plan has it.
+//! one, for a caller that keeps no findings. `Findings` keeps them, for a caller that meets the same operators again. `found_in_plan` tells what is
+//! found of one operator as a plan has it.
 #![tactic(auto)]
 
 pub mod condition_lists;
 mod exchanges;
 pub mod finding;
+pub mod findings;
 pub mod legality;
 pub mod rules;
 mod trees;
@@ -21,6 +23,7 @@ pub use exchanges::{
     apply_pair, exchanged_tree, found, legal_but_for_groups, legal_pair, neighbours, swapped_plan,
 };
 pub use finding::{Found, Neighbours, found_for, found_in_plan};
+pub use findings::Findings;
 pub use legality::{Clash, Condition, NotLegal};
 pub use rules::{Exchange, Role, Rule};
 pub use trees::kind_of;

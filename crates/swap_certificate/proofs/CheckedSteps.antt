@@ -1,5 +1,5 @@
 -- What is asked of a step, as the code shows it.
-use Rattle.std.proofs.Common.{◌≡◌, ◌≤◌, inl, inr, ℕ, List, length, Result, Ok, Err, sym, subst, ◌∙◌, arith}
+use Rattle.std.proofs.Common.{◌≡◌, ◌≤◌, inl, inr, ℕ, List, length, IfNone, IfSome, None, Option, Some, Result, Ok, Err, sym, subst, ◌∙◌, arith}
 use Rattle.std.proofs.lemmas.Bool.{cases_lt}
 use Rattle.plan_trees.specs.Plans.{PlanTree, IsPlan, node_limit}
 use Rattle.plan_trees.proofs.Ships.{below_limit}
@@ -47,6 +47,10 @@ module _ (p : ProgramData) (t : PlanTree) (s : Step) (rule : Rule) where
     nowhere-StepTo n differ asks none =
         no_place rule asks.rule_is (λ there named place. none (subst (λ (m : ℕ). IsPlace p t m rule) (named_one p.ops s.at there at differ named asks.at_is) place))
 
+    -- what a table told of the two operators
+    pub told-IsFoundAt : (told : Option (Found × Found)) (upper lower : Found) → told ≡ Some (upper, lower) → IfSome told (λ both. IsFoundAt p t at rule both.0 both.1) → IsFoundAt p t at rule upper lower
+    told-IsFoundAt told upper lower e h = subst (λ (x : Option (Found × Found)). IfSome x (λ both. IsFoundAt p t at rule both.0 both.1)) e h
+
     -- what is stated is found, and the exchange is legal for it
     pub stated-IsFoundAt : (upper lower : Found) → IsFoundAt p t at rule upper lower → (upper ≡ s.upper) × (lower ≡ s.lower) → IsFoundAt p t at rule s.upper s.lower
     stated-IsFoundAt upper lower h same = subst (λ (u : Found). IsFoundAt p t at rule u s.lower) same.0 (subst (λ (l : Found). IsFoundAt p t at rule upper l) same.1 h)
@@ -55,6 +59,10 @@ module _ (p : ProgramData) (t : PlanTree) (s : Step) (rule : Rule) where
     stated-IsLegalFor c h found =
         let same = found_one p t at rule c.upper c.lower s.upper s.lower h.legal.found found in
         subst (λ (u : Found). IsLegalFor p t at rule u s.lower) same.0 (subst (λ (l : Found). IsLegalFor p t at rule c.upper l) same.1 h.legal)
+
+-- what is said where a table told of no operators
+pub told-none : (told : Option (Found × Found)) (A : Type 0) → told ≡ None → IfNone told A → A
+told-none told A e h = subst (λ (x : Option (Found × Found)). IfNone x A) e h
 
 -- what a step leads to is in reach
 pub step-Reach : (p : ProgramData) (n : ℕ) (t u : PlanTree) (s : Step) (q : Result PlanTree CertFault) → q ≡ Ok u → StepTo p n t s q → Reach p t → Reach p u

@@ -3,6 +3,7 @@
 ghost use Rattle.std.specs.Prelude.{◌≡◌, ◌↔◌, ◌⊎◌, IfOk, IsTrue, Result, Err};
 ghost use Rattle.plan_trees.specs.Plans.{PlanTree};
 ghost use Rattle.pact_operators.specs.Programs.{IsPlanOf, NamesDiffer};
+ghost use Rattle.reorder_pair.specs.FindingTable.{AreFindings};
 ghost use Rattle.reorder_pair.specs.Legal.{KeepAnswers};
 ghost use Rattle.reorder_pair.specs.Reach.{Reach};
 ghost use Rattle.swap_certificate.specs.Checks.{Checks, StepTo};
@@ -14,7 +15,7 @@ use crate::certificates::{CertFault, Certificate, Step};
 use crate::names::{operator_named, plan_line};
 use pact_operators::{Plan, Program};
 use reorder_group::{apply, legal_for};
-use reorder_pair::{Found, Rule, found};
+use reorder_pair::{Findings, Found, Rule};
 use std::alloc::Global;
 
 // Whether a step states what is found.
@@ -25,10 +26,18 @@ fn are_stated(upper: &Found, lower: &Found, step: &Step) -> bool
 }
 
 // The plan after a step, or the step's fault.
-fn check_step(program: &Program, plan: &Plan, step: &Step, number: u64) -> Result<Plan, CertFault>
+fn check_step(
+    program: &Program,
+    findings: &mut Findings,
+    plan: &Plan,
+    step: &Step,
+    number: u64,
+) -> Result<Plan, CertFault>
     requires plan { IsPlanOf program.now.functions program.now.ops plan.now }
     requires names { NamesDiffer program.now.ops }
-    ensures { StepTo program.now number plan.now step.now result }
+    requires findings { AreFindings program.now findings.old }
+    ensures step { (result ≡ Err Memory → ⊥) → StepTo program.now number plan.now step.now result }
+    ensures findings { IfOk result (λ _. AreFindings program.now findings.new) }
 {
     let Some(rule) = Rule::of_word(step.rule.bytes()) else {
         return Err(CertFault::C2 { step: number });
@@ -38,7 +47,10 @@ fn check_step(program: &Program, plan: &Plan, step: &Step, number: u64) -> Resul
     let Some(at) = operator_named(program.ops(), step.at.bytes()) else {
         return Err(CertFault::C1 { step: number });
     };
-    let Some((upper, lower)) = found(program, plan, at, rule) else {
+    let Ok(found) = findings.found_at(program, plan, at, rule) else {
+        return Err(CertFault::Memory);
+    };
+    let Some((upper, lower)) = found else {
         return Err(CertFault::C1 { step: number });
     };
     if !are_stated(&upper, &lower, step) {
@@ -67,10 +79,11 @@ fn followed(alloc: Global, program: &Program, c: &Certificate) -> Result<Plan, C
     ensures line { IfOk result (λ plan. c.now.plan ≡ line_of program.now.ops plan) }
     ensures reached { IfOk result (Reach program.now) }
 {
+    let mut findings = Findings::new(alloc);
     let mut plan = *program.plan();
     let mut number: u64 = 1;
     for step in c.steps.steps() {
-        plan = match check_step(program, &plan, step, number) {
+        plan = match check_step(program, &mut findings, &plan, step, number) {
             Ok(next) => next,
             Err(fault) => return Err(fault),
         };
@@ -87,8 +100,8 @@ fn followed(alloc: Global, program: &Program, c: &Certificate) -> Result<Plan, C
 }
 
 /// The plan that a certificate leads to, or its first fault. Nothing that it states is believed: each rule and operator is looked up, the sets are found
-/// anew, each exchange is asked for, and the line of the plan is compared. No two sources or operators of the program have the same name, as in
-/// each that `check_program` gives.
+/// anew, each exchange is asked for, and the line of the plan is compared. An operator is analysed once for each context that the steps give it. No two
+/// sources or operators of the program have the same name, as in each that `check_program` gives.
 pub fn recheck(alloc: Global, program: &Program, c: &Certificate) -> Result<Plan, CertFault>
     requires names { NamesDiffer program.now.ops }
     ensures checked { (result ≡ Err Memory → ⊥) → Checks program.now c.now result }

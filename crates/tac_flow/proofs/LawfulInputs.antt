@@ -6,7 +6,7 @@ use Rattle.tac_syntax.specs.declared.functions.Kind.TheVariants.{Map, Match, Cro
 use Rattle.tac_syntax.specs.declared.statements.LoopList.{LoopList}
 use Rattle.tac_syntax.specs.declared.statements.LoopList.TheVariants.{Group, Left as LeftGroup, Right as RightGroup}
 use Rattle.tac_syntax.specs.Call.{CallInput, of_record, of_pair, of_group, of_groups, rows_of}
-use Rattle.tac_flow.specs.Known.{FieldSet, left, right, some}
+use Rattle.tac_flow.specs.Known.{FieldSet}
 use Rattle.tac_flow.specs.Steps.{Scope}
 use Rattle.tac_flow.specs.Walks.{side_of_list}
 use Rattle.tac_syntax.specs.Forms.{IsLawful, InputsAgree, anchors}

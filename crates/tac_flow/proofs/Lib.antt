@@ -8,6 +8,7 @@ pub mod StatementsOfTwo
 pub mod JoinsOfTwo
 pub mod NamesOfLoops
 pub mod RoomToChange
+pub mod SameFacts
 pub mod LoopsSettle
 pub mod SetsBelowFields
 pub mod SamePaths

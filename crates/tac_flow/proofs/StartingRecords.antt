@@ -7,7 +7,7 @@ use Rattle.pact_record.specs.declared.values.Value.TheVariants.{Null}
 use Rattle.pact_record.specs.Record.{at_field, key_of}
 use Rattle.tac_syntax.specs.declared.functions.Kind.{Kind}
 use Rattle.tac_syntax.specs.Call.{CallInput, empty_record}
-use Rattle.tac_flow.specs.Known.{FieldSet, no_fields, left, right, Base, first, Held, side_of}
+use Rattle.tac_flow.specs.Known.{FieldSet, no_fields, left, Base, first, Held, side_of}
 use Rattle.tac_flow.specs.Steps.{Scope, is_key_at}
 use Rattle.tac_syntax.specs.Forms.{IsWithin, anchors}
 use Rattle.tac_syntax.specs.Contexts.{Has}

@@ -1,6 +1,6 @@
 //! What the analysis knows of a state of a call.
 
-ghost use Rattle.std.specs.Prelude.{◌≡◌, ◌<◌, ◌≤◌, IsTrue, ℕ, length, map, replicate};
+ghost use Rattle.std.specs.Prelude.{◌≡◌, ◌<◌, ◌≤◌, ℕ, length, map, replicate};
 ghost use Rattle.tac_syntax.specs.Limits.{value_registers, record_registers};
 ghost use Rattle.pact_record.specs.declared.records.TheConstants.{MAX_FIELDS};
 ghost use Rattle.pact_record.specs.FieldSets.{has_field};
@@ -13,7 +13,7 @@ use pact_record::Fields;
 use tac_syntax::{RECORD_REGISTERS, VALUE_REGISTERS};
 
 /// Of a value: the fields that it depends on, and what it is known to equal.
-#[derive(Clone, Copy)]
+#[derive(Clone, Copy, PartialEq, Eq)]
 pub(crate) struct ValueFacts {
     pub(crate) deps: Fields,
     pub(crate) origin: Origin,
@@ -21,7 +21,7 @@ pub(crate) struct ValueFacts {
 
 /// Of a record: what it began as, the fields in which it may differ from that, and the fields
 /// that those depend on.
-#[derive(Clone, Copy)]
+#[derive(Clone, Copy, PartialEq, Eq)]
 pub(crate) struct RecordFacts {
     pub(crate) base: Base,
     pub(crate) changed: Fields,
@@ -29,7 +29,7 @@ pub(crate) struct RecordFacts {
 }
 
 /// Of each register.
-#[derive(Clone, Copy)]
+#[derive(Clone, Copy, PartialEq, Eq)]
 pub(crate) struct Facts {
     values: [ValueFacts; VALUE_REGISTERS as usize],
     records: [RecordFacts; RECORD_REGISTERS as usize],
@@ -52,13 +52,6 @@ impl ValueFacts {
             deps: self.deps.union(other.deps),
             origin: self.origin.join(other.origin),
         }
-    }
-
-    // Whether the two are the same, where it says so.
-    fn is(&self, other: &ValueFacts) -> bool
-        ensures { IsTrue result → known_of self.now ≡ known_of other.now }
-    {
-        self.deps == other.deps && self.origin.is(other.origin)
     }
 
     fn drop_name(&self, name: u32) -> ValueFacts
@@ -86,12 +79,6 @@ impl RecordFacts {
             changed,
             depends: self.depends.union(other.depends).union(missing),
         }
-    }
-
-    fn is(&self, other: &RecordFacts) -> bool
-        ensures { IsTrue result → held_of self.now ≡ held_of other.now }
-    {
-        self.changed == other.changed && self.depends == other.depends && self.base.is(other.base)
     }
 
     fn drop_name(&self, name: u32) -> RecordFacts
@@ -155,30 +142,6 @@ fn drop_records(name: u32, records: &mut [RecordFacts])
     }
 }
 
-fn are_values(values: &[ValueFacts], others: &[ValueFacts]) -> bool
-    requires { length values.now ≡ length others.now }
-    ensures { IsTrue result → map known_of values.now ≡ map known_of others.now }
-{
-    for n in 0..values.len() {
-        if !values[n].is(&others[n]) {
-            return false;
-        }
-    }
-    true
-}
-
-fn are_records(records: &[RecordFacts], others: &[RecordFacts]) -> bool
-    requires { length records.now ≡ length others.now }
-    ensures { IsTrue result → map held_of records.now ≡ map held_of others.now }
-{
-    for n in 0..records.len() {
-        if !records[n].is(&others[n]) {
-            return false;
-        }
-    }
-    true
-}
-
 impl Facts {
     pub(crate) fn start(fresh: RecordFacts) -> Facts
         ensures values { map known_of result.values ≡ replicate value_registers steps.constant }
@@ -203,13 +166,6 @@ impl Facts {
     {
         drop_values(name, &mut self.values);
         drop_records(name, &mut self.records);
-    }
-
-    // Whether the two are the same, where it says so.
-    pub(crate) fn is(&self, other: &Facts) -> bool
-        ensures { IsTrue result → state_of self.now ≡ state_of other.now }
-    {
-        are_values(&self.values, &other.values) && are_records(&self.records, &other.records)
     }
 
     pub(crate) fn value(&self, n: u32) -> ValueFacts

@@ -178,7 +178,7 @@ fn settle_repeat(scope: &Scope, sides: &Sides, body: &Body, facts: &mut Facts)
         walk_body(scope, sides, body, &mut turn, &mut scratch);
         let before = *facts;
         facts.join(scope.fields, &turn);
-        if facts.is(&before) {
+        if *facts == before {
             return;
         }
     }
@@ -197,7 +197,7 @@ fn settle_each(scope: &Scope, inside: &Sides, name: u32, body: &Body, facts: &mu
         turn.drop_name(name);
         let before = *facts;
         facts.join(scope.fields, &turn);
-        if facts.is(&before) {
+        if *facts == before {
             return;
         }
     }

@@ -30,8 +30,9 @@ fn call(alloc: Global, f: &Valid, input: Input<'_>) -> Result<Rows, OutOfMemory>
     ensures widths { IfOk result (AreWide f.now.fields) }
 {
     let function = f.function();
-    let machine = Machine::start(alloc, f.fields(), input);
-    finish_body(alloc, &function.body, machine)
+    let mut machine = Machine::start(alloc, f.fields(), input);
+    finish_body(alloc, &function.body, &mut machine)?;
+    Ok(machine.into_emitted())
 }
 
 /// What a Map's function emits for a record, in its order.

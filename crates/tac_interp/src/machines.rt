@@ -265,15 +265,14 @@ impl<'a> Machine<'a> {
         Ok(())
     }
 
-    /// What was emitted once this record is, too. It is moved, since no statement comes behind.
-    pub(crate) fn emit_last(self, alloc: Global, from: u32) -> Result<Rows, OutOfMemory>
-        requires { CanAct (code.emit_record from) self }
-        ensures { IfOk result (λ rows. rows ≡ (after (code.emit_record from) self.entry).emitted) }
+    /// Emits a record that no statement reads any more: it is moved, and its register has the empty record.
+    pub(crate) fn emit_last(&mut self, alloc: Global, from: u32) -> Result<(), OutOfMemory>
+        requires { CanAct (code.emit_record from) self.old }
+        ensures { OnOk result (self.new.emitted ≡ (after (code.emit_record from) self.old).emitted) }
     {
-        let row = self.records.into_record(alloc, from)?;
-        let mut emitted = self.emitted;
-        emitted.push(row)?;
-        Ok(emitted)
+        let row = self.records.take(alloc, from)?;
+        self.emitted.push(row)?;
+        Ok(())
     }
 
     pub(crate) fn into_emitted(self) -> Rows

@@ -186,20 +186,20 @@ impl RecordRegisters {
         }
     }
 
-    /// The record of a register, which is moved out.
-    pub(crate) fn into_record(self, alloc: Global, at: u32) -> Result<Record, OutOfMemory>
+    /// The record of a register, which is moved out of it.
+    pub(crate) fn take(&mut self, alloc: Global, at: u32) -> Result<Record, OutOfMemory>
         requires { at < record_registers }
-        ensures record { IfOk result (λ row. row ≡ get_or self.records at []) }
-        ensures width { IfOk result (λ row. length row ≡ self.fields) }
+        ensures record { IfOk result (λ row. row ≡ get_or self.old.records at []) }
+        ensures width { IfOk result (λ row. length row ≡ self.old.fields) }
+        ensures fields { self.new.fields ≡ self.old.fields }
     {
-        let mut held = self.held;
-        if at as usize >= held.len() {
+        if at as usize >= self.held.len() {
             return Record::empty(alloc, self.fields);
         }
-        match held[at as usize].take() {
-            Some(row) => Ok(row),
-            None => Record::empty(alloc, self.fields),
+        if let Some(row) = self.held[at as usize].take() {
+            return Ok(row);
         }
+        Record::empty(alloc, self.fields)
     }
 
     pub(crate) fn set(&mut self, at: u32, row: Record) -> Result<(), OutOfMemory>

@@ -5,18 +5,22 @@ ghost use Rattle.plan_trees.specs.Physicals.{worker_limit};
 
 use crate::outcomes::same_outcomes;
 use crate::programs::{inputs, program};
-use flow_core::{World, run_alone};
-use flow_run::{Options, run, run_owned};
+use flow_core::{World, run_alone, run_picked};
+use flow_run::{Options, run, run_in_turn, run_owned};
 use group_table::GroupTable;
+use local_strategy::Local;
+use pact_bag::Outcome;
+use pact_record::Value;
 use ship_strategy::{layout, layouts};
 use slow_eval::evaluate;
+use sort_local::SortLocal;
 use std::alloc::Global;
 use std::sync::Wait;
 use std::sync::atomic::{AtomicU64, Ordering};
 use std::test::Fail;
 use std::thread;
 use std::thread::Threads;
-use worker_gate::{Act, Gate, MeetGate, OpenGate};
+use worker_gate::{Act, Gate, HoldGate, MeetGate, OpenGate};
 
 const SUM: &str = "pact 1
 fields 4
@@ -100,15 +104,24 @@ const MATCHED: [&str; 2] = [
 
 const PAIRED: [&str; 3] = ["1,10\n2,20\n1,10\n", "1,5\n4,5\n1,6\n9,9\n", "1,0\n7,0\n"];
 
-// Whether a run on threads gives what the evaluation gives, where the numbers are within their limits.
-fn agrees<R: Threads + Wait + Sync, G: Gate>(
+// How events are picked: by threads, by one worker after the other, or by numbers.
+#[derive(Clone, Copy)]
+enum Way<'a> {
+    Threads,
+    InTurn,
+    Picks(&'a [u32]),
+}
+
+// What a run and the evaluation give, where the numbers are within their limits.
+fn outcomes<L: Local, R: Threads + Wait + Sync, G: Gate>(
     rt: &R,
     alloc: Global,
     text: &str,
     rows: &[&str],
     options: Options,
     gate: &G,
-) -> Result<bool, Fail>
+    way: Way<'_>,
+) -> Result<(Outcome, Outcome), Fail>
     requires workers { (1 ≤ options.workers) × (options.workers ≤ worker_limit) }
     requires batch { (1 ≤ options.batch) × (options.batch ≤ 1024) }
     requires depth { (1 ≤ options.depth) × (options.depth ≤ 64) }
@@ -120,8 +133,36 @@ fn agrees<R: Threads + Wait + Sync, G: Gate>(
     // a layout tells for how many workers it is
     let workers = physical.workers();
     let options = Options { workers, ..options };
-    let found = run::<GroupTable, R, G>(rt, alloc, &program, &physical, &inputs, options, gate)?;
+    let (batch, depth) = (options.batch, options.depth);
     let wanted = evaluate(alloc, &program, program.plan(), &inputs)?;
+    let found = match way {
+        Way::Threads => { run::<L, R, G>(rt, alloc, &program, &physical, &inputs, options, gate)? }
+        Way::InTurn => {
+            run_in_turn::<L, R, G>(rt, alloc, &program, &physical, &inputs, options, gate)?
+        }
+        Way::Picks(picks) => {
+            let world = World::<L>::start(alloc, &program, &physical, &inputs, batch, depth)?;
+            run_picked(world, picks)?
+        }
+    };
+    Ok((found, wanted))
+}
+
+// Whether a run gives what the evaluation gives.
+fn agrees<L: Local, R: Threads + Wait + Sync, G: Gate>(
+    rt: &R,
+    alloc: Global,
+    text: &str,
+    rows: &[&str],
+    options: Options,
+    gate: &G,
+    way: Way<'_>,
+) -> Result<bool, Fail>
+    requires workers { (1 ≤ options.workers) × (options.workers ≤ worker_limit) }
+    requires batch { (1 ≤ options.batch) × (options.batch ≤ 1024) }
+    requires depth { (1 ≤ options.depth) × (options.depth ≤ 64) }
+{
+    let (found, wanted) = outcomes::<L, R, G>(rt, alloc, text, rows, options, gate, way)?;
     same_outcomes(found, wanted)
 }
 
@@ -132,6 +173,7 @@ fn all_agree<R: Threads + Wait + Sync>(
     workers: u32,
     batch: u32,
     depth: u32,
+    way: Way<'_>,
 ) -> Result<bool, Fail>
     requires workers { (1 ≤ workers) × (workers ≤ worker_limit) }
     requires batch { (1 ≤ batch) × (batch ≤ 1024) }
@@ -143,25 +185,183 @@ fn all_agree<R: Threads + Wait + Sync>(
         depth,
     };
     Ok(
-        agrees(rt, alloc, SUM, &[SUMMED], options, &OpenGate)?
-            && agrees(rt, alloc, MATCH, &MATCHED, options, &OpenGate)?
-            && agrees(rt, alloc, CROSS, &MATCHED, options, &OpenGate)?
-            && agrees(rt, alloc, PAIRS, &PAIRED, options, &OpenGate)?,
+        agrees::<GroupTable, R, OpenGate>(rt, alloc, SUM, &[SUMMED], options, &OpenGate, way)?
+            && agrees::<GroupTable, R, OpenGate>(
+                rt, alloc, MATCH, &MATCHED, options, &OpenGate, way,
+            )?
+            && agrees::<GroupTable, R, OpenGate>(
+                rt, alloc, CROSS, &MATCHED, options, &OpenGate, way,
+            )?
+            && agrees::<GroupTable, R, OpenGate>(
+                rt, alloc, PAIRS, &PAIRED, options, &OpenGate, way,
+            )?,
+    )
+}
+
+// The same for few workers and many, small batches and pipes and large ones.
+fn agree_in_all_sizes<R: Threads + Wait + Sync>(
+    rt: &R,
+    alloc: Global,
+    way: Way<'_>,
+) -> Result<bool, Fail> {
+    Ok(
+        all_agree(rt, alloc, 1, 1, 1, way)?
+            && all_agree(rt, alloc, 1, 64, 64, way)?
+            && all_agree(rt, alloc, 2, 1, 1, way)?
+            && all_agree(rt, alloc, 2, 1, 64, way)?
+            && all_agree(rt, alloc, 2, 64, 1, way)?
+            && all_agree(rt, alloc, 2, 64, 64, way)?
+            && all_agree(rt, alloc, 3, 1, 1, way)?
+            && all_agree(rt, alloc, 3, 64, 64, way)?
+            && all_agree(rt, alloc, 16, 1, 1, way)?
+            && all_agree(rt, alloc, 16, 64, 64, way)?,
     )
 }
 
 #[test]
 fn runs_on_threads_give_what_the_evaluation_gives(rt: HostRuntime) -> Result<(), Fail> {
-    assert!(rt; all_agree(&rt, rt.alloc(), 1, 1, 1)?);
-    assert!(rt; all_agree(&rt, rt.alloc(), 1, 64, 64)?);
-    assert!(rt; all_agree(&rt, rt.alloc(), 2, 1, 1)?);
-    assert!(rt; all_agree(&rt, rt.alloc(), 2, 1, 64)?);
-    assert!(rt; all_agree(&rt, rt.alloc(), 2, 64, 1)?);
-    assert!(rt; all_agree(&rt, rt.alloc(), 2, 64, 64)?);
-    assert!(rt; all_agree(&rt, rt.alloc(), 3, 1, 1)?);
-    assert!(rt; all_agree(&rt, rt.alloc(), 3, 64, 64)?);
-    assert!(rt; all_agree(&rt, rt.alloc(), 16, 1, 1)?);
-    assert!(rt; all_agree(&rt, rt.alloc(), 16, 64, 64)?);
+    assert!(rt; agree_in_all_sizes(&rt, rt.alloc(), Way::Threads)?);
+    Ok(())
+}
+
+#[test]
+fn runs_in_turn_give_what_the_evaluation_gives(rt: HostRuntime) -> Result<(), Fail> {
+    assert!(rt; agree_in_all_sizes(&rt, rt.alloc(), Way::InTurn)?);
+    Ok(())
+}
+
+// The number behind a number.
+fn stepped(x: u32) -> u32 {
+    ((u64::from(x) * 48_271 + 1) % 2_147_483_647) as u32
+}
+
+// So many numbers, each of which the one before it tells.
+fn numbers(alloc: Global, seed: u32, count: usize) -> Result<Vec<u32>, Fail> {
+    let mut numbers = Vec::new(alloc);
+    let mut x = seed;
+    for _ in 0..count {
+        x = stepped(x);
+        numbers.push(x)?;
+    }
+    Ok(numbers)
+}
+
+/// Whether 200 lists of picked events give what the evaluation gives, on one to three workers.
+pub fn picked_alike(alloc: Global, text: &str, rows: &[&str]) -> Result<bool, Fail> {
+    let program = program(alloc, text.as_bytes())?;
+    let inputs = inputs(alloc, &program, rows)?;
+    for seed in 0..200u32 {
+        let picks = numbers(alloc, seed, 80)?;
+        let _some = layouts(&program, program.plan());
+        let physical = layout(&program, program.plan(), 0, seed % 3 + 1);
+        let wanted = evaluate(alloc, &program, program.plan(), &inputs)?;
+        let world = World::<GroupTable>::start(
+            alloc,
+            &program,
+            &physical,
+            &inputs,
+            2,
+            seed % 2 + 1,
+        )?;
+        if !same_outcomes(run_picked(world, &picks)?, wanted)? {
+            return Ok(false);
+        }
+    }
+    Ok(true)
+}
+
+// The same number so often.
+fn repeated(alloc: Global, number: u32, count: usize) -> Result<Vec<u32>, Fail> {
+    Ok(vec![in alloc; number; count]?)
+}
+
+// A thousand rows of one key, with the numbers from 0 on.
+fn thousand(alloc: Global) -> Result<String, Fail> {
+    let mut text = String::new(alloc);
+    for number in 0..1000u32 {
+        text.push_str(&format!(in alloc; "7,{}\n", number)?)?;
+    }
+    Ok(text)
+}
+
+// Whether the one row tells their sum.
+fn tells_sum(found: &Outcome) -> bool {
+    let rows = found.rows.rows();
+    rows.len() == 1
+        && matches!(
+            rows[0].values(),
+            [Value::Int(7), Value::Null, Value::Int(499_500), Value::Null]
+        )
+}
+
+// Whether sixteen workers, of whom one gets all records, find the sum of a thousand.
+fn sums_thousand<R: Threads + Wait + Sync, G: Gate>(
+    rt: &R,
+    alloc: Global,
+    gate: &G,
+    way: Way<'_>,
+) -> Result<bool, Fail> {
+    let options = Options {
+        workers: 16,
+        batch: 1,
+        depth: 1,
+    };
+    let text = thousand(alloc)?;
+    let (found, wanted) = outcomes::<GroupTable, R, G>(
+        rt,
+        alloc,
+        SUM,
+        &[text.as_str()],
+        options,
+        gate,
+        way,
+    )?;
+    Ok(tells_sum(&found) && same_outcomes(found, wanted)?)
+}
+
+#[test]
+fn every_schedule_gives_one_sum(rt: HostRuntime) -> Result<(), Fail> {
+    let alloc = rt.alloc();
+    assert!(rt; sums_thousand(&rt, alloc, &OpenGate, Way::Threads)?);
+    assert!(rt; sums_thousand(&rt, alloc, &HoldGate::new(1, 1000), Way::Threads)?);
+    assert!(rt; sums_thousand(&rt, alloc, &OpenGate, Way::InTurn)?);
+    assert!(rt; sums_thousand(&rt, alloc, &OpenGate, Way::Picks(&[]))?);
+    let first = repeated(alloc, 0, 10_000)?;
+    assert!(rt; sums_thousand(&rt, alloc, &OpenGate, Way::Picks(&first))?);
+    let last = repeated(alloc, u32::MAX, 10_000)?;
+    assert!(rt; sums_thousand(&rt, alloc, &OpenGate, Way::Picks(&last))?);
+    let random = numbers(alloc, 1, 10_000)?;
+    assert!(rt; sums_thousand(&rt, alloc, &OpenGate, Way::Picks(&random))?);
+    Ok(())
+}
+
+// Whether sixteen workers sum three rows, whichever strategy keeps the records.
+fn sums_three<R: Threads + Wait + Sync, G: Gate>(
+    rt: &R,
+    alloc: Global,
+    gate: &G,
+    way: Way<'_>,
+) -> Result<bool, Fail> {
+    let options = Options {
+        workers: 16,
+        batch: 1,
+        depth: 1,
+    };
+    let rows = ["1,5\n2,-3\n1,7\n"];
+    Ok(
+        agrees::<GroupTable, R, G>(rt, alloc, SUM, &rows, options, gate, way)?
+            && agrees::<SortLocal, R, G>(rt, alloc, SUM, &rows, options, gate, way)?,
+    )
+}
+
+#[test]
+fn both_strategies_sum_by_every_schedule(rt: HostRuntime) -> Result<(), Fail> {
+    let alloc = rt.alloc();
+    assert!(rt; sums_three(&rt, alloc, &OpenGate, Way::Threads)?);
+    assert!(rt; sums_three(&rt, alloc, &HoldGate::new(1, 1000), Way::Threads)?);
+    assert!(rt; sums_three(&rt, alloc, &OpenGate, Way::InTurn)?);
+    let random = numbers(alloc, 1, 1_000)?;
+    assert!(rt; sums_three(&rt, alloc, &OpenGate, Way::Picks(&random))?);
     Ok(())
 }
 
@@ -212,21 +412,6 @@ fn each_of_four_workers_ends_its_own_instances(rt: HostRuntime) -> Result<(), Fa
     Ok(())
 }
 
-// Holds one worker back for so many turns at each of its events.
-#[derive(Drop)]
-struct SlowGate {
-    worker: u32,
-    turns: u32,
-}
-
-impl Gate for SlowGate {
-    fn before(&self, worker: u32, _act: Act) {
-        if worker == self.worker {
-            wait(self.turns);
-        }
-    }
-}
-
 // Holds whoever comes with this event for so many turns.
 #[derive(Drop)]
 struct StopGate {
@@ -257,8 +442,18 @@ fn a_worker_that_is_held_back_changes_no_answer(rt: HostRuntime) -> Result<(), F
         depth: 1,
     };
     for worker in 0..3u32 {
-        let gate = SlowGate { worker, turns: 20 };
-        assert!(rt; agrees(&rt, rt.alloc(), PAIRS, &PAIRED, options, &gate)?);
+        let gate = HoldGate::new(worker, 1000);
+        assert!(rt;
+            agrees::<GroupTable, HostRuntime, HoldGate>(
+                &rt,
+                rt.alloc(),
+                PAIRS,
+                &PAIRED,
+                options,
+                &gate,
+                Way::Threads
+            )?
+        );
     }
     for event in 0..40u64 {
         let gate = StopGate {
@@ -266,7 +461,17 @@ fn a_worker_that_is_held_back_changes_no_answer(rt: HostRuntime) -> Result<(), F
             turns: 2000,
             events: AtomicU64::new(0),
         };
-        assert!(rt; agrees(&rt, rt.alloc(), PAIRS, &PAIRED, options, &gate)?);
+        assert!(rt;
+            agrees::<GroupTable, HostRuntime, StopGate>(
+                &rt,
+                rt.alloc(),
+                PAIRS,
+                &PAIRED,
+                options,
+                &gate,
+                Way::Threads
+            )?
+        );
     }
     Ok(())
 }

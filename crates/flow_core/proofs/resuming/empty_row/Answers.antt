@@ -1,4 +1,4 @@
-use Rattle.std.proofs.Common.{◌≡◌, ◌+◌, ◌∷◌, ◌++◌, [], ap, arith, length, length-append, map, refl, rules, subst, sym, ◌∙◌, ℕ, List}
+use Rattle.std.proofs.Common.{◌∷◌, ◌++◌, [], ap, arith, length, length-append, refl, rules, subst, sym, ◌∙◌, ℕ}
 use Rattle.std.proofs.lemmas.Iterator.Adapters.{YieldsList-from_vec}
 use Rattle.std.proofs.lemmas.Iterator.Consumers.{YieldsList-end, YieldsList-turn}
 use Rattle.std.proofs.lemmas.List.{map-id}

@@ -1,4 +1,4 @@
-use Rattle.std.proofs.Common.{arith, length, length-append, ◌∷◌, ◌++◌, [], ◌+◌, ◌∙◌, ap, ℕ}
+use Rattle.std.proofs.Common.{arith, length, length-append, ◌∷◌, ◌++◌, [], ◌∙◌}
 use Rattle.std.proofs.lemmas.Iterator.Adapters.{YieldsList-from_vec}
 use Rattle.std.proofs.lemmas.Iterator.Consumers.{YieldsList-turn}
 use Rattle.flow_core.proofs.LeftWorlds.{rows_more}

@@ -1,7 +1,5 @@
 use Rattle.std.proofs.Common.{◌≡◌}
-use Rattle.std.specs.List.{AllByRecursion}
-use Rattle.std.specs.Vec.Iter.{into_iter_items}
-use Rattle.flow_core.specs.Left.{AreFilled, IsPipeOf, LeftOn}
+use Rattle.flow_core.specs.Left.{AreFilled}
 use Rattle.flow_core.proofs.resuming.refill_all.Given as goal
 
 abbrev pub invariant-loop-left : goal.invariant-loop-left

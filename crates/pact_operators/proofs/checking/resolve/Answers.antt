@@ -1,6 +1,8 @@
 use Rattle.std.proofs.Common.{◌≡◌, ◌≤◌, ℕ, List, ap, length, map, subst, sym, ◌∙◌}
 use Rattle.std.specs.List.{AllByRecursion}
 use Rattle.pact_operators.specs.Candidates.{CandidateData}
+use Rattle.pact_operators.specs.declared.program_rules.ProgramRule.{ProgramRule}
+use Rattle.pact_operators.specs.ProgramRules.{Keeps}
 use Rattle.pact_operators.specs.Programs.{AreValidated, IsProgram, IsProgramOf, function_limit}
 use Rattle.pact_operators.specs.Resolved.{ops_of, sink_fields}
 use Rattle.pact_operators.specs.WrittenOps.{HasFewKeys, small_ops, with_small_keys}
@@ -47,3 +49,8 @@ returns-clause-whole c =
     let told = is-program_of k c.in_ok-ops.ops.items c.in_ok-plan.plan c.in_ok-sink.sink.items kept c.decls.ensures.spelled valid ops c.in_ok-plan.ensures sink in
     let whole = is-program k (program k c.in_ok-ops.ops.items c.in_ok-plan.plan c.in_ok-sink.sink.items) (keeps-all k kept) c.decls.ensures.spelled valid told in
     subst (λ (x : CandidateData). IsProgram (program x c.in_ok-ops.ops.items c.in_ok-plan.plan c.in_ok-sink.sink.items)) c.in_ok-candidate.ensures whole
+
+pub returns-clause-kept : goal.returns-clause-kept
+returns-clause-kept c =
+    let kept = keeps-all c.in_ok-candidate.candidate c.in_ok-check_attributes-2.ensures.kept in
+    subst (λ (x : CandidateData). (rule : ProgramRule) → Keeps rule x.draft x.valids) c.in_ok-candidate.ensures kept

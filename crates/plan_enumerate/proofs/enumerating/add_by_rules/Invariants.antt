@@ -1,4 +1,4 @@
-use Rattle.plan_enumerate.specs.FindingTable.{AreFindings}
+use Rattle.reorder_pair.specs.FindingTable.{AreFindings}
 use Rattle.plan_enumerate.specs.Listing.{IsAt}
 use Rattle.plan_enumerate.specs.Walks.{IsWalked}
 use Rattle.plan_enumerate.proofs.enumerating.add_by_rules.Given as goal

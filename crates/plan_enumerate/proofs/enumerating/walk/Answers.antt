@@ -1,5 +1,5 @@
-use Rattle.std.proofs.Common.{◌≡◌, ◌+◌, ◌-◌, ◌<◌, subst, arith}
-use Rattle.plan_enumerate.specs.Walks.{GoesTo, IsWalked}
+use Rattle.std.proofs.Common.{◌+◌, ◌-◌, ◌<◌, subst, arith}
+use Rattle.plan_enumerate.specs.Walks.{GoesTo}
 use Rattle.plan_enumerate.proofs.ReachedPlans.{few_entries}
 use Rattle.plan_enumerate.proofs.enumerating.walk.Goals as goal
 

@@ -1,5 +1,5 @@
 use Rattle.std.proofs.Common.{◌≤◌, ◌-◌, length}
-use Rattle.plan_enumerate.specs.FindingTable.{AreFindings}
+use Rattle.reorder_pair.specs.FindingTable.{AreFindings}
 use Rattle.plan_enumerate.specs.Walks.{IsWalked}
 use Rattle.plan_enumerate.proofs.enumerating.walk.Given as goal
 

@@ -7,6 +7,7 @@ use Rattle.tac_flow.specs.Known.{FieldSet, Known, dropped, joined}
 use Rattle.tac_flow.specs.Walks.{walk, notes, walks_at_most}
 use Rattle.tac_flow.specs.Gathering.{noted_of, gather, decided}
 use Rattle.tac_flow.specs.Views.{state_of, scope_of, sides_of}
+use Rattle.tac_flow.proofs.SameFacts.{one_state}
 use Rattle.tac_flow.proofs.WalkedSoFar.{well_formed_next, walks_next, settles_start, settles_next, settles_same, gather_choice}
 use Rattle.tac_flow.proofs.walks.+walk.Goals as goal
 
@@ -32,17 +33,17 @@ pub settle_each-loop-init : goal.settle_each-loop-init
 settle_each-loop-init t c =
     settles_start c.args.scope.now.fields (λ j. dropped c.args.name (walk (scope_of c.args.scope.now) (sides_of c.args.inside.now) c.args.body.now j)) _ (state_of c.args.facts.now) (omega arith)
 
-pub settle_repeat-returns-then-is : goal.settle_repeat-returns-then-is
-settle_repeat-returns-then-is t c =
+pub settle_repeat-returns-then-eq : goal.settle_repeat-returns-then-eq
+settle_repeat-returns-then-eq t c =
     settles_same c.args.scope.now.fields (walk (scope_of c.args.scope.now) (sides_of c.args.sides.now) c.args.body.now) (walks_at_most c.args.scope.now.fields - c.loop.counter)
     (state_of c.loop.facts) (state_of c.join.new.self) (state_of c.args.facts.now)
-    (c.join.ensures ∙ ap (joined c.args.scope.now.fields (state_of c.loop.facts)) c.walk_body.ensures.facts) (c.is.ensures c.if-is.true) c.loop.invariant
+    (c.join.ensures ∙ ap (joined c.args.scope.now.fields (state_of c.loop.facts)) c.walk_body.ensures.facts) (ap state_of (one_state c.join.new.self c.loop.facts (sym c.eq.ensures ∙ c.if-eq.true))) c.loop.invariant
 
-pub settle_each-returns-then-is : goal.settle_each-returns-then-is
-settle_each-returns-then-is t c =
+pub settle_each-returns-then-eq : goal.settle_each-returns-then-eq
+settle_each-returns-then-eq t c =
     settles_same c.args.scope.now.fields (λ j. dropped c.args.name (walk (scope_of c.args.scope.now) (sides_of c.args.inside.now) c.args.body.now j)) (walks_at_most c.args.scope.now.fields - c.loop.counter)
     (state_of c.loop.facts) (state_of c.join.new.self) (state_of c.args.facts.now)
-    (c.join.ensures ∙ ap (joined c.args.scope.now.fields (state_of c.loop.facts)) (c.drop_name.ensures ∙ ap (dropped c.args.name) c.walk_body.ensures.facts)) (c.is.ensures c.if-is.true) c.loop.invariant
+    (c.join.ensures ∙ ap (joined c.args.scope.now.fields (state_of c.loop.facts)) (c.drop_name.ensures ∙ ap (dropped c.args.name) c.walk_body.ensures.facts)) (ap state_of (one_state c.join.new.self c.loop.facts (sym c.eq.ensures ∙ c.if-eq.true))) c.loop.invariant
 
 pub settle_repeat-loop-preserved : goal.settle_repeat-loop-preserved
 settle_repeat-loop-preserved t c =

@@ -1,8 +1,5 @@
-use Rattle.std.proofs.Common.{◌≡◌, ap, sym, ◌∙◌, subst, ℕ, List, arith}
-use Rattle.std.proofs.lemmas.Result.{IfOk-weaker}
-use Rattle.pact_record.specs.declared.values.Value.{Value}
+use Rattle.std.proofs.Common.{ap, sym, ◌∙◌, subst, ℕ, arith}
 use Rattle.tac_syntax.specs.Call.{start_store}
-use Rattle.tac_syntax.specs.Exec.{exec}
 use Rattle.tac_syntax.specs.Bounded.{AreBounded}
 use Rattle.tac_syntax.proofs.StepsAsRecursion.{Out-exec}
 use Rattle.tac_interp.specs.Machine.{input_of}
@@ -21,29 +18,21 @@ finish_body-requires c =
     IsReady-start f c.function-function.result.now fields input c.start-machine.result c.function-function.ensures.valid (Fits-start f fields input c.requires.kind c.requires.keys)
     c.function-function.ensures.function (c.start-machine.ensures ∙ ap (λ (n : ℕ). start_store n input) c.fields.ensures)
 
-emitted : (c : goal.After-finish_body) (rows : List (List Value)) → rows ≡ (exec c.function-function.result.now.body c.start-machine.result).emitted
-    → rows ≡ (exec c.args.f.now.function.body (start_store c.args.f.now.fields (input_of c.args.input))).emitted
-emitted c rows e =
-    let input = input_of c.args.input in
-    emitted-exec c.args.f.now.function c.function-function.result.now c.args.f.now.fields input c.start-machine.result rows e
-    c.function-function.ensures.function (c.start-machine.ensures ∙ ap (λ (n : ℕ). start_store n input) c.fields.ensures)
-
-bounded : (c : goal.After-finish_body) (rows : List (List Value)) → rows ≡ (exec c.function-function.result.now.body c.start-machine.result).emitted
-    → AreBounded c.args.f.now.fields c.args.f.now.function.body (input_of c.args.input) rows
-bounded c rows e =
+pub returns-clause-emitted : goal.returns-clause-emitted
+returns-clause-emitted c =
     let f = c.args.f.now.function in
     let fields = c.args.f.now.fields in
     let input = input_of c.args.input in
-    subst (AreBounded fields f.body input) (sym (emitted c rows e ∙ sym (Out-exec fields f.body input)))
-    (AreBounded-Out f fields input c.function-function.ensures.valid c.requires.kind c.requires.keys c.requires.width)
-
-pub returns-clause-emitted : goal.returns-clause-emitted
-returns-clause-emitted c =
-    IfOk-weaker c.finish_body.result _ _ (λ rows e. emitted c rows e ∙ sym (Out-exec c.args.f.now.fields c.args.f.now.function.body (input_of c.args.input))) c.finish_body.ensures
+    emitted-exec f c.function-function.result.now fields input c.start-machine.result c.into_emitted.result (c.into_emitted.ensures ∙ c.in_ok-finish_body.ensures)
+    c.function-function.ensures.function (c.start-machine.ensures ∙ ap (λ (n : ℕ). start_store n input) c.fields.ensures)
+    ∙ sym (Out-exec fields f.body input)
 
 pub returns-clause-bounded : goal.returns-clause-bounded
-returns-clause-bounded c = IfOk-weaker c.finish_body.result _ _ (λ rows e. bounded c rows e) c.finish_body.ensures
+returns-clause-bounded c =
+    let f = c.args.f.now.function in
+    let fields = c.args.f.now.fields in
+    let input = input_of c.args.input in
+    subst (AreBounded fields f.body input) (sym (returns-clause-emitted c)) (AreBounded-Out f fields input c.function-function.ensures.valid c.requires.kind c.requires.keys c.requires.width)
 
 pub returns-clause-widths : goal.returns-clause-widths
-returns-clause-widths c =
-    IfOk-weaker c.finish_body.result _ _ (λ rows e. widths-bounded c.args.f.now.fields c.args.f.now.function.body (input_of c.args.input) rows (bounded c rows e)) c.finish_body.ensures
+returns-clause-widths c = widths-bounded c.args.f.now.fields c.args.f.now.function.body (input_of c.args.input) c.into_emitted.result (returns-clause-bounded c)

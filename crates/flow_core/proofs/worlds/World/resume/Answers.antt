@@ -1,4 +1,4 @@
-use Rattle.std.proofs.Common.{◌≡◌, ◌≤◌, ◌∙◌, ap, length, subst, sym, ℕ}
+use Rattle.std.proofs.Common.{◌≤◌, ◌∙◌, ap, length, subst, sym, ℕ}
 use Rattle.plan_trees.specs.Physicals.{PhysicalData}
 use Rattle.flow_model.specs.Worlds.{World}
 use Rattle.flow_core.specs.Left.{AreAllEmptied, AreFilled}

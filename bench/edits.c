@@ -1,0 +1,584 @@
+/* Edits programs and certificates at random, runs pact on each, and judges what it answers. See README.md, "Edits".
+   edits PROGRAM FOLDER KEPT COUNT PROCESSES FIRST
+   FOLDER has programs NAME.pact, certificates NAME.*.json of them, and the programs' sources. What fails is kept in KEPT, under the edit's number,
+   from which alone it can be made again. */
+#define _GNU_SOURCE
+#include <dirent.h>
+#include <errno.h>
+#include <fcntl.h>
+#include <signal.h>
+#include <stdint.h>
+#include <stdio.h>
+#include <stdlib.h>
+#include <string.h>
+#include <sys/mman.h>
+#include <sys/resource.h>
+#include <sys/wait.h>
+#include <time.h>
+#include <unistd.h>
+
+#define MOST_BYTES (1 << 20)
+#define MOST_FILES 256
+#define MOST_SPANS 4096
+
+static void stop(const char *what)
+{
+    perror(what);
+    exit(2);
+}
+
+/* ---- Numbers at random: of one edit they follow from its number alone. */
+
+static uint64_t state;
+
+static uint64_t draw(void)
+{
+    uint64_t z = (state += 0x9E3779B97F4A7C15ull);
+    z = (z ^ (z >> 30)) * 0xBF58476D1CE4E5B9ull;
+    z = (z ^ (z >> 27)) * 0x94D049BB133111EBull;
+    return z ^ (z >> 31);
+}
+static size_t below(size_t bound) { return bound == 0 ? 0 : draw() % bound; }
+
+/* ---- Texts */
+
+struct text {
+    size_t length;
+    char *bytes;
+};
+struct file {
+    char name[256];
+    struct text text;
+    int is_certificate;
+};
+static struct file files[MOST_FILES];
+static size_t file_count;
+
+static int by_name(const void *a, const void *b) { return strcmp(((const struct file *)a)->name, ((const struct file *)b)->name); }
+static int ends_in(const char *name, const char *end)
+{
+    size_t length = strlen(name), part = strlen(end);
+    return length >= part && strcmp(name + length - part, end) == 0;
+}
+static void read_files(void)
+{
+    DIR *folder = opendir(".");
+    struct dirent *entry;
+    if (folder == NULL)
+        stop("folder");
+    while ((entry = readdir(folder)) != NULL && file_count < MOST_FILES) {
+        int is_certificate = ends_in(entry->d_name, ".json");
+        if (!is_certificate && !ends_in(entry->d_name, ".pact"))
+            continue;
+        struct file *file = &files[file_count++];
+        snprintf(file->name, sizeof file->name, "%s", entry->d_name);
+        file->is_certificate = is_certificate;
+        FILE *stream = fopen(file->name, "rb");
+        if (stream == NULL || (file->text.bytes = malloc(MOST_BYTES)) == NULL)
+            stop(file->name);
+        file->text.length = fread(file->text.bytes, 1, MOST_BYTES, stream);
+        fclose(stream);
+    }
+    closedir(folder);
+    qsort(files, file_count, sizeof files[0], by_name);
+}
+
+/* A part of a text: from `at`, so many bytes. */
+struct span {
+    size_t at, length;
+};
+static int is_of_word(char byte)
+{
+    return (byte >= 'a' && byte <= 'z') || (byte >= 'A' && byte <= 'Z') || (byte >= '0' && byte <= '9') || strchr("_.-:\"=#", byte) != NULL;
+}
+static int is_digit(char byte) { return byte >= '0' && byte <= '9'; }
+static int is_alike(char a, char b) { return a == b || (is_digit(a) && is_digit(b)); }
+/* The words of a text, its numbers, or its lines with their ends; of a certificate commas end what is as a line. */
+enum kind { WORDS, NUMBERS, LINES };
+static size_t spans_of(struct text text, enum kind kind, char end, struct span *spans)
+{
+    size_t count = 0, at = 0;
+    while (at < text.length && count < MOST_SPANS) {
+        size_t from = at;
+        if (kind == LINES) {
+            while (at < text.length && text.bytes[at] != end)
+                at++;
+            if (at < text.length)
+                at++;
+        } else {
+            int (*is_part)(char) = kind == WORDS ? is_of_word : is_digit;
+            if (text.bytes[at] == '\0' || !is_part(text.bytes[at])) {
+                at++;
+                continue;
+            }
+            while (at < text.length && text.bytes[at] != '\0' && is_part(text.bytes[at]))
+                at++;
+        }
+        spans[count++] = (struct span){from, at - from};
+    }
+    return count;
+}
+/* Puts other bytes in the place of a part, as far as there is room. */
+static void put(struct text *text, struct span span, const char *bytes, size_t length)
+{
+    if (text->length - span.length + length > MOST_BYTES)
+        return;
+    memmove(text->bytes + span.at + length, text->bytes + span.at + span.length, text->length - span.at - span.length);
+    memcpy(text->bytes + span.at, bytes, length);
+    text->length = text->length - span.length + length;
+}
+
+static const char *const limits[] = {"0", "1", "2", "3", "7", "8", "9", "15", "16", "17", "31", "32", "63", "64", "65", "255", "256", "999", "1000",
+    "1001", "4095", "4096", "4097", "100000", "100001", "1000000", "1000001", "2147483647", "2147483648", "4294967295", "4294967296",
+    "9223372036854775807", "9223372036854775808", "-1", "-0", "-9223372036854775808", "-9223372036854775809", "18446744073709551615",
+    "18446744073709551616", "00", "+1", "1.0", "1e3", ""};
+static struct span spans[MOST_SPANS], others[MOST_SPANS];
+static char moved[MOST_BYTES];
+
+/* One edit of a text; what it adds may come from another file. */
+static void edit(struct text *text, int is_certificate)
+{
+    char end = is_certificate ? ',' : '\n', byte;
+    size_t count, more, first, second, times;
+    struct span span;
+    const struct file *other = &files[below(file_count)];
+    if (other->is_certificate != is_certificate)
+        other = NULL;
+    struct text source = other == NULL ? *text : other->text;
+    switch (below(16)) {
+    case 0: /* a byte changed or put in, to one of the text, a printable one, or any */
+        byte = text->length > 0 && below(2) == 0 ? text->bytes[below(text->length)] : below(4) == 0 ? (char)below(256) : (char)(32 + below(95));
+        first = below(text->length + 1);
+        put(text, (struct span){first, first < text->length ? below(2) : 0}, &byte, 1);
+        break;
+    case 1: /* a byte taken out */
+        if (text->length > 0)
+            put(text, (struct span){below(text->length), 1}, NULL, 0);
+        break;
+    case 2: /* a word changed, put in before another one, or taken out */
+    case 3:
+    case 4:
+    case 5:
+    case 6:
+        count = spans_of(*text, WORDS, end, spans);
+        more = spans_of(source, WORDS, end, others);
+        if (count == 0 || more == 0)
+            break;
+        span = spans[below(count)];
+        first = below(more);
+        if (below(4) > 0) { /* mostly to one of its kind: a register for a register, a number for a number */
+            for (times = 0; times < 50 && !is_alike(text->bytes[span.at], source.bytes[others[first].at]); times++)
+                first = below(more);
+            memcpy(moved, source.bytes + others[first].at, others[first].length);
+            put(text, span, moved, others[first].length);
+            break;
+        }
+        memcpy(moved, source.bytes + others[first].at, others[first].length);
+        moved[others[first].length] = ' ';
+        switch (below(3)) {
+        case 0: put(text, span, moved, others[first].length); break;
+        case 1: put(text, (struct span){span.at, 0}, moved, others[first].length + 1); break;
+        default: put(text, span, NULL, 0);
+        }
+        break;
+    case 7: /* a line changed, put in, or taken out */
+    case 8:
+    case 9:
+        count = spans_of(*text, LINES, end, spans);
+        more = spans_of(source, LINES, end, others);
+        if (count == 0 || more == 0)
+            break;
+        span = spans[below(count)];
+        first = below(more);
+        memcpy(moved, source.bytes + others[first].at, others[first].length);
+        switch (below(3)) {
+        case 0: put(text, span, moved, others[first].length); break;
+        case 1: put(text, (struct span){span.at, 0}, moved, others[first].length); break;
+        default: put(text, span, NULL, 0);
+        }
+        break;
+    case 10: /* two lines change places */
+        count = spans_of(*text, LINES, end, spans);
+        if (count < 2)
+            break;
+        first = below(count - 1);
+        second = first + 1 + below(count - first - 1);
+        more = spans[second].at - spans[first].at - spans[first].length;
+        memcpy(moved, text->bytes + spans[second].at, spans[second].length);
+        memcpy(moved + spans[second].length, text->bytes + spans[first].at + spans[first].length, more);
+        memcpy(moved + spans[second].length + more, text->bytes + spans[first].at, spans[first].length);
+        memcpy(text->bytes + spans[first].at, moved, spans[first].length + more + spans[second].length);
+        break;
+    case 11: /* some lines come again, once or often */
+        count = spans_of(*text, LINES, end, spans);
+        if (count == 0)
+            break;
+        first = below(count);
+        second = first + below(count - first < 12 ? count - first : 12);
+        span = (struct span){spans[first].at, spans[second].at + spans[second].length - spans[first].at};
+        memcpy(moved, text->bytes + span.at, span.length);
+        for (times = below(4) == 0 ? 1 + below(40) : 1; times > 0; times--)
+            put(text, (struct span){span.at, 0}, moved, span.length);
+        break;
+    case 12: /* a number at a limit, or another one of the text's */
+    case 13:
+    case 14:
+        count = spans_of(*text, NUMBERS, end, spans);
+        if (count == 0)
+            break;
+        span = spans[below(count)];
+        if (below(2) == 0) {
+            const char *limit = limits[below(sizeof limits / sizeof limits[0])];
+            put(text, span, limit, strlen(limit));
+        } else {
+            first = below(count);
+            memcpy(moved, text->bytes + spans[first].at, spans[first].length);
+            put(text, span, moved, spans[first].length);
+        }
+        break;
+    default: /* cut short */
+        if (below(4) == 0)
+            text->length = below(text->length + 1);
+    }
+}
+
+/* ---- Runs */
+
+struct answer {
+    int status; /* 128 and the signal, where one ended it; -1 where it took too long */
+    struct text out, err;
+};
+static const char *program;
+static int out_file, err_file;
+static char out_bytes[MOST_BYTES], err_bytes[MOST_BYTES];
+
+static struct text taken(int file, char *bytes)
+{
+    ssize_t length = pread(file, bytes, MOST_BYTES - 1, 0);
+    if (length < 0)
+        stop("read");
+    bytes[length] = '\0';
+    return (struct text){(size_t)length, bytes};
+}
+static void empty(int file)
+{
+    if (ftruncate(file, 0) != 0 || lseek(file, 0, SEEK_SET) != 0)
+        stop("truncate");
+}
+/* Runs the program with these words. It has ten seconds by the clock, and one of the processor, which is asked behind it. */
+static struct answer run(char *const words[])
+{
+    static char *none[] = {NULL};
+    struct timespec patience = {10, 0};
+    struct rusage usage;
+    sigset_t ended;
+    int status;
+    empty(out_file);
+    empty(err_file);
+    sigemptyset(&ended);
+    sigaddset(&ended, SIGCHLD);
+    pid_t child = vfork();
+    if (child == 0) {
+        dup2(out_file, 1);
+        dup2(err_file, 2);
+        execve(program, words, none);
+        _exit(127);
+    }
+    if (child < 0)
+        stop("vfork");
+    int late = 0;
+    while (wait4(child, &status, WNOHANG, &usage) == 0) {
+        if (sigtimedwait(&ended, NULL, &patience) < 0 && errno == EAGAIN) {
+            kill(child, SIGKILL);
+            wait4(child, &status, 0, &usage);
+            late = 1;
+            break;
+        }
+    }
+    long microseconds = (usage.ru_utime.tv_sec + usage.ru_stime.tv_sec) * 1000000 + usage.ru_utime.tv_usec + usage.ru_stime.tv_usec;
+    late = late || microseconds >= 1000000;
+    status = late ? -1 : WIFSIGNALED(status) ? 128 + WTERMSIG(status) : WEXITSTATUS(status);
+    return (struct answer){status, taken(out_file, out_bytes), taken(err_file, err_bytes)};
+}
+
+/* ---- What is judged */
+
+struct counts {
+    unsigned long edits, runs, failures, compared, certified, statuses[6][16];
+};
+static const char *const command_names[] = {"sets", "plan", "run", "check"};
+enum command { SETS, PLAN, RUN, CHECK };
+static struct counts *counts; /* shared by all processes */
+static const char *kept;
+static unsigned long number;
+static struct text edited;
+static const char *edited_name;
+static int has_failed;
+
+static void keep(const char *name, struct text text)
+{
+    char path[4096];
+    snprintf(path, sizeof path, "%s/%lu.%s", kept, number, name);
+    FILE *stream = fopen(path, "wb");
+    if (stream == NULL || fwrite(text.bytes, 1, text.length, stream) != text.length || fclose(stream) != 0)
+        stop(path);
+}
+static void fails(char *const words[], struct answer answer, const char *why)
+{
+    char line[4096];
+    size_t length = 0;
+    has_failed = 1;
+    for (int i = 1; words[i] != NULL && length < sizeof line; i++)
+        length += (size_t)snprintf(line + length, sizeof line - length, " %s", words[i]);
+    __atomic_add_fetch(&counts->failures, 1, __ATOMIC_SEQ_CST);
+    printf("edit %lu of %s: pact%s: status %d: %s\n", number, edited_name, line, answer.status, why);
+    fflush(stdout);
+    keep(ends_in(edited_name, ".json") ? "json" : "pact", edited);
+    keep("out", answer.out);
+    keep("err", answer.err);
+}
+static size_t lines_of(struct text text)
+{
+    size_t lines = 0;
+    for (size_t at = 0; at < text.length; at++)
+        lines += text.bytes[at] == '\n';
+    return lines;
+}
+static int begins(struct text text, const char *with) { return strncmp(text.bytes, with, strlen(with)) == 0; }
+/* Why an answer is none that there may be; NULL where it may. */
+static const char *fault_of(enum command command, struct answer answer)
+{
+    static const char *const allowed[] = {"056", "03567", "03567", "0569"};
+    struct text err = answer.err;
+    /* Loops that emit may give more than there is room or time for; nothing else may. */
+    int is_large = command == RUN && memmem(edited.bytes, edited.length, "repeat", 6) != NULL;
+    if (is_large && (answer.status == -1 || answer.status == 1 || answer.status == 4))
+        return NULL;
+    if (answer.status < 0)
+        return "it took too long";
+    if (answer.status > 9 || strchr(allowed[command], '0' + answer.status) == NULL)
+        return "no such status";
+    if (answer.status == 0) {
+        if (err.length > 0)
+            return "something is told on standard error";
+        if (command == CHECK && strcmp(answer.out.bytes, "accepted\n") != 0)
+            return "no such text";
+        if (command == PLAN && !begins(answer.out, "plans ") && !begins(answer.out, "{\"plan\":"))
+            return "no such text";
+        int is_whole = answer.out.length < MOST_BYTES - 1;
+        return is_whole && answer.out.length > 0 && answer.out.bytes[answer.out.length - 1] != '\n' ? "the last line isn't ended" : NULL;
+    }
+    if (answer.out.length > 0)
+        return "something is written on standard output";
+    if (err.length == 0 || err.bytes[err.length - 1] != '\n' || memchr(err.bytes, '\0', err.length) != NULL)
+        return "no line on standard error";
+    size_t lines = lines_of(err);
+    if (answer.status == 9) {
+        int is_c3 = strstr(err.bytes, ": C3\n") != NULL, is_c5 = begins(err, "certificate refused: C5\n");
+        if (!begins(err, "certificate refused: ") || lines != (is_c3 ? 5u : is_c5 ? 3u : 1u))
+            return "no such refusal of a certificate";
+        return NULL;
+    }
+    if (lines != 1)
+        return "not one line on standard error";
+    unsigned long first, second, third;
+    char word[64], behind;
+    int count;
+    switch (answer.status) {
+    case 3: return begins(err, "cannot read ") ? NULL : "no such line";
+    case 5:
+        count = sscanf(err.bytes, "edited.pact:%lu: text fault %lu%c", &first, &second, &behind);
+        return count == 3 && behind == '\n' && first >= 1 && second >= 1 && second <= 12 ? NULL : "no such line";
+    case 6:
+        count = sscanf(err.bytes, "function %32[a-z0-9_]: V%lu at statement %lu%c", word, &first, &second, &behind);
+        if (count == 4 && behind == '\n' && first >= 1 && first <= 8)
+            return NULL;
+        count = sscanf(err.bytes, "%32[a-z0-9_]: P%lu%c", word, &first, &behind);
+        return count == 3 && behind == '\n' && first >= 1 && first <= 10 ? NULL : "no such line";
+    default:
+        count = sscanf(err.bytes, "source %32[a-z0-9_]: row %lu column %lu: why %lu%c", word, &first, &second, &third, &behind);
+        return count == 5 && behind == '\n' && first >= 1 && third >= 1 && third <= 4 ? NULL : "no such line";
+    }
+}
+/* Runs a command over what was edited, and judges the answer. */
+static struct answer judged(enum command command, char *const words[])
+{
+    struct answer answer = run(words);
+    const char *why = fault_of(command, answer);
+    __atomic_add_fetch(&counts->runs, 1, __ATOMIC_RELAXED);
+    __atomic_add_fetch(&counts->statuses[command][answer.status < 0 || answer.status > 14 ? 15 : answer.status], 1, __ATOMIC_RELAXED);
+    if (why != NULL)
+        fails(words, answer, why);
+    return answer;
+}
+static struct text copied(struct text text)
+{
+    char *bytes = malloc(text.length + 1);
+    if (bytes == NULL)
+        stop("memory");
+    memcpy(bytes, text.bytes, text.length + 1);
+    return (struct text){text.length, bytes};
+}
+static void write_file(const char *name, struct text text)
+{
+    int file = open(name, O_CREAT | O_WRONLY | O_TRUNC, 0644);
+    if (file < 0 || write(file, text.bytes, text.length) != (ssize_t)text.length || close(file) != 0)
+        stop(name);
+}
+
+static char *const sets_words[] = {"pact", "sets", "edited.pact", NULL};
+static char *const check_words[] = {"pact", "check", "edited.pact", "chosen.json", NULL};
+/* Some options of a run, as they are drawn. */
+static char *const *options_drawn(void)
+{
+    static char *words[16], *const numbers[] = {"1", "2", "3", "4", "16"}, *const depths[] = {"1", "4", "64"};
+    int count = 0;
+    words[count++] = "pact";
+    words[count++] = "run";
+    words[count++] = "edited.pact";
+    words[count++] = "--workers";
+    words[count++] = numbers[below(below(4) == 0 ? 5 : 3)];
+    if (below(2) == 0) {
+        words[count++] = "--local";
+        words[count++] = "sort";
+    }
+    if (below(2) == 0) {
+        words[count++] = "--batch";
+        words[count++] = numbers[below(5)];
+        words[count++] = "--depth";
+        words[count++] = depths[below(3)];
+    }
+    if (below(4) == 0) {
+        words[count++] = "--plans";
+        words[count++] = numbers[below(5)];
+    }
+    words[count] = NULL;
+    return words;
+}
+static void try_program(void)
+{
+    static char *const plan_words[] = {"pact", "plan", "edited.pact", NULL}, *const cert_words[] = {"pact", "cert", "edited.pact", NULL},
+                       *const written_words[] = {"pact", "run", "edited.pact", "--workers", "1", "--plans", "1", NULL};
+    struct answer answer;
+    write_file("edited.pact", edited);
+    switch (below(5)) {
+    case 0: judged(SETS, sets_words); return;
+    case 1: judged(PLAN, plan_words); return;
+    case 2: judged(RUN, options_drawn()); return;
+    case 3: /* the certificate of the choice is accepted */
+        answer = judged(PLAN, cert_words);
+        if (answer.status != 0)
+            return;
+        write_file("chosen.json", answer.out);
+        answer = judged(CHECK, check_words);
+        if (!has_failed && answer.status != 0)
+            fails(check_words, answer, "its own certificate isn't accepted");
+        __atomic_add_fetch(&counts->certified, 1, __ATOMIC_RELAXED);
+        return;
+    default: /* where the program has one answer, that of the plan as written on one worker is that of any other run */
+        answer = judged(SETS, sets_words);
+        if (answer.status != 0 || strstr(answer.out.bytes, "order no\n") != NULL)
+            return;
+        answer = judged(RUN, written_words);
+        if (answer.status < 0 || answer.status == 1 || answer.status == 4 || answer.out.length == MOST_BYTES - 1)
+            return;
+        struct answer first = {answer.status, copied(answer.out), copied(answer.err)};
+        char *const *words = options_drawn();
+        answer = judged(RUN, words);
+        if (!has_failed && answer.status >= 0 && answer.status != 1 && answer.status != 4 &&
+            (answer.status != first.status || strcmp(answer.out.bytes, first.out.bytes) != 0 || strcmp(answer.err.bytes, first.err.bytes) != 0))
+            fails(words, answer, "another answer than the plan's as written");
+        free(first.out.bytes);
+        free(first.err.bytes);
+        __atomic_add_fetch(&counts->compared, 1, __ATOMIC_RELAXED);
+    }
+}
+static void try_certificate(const struct file *file)
+{
+    char name[sizeof file->name + sizeof ".pact"];
+    strcpy(name, file->name);
+    strcpy(strchr(name, '.'), ".pact");
+    char *const words[] = {"pact", "check", name, "edited.json", NULL};
+    write_file("edited.json", edited);
+    judged(CHECK, words);
+}
+static void try_edit(void)
+{
+    state = number * 0xD1342543DE82EF95ull + 1;
+    const struct file *file = &files[below(file_count)];
+    edited_name = file->name;
+    has_failed = 0;
+    memcpy(edited.bytes, file->text.bytes, file->text.length);
+    edited.length = file->text.length;
+    for (size_t times = below(2) == 0 ? 1 : 1 + below(4); times > 0; times--)
+        edit(&edited, file->is_certificate);
+    if (file->is_certificate)
+        try_certificate(file);
+    else
+        try_program();
+    __atomic_add_fetch(&counts->edits, 1, __ATOMIC_RELAXED);
+}
+
+/* A folder of its own for each process, since it writes files. */
+static void enter(const char *folder, unsigned long process)
+{
+    char own[4096], command[9000];
+    snprintf(own, sizeof own, "%s/process%lu", folder, process);
+    snprintf(command, sizeof command, "mkdir '%s' && cp '%s'/*.* '%s'", own, folder, own);
+    if (system(command) != 0 || chdir(own) != 0)
+        stop(own);
+    out_file = memfd_create("out", MFD_CLOEXEC);
+    err_file = memfd_create("err", MFD_CLOEXEC);
+    if (out_file < 0 || err_file < 0)
+        stop("memfd_create");
+}
+
+int main(int words, char **word)
+{
+    if (words != 7)
+        return 2;
+    program = word[1];
+    kept = word[3];
+    unsigned long count = strtoul(word[4], NULL, 10), processes = strtoul(word[5], NULL, 10), first = strtoul(word[6], NULL, 10);
+    counts = mmap(NULL, sizeof *counts, PROT_READ | PROT_WRITE, MAP_SHARED | MAP_ANONYMOUS, -1, 0);
+    edited.bytes = malloc(MOST_BYTES);
+    if (counts == MAP_FAILED || edited.bytes == NULL || chdir(word[2]) != 0)
+        stop("start");
+    read_files();
+    if (file_count == 0)
+        stop("no file");
+    struct rlimit memory = {2ull << 30, 2ull << 30}, size = {64 << 20, 64 << 20}, core = {0, 0};
+    setrlimit(RLIMIT_AS, &memory);
+    setrlimit(RLIMIT_FSIZE, &size);
+    setrlimit(RLIMIT_CORE, &core);
+    signal(SIGXFSZ, SIG_IGN);
+    for (unsigned long process = 0; process < processes; process++) {
+        pid_t child = fork();
+        if (child < 0)
+            stop("fork");
+        if (child > 0)
+            continue;
+        enter(word[2], process);
+        sigset_t ended;
+        sigemptyset(&ended);
+        sigaddset(&ended, SIGCHLD);
+        sigprocmask(SIG_BLOCK, &ended, NULL);
+        for (number = first + process; number < first + count; number += processes)
+            try_edit();
+        exit(0);
+    }
+    int status, all_ended = 1;
+    while (wait(&status) > 0)
+        all_ended = all_ended && status == 0;
+    printf("%lu edits, %lu runs, %lu certificates checked again, %lu answers compared, %lu failures\n", counts->edits, counts->runs,
+        counts->certified, counts->compared, counts->failures);
+    printf("%-6s %9s %9s %9s %9s %9s %9s %9s %9s\n", "status", "0", "1", "3", "5", "6", "7", "9", "other");
+    for (int command = 0; command < 4; command++) {
+        unsigned long *of = counts->statuses[command];
+        unsigned long other = of[15];
+        for (int status = 0; status < 15; status++)
+            other += strchr("0135679", '0' + status) == NULL ? of[status] : 0;
+        printf("%-6s %9lu %9lu %9lu %9lu %9lu %9lu %9lu %9lu\n", command_names[command], of[0], of[1], of[3], of[5], of[6], of[7], of[9], other);
+    }
+    return all_ended && counts->failures == 0 && counts->edits == count ? 0 : 1;
+}

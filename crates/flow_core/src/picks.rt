@@ -1,0 +1,158 @@
+//! A run on one thread whose events are picked by numbers.
+
+ghost use Rattle.std.specs.Prelude.{◌≡◌, ◌++◌, true, List, length, IfNone, IfOk, IfSome, OnOk};
+ghost use Rattle.pact_operators.specs.Allowed.{Bag, Counted};
+ghost use Rattle.pact_operators.specs.Inputs.{AreInputsOf};
+ghost use Rattle.pact_operators.specs.PlanOps.{plan_ops};
+ghost use Rattle.pact_operators.specs.Programs.{IsPlanOf, IsProgram, ProgramData};
+ghost use Rattle.pact_record.specs.Widths.{AreWide};
+ghost use Rattle.plan_trees.specs.Physicals.{IsPhysical};
+ghost use Rattle.ship_strategy.specs.PlanFacts.{facts_of};
+ghost use Rattle.ship_strategy.specs.Ships.{LegalShip};
+ghost use Rattle.flow_model.specs.Spots.{Setting, setting};
+ghost use Rattle.flow_model.specs.Spread.{Spread};
+ghost use Rattle.flow_model.specs.Worlds.{History, IsStuck, enabled};
+ghost use Rattle.flow_core.specs.Picks.{GoesByPick, IsLed, enabled_events, events_of, if_enabled, joined_below, picked_from, takes_from};
+ghost use Rattle.flow_core.specs.Wired.{input_in};
+ghost use Rattle.flow_core.specs.Worlds.{IsStanding, StandsForSome, seen};
+
+use crate::alone::run_alone;
+use crate::worlds::World;
+use flow_model::{Event, PipeId, Want};
+use local_strategy::Local;
+use pact_bag::Outcome;
+use pact_operators::MAX_NODES;
+use pact_record::OutOfMemory;
+
+impl<L: Local> World<L> {
+    // Lists the event, where it can happen.
+    fn list_event(&self, events: &mut Vec<Event>, event: Event) -> Result<(), OutOfMemory>
+        ensures { OnOk result (events.new.items ≡ events.old.items ++ if_enabled self.now.physical self.now.depth (seen self.now) event) }
+    {
+        if self.enabled(event) {
+            events.push(event)?;
+        }
+        Ok(())
+    }
+
+    // Lists what an instance can take at a port, by sender.
+    fn list_takes(
+        &self,
+        events: &mut Vec<Event>,
+        at: u32,
+        worker: u32,
+        port: u32,
+    ) -> Result<(), OutOfMemory>
+        ensures { OnOk result (events.new.items ≡ events.old.items ++ takes_from self.now.physical self.now.depth (seen self.now) worker (input_in self.now.physical.tree at port)) }
+    {
+        let Some(edge) = self.wiring.input(at, port) else {
+            return Ok(());
+        };
+        for from in 0..self.wiring.workers() {
+            let pipe = PipeId {
+                edge,
+                from,
+                to: worker,
+            };
+            self.list_event(events, Event::Take(pipe))?;
+        }
+        Ok(())
+    }
+
+    // Lists what an instance can do.
+    fn list_of(&self, events: &mut Vec<Event>, at: u32, worker: u32) -> Result<(), OutOfMemory>
+        ensures { OnOk result (events.new.items ≡ events.old.items ++ events_of self.now.physical self.now.depth (seen self.now) at worker) }
+    {
+        match self.want(at, worker) {
+            Want::Put(to) => {
+                let pipe = PipeId {
+                    edge: at,
+                    from: worker,
+                    to,
+                };
+                self.list_event(events, Event::Put(pipe))
+            }
+            Want::Take(port) => self.list_takes(events, at, worker, port),
+            Want::End => self.list_event(events, Event::End { at, worker }),
+            Want::Done => Ok(()),
+        }
+    }
+
+    // Lists what the instances of a source or operator can do.
+    fn list_at(&self, events: &mut Vec<Event>, at: u32) -> Result<(), OutOfMemory>
+        ensures { OnOk result (events.new.items ≡ events.old.items ++ joined_below self.now.physical.workers (λ worker. events_of self.now.physical self.now.depth (seen self.now) at worker)) }
+    {
+        for worker in 0..self.wiring.workers() {
+            self.list_of(events, at, worker)?;
+        }
+        Ok(())
+    }
+
+    // The events that can happen, in their order.
+    fn enabled_events(&self) -> Result<Vec<Event>, OutOfMemory>
+        ensures { IfOk result (λ events. events.items ≡ enabled_events self.now.physical self.now.depth (seen self.now)) }
+    {
+        let mut events = Vec::new(self.alloc);
+        for at in 0..MAX_NODES as u32 {
+            self.list_at(&mut events, at)?;
+        }
+        Ok(events)
+    }
+
+    // The one at the place of the number.
+    fn picked_event(&self, pick: u32) -> Result<Option<Event>, OutOfMemory>
+        requires { IsPhysical self.now.physical }
+        ensures picked { IfOk result (λ event. event ≡ picked_from (enabled_events self.now.physical self.now.depth (seen self.now)) pick) }
+        ensures some { IfOk result (λ event. IfSome event (λ e. enabled self.now.physical self.now.depth (seen self.now) e ≡ true)) }
+        ensures none { IfOk result (λ event. IfNone event (IsStuck self.now.physical self.now.depth (seen self.now))) }
+    {
+        let events = self.enabled_events()?;
+        if events.len() == 0 {
+            return Ok(None);
+        }
+        Ok(Some(events[pick as usize % events.len()]))
+    }
+}
+
+// Lets the picked event happen, and tells whether one could.
+fn go_by_pick<L: Local>(world: &mut World<L>, pick: u32) -> Result<bool, OutOfMemory>
+    requires { StandsForSome world.old }
+    ensures { IfOk result (λ went. GoesByPick world.old pick went world.new) }
+{
+    let Some(event) = world.picked_event(pick)? else {
+        return Ok(false);
+    };
+    world.step(event)?;
+    Ok(true)
+}
+
+// Lets the picked events happen, until none can.
+fn go_by_picks<L: Local>(world: &mut World<L>, picks: &[u32]) -> Result<(), OutOfMemory>
+    requires { StandsForSome world.old }
+    ensures { OnOk result (IsLed world.old world.new) }
+{
+    for &pick in picks {
+        if !go_by_pick(world, pick)? {
+            return Ok(());
+        }
+    }
+    Ok(())
+}
+
+/// Lets events happen until none can, the first of them picked: at each step the enabled events stand in the order of the numbers of their sources and
+/// operators, then of workers, then of the senders of what is taken, and the one at the place of the next number happens, where numbers beyond the last
+/// place begin anew. Where no event is enabled, every instance is done, and numbers that are left are dropped. Behind the last number it goes on as
+/// `run_alone`, whose conditions and clauses it has. It waits for nobody.
+///
+/// No clause tells that the picked events were those that happened; `replay` says it of a list of events.
+pub fn run_picked<L: Local>(world: World<L>, picks: &[u32]) -> Result<Outcome, OutOfMemory>
+    requires { StandsForSome world }
+    ensures spread { IfOk result (λ o. (g : Setting) (h : History) → IsStanding g world h → Spread g o.rows o.counts) }
+    ensures counted { IfOk result (λ o. (p : ProgramData) (inputs : List Bag) (h : History) → IsProgram p → AreInputsOf p inputs → IsPlanOf p.functions p.ops world.physical.tree → LegalShip (facts_of p world.physical.tree) world.physical → IsStanding (setting p inputs world.physical) world h → Counted (plan_ops p inputs) world.physical.tree o.rows o.counts) }
+    ensures widths { IfOk result (λ o. (g : Setting) (h : History) → IsStanding g world h → AreWide g.fields o.rows) }
+    ensures counts { IfOk result (λ o. (p : ProgramData) → IsPlanOf p.functions p.ops world.physical.tree → length o.counts ≡ length p.ops) }
+{
+    let mut world = world;
+    go_by_picks(&mut world, picks)?;
+    run_alone(world)
+}

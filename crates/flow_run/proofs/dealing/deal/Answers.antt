@@ -1,0 +1,35 @@
+use Rattle.std.proofs.Common.{◌≡◌, ◌≤◌, ◌<◌, ◌*◌, true, rules, length, ap, arith, subst, sym, ℕ}
+use Rattle.flow_instance.proofs.PartsOfPlans.{number_below}
+use Rattle.plan_trees.specs.Plans.{has}
+use Rattle.flow_model.specs.Spots.{setting}
+use Rattle.flow_run.specs.Dealing.{AreDealt}
+use Rattle.flow_run.specs.Wires.{AreWired}
+use Rattle.flow_run.proofs.RunsOfWorkers.{are_dealt, few_numbers}
+use Rattle.flow_run.proofs.dealing.deal.Goals as goal
+
+pub overflow_cast-count : goal.overflow_cast-count
+overflow_cast-count g c =
+    let few = few_numbers c.args.physical.now (length c.args.program.now.ops) c.workers-workers.ensures.physical c.requires.plan.all in
+    let same = ap length c.ops-ops.ensures.ops in
+    let fact : length c.ops-ops.result.now ≤ 64 = omega (arith, few, same) in
+    search (rules, fact)
+
+pub wire-requires-clause-count : goal.wire-requires-clause-count
+wire-requires-clause-count g c =
+    let few = few_numbers c.args.physical.now (length c.args.program.now.ops) c.workers-workers.ensures.physical c.requires.plan.all in
+    let same = ap length c.ops-ops.ensures.ops in
+    omega (arith, few, same)
+
+pub wire-requires-clause-only : goal.wire-requires-clause-only
+wire-requires-clause-only g c at less = let same = ap length c.ops-ops.ensures.ops in c.requires.plan.all at (omega (arith, less, same))
+
+pub returns : goal.returns
+returns g c =
+    let p = c.args.program.now in
+    let q = c.args.physical.now in
+    let s = setting p c.args.inputs q in
+    let v = c.in_ok-wired.wired in
+    let only : (at : ℕ) → has at q.tree ≡ true → at < length p.ops = λ at there. number_below p.ops at q.tree there c.requires.plan.arity in
+    let wired = subst (λ (n : ℕ). AreWired q n c.args.options.depth (256 * n) v.pipes v.puts v.takes) (ap length c.ops-ops.ensures.ops) c.in_ok-wired.ensures in
+    subst (λ (n : ℕ). AreDealt s (length p.ops) n v.pipes c.in_ok-instances.instances v.puts v.takes) (sym c.requires.width)
+    (are_dealt s (length p.ops) c.args.options.depth v.pipes v.puts v.takes c.in_ok-instances.instances c.workers-workers.ensures.physical c.requires.plan.all only c.requires.depth.1 c.in_ok-instances.ensures wired)

@@ -1,0 +1,125 @@
+//! What is found of operators, kept for the contexts that they come to have.
+
+ghost use Rattle.std.specs.Prelude.{◌≡◌, ◌++◌, ◌∷◌, [], IfNone, IfOk, IfSome, OnErr, OnOk};
+ghost use Rattle.pact_operators.specs.Programs.{ProgramData};
+ghost use Rattle.reorder_pair.specs.FindingTable.{AreFindings, IsKept, Keeps, KeepsBoth};
+ghost use Rattle.reorder_pair.specs.Legal.{IsFoundAt};
+ghost use Rattle.reorder_pair.specs.Places.{IsFoundFor, IsOperatorIn, IsPlace};
+
+use crate::exchanges::neighbours;
+use crate::finding::{Found, found_for};
+use crate::rules::Rule;
+use indexmap::IndexMap;
+use pact_operators::{Plan, Program};
+use pact_record::OutOfMemory;
+use std::alloc::Global;
+use std::marker::Model;
+use tac_syntax::Context;
+
+/// An operator by its number, in a context.
+#[derive(Clone, Copy, PartialEq, Eq, Hash)]
+struct OperatorIn {
+    at: u32,
+    context: Context,
+}
+
+/// What was found of operators of one program, each in the contexts in which it was asked for: plans that exchanges lead to have an operator in far
+/// fewer contexts than places.
+#[derive(Drop)]
+pub struct Findings {
+    table: IndexMap<OperatorIn, Found>,
+}
+
+impl Model for Findings {
+    ghost use Rattle.std.specs.Prelude.{List};
+    ghost use Rattle.std.specs.Coded.{coded_list, coded×};
+    ghost use Rattle.reorder_pair.specs.contracts.findings.OperatorIn as placed;
+    ghost use Rattle.reorder_pair.specs.declared.findings.OperatorIn.{OperatorIn};
+    ghost use Rattle.reorder_pair.specs.contracts.finding.Found as found;
+    ghost use Rattle.reorder_pair.specs.declared.finding.Found.{Found};
+
+    ghost Value = { List (OperatorIn × Found) };
+
+    ghost coded = { coded_list (coded× placed.the_row.coded found.the_row.coded) };
+
+    ghost view = { λ s. s.table.entries };
+}
+
+impl Findings {
+    /// A table that keeps nothing yet.
+    pub fn new(alloc: Global) -> Findings
+        ensures { result ≡ [] }
+    {
+        Findings {
+            table: IndexMap::new(alloc),
+        }
+    }
+
+    // What was kept of an operator in a context.
+    fn kept(&self, placed: &OperatorIn) -> Option<Found>
+        ensures found { (p : ProgramData) → AreFindings p self.now → IfSome result (IsFoundFor p placed.now.at placed.now.context) }
+        ensures some { IfSome result (λ _. IsKept placed.now self.now) }
+        ensures none { IfNone result (IsKept placed.now self.now → ⊥) }
+    {
+        self.table.get(placed).copied()
+    }
+
+    // Keeps what was found of an operator in a context.
+    fn keep(&mut self, placed: &OperatorIn, found: &Found) -> Result<(), OutOfMemory>
+        requires { IsKept placed.now self.old → ⊥ }
+        ensures kept { OnOk result (self.new ≡ self.old ++ (placed.now, found.now) ∷ []) }
+        ensures unchanged { OnErr result (self.new ≡ self.old) }
+    {
+        self.table.insert(*placed, *found)?;
+        Ok(())
+    }
+
+    /// What is found of an operator in a context: what was kept, or else what the analysis finds now, which is kept from now on.
+    pub fn found(
+        &mut self,
+        program: &Program,
+        at: u32,
+        context: &Context,
+    ) -> Result<Found, OutOfMemory>
+        requires operator { IsOperatorIn program.now at context.now }
+        requires findings { AreFindings program.now self.old }
+        ensures found { IfOk result (IsFoundFor program.now at context.now) }
+        ensures kept { IfOk result (λ s. Keeps (record { at = at; context = context.now }) s self.old self.new) }
+        ensures unchanged { OnErr result (self.new ≡ self.old) }
+        ensures findings { OnOk result (AreFindings program.now self.new) }
+    {
+        let placed = OperatorIn {
+            at,
+            context: *context,
+        };
+        if let Some(found) = self.kept(&placed) {
+            return Ok(found);
+        }
+        let found = found_for(program, at, context);
+        self.keep(&placed, &found)?;
+        Ok(found)
+    }
+
+    /// What `found` of this crate tells of the two operators of an exchange, by the table: each is analysed only where it isn't kept in its context.
+    /// Behind want of memory the table may have the upper one.
+    pub fn found_at(
+        &mut self,
+        program: &Program,
+        plan: &Plan,
+        at: u32,
+        rule: Rule,
+    ) -> Result<Option<(Found, Found)>, OutOfMemory>
+        requires findings { AreFindings program.now self.old }
+        ensures found { IfOk result (λ told. IfSome told (λ both. IsFoundAt program.now plan.now at rule both.0 both.1)) }
+        ensures none { IfOk result (λ told. IfNone told ((IsPlace program.now plan.now at rule → ⊥) × (self.new ≡ self.old))) }
+        ensures kept { IfOk result (λ told. IfSome told (λ both. KeepsBoth program.now plan.now at rule both.0 both.1 self.old self.new)) }
+        ensures findings { OnOk result (AreFindings program.now self.new) }
+    {
+        let Some(both) = neighbours(program, plan, at, rule) else {
+            return Ok(None);
+        };
+        let upper = self.found(program, both.upper, &both.upper_context)?;
+        let lower = self.found(program, both.lower, &both.lower_context)?;
+        Ok(Some((upper, lower)))
+    }
+}

@@ -1,0 +1,1228 @@
+//! The programs of `examples/`, each by many lists of picked events. `examples/as_tests` writes this file.
+
+use crate::run_tests::picked_alike;
+use std::test::Fail;
+
+const BASKET_CSV: &str = "tea,3,425
+milk,2,119
+bread,1,349
+";
+
+const COLORS_CSV: &str = "red
+green
+";
+
+const CUSTOMERS_CSV: &str = "1,Ann,DE
+2,Bob,FR
+";
+
+const D_CSV: &str = "1,5
+1,5
+";
+
+const DRILL_CSV: &str = "1,-752,t66
+952,610,t36
+19,-455,t38
+729,-108,t84
+844,407,t93
+359,-330,
+167,819,t91
+163,123,t81
+721,365,t92
+522,730,t83
+230,319,t1
+988,-412,t71
+91,-685,t61
+288,730,t8
+223,-286,
+132,-448,t99
+720,-479,t94
+611,-554,t72
+24,-963,t56
+380,-183,
+170,282,t6
+361,-239,t1
+442,-544,t99
+813,-558,t45
+202,45,t92
+269,94,t97
+633,-785,t47
+809,287,t5
+688,575,t25
+31,-117,t64
+819,854,t85
+490,92,t74
+608,-512,t25
+526,-943,t85
+728,-732,t93
+862,228,t63
+775,-352,t81
+306,-970,t32
+412,469,t15
+955,937,
+";
+
+const E_CSV: &str = "1,5
+1,-3
+";
+
+const GUESTS_CSV: &str = "3,Cleo
+4,Dan
+";
+
+const H_CSV: &str = "0,0
+1,1
+2,2
+3,3
+4,4
+5,5
+6,6
+7,7
+8,8
+9,9
+0,10
+1,11
+2,12
+3,13
+4,14
+5,15
+6,16
+7,17
+8,18
+9,19
+0,20
+1,21
+2,22
+3,23
+4,24
+5,25
+6,26
+7,27
+8,28
+9,29
+0,30
+1,31
+2,32
+3,33
+4,34
+5,35
+6,36
+7,37
+8,38
+9,39
+0,40
+1,41
+2,42
+3,43
+4,44
+5,45
+6,46
+7,47
+8,48
+9,49
+0,50
+1,51
+2,52
+3,53
+4,54
+5,55
+6,56
+7,57
+8,58
+9,59
+0,60
+1,61
+2,62
+3,63
+4,64
+5,65
+6,66
+7,67
+8,68
+9,69
+0,70
+1,71
+2,72
+3,73
+4,74
+5,75
+6,76
+7,77
+8,78
+9,79
+0,80
+1,81
+2,82
+3,83
+4,84
+5,85
+6,86
+7,87
+8,88
+9,89
+0,90
+1,91
+2,92
+3,93
+4,94
+5,95
+6,96
+7,97
+8,98
+9,99
+";
+
+const M_CSV: &str = ",9
+";
+
+const MEMBERS_CSV: &str = "1,Ann
+2,Bob
+3,Cleo
+";
+
+const N_CSV: &str = ",5
+";
+
+const NAMES_CSV: &str = "Ann,DE,2
+Bob,,1
+\"Cruz, Eva\",ES,3
+";
+
+const ORDERS_CSV: &str = "10,1,250
+11,1,50
+12,2,75
+13,1,
+";
+
+const PRICES_CSV: &str = "1,tea,320
+1,bread,410
+1,milk,150
+2,tea,350
+2,bread,390
+2,milk,160
+3,tea,300
+3,bread,450
+3,milk,170
+";
+
+const S_CSV: &str = "1,5
+2,-3
+1,7
+";
+
+const S1_CSV: &str = "1,5
+";
+
+const SALES_CSV: &str = "north,1,250
+north,2,-80
+south,1,
+north,2,75
+west,3,-2
+south,3,40
+north,2,75
+east,4,
+west,2,-5
+";
+
+const SCORES_CSV: &str = "Ann,7
+Bob,9
+Cleo,4
+Dan,9
+Eve,7
+";
+
+const SHOPS_CSV: &str = "1,Oslo
+2,Bergen
+3,Oslo
+";
+
+const SIZES_CSV: &str = "30
+10
+";
+
+const SOLD_CSV: &str = "1,tea,4
+1,tea,0
+1,tea,2
+1,bread,2
+1,bread,1
+1,milk,
+2,tea,3
+2,tea,1
+2,bread,0
+2,bread,5
+2,milk,1
+2,milk,6
+3,tea,6
+3,tea,0
+3,bread,1
+3,bread,3
+3,bread,
+3,milk,2
+3,milk,7
+3,coffee,9
+";
+
+const STAFF_CSV: &str = "1,Ann,
+2,Bob,1
+3,Cleo,1
+4,Dan,2
+";
+
+const T_CSV: &str = "1,9
+1,8
+";
+
+const T3_CSV: &str = "1,9
+1,8
+3,7
+";
+
+const U_CSV: &str = "9,3
+";
+
+const VISITS_CSV: &str = "1,10
+1,12
+3,7
+9,8
+";
+
+const ANTI_JOIN_PACT: &str = "pact 1
+fields 4
+source member members.csv int:0 text:1
+source visit visits.csv int:2 int:3
+function unknown cogroup 1
+  v0 = int 0
+  v1 = int 1
+  each x1 of right
+    v0 = max v0 v1        # 1 where there is a visit
+  end
+  v0 = not v0
+  if v0
+    each x1 of left
+      r0 = copy x1
+      emit r0
+    end
+  end
+end
+cogroup unseen unknown member visit by 0 = 2
+sink unseen 0 1
+";
+
+const AVERAGE_PACT: &str = "pact 1
+fields 6
+source sale sales.csv text:0 int:1 int:2
+function mean reduce 1
+  v0 = int 0
+  v1 = int 0
+  each x1 of group
+    v2 = get x1 2
+    v0 = addw v0 v2       # a row without an amount adds 0 to the sum
+    v3 = isnull v2
+    v3 = not v3
+    v1 = addw v1 v3       # and to the count
+  end
+  v4 = div v0 v1          # Null where the count is 0
+  r0 = new
+  v5 = key 0
+  set r0 0 v5
+  set r0 3 v0
+  set r0 4 v1
+  set r0 5 v4
+  emit r0
+end
+reduce means mean sale by 0
+sink means 0 3 4 5
+";
+
+const COGROUP_PACT: &str = "pact 1
+fields 6
+source s s.csv int:0 int:1
+source t t3.csv int:2 int:3
+function both cogroup 1
+  v0 = key 0
+  r0 = new
+  set r0 0 v0
+  v1 = int 0
+  v3 = int 0
+  v2 = int 1
+  each x1 of left
+    v1 = addw v1 v2
+  end
+  each x1 of right
+    v3 = addw v3 v2
+  end
+  set r0 4 v1
+  set r0 5 v3
+  emit r0
+end
+cogroup g both s t by 0 = 2
+sink g 0 4 5
+";
+
+const COND_PACT: &str = "pact 1
+fields 4
+source s s.csv int:0 int:1
+function cond map
+  r0 = copy in
+  v2 = get in 0
+  v3 = int 9
+  if v2
+    set r0 2 v3
+  end
+  emit r0
+end
+function own map
+  r0 = new
+  v0 = get in 0
+  set r0 0 v0
+  v0 = get in 1
+  set r0 1 v0
+  v0 = get in 2
+  set r0 2 v0
+  v0 = get in 3
+  set r0 3 v0
+  emit r0
+end
+map a cond s
+map b own a
+sink b 0 1 2
+";
+
+const COUNT_PACT: &str = "pact 1
+fields 4
+source s e.csv int:0 int:1
+function pos map
+  r0 = copy in
+  v0 = get in 1
+  v1 = int 0
+  v2 = lt v1 v0
+  if v2
+    emit r0
+  end
+end
+function cnt reduce 1
+  v0 = int 0
+  v1 = int 1
+  each x1 of group
+    v0 = addw v0 v1
+  end
+  each x1 of group
+    r0 = copy x1
+    set r0 3 v0
+    emit r0
+  end
+end
+reduce r cnt s by 0
+map m pos r
+sink m 0 1 3
+";
+
+const COUNT_ALL_PACT: &str = "pact 1
+fields 4
+source s s.csv int:0 int:1
+function same map
+  v0 = int 0
+  r0 = copy in
+  set r0 2 v0
+  emit r0
+end
+function count reduce 1
+  v0 = int 0
+  v1 = int 1
+  each x1 of group
+    v0 = addw v0 v1
+  end
+  r0 = new
+  set r0 3 v0
+  emit r0
+end
+map all same s
+reduce total count all by 2
+sink total 3
+";
+
+const COUNTED_PACT: &str = "pact 1
+fields 6
+source s s.csv int:0 int:1
+source t t3.csv int:2 int:3
+function counted cogroup 1
+  v0 = int 0
+  v1 = int 1
+  each x1 of right
+    v0 = addw v0 v1
+  end
+  each x1 of left
+    r0 = copy x1
+    set r0 4 v0
+    emit r0
+  end
+end
+cogroup g counted s t by 0 = 2
+sink g 0 1 4
+";
+
+const CROSS_PACT: &str = "pact 1
+fields 3
+source c colors.csv text:0
+source z sizes.csv int:1
+function label cross
+  r0 = copy join
+  v0 = get left 0
+  v1 = text \" cup\"
+  v2 = cat v0 v1
+  set r0 2 v2
+  emit r0
+end
+cross p label c z
+sink p 2 1
+";
+
+const DECIMALS_PACT: &str = "pact 1
+fields 6
+source item basket.csv text:0 int:1 int:2
+function tax map
+  v0 = get in 1
+  v1 = get in 2
+  v2 = mul v0 v1
+  v3 = int 75
+  v4 = mul v2 v3
+  v5 = int 500
+  v4 = add v4 v5
+  v6 = int 1000
+  v4 = div v4 v6
+  v7 = add v2 v4
+  r0 = copy in
+  set r0 3 v2
+  set r0 4 v4
+  set r0 5 v7
+  emit r0
+end
+map taxed tax item
+sink taxed 0 3 4 5
+";
+
+const DISTINCT_PACT: &str = "pact 1
+fields 3
+source sale sales.csv text:0 int:1 int:2
+function once reduce 2
+  r0 = new
+  v0 = key 0
+  set r0 0 v0
+  v0 = key 1
+  set r0 1 v0
+  emit r0
+end
+reduce pairs once sale by 0 1
+sink pairs 0 1
+";
+
+const DRILL_PACT: &str = "pact 1
+fields 4
+source g drill.csv int:0 int:1 text:2
+function total reduce 1
+  v0 = int 0
+  each x1 of group
+    v1 = get x1 1
+    v0 = addw v0 v1
+  end
+  r0 = new
+  v2 = key 0
+  set r0 0 v2
+  set r0 3 v0
+  emit r0
+end
+function low map
+  v0 = get in 0
+  v1 = int 500
+  v2 = lt v0 v1
+  if v2
+    r0 = copy in
+    emit r0
+  end
+end
+reduce r total g by 0
+map m low r
+sink m 0 3
+";
+
+const FILTER_PACT: &str = "pact 1
+fields 4
+source s s.csv int:0 int:1
+function pos map
+  r0 = copy in
+  v0 = get in 1
+  v1 = int 0
+  v2 = lt v1 v0
+  if v2
+    emit r0
+  end
+end
+map m pos s
+sink m 0 1
+";
+
+const FIVE_PACT: &str = "pact 1
+fields 6
+source s s.csv int:0 int:1
+source t t.csv int:2 int:3
+function lft match
+  r0 = copy left
+  emit r0
+end
+function five map
+  r0 = copy in
+  v0 = int 7
+  set r0 5 v0
+  emit r0
+end
+match g lft s t by 0 = 2
+map m five g
+sink m 0 1 5
+";
+
+const FLAG_PACT: &str = "pact 1
+fields 4
+source s s.csv int:0 int:1
+function flag map
+  r0 = copy in
+  v0 = get in 1
+  if v0
+    v1 = int 1
+    set r0 3 v1
+  end
+  emit r0
+end
+map m flag s
+sink m 0 1 3
+";
+
+const FULL_JOIN_PACT: &str = "pact 1
+fields 4
+source member members.csv int:0 text:1
+source visit visits.csv int:2 int:3
+function full cogroup 1
+  v0 = int 0
+  v1 = int 0
+  v2 = int 1
+  each x1 of left
+    v0 = max v0 v2        # 1 where there is a member
+  end
+  each x1 of right
+    v1 = max v1 v2        # 1 where there is a visit
+  end
+  v3 = and v0 v1
+  if v3
+    each x1 of left
+      each x2 of right
+        r0 = copy x1
+        v4 = get x2 2
+        set r0 2 v4
+        v4 = get x2 3
+        set r0 3 v4
+        emit r0
+      end
+    end
+  else
+    # one of the two has no record
+    each x1 of left
+      r0 = copy x1
+      emit r0
+    end
+    each x1 of right
+      r0 = copy x1
+      emit r0
+    end
+  end
+end
+cogroup all full member visit by 0 = 2
+sink all 0 1 2 3
+";
+
+const GREET_PACT: &str = "pact 1
+fields 4
+source people names.csv text:0 text:1 int:2
+function greet map
+  v0 = get in 0
+  v1 = text \"\\\"hi\\\" \"
+  v2 = get in 2
+  v3 = int 1
+  v4 = cat v1 v0
+  r0 = copy in
+  v5 = get in 1
+  v6 = isnull v5
+  if v6
+    v7 = text \"nowhere\"
+    set r0 1 v7
+  else
+    repeat 2
+      v2 = addw v2 v3
+    end
+  end
+  set r0 0 v4
+  set r0 3 v2
+  emit r0
+end
+map g greet people
+sink g 3 0 1
+";
+
+const JOIN_PACT: &str = "pact 1
+fields 6
+source s s1.csv int:0 int:1
+source t t.csv int:2 int:3
+function jn match
+  r0 = copy join
+  emit r0
+end
+match g jn s t by 0 = 2
+sink g 0 1 2 3
+";
+
+const JOIN3_PACT: &str = "pact 1
+fields 6
+source s s1.csv int:0 int:1
+source t t.csv int:2 int:3
+function jn match
+  r0 = copy join
+  emit r0
+end
+match g jn s t by 0 = 2
+source u u.csv int:4 int:5
+match h jn g u by 3 = 4
+sink h 0 1 2 3 4 5
+";
+
+const MINIMUM_PACT: &str = "pact 1
+fields 4
+source sale sales.csv text:0 int:1 int:2
+function least reduce 1
+  each x1 of group
+    v1 = get x1 2
+    v0 = max v0 v1        # Null only where no row has an amount
+  end
+  each x1 of group
+    v1 = get x1 2
+    v2 = isnull v1
+    if v2
+    else
+      v0 = min v0 v1
+    end
+  end
+  r0 = new
+  v3 = key 0
+  set r0 0 v3
+  set r0 3 v0
+  emit r0
+end
+reduce lowest least sale by 0
+sink lowest 0 3
+";
+
+const NOTES_PACT: &str = "pact 1
+fields 4      # numbered from 0
+
+sink m 0 1
+map m pos s
+
+function pos map
+\tv1 = int 0            # registers are Null at first
+\tv0 = get in 1
+\tv2 = lt   v1 v0
+\tif v2
+\t\tr0 = copy in
+\t\temit r0
+\telse
+\tend
+end
+
+source s s.csv int:0 int:1
+";
+
+const NULL_PACT: &str = "pact 1
+fields 6
+source s n.csv int:0 int:1
+source t m.csv int:2 int:3
+function jn match
+  r0 = copy join
+  emit r0
+end
+match g jn s t by 0 = 2
+sink g 1 3
+";
+
+const ODD_PACT: &str = "pact 1
+fields 4
+source s s1.csv int:0 int:1
+function odd map
+  r0 = new
+  v0 = int 7
+  v1 = int 0
+  v2 = div v0 v1
+  set r0 0 v2
+  v0 = int -9223372036854775808
+  v1 = int -1
+  v2 = div v0 v1
+  set r0 1 v2
+  v0 = int 9223372036854775807
+  v1 = int 1
+  v2 = add v0 v1
+  set r0 2 v2
+  v2 = addw v0 v1
+  set r0 3 v2
+  emit r0
+end
+map m odd s
+sink m 0 1 2 3
+";
+
+const OUTER_JOIN_PACT: &str = "pact 1
+fields 4
+source member members.csv int:0 text:1
+source visit visits.csv int:2 int:3
+function outer cogroup 1
+  v0 = int 0
+  v1 = int 1
+  each x1 of right
+    v0 = max v0 v1        # 1 where there is a visit
+  end
+  each x1 of left
+    if v0
+      each x2 of right
+        r0 = copy x1
+        v2 = get x2 3
+        set r0 3 v2
+        emit r0
+      end
+    else
+      r0 = copy x1
+      emit r0
+    end
+  end
+end
+cogroup all outer member visit by 0 = 2
+sink all 0 1 3
+";
+
+const PIVOT_PACT: &str = "pact 1
+fields 7
+source sale sales.csv text:0 int:1 int:2
+function turn reduce 1
+  v1 = int 1
+  v2 = int 2
+  v3 = int 3
+  v4 = int 4
+  # v11 to v14 are Null, and stay so where the quarter has no row
+  each x1 of group
+    v5 = get x1 1
+    v6 = get x1 2
+    v7 = eq v5 v1
+    if v7
+      v11 = addw v11 v6
+    end
+    v7 = eq v5 v2
+    if v7
+      v12 = addw v12 v6
+    end
+    v7 = eq v5 v3
+    if v7
+      v13 = addw v13 v6
+    end
+    v7 = eq v5 v4
+    if v7
+      v14 = addw v14 v6
+    end
+  end
+  r0 = new
+  v0 = key 0
+  set r0 0 v0
+  set r0 3 v11
+  set r0 4 v12
+  set r0 5 v13
+  set r0 6 v14
+  emit r0
+end
+reduce table turn sale by 0
+sink table 0 3 4 5 6
+";
+
+const PUSH_PACT: &str = "pact 1
+fields 4
+source s h.csv int:0 int:1
+function sum reduce 1
+  v0 = int 0
+  each x1 of group
+    v1 = get x1 1
+    v0 = addw v0 v1
+  end
+  r0 = new
+  v2 = key 0
+  set r0 0 v2
+  set r0 2 v0
+  emit r0
+end
+function one map
+  v0 = get in 0
+  v1 = int 1
+  v2 = eq v0 v1
+  if v2
+    r0 = copy in
+    emit r0
+  end
+end
+reduce r sum s by 0
+map m one r
+sink m 0 2
+";
+
+const REVENUE_PACT: &str = "pact 1
+fields 10
+source sold sold.csv int:0 text:1 int:2
+source prices prices.csv int:3 text:4 int:5
+source shops shops.csv int:6 text:7
+function pair match
+  r0 = copy join
+  emit r0
+end
+function some map
+  v0 = get in 2
+  v1 = int 0
+  v2 = lt v1 v0
+  if v2
+    r0 = copy in
+    emit r0
+  end
+end
+function oslo map
+  v0 = get in 7
+  v1 = text \"Oslo\"
+  v2 = eq v0 v1
+  if v2
+    r0 = copy in
+    emit r0
+  end
+end
+function worth map
+  v0 = get in 2
+  v1 = get in 5
+  v2 = mul v0 v1
+  r0 = copy in
+  set r0 8 v2
+  emit r0
+end
+function total reduce 1
+  v0 = int 0
+  each x1 of group
+    v1 = get x1 8
+    v0 = addw v0 v1
+  end
+  r0 = new
+  v2 = key 0
+  set r0 6 v2
+  set r0 9 v0
+  emit r0
+end
+match priced pair sold prices by 0 1 = 3 4
+match placed pair priced shops by 0 = 6
+map open oslo placed
+map positive some open
+map valued worth positive
+reduce takings total valued by 6
+sink takings 6 9
+";
+
+const RUNNING_TOTAL_PACT: &str = "pact 1
+fields 4
+source sale sales.csv text:0 int:1 int:2
+function running reduce 1
+  each x1 of group
+    v0 = get x1 1
+    v1 = int 0
+    each x2 of group
+      v2 = get x2 1
+      v3 = le v2 v0       # it is of no later quarter
+      if v3
+        v4 = get x2 2
+        v1 = addw v1 v4
+      end
+    end
+    r0 = copy x1
+    set r0 3 v1
+    emit r0
+  end
+end
+reduce totals running sale by 0
+sink totals 0 1 2 3
+";
+
+const SELF_JOIN_PACT: &str = "pact 1
+fields 6
+source person staff.csv int:0 text:1 int:2
+source leader staff.csv int:3 text:4 int:5
+function pair match
+  r0 = copy join
+  emit r0
+end
+match led pair person leader by 2 = 3
+sink led 1 4
+";
+
+const SEMI_JOIN_PACT: &str = "pact 1
+fields 4
+source member members.csv int:0 text:1
+source visit visits.csv int:2 int:3
+function known cogroup 1
+  v0 = int 0
+  v1 = int 1
+  each x1 of right
+    v0 = max v0 v1        # 1 where there is a visit
+  end
+  if v0
+    each x1 of left
+      r0 = copy x1
+      emit r0
+    end
+  end
+end
+cogroup seen known member visit by 0 = 2
+sink seen 0 1
+";
+
+const SHOP_PACT: &str = "pact 1
+fields 7
+source c customers.csv int:0 text:1 text:2
+source o orders.csv int:3 int:4 int:5
+function jn match
+  r0 = copy join
+  emit r0
+end
+function de map
+  v0 = get in 2
+  v1 = text \"DE\"
+  v2 = eq v0 v1
+  if v2
+    r0 = copy in
+    emit r0
+  end
+end
+function tot reduce 2
+  v0 = int 0
+  each x1 of group
+    v1 = get x1 5
+    v0 = addw v0 v1
+  end
+  r0 = new
+  v2 = key 0
+  set r0 0 v2
+  v2 = key 1
+  set r0 1 v2
+  set r0 6 v0
+  emit r0
+end
+match j jn c o by 0 = 4
+map d de j
+reduce r tot d by 0 1
+sink r 1 6
+";
+
+const SUM_PACT: &str = "pact 1
+fields 4
+source s s.csv int:0 int:1
+function sum reduce 1
+  v0 = int 0
+  each x1 of group
+    v1 = get x1 1
+    v0 = addw v0 v1
+  end
+  r0 = new
+  v2 = key 0
+  set r0 0 v2
+  set r0 2 v0
+  emit r0
+end
+reduce r sum s by 0
+sink r 0 2
+";
+
+const SWAP_PACT: &str = "pact 1
+fields 3
+source s s.csv int:0 int:1
+function swap map
+  v0 = get in 0
+  v1 = get in 1
+  set r0 0 v1
+  set r0 1 v0
+  emit r0
+end
+map m swap s
+sink m 0 1 2
+";
+
+const TOP_PACT: &str = "pact 1
+fields 3
+source score scores.csv text:0 int:1
+function same map
+  v0 = int 0
+  r0 = copy in
+  set r0 2 v0
+  emit r0
+end
+function best reduce 1
+  v0 = int 3
+  each x1 of group
+    v1 = get x1 1
+    v2 = int 0
+    each x2 of group
+      v3 = get x2 1
+      v4 = lt v1 v3
+      v2 = addw v2 v4
+    end
+    v5 = lt v2 v0
+    if v5
+      r0 = copy x1
+      emit r0
+    end
+  end
+end
+map all same score
+reduce three best all by 2
+sink three 1 0
+";
+
+const TOTAL_PACT: &str = "pact 1
+fields 4
+source s s.csv int:0 int:1
+function total map
+  r0 = copy in
+  v0 = get in 0
+  v1 = get in 1
+  v2 = mul v0 v1
+  set r0 3 v2
+  emit r0
+end
+map m total s
+sink m 0 1 3
+";
+
+const TWICE_PACT: &str = "pact 1
+fields 4
+source d d.csv int:0 int:1
+function two map
+  r0 = copy in
+  emit r0
+  emit r0
+end
+map m two d
+sink m 0 1
+";
+
+const UNION_PACT: &str = "pact 1
+fields 4
+source member members.csv int:0 text:1
+source guest guests.csv int:2 text:3
+function both cogroup 1
+  each x1 of left
+    r0 = copy x1
+    emit r0
+  end
+  each x1 of right
+    r0 = new
+    v0 = get x1 2
+    set r0 0 v0
+    v0 = get x1 3
+    set r0 1 v0
+    emit r0
+  end
+end
+cogroup all both member guest by 0 = 2
+sink all 0 1
+";
+
+#[test]
+fn programs_from_anti_join(rt: HostRuntime) -> Result<(), Fail> {
+    let alloc = rt.alloc();
+    assert!(rt; picked_alike(alloc, ANTI_JOIN_PACT, &[MEMBERS_CSV, VISITS_CSV])?);
+    assert!(rt; picked_alike(alloc, AVERAGE_PACT, &[SALES_CSV])?);
+    assert!(rt; picked_alike(alloc, COGROUP_PACT, &[S_CSV, T3_CSV])?);
+    assert!(rt; picked_alike(alloc, COND_PACT, &[S_CSV])?);
+    Ok(())
+}
+
+#[test]
+fn programs_from_count(rt: HostRuntime) -> Result<(), Fail> {
+    let alloc = rt.alloc();
+    assert!(rt; picked_alike(alloc, COUNT_PACT, &[E_CSV])?);
+    assert!(rt; picked_alike(alloc, COUNT_ALL_PACT, &[S_CSV])?);
+    assert!(rt; picked_alike(alloc, COUNTED_PACT, &[S_CSV, T3_CSV])?);
+    assert!(rt; picked_alike(alloc, CROSS_PACT, &[COLORS_CSV, SIZES_CSV])?);
+    Ok(())
+}
+
+#[test]
+fn programs_from_decimals(rt: HostRuntime) -> Result<(), Fail> {
+    let alloc = rt.alloc();
+    assert!(rt; picked_alike(alloc, DECIMALS_PACT, &[BASKET_CSV])?);
+    assert!(rt; picked_alike(alloc, DISTINCT_PACT, &[SALES_CSV])?);
+    assert!(rt; picked_alike(alloc, DRILL_PACT, &[DRILL_CSV])?);
+    assert!(rt; picked_alike(alloc, FILTER_PACT, &[S_CSV])?);
+    Ok(())
+}
+
+#[test]
+fn programs_from_five(rt: HostRuntime) -> Result<(), Fail> {
+    let alloc = rt.alloc();
+    assert!(rt; picked_alike(alloc, FIVE_PACT, &[S_CSV, T_CSV])?);
+    assert!(rt; picked_alike(alloc, FLAG_PACT, &[S_CSV])?);
+    assert!(rt; picked_alike(alloc, FULL_JOIN_PACT, &[MEMBERS_CSV, VISITS_CSV])?);
+    assert!(rt; picked_alike(alloc, GREET_PACT, &[NAMES_CSV])?);
+    Ok(())
+}
+
+#[test]
+fn programs_from_join(rt: HostRuntime) -> Result<(), Fail> {
+    let alloc = rt.alloc();
+    assert!(rt; picked_alike(alloc, JOIN_PACT, &[S1_CSV, T_CSV])?);
+    assert!(rt; picked_alike(alloc, JOIN3_PACT, &[S1_CSV, T_CSV, U_CSV])?);
+    assert!(rt; picked_alike(alloc, MINIMUM_PACT, &[SALES_CSV])?);
+    assert!(rt; picked_alike(alloc, NOTES_PACT, &[S_CSV])?);
+    Ok(())
+}
+
+#[test]
+fn programs_from_null(rt: HostRuntime) -> Result<(), Fail> {
+    let alloc = rt.alloc();
+    assert!(rt; picked_alike(alloc, NULL_PACT, &[N_CSV, M_CSV])?);
+    assert!(rt; picked_alike(alloc, ODD_PACT, &[S1_CSV])?);
+    assert!(rt; picked_alike(alloc, OUTER_JOIN_PACT, &[MEMBERS_CSV, VISITS_CSV])?);
+    assert!(rt; picked_alike(alloc, PIVOT_PACT, &[SALES_CSV])?);
+    Ok(())
+}
+
+#[test]
+fn programs_from_push(rt: HostRuntime) -> Result<(), Fail> {
+    let alloc = rt.alloc();
+    assert!(rt; picked_alike(alloc, PUSH_PACT, &[H_CSV])?);
+    assert!(rt; picked_alike(alloc, REVENUE_PACT, &[SOLD_CSV, PRICES_CSV, SHOPS_CSV])?);
+    assert!(rt; picked_alike(alloc, RUNNING_TOTAL_PACT, &[SALES_CSV])?);
+    assert!(rt; picked_alike(alloc, SELF_JOIN_PACT, &[STAFF_CSV, STAFF_CSV])?);
+    Ok(())
+}
+
+#[test]
+fn programs_from_semi_join(rt: HostRuntime) -> Result<(), Fail> {
+    let alloc = rt.alloc();
+    assert!(rt; picked_alike(alloc, SEMI_JOIN_PACT, &[MEMBERS_CSV, VISITS_CSV])?);
+    assert!(rt; picked_alike(alloc, SHOP_PACT, &[CUSTOMERS_CSV, ORDERS_CSV])?);
+    assert!(rt; picked_alike(alloc, SUM_PACT, &[S_CSV])?);
+    assert!(rt; picked_alike(alloc, SWAP_PACT, &[S_CSV])?);
+    Ok(())
+}
+
+#[test]
+fn programs_from_top(rt: HostRuntime) -> Result<(), Fail> {
+    let alloc = rt.alloc();
+    assert!(rt; picked_alike(alloc, TOP_PACT, &[SCORES_CSV])?);
+    assert!(rt; picked_alike(alloc, TOTAL_PACT, &[S_CSV])?);
+    assert!(rt; picked_alike(alloc, TWICE_PACT, &[D_CSV])?);
+    assert!(rt; picked_alike(alloc, UNION_PACT, &[MEMBERS_CSV, GUESTS_CSV])?);
+    Ok(())
+}

@@ -1,0 +1,413 @@
+# Faults of the world outside: files that can't be opened or change while they are read, streams that take nothing or are closed, limits of memory,
+# of a file's size and of the stack; and texts that end anywhere.
+
+# What is limited, or cut off, is the program itself: the launcher is a shell, which needs things of its own.
+program=${PACT_PROGRAM:-$(
+    # shellcheck source=/dev/null
+    root=$(cd .. && pwd -P) && . ../release/functions.bash && { find_last_choice || choose_folder; } >/dev/null && echo "$folder/pact_program"
+)}
+outside=$scratch/outside
+mkdir "$outside"
+cp ./*.pact ./*.csv certificates/push.good.json "$outside"
+# Whether a command in that folder has this status, and writes these texts, in which escapes stand for bytes: status, standard output, standard
+# error, and the command.
+does() {
+    (cd "$outside" && exec >"$scratch/out" 2>"$scratch/err" && "${@:4}")
+    [ $? = "$1" ] && printf '%b' "$2" | cmp -s - "$scratch/out" && printf '%b' "$3" | cmp -s - "$scratch/err"
+}
+# What waits for ever fails.
+patiently() { timeout 20 "$pact" "$@"; }
+sum='1,12\n2,-3\n'
+# A source of sum.pact with another file.
+sum_of_file() { sed "s:s\.csv:$1:" sum.pact >"$outside/$2"; }
+
+# ---- Names and files
+
+mkdir "$outside/folder"
+sum_of_file folder of_folder.pact
+for command in run plan cert sets; do
+    count does 3 '' 'cannot read folder\n' "$pact" "$command" folder
+done
+for command in run plan cert; do
+    count does 3 '' 'cannot read folder\n' "$pact" "$command" of_folder.pact
+done
+count does 3 '' 'cannot read folder\n' "$pact" check folder push.good.json
+count does 3 '' 'cannot read folder\n' "$pact" check push.pact folder
+count does 3 '' 'cannot read sum.pact/\n' "$pact" run sum.pact/
+ln -s sum.pact "$outside/link.pact"
+ln -s nowhere "$outside/nowhere.pact"
+ln -s round.pact "$outside/round.pact"
+count does 0 "$sum" '' "$pact" run link.pact
+count does 3 '' 'cannot read nowhere.pact\n' "$pact" run nowhere.pact
+count does 3 '' 'cannot read round.pact\n' "$pact" run round.pact
+# The longest name that a file has, and one byte more; a name that isn't UTF-8 is no word.
+name_of_255=$(printf '%255s' '' | tr ' ' 'n')
+cp sum.pact "$outside/$name_of_255"
+count does 0 "$sum" '' "$pact" run "$name_of_255"
+count does 3 '' "cannot read n$name_of_255\n" "$pact" run "n$name_of_255"
+cp sum.pact "$outside/"$'\xFF.pact'
+count does 2 '' 'usage: pact COMMAND ARGUMENTS\n' "$pact" run $'\xFF.pact'
+count does 3 '' 'cannot read \n' "$pact" run ''
+
+# Without permission: root has it anyway, so it becomes somebody else for that. That user may reach no folder of ours, so all lies in the open.
+in_the_open=$(mktemp -d)
+cp "$program" "$in_the_open/pact_program"
+cp sum.pact push.pact s.csv "$in_the_open"
+chmod 755 "$in_the_open" "$in_the_open/pact_program"
+cp "$in_the_open/s.csv" "$in_the_open/closed"
+sed 's:s\.csv:closed:' sum.pact >"$in_the_open/of_closed.pact"
+chmod 644 "$in_the_open"/*.pact "$in_the_open/s.csv"
+chmod 000 "$in_the_open/closed"
+by_somebody() { (cd "$in_the_open" && "${somebody[@]}" "$in_the_open/pact_program" "$@"); }
+somebody=()
+[ "$EUID" != 0 ] || somebody=(setpriv --reuid=65534 --regid=65534 --clear-groups)
+if does 0 "$sum" '' by_somebody run sum.pact; then
+    count does 3 '' 'cannot read closed\n' by_somebody run closed
+    count does 3 '' 'cannot read closed\n' by_somebody run of_closed.pact
+    count does 3 '' 'cannot read closed\n' by_somebody check push.pact closed
+else
+    echo 'outside: files without permission are left out: root reads them all, and there is no setpriv to be somebody else'
+fi
+chmod 644 "$in_the_open/closed"
+rm -r "$in_the_open"
+
+# ---- Files that are no files, and files that change
+
+# A pipe with a name, whose writer takes its time, or writes nothing.
+mkfifo "$outside/fifo"
+sum_of_file fifo of_fifo.pact
+# Waits for what writes there, which nobody may have read, and answers this status.
+ends_with() {
+    while kill -0 $! 2>/dev/null; do
+        : <>"$outside/fifo"
+        sleep 0.01
+    done
+    return "$1"
+}
+fed() { # the file's bytes, a part behind each other; `-` waits a moment; then the words
+    local parts=$1 part
+    for part in $parts; do
+        if [ "$part" = - ]; then sleep 0.05; else printf '%b' "$part"; fi
+    done >"$outside/fifo" &
+    patiently "${@:2}"
+    ends_with $?
+}
+count does 0 "$sum" '' fed '1,5\n2,-3\n1,7\n' run of_fifo.pact
+count does 0 "$sum" '' fed '1,5\n2 - ,- 3\n1,7\n' run of_fifo.pact
+count does 0 "$sum" '' fed '- 1,5\n2,-3\n1,7' run of_fifo.pact
+count does 7 '' 'source s: row 2 column 0: why 1\n' fed '1,5\n - 2' run of_fifo.pact
+count does 0 '' '' fed - run of_fifo.pact
+count does 5 '' 'fifo:1: text fault 12\n' fed - run fifo
+count does 5 '' 'fifo:2: text fault 12\n' fed 'pact\x201\n - \n' sets fifo
+count does 9 '' 'certificate refused: not a certificate\n' fed - check push.pact fifo
+pours() { cat "$1" >"$outside/fifo" & patiently "${@:2}"; ends_with $?; }
+count does 0 "$sum" '' pours sum.pact run fifo
+count does 0 'accepted\n' '' pours push.good.json check push.pact fifo
+# A program that never ends is too long.
+pours_for_ever() { yes '#' >"$outside/fifo" 2>/dev/null & patiently "$@"; ends_with $?; }
+count does 8 '' 'fifo is longer than 1048576 bytes\n' pours_for_ever run fifo
+# Others that are no files.
+sum_of_file /dev/null of_null.pact
+count does 0 '' '' "$pact" run of_null.pact
+count does 5 '' '/dev/null:1: text fault 12\n' "$pact" run /dev/null
+# One that can be opened, and not be read.
+[ ! -e /proc/self/mem ] || count does 3 '' 'cannot read /proc/self/mem\n' "$pact" run /proc/self/mem
+from_input() { patiently "$@" <"$outside/sum.pact"; }
+count does 0 "$sum" '' from_input run /dev/stdin
+
+# A file of 4,096 bytes a row, which another source is read before. As soon as that has ended, the file grows, or is cut, where a row ends. The rows
+# that are read are then its first ones: no fewer than there are at least, and no more than there are at most.
+row=1,$(printf '%4093s' '' | tr ' ' 'a')
+yes "$row" | head -n 2048 >"$outside/long.csv"
+cp "$outside/long.csv" "$scratch/long.csv"
+cat >"$outside/changing.pact" <<'END'
+pact 1
+fields 4
+source first fifo int:0
+source s long.csv int:1 text:2
+function count cogroup 1
+  v0 = int 0
+  v1 = int 1
+  each x1 of right
+    v0 = addw v0 v1
+  end
+  r0 = new
+  v1 = key 0
+  set r0 0 v1
+  set r0 3 v0
+  emit r0
+end
+cogroup g count first s by 0 = 1
+sink g 0 3
+END
+grows() { for ((part = 0; part < 50; part++)); do printf '%s\n' "$rows_more" >>"$outside/long.csv"; done; }
+is_cut() { truncate -s "$1" "$outside/long.csv"; }
+rows_more=$(head -n 10 "$scratch/long.csv")
+changes_when_read() { # least and most rows, how long it waits, and what is done
+    local i rows
+    cp "$scratch/long.csv" "$outside/long.csv"
+    {
+        echo 1 >"$outside/fifo"
+        for ((i = 0; i < $3; i++)); do :; done
+        "${@:4}"
+    } &
+    (cd "$outside" && patiently run changing.pact >"$scratch/out" 2>"$scratch/err")
+    ends_with $? || return
+    rows=$(cat "$scratch/out")
+    [ ! -s "$scratch/err" ] && [ "${rows%,*}" = 1 ] && [ "${rows#*,}" -ge "$1" ] && [ "${rows#*,}" -le "$2" ]
+}
+for turns in 0 200 1000; do
+    count changes_when_read 0 2048 "$turns" is_cut 0
+    count changes_when_read 1024 2048 "$turns" is_cut 4194304
+    count changes_when_read 2048 2548 "$turns" grows
+done
+
+# ---- Streams
+
+# Each command that writes, where standard output takes nothing, or is closed; and closed errors or a closed input, which are no matter.
+to_full() { "$pact" "$@" >/dev/full; }
+to_none() { "$pact" "$@" >&-; }
+without_errors() { "$pact" "$@" 2>&-; }
+without_input() { "$pact" "$@" <&-; }
+without_any() { "$pact" "$@" <&- >&- 2>&-; }
+while read -r words; do
+    # shellcheck disable=SC2086
+    set -- $words
+    count does 4 '' 'cannot write\n' to_full "$@"
+    count does 4 '' 'cannot write\n' to_none "$@"
+    count does 4 '' '' without_any "$@"
+    written=$(cd "$outside" && "$pact" "$@" | sed 's/\\/\\\\/g')
+    count does 0 "$written\n" '' without_errors "$@"
+    count does 0 "$written\n" '' without_input "$@"
+done <<'END'
+run sum.pact
+run sum.pact --workers 1
+plan shop.pact
+cert push.pact
+check push.pact push.good.json
+sets push.pact
+gen 1 3
+drill 1 3
+END
+# The rows come first: where they can't be written the counts aren't, and where these can't they stand.
+count does 4 '' 'cannot write\n' to_full run sum.pact --counts
+count does 4 '' 'cannot write\n' to_none run sum.pact --counts
+count does 4 "$sum" '' without_errors run sum.pact --counts
+# A refusal has its status, whether or not it can be told.
+while IFS='|' read -r status words; do
+    # shellcheck disable=SC2086
+    count does "$status" '' '' without_errors $words
+    # shellcheck disable=SC2086
+    count does "$status" '' '' without_any $words
+done <<'END'
+2|
+2|run
+3|run none.pact
+5|run faulty.pact
+6|run no_sink.pact
+7|run bad_row.pact
+9|check sum.pact push.good.json
+END
+# Who reads ends early: what it has read are the first bytes, and no signal ends pact.
+is_left() {
+    local statuses
+    "$pact" "$@" 2>"$scratch/err" | head -c 10 >"$scratch/out"
+    statuses=("${PIPESTATUS[@]}")
+    [ "${statuses[0]}" = 4 ] && [ "$(cat "$scratch/err")" = 'cannot write' ] && "$pact" "$@" 2>/dev/null | head -c 10 | cmp -s - "$scratch/out"
+}
+count is_left gen 1 100000
+printf 'pact 1\nfields 3\nsource s generated.csv int:0 int:1 text:2\nsink s 0 1 2\n' >"$outside/generated.pact"
+"$pact" gen 1 10000 >"$outside/generated.csv"
+rows_are_left() (cd "$outside" && is_left run generated.pact)
+count rows_are_left
+
+# ---- Limits of the system
+
+# The program with a limit of `ulimit`.
+limited() { ulimit -S "$1" "$2" && exec "$program" "${@:3}"; }
+
+# Little memory: the rows, or none and why. What the system needs to start the program at all is found first.
+for ((least = 1000; least < 20000; least += 500)); do
+    (limited -v "$least" >/dev/null 2>&1)
+    [ $? != 2 ] || break
+done 2>/dev/null
+sed '$d' "$outside/generated.pact" >"$outside/grouped.pact"
+sed -n '/^function/,/^reduce/p' sum.pact >>"$outside/grouped.pact"
+echo 'sink r 0 1' >>"$outside/grouped.pact"
+sed -i 's/set r0 2/set r0 1/' "$outside/grouped.pact"
+(cd "$outside" && "$program" run grouped.pact >"$scratch/grouped")
+rows_or_none() { # the greatest status, the least, kilobytes of memory, and options
+    (cd "$outside" && limited -v "$3" run grouped.pact "${@:4}" >"$scratch/out" 2>"$scratch/err")
+    local status=$?
+    [ "$status" -le "$1" ] && [ "$status" -ge "$2" ] || return
+    if [ "$status" = 0 ]; then
+        cmp -s "$scratch/out" "$scratch/grouped" && [ ! -s "$scratch/err" ]
+    else
+        [ ! -s "$scratch/out" ] && [ "$(cat "$scratch/err")" = 'out of memory' ]
+    fi
+}
+for options in '--workers 1' '--workers 4' '--workers 4 --local sort'; do
+    # shellcheck disable=SC2086
+    count rows_or_none 1 1 "$((least + 500))" $options
+    for more in 2000 4000 5000 6000 8000 12000 20000 40000; do
+        # shellcheck disable=SC2086
+        count rows_or_none 1 0 "$((least + more))" $options
+    done
+    # shellcheck disable=SC2086
+    count rows_or_none 0 0 "$((least + 400000))" $options
+done
+
+# No room for the stack of a thread: one does the work of all.
+count does 0 "$sum" '' limited -v "$((least + 2000))" run sum.pact --workers 16
+# Few open files: beside the streams one file is open at a time, since each is closed before the next one is opened.
+with_few_files() { ulimit -S -n "$1" && exec "$program" "${@:2}" 3>&- 4>&-; }
+count does 0 "$(cat expected/join3.stdout)\n" '' with_few_files 4 run join3.pact
+
+# A file that may not grow: the program is ended by the signal for that, unless whoever starts it, as the launcher does, has it ignore that. Either may
+# be where this shell was started so, since it can't undo that.
+front_of_rows() { cmp -s -n 10240 "$outside/cut" "$outside/sorted" && [ "$(stat -c %s "$outside/cut")" = 10240 ]; }
+(cd "$outside" && "$program" run generated.pact >sorted)
+is_ignored() { # the signal with this name, by this shell
+    local name value
+    while read -r name value; do
+        [ "$name" != SigIgn: ] || return $((1 - (16#$value >> ($(kill -l "$1") - 1) & 1)))
+    done </proc/self/status
+    return 1
+}
+is_told_of_limit() { [ "$1" = 4 ] && [ "$(cat "$scratch/err")" = 'cannot write' ]; }
+bare_at_limit() {
+    (cd "$outside" && ulimit -c 0 && ulimit -S -f 10 && exec "$program" run generated.pact >cut 2>"$scratch/err")
+    local status=$?
+    { [ "$status" = $((128 + $(kill -l XFSZ))) ] && [ ! -s "$scratch/err" ]; } || { is_ignored XFSZ && is_told_of_limit "$status"; }
+} 2>/dev/null
+count bare_at_limit
+count front_of_rows
+ignoring_at_limit() {
+    (cd "$outside" && trap '' XFSZ && ulimit -S -f 10 && exec "$program" run generated.pact >cut 2>"$scratch/err")
+    is_told_of_limit $?
+}
+count ignoring_at_limit
+count front_of_rows
+
+# The stack: the deepest programs and certificates, on what is usual, on a quarter of it, and on what docs/language.md tells.
+deepest() { # 16 Reduces in a row, each with three loops and eight branches, one in the other
+    local number before=s
+    printf 'pact 1\nfields 20\nsource s s.csv int:0 int:1\n'
+    for ((number = 0; number < 16; number++)); do
+        printf 'function f%d reduce 2\n  r0 = copy first\n  v0 = int 1\n' "$number"
+        printf 'each x%d of group\n' 1 2 3
+        printf '%s\n' if\ v0{,,,,,,,}
+        printf 'v1 = addw v1 v0\nv2 = text "a"\nv2 = cat v2 v2\n'
+        printf 'else\nv3 = null\nend\n%.0s' 1 2 3 4 5 6 7 8
+        printf 'end\nend\nend\nset r0 %d v1\nset r0 %d v2\nemit r0\nend\n' $((number + 2)) $((number + 3))
+        printf 'reduce r%d f%d %s by 0 1\n' "$number" "$number" "$before"
+        before=r$number
+    done
+    echo 'sink r15 0 1 2 17 18'
+}
+deepest >"$outside/deepest.pact"
+nested() { awk -v times="$1" -v word="$2" 'BEGIN { for (i = 0; i < times; i++) printf "%s", word }'; }
+{ nested 127 '{"a":'; echo -n 1; nested 127 '}'; } >"$outside/objects.json"
+{ nested 127 '['; nested 127 ']'; } >"$outside/lists.json"
+{ printf 'pact 1\nfields 1\nfunction f map\n'; nested 64 'if v0\n'; nested 65 'end\n'; printf 'sink f 0\n'; } >"$outside/nested.pact"
+{ # 1,000 plans of 16 Maps that stand in any order
+    printf 'pact 1\nfields 18\nsource s s.csv int:16 int:17\n'
+    before=s
+    for ((number = 0; number < 16; number++)); do
+        printf 'function f%d map\nr0 = copy in\nset r0 %d v0\nemit r0\nend\nmap m%d f%d %s\n' "$number" "$number" "$number" "$number" "$before"
+        before=m$number
+    done
+    echo "sink $before 0"
+} >"$outside/maps.pact"
+on_a_stack() { # kilobytes, status, and words; what stands in the environment is on the stack too
+    (cd "$outside" && ulimit -S -s "$1" && exec env -i "$program" "${@:3}" >/dev/null 2>"$scratch/err")
+    [ $? = "$2" ]
+}
+for kilobytes in 8192 2048 160; do
+    for workers in 1 4 16; do
+        count on_a_stack "$kilobytes" 0 run deepest.pact --workers "$workers" --local hash
+        count on_a_stack "$kilobytes" 0 run deepest.pact --workers "$workers" --local sort
+    done
+    for command in sets plan cert; do
+        count on_a_stack "$kilobytes" 0 "$command" deepest.pact
+    done
+    count on_a_stack "$kilobytes" 0 plan maps.pact --plans 1000
+    count on_a_stack "$kilobytes" 6 sets nested.pact
+    count on_a_stack "$kilobytes" 9 check push.pact objects.json
+    count on_a_stack "$kilobytes" 9 check push.pact lists.json
+    count on_a_stack "$kilobytes" 0 check push.pact push.good.json
+    count on_a_stack "$kilobytes" 0 drill 1 1000 --workers 16
+done
+
+# A source of one byte less than it may have, of just as many, and of one more: rows of 4,096 letters, which are a few, and what is left.
+printf 'pact 1\nfields 1\nsource s large.csv text:0\nsink s 0\n' >"$outside/large.pact"
+letters=$(printf '%4096s' '' | tr ' ' 'a')
+yes "$letters" | head -c 67108860 >"$outside/large.csv"
+is_large() ( # what is left of the rows, and then how many bytes there are
+    cd "$outside" || exit
+    printf '%s' "$1" >>"$outside/large.csv"
+    [ "$(stat -c %s "$outside/large.csv")" = "$2" ] && "$program" run large.pact 2>"$scratch/err" |
+        cmp -s - <(printf '%s\n' "$1" && head -c 67108860 large.csv) && [ ! -s "$scratch/err" ] && truncate -s 67108860 "$outside/large.csv"
+)
+count is_large 007 67108863
+count is_large 0007 67108864
+printf '00007' >>"$outside/large.csv"
+count does 8 '' 'large.csv is longer than 67108864 bytes\n' "$pact" run large.pact
+rm "$outside/large.csv"
+
+# ---- Texts that end anywhere
+
+# Each front of a program is refused in one line, but those that name the sink and a field of it. (Those of a certificate: the part `certificates`.)
+text=$(cat filter.pact)
+is_refused() {
+    (cd "$outside" && "$program" run front.pact >"$scratch/out" 2>"$scratch/err")
+    [[ $? = [56] ]] && [ ! -s "$scratch/out" ] && [ "$(wc -l <"$scratch/err")" = 1 ]
+}
+for ((bytes = 0; bytes <= $(wc -c <filter.pact); bytes++)); do
+    head -c "$bytes" filter.pact >"$outside/front.pact"
+    case ${text:0:bytes} in
+    *'sink m 0' | *'sink m 0 ') count does 0 '1\n1\n' '' "$program" run front.pact ;;
+    *'sink m 0 1') count does 0 '1,5\n1,7\n' '' "$program" run front.pact ;;
+    *) count is_refused ;;
+    esac
+done
+# Each front of a file of rows is rows, or its last row is at fault. Each line has the numbers of bytes, the status, and what is written.
+sum_of_file front.csv of_front.pact
+while IFS='|' read -r lengths status rows told; do
+    for bytes in $lengths; do
+        head -c "$bytes" s.csv >"$outside/front.csv"
+        count does "$status" "$rows" "$told" "$program" run of_front.pact
+    done
+done <<'END'
+0|0||
+1|7||source s: row 1 column 0: why 1\n
+2|0|1,0\n|
+3 4|0|1,5\n|
+5|7||source s: row 2 column 0: why 1\n
+6|0|1,5\n2,0\n|
+7|7||source s: row 2 column 2: why 2\n
+8 9 11|0|1,5\n2,-3\n|
+10|7||source s: row 3 column 0: why 1\n
+12 13|0|1,12\n2,-3\n|
+END
+
+# ---- What a C compiler is wanted for
+
+# Each request for memory of some commands is refused in turn; and programs and certificates are edited at random, always in the same way: the files
+# that are edited are listed, so that another example changes nothing in that.
+bench_passes() { # a script of ../bench, and its words
+    PROGRAM=$program KEPT=$scratch/kept bash "../bench/$1" "${@:2}" >"$scratch/told" 2>&1 || { cat "$scratch/told"; return 1; }
+}
+if command -v cc >/dev/null; then
+    count bench_passes memory --alone 'run sum.pact --workers 2' 'check push.pact push.good.json' 'check push.pact push.c3.json' 'run shop.pact' \
+        'plan shop.pact' 'run twice.pact --workers 2' 'sets twice.pact' 'gen 1 1'
+    edited=(
+        {anti_join,average,bad_row,cogroup,cond,count,count_all,counted,cross,decimals,distinct,drill,faulty,filter,first,five,flag,full_join}.pact
+        {greet,join,join3,minimum,missing,no_sink,notes,null,odd,outer_join,pivot,push,revenue,running_total,self_join,semi_join,shop,sum}.pact
+        {swap,too_wide,top,total,twice,union,wrong_key}.pact
+        certificates/{{cond,push,shop}.good,{count,five,shop}.c4,push.c{1,2,3,5},push.{shape,spread}}.json
+    )
+    count bench_passes edits 300 1 0 "${edited[@]}"
+else
+    echo 'outside: requests for memory are not refused, and nothing is edited at random: there is no C compiler, cc'
+fi
