@@ -1,4 +1,4 @@
-# The members that have no visit.
+# The members that have no visit. A number that is Null matches none.
 # SQL: select id, name from members where not exists (select 1 from visits where member = id)
 pact 1
 fields 4
@@ -6,7 +6,9 @@ source member members.csv int:0 text:1
 source visit visits.csv int:2 int:3
 function unknown cogroup 1
   v0 = int 0
-  v1 = int 1
+  v1 = key 0
+  v1 = isnull v1
+  v1 = not v1             # Null has a group, but no partner
   each x1 of right
     v0 = max v0 v1        # 1 where there is a visit
   end

@@ -1,4 +1,4 @@
-# Every member with each of its visits, members without a visit, and visits of no member.
+# Every member with each of its visits, members without a visit, and visits of no member. A number that is Null matches none.
 # SQL: select id, name, member, day from members full join visits on id = member
 pact 1
 fields 4
@@ -7,7 +7,9 @@ source visit visits.csv int:2 int:3
 function full cogroup 1
   v0 = int 0
   v1 = int 0
-  v2 = int 1
+  v2 = key 0
+  v2 = isnull v2
+  v2 = not v2             # Null has a group, but no partner
   each x1 of left
     v0 = max v0 v2        # 1 where there is a member
   end
@@ -27,7 +29,7 @@ function full cogroup 1
       end
     end
   else
-    # one of the two has no record
+    # one of the two has no record, or nobody is known
     each x1 of left
       r0 = copy x1
       emit r0

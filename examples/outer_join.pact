@@ -1,4 +1,4 @@
-# Every member with each of its visits, and those without one too.
+# Every member with each of its visits, and those without one too. A number that is Null matches none.
 # SQL: select id, name, day from members left join visits on id = member
 pact 1
 fields 4
@@ -6,7 +6,9 @@ source member members.csv int:0 text:1
 source visit visits.csv int:2 int:3
 function outer cogroup 1
   v0 = int 0
-  v1 = int 1
+  v1 = key 0
+  v1 = isnull v1
+  v1 = not v1             # Null has a group, but no partner
   each x1 of right
     v0 = max v0 v1        # 1 where there is a visit
   end

@@ -68,10 +68,10 @@ done
 while IFS= read -r change; do
     count is_none "$change"
 done <<'END'
-s/"version":1/"version":2/
+s/"version":1/"version":3/
 s/"version":1/"version":1.0/
 s/"version":1/"version":"1"/
-s/"version":1/"version":1,"version":2/
+s/"version":1/"version":1,"version":3/
 s/"lo":1/"lo":-1/
 s/"lo":0/"lo":-0/
 s/"lo":1/"lo":1e0/

@@ -12,6 +12,7 @@ make_told() {
     case $1 in
     text) printf '%b' "$2" >"$mistakes/m.pact" ;;
     map) printf 'pact 1\nfields 4\nsource s s.csv int:0 int:1\nfunction f map\n%b\nend\nmap m f s\nsink m 0 1\n' "$2" >"$mistakes/m.pact" ;;
+    map2) printf 'pact 2\nfields 4\nsource s s.csv int:0 int:1\nfunction f map\n%b\nend\nmap m f s\nsink m 0 1\n' "$2" >"$mistakes/m.pact" ;;
     reduce) printf 'pact 1\nfields 4\nsource s s.csv int:0 int:1\nfunction f reduce 1\n%b\nend\nreduce m f s by 0\nsink m 0 1\n' "$2" >"$mistakes/m.pact" ;;
     cross) printf 'pact 1\nfields 4\nsource s s.csv int:0\nsource t t.csv int:1\nfunction f cross\n%b\nend\ncross m f s t\nsink m 0 1\n' "$2" >"$mistakes/m.pact" ;;
     program)
@@ -85,11 +86,19 @@ map|v0 = int 5.0|m.pact:5: text fault 7|    v0 = int 5.0|the word 5.0 : wanted i
 map|v0 = int 9223372036854775808|m.pact:5: text fault 7|m.pact line 5:|the word 9223372036854775808 : wanted is a whole number
 map|v256 = null|m.pact:5: text fault 7|m.pact line 5:|the word v256 : wanted is a value register, v0 to v31
 program|reduce r g s by 0, 1|m.pact:5: text fault 7|    reduce r g s by 0, 1|the word 0, : wanted is a field of the key, 0 to 7
-text|pact 1\nfields 65\n|m.pact:2: text fault 7|    fields 65|the word 65 : wanted is a number of fields, 1 to 64
+text|pact 1\nfields 65\n|m.pact:2: text fault 7|    fields 65|the word 65 : wanted is a number of fields, 1 to 64 (128 behind pact 2)
+text|pact 2\nfields 129\n|m.pact:2: text fault 7|    fields 129|the word 129 : wanted is a number of fields, 1 to 128
 map|v0 = copy in|m.pact:5: text fault 8|    v0 = copy in|the word v0 : wanted is a record register
 map|v0 = add v0 1|m.pact:5: text fault 8|m.pact line 5:|the word 1 : wanted is a value register
 map|v0 = text 'a'|m.pact:5: text fault 8|m.pact line 5:|the word 'a' : wanted is a literal
 reduce|each x1 in group\nend|m.pact:5: text fault 8|    each x1 in group|the word in : wanted is the word of
+map|v0 = get in @v1|m.pact:5: text fault 7|the word @v1 : wanted is a field, 0 to 3|a field is taken from a register by @ and the register, behind pact 2 alone
+map2|v0 = get in v1|m.pact:5: text fault 7|the word v1 : wanted is a field, 0 to 3|such a line reads: vD = get REC N, or vD = get REC @vA
+map2|set r0 @v256 v1|m.pact:5: text fault 7|the word @v256 : wanted is a value register right behind the @, v0 to v31|such a line reads: set rD N vA, or set rD @vA vB
+map2|set r0 @r1 v1|m.pact:5: text fault 8|    set r0 @r1 v1|the word @r1 : wanted is a value register right behind the @, v0 to v31
+map2|v0 = get in @ v1|m.pact:5: text fault 8|the word @ : wanted is a value register right behind the @|no blank stands behind the @
+map2|set r0 1 @v0|m.pact:5: text fault 8|the word @v0 : wanted is a value register|a register has an @ where a field is wanted alone
+map2|v0 = get in @v1 v2|m.pact:5: text fault 5|    v0 = get in @v1 v2|the word v2 : wanted is no further word
 map|\tv0 = 5 # five|m.pact:5: text fault 9|    v0 = 5 # five|the word 5 : wanted is int, text, null
 program|function a filter|m.pact:5: text fault 9|    function a filter|the word filter : wanted is a kind
 map|if v0\nemit r0|m.pact:8: text fault 3|m.pact line 8:|its ends so far: line 7 closes the if in line 5
@@ -103,10 +112,16 @@ map|if v0\nelse\nelse|m.pact:7: text fault 10|    else|the word else: the if in 
 map|end|m.pact:6: text fault 10|    end|the word end: nothing is open here; the end in line 5 ended the function above
 reduce|each x1 of group\neach x1 of group|m.pact:6: text fault 11|    each x1 of group|the word x1 : wanted is the loop's record, here x2
 text|# no version\n\nfields 4\n|m.pact:3: text fault 12|    fields 4|this line has to be: pact 1
+text|pact 3\nfields 4\n|m.pact:1: text fault 12|    pact 3|this line has to be: pact 1, or pact 2
+text|pact 2|m.pact:1: text fault 12|m.pact line 1:|the text ends here without a line that begins with fields
+text|pact 2\nfields 100\nsource s s.csv int:99\nfunction f map\nv0 = get in 99\nset r0 100 v0\nend\nmap m f s\nsink m 0|function f: V3 at statement 1|m.pact line 6, in function f|field 100: records have 100 fields (line 2), numbered 0 to 99
+text|pact 2\nfields 100\nsource s s.csv int:99\nsink s 100|s: P10|m.pact line 4:|field 100: records have 100 fields (line 2), numbered 0 to 99
 text||m.pact:1: text fault 12|m.pact is empty|docs/faults.md, "Text fault 12"
 text|\xEF\xBB\xBFpact 1\n|m.pact:1: text fault 12|m.pact line 1:|it begins with a byte-order mark
 text|pact 1\n# more\n|m.pact:2: text fault 12|m.pact line 2:|the text ends here without a line that begins with fields
 map|v0 = null\nv32 = null|function f: V1 at statement 1|m.pact line 6, in function f of line 4 (map):|v32: value registers are v0 to v31
+map2|v0 = null\nset r0 @v32 v0|function f: V1 at statement 1|m.pact line 6, in function f of line 4 (map):|@v32: value registers are v0 to v31
+map2|set r0 @v0 v1\nset r0 4 v1|function f: V3 at statement 1|    set r0 4 v1|field 4: records have 4 fields (line 2), numbered 0 to 3
 map|r8 = new|function f: V1 at statement 0|    r8 = new|r8: record registers are r0 to r7
 map|if v0\n\n# one\nelse\nv0 = get left 0\nend|function f: V2 at statement 1|m.pact line 9, in function f|left: a function of kind map has the record in, and no list
 reduce|each x1 of group\nend\nr0 = copy x1|function f: V2 at statement 1|    r0 = copy x1|x1: no each of that name stands around this line
@@ -122,6 +137,7 @@ program|function f map\nend\ncross x c s t\nsink x 0|f: P2|    function f map|li
 program|cross x f s t\nsink x 0|x: P3|m.pact line 5:|function f (line 7) is a map's, and this is a cross
 program|reduce r g s by 0 1\ncross x c r t\nsink x 0|r: P4|m.pact line 5:|function g (line 10) is written for 1 key, and by has 2
 program|match j h s t by 2 = 0\nsink j 0|j: P5|    match j h s t by 2 = 0|field 2 is no attribute of its input s; these are: 0 1
+text|pact 2\nfields 4\nsource s s.csv int:0 int:1\nsource t t.csv int:2\nfunction a map\nset r0 @v0 v1\nend\nfunction c cross\nend\nmap m a s\ncross x c m t\nsink x 0\n|x: P6|m.pact line 11:|its inputs m and t have in common: 2
 program|function a map\nset r0 2 v0\nend\nmap m a s\ncross x c m t\nsink x 0|x: P6|m.pact line 9:|its inputs m and t have in common: 2
 program|sink s 0|t: P7|    source t t.csv int:2 int:3|t is no operator's input, nor the sink's
 program|map m f s\ncross x c s t\nsink x 0|s: P7|m.pact line 3:|s is an input 2 times, in the lines 5, 6
@@ -187,6 +203,7 @@ certificate refused: step 1: C4 side 2|field 2: an attribute of the input that i
 certificate refused: step 1: C4 not-anchored|the cogroup may emit records
 certificate refused: step 1: C4 key-group|the map would tear a group apart
 certificate refused: C5|docs/faults.md, "Certificate fault C5"
+certificate refused: C6|docs/faults.md, "Certificate fault C6"
 pact: the released program is of other sources, and the toolchain's command rt isn't on the PATH to build another|docs/faults.md, "Status 127"
 pact: nothing can be built in /x; XDG_CACHE_HOME may name another place|docs/faults.md, "Status 127"
 pact: text_lines failed (log: x)|docs/faults.md, "Status 127"
@@ -221,12 +238,26 @@ count is_said 'No fault: a source has changed, or'
 count test "$(grep -c 'While pact is built' "$scratch/added")" = 1
 
 # What a certificate's refusal states and finds is compared.
-cp expected/certificates/push.c3.stderr expected/certificates/push.c5.stderr "$mistakes"
+cp expected/certificates/push.c[356].stderr "$mistakes"
 count adds_to push.c3.stderr
 count is_said 'lower reads: the certificate states {0}, and found is {0,1}'
 count test "$(grep -c 'certificate states' "$scratch/added")" = 1
 count adds_to push.c5.stderr
 count is_said 'the steps lead to r(m(s)), and the certificate states m(r(s)) as its plan'
+count adds_to push.c6.stderr
+count is_said 'it is of a program that begins with pact 2, and this one begins with pact 1'
+
+# A list of one field more than its version allows. Each row has the version, how many that are, and what is added where more are allowed in the other.
+while IFS='|' read -r version most more; do
+    for line in "source s s.csv$(seq -s '' -f ' int:%g' 0 "$most")" "sink s$(seq -s '' -f ' %g' 0 "$most")"; do
+        limit="a source has $most columns"
+        [[ $line == source* ]] || limit="there are $most"
+        count explains text "pact $version\\nfields $most\\n$line\\n" 'm.pact:3: text fault 5' 'm.pact line 3:' "the word ${line##* } : wanted is no further word, since $limit at most$more"
+    done
+done <<'END'
+1|64| (128 behind pact 2)
+2|128|
+END
 
 # Of what pact never tells nothing is said, in a folder where the names are.
 make_told map 'set r0 4 v0'
@@ -298,7 +329,7 @@ count is_said 'it is read by sub/m.pact line 3:'
 (cd "$mistakes" && "$pact" run sub/m.pact) >"$mistakes/stream" 2>&1
 count adds_to stream sub/m.pact
 count is_said 'sub/s.csv is there: names of files begin in the folder in which pact runs, so run pact in sub'
-printf 'pact 2\n' >"$mistakes/sub/m.pact"
+printf 'pact 3\n' >"$mistakes/sub/m.pact"
 echo 'm.pact:1: text fault 12' >"$mistakes/stream"
 count adds_to stream sub
 count is_said 'sub/m.pact line 1:'

@@ -37,6 +37,18 @@ int|int|3,2\n3,3\n5,2\n5,3\n
 text|text|3,3\n5,3\n
 END
 
+# Records without a key all match each other in version 1, and none in version 2.
+printf ',5\n,3\n' >"$scratch/s.csv"
+printf ',2\n,4\n' >"$scratch/t.csv"
+while IFS='|' read -r version rows; do
+    printf 'pact %d\nfields 4\nsource s s.csv int:0 int:1\nsource t t.csv int:2 int:3\nfunction f match\nr0 = copy join\nemit r0\nend\nmatch m f s t by 0 = 2\nsink m 1 3\n' \
+        "$version" >"$scratch/pitfall.pact"
+    count gives 0 "$rows" '' run pitfall.pact
+done <<'END'
+1|3,2\n3,4\n5,2\n5,4\n
+2|
+END
+
 mkdir -p "$scratch/elsewhere"
 mv "$scratch/t.csv" "$scratch/elsewhere"
 mv "$scratch/pitfall.pact" "$scratch/elsewhere"

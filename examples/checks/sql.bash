@@ -20,6 +20,8 @@ create table members(id int, name text);
 create table visits(member int, day int);
 create table guests(id int, name text);
 create table sales(region text, quarter int, amount int);
+create table quarters(region text, first int, second int, third int, fourth int);
+create table asked(region text, quarter int, who text);
 create table basket(item text, quantity int, price int);
 create table staff(id int, name text, leader int);
 create table scores(name text, score int);
@@ -27,10 +29,13 @@ create table s(key int, value int);
 create table sold(shop int, item text, quantity int);
 create table prices(shop int, item text, price int);
 create table shops(id int, city text);
+create table sizes(size int);
 .import members.csv members
 .import visits.csv visits
 .import guests.csv guests
 .import sales.csv sales
+.import quarters.csv quarters
+.import asked.csv asked
 .import basket.csv basket
 .import staff.csv staff
 .import scores.csv scores
@@ -38,7 +43,12 @@ create table shops(id int, city text);
 .import sold.csv sold
 .import prices.csv prices
 .import shops.csv shops
+.import sizes.csv sizes
+update members set id = null where id = '';
+update visits set member = null where member = '';
 update sales set amount = null where amount = '';
+update quarters set second = null where second = '';
+update asked set quarter = null where quarter = '';
 update staff set leader = null where leader = '';
 update sold set quantity = null where quantity = '';
 END

@@ -7,7 +7,7 @@ while IFS='|' read -r text line fault; do
 done <<'END'
 # nothing\n\n|2|12
 |1|12
-\npact 2\n|2|12
+\npact 3\n|2|12
 pact 1\n\nfields 65\n|3|7
 END
 

@@ -3,4 +3,4 @@
 
 pub mod pairing;
 
-pub use pairing::{cross_rows, map_rows, match_rows};
+pub use pairing::{cross_rows, has_null, map_rows, match_rows};

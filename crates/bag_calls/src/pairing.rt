@@ -1,14 +1,15 @@
 //! One call for each record, or for each pair of records.
 
-ghost use Rattle.std.specs.Prelude.{◌≡◌, ◌<◌, ◌⊎◌, ◌++◌, flat_map, length, IfOk, OnOk};
+ghost use Rattle.std.specs.Prelude.{◌≡◌, ◌<◌, ◌⊎◌, ◌++◌, ◌∷◌, [], flat_map, length, IfOk, OnOk};
 ghost use Rattle.std.specs.List.{AllByRecursion};
 ghost use Rattle.tac_syntax.specs.declared.functions.Kind.TheVariants.{Cross, Map, Match};
 ghost use Rattle.tac_syntax.specs.Call.{Out, of_pair, of_record};
-ghost use Rattle.pact_operators.specs.Allowed.{crossed, matched};
+ghost use Rattle.pact_operators.specs.Allowed.{crossed, has_null, matched};
+ghost use Rattle.pact_record.specs.Record.{key_of};
 ghost use Rattle.pact_record.specs.Widths.{AreBelow, AreWide};
 
 use pact_bag::Rows;
-use pact_record::{Keys, OutOfMemory, Record};
+use pact_record::{Keys, OutOfMemory, Record, Value};
 use std::alloc::Global;
 use std::cmp::Ordering;
 use tac_interp::{call_map, call_pair};
@@ -29,9 +30,34 @@ pub fn map_rows(alloc: Global, f: &Valid, rows: &Rows) -> Result<Rows, OutOfMemo
     Ok(out)
 }
 
-// The calls for the pairs of one left record, behind what was given before.
+fn is_null(value: &Value) -> bool
+    ensures { result ≡ has_null (value.now ∷ []) }
+{
+    match value {
+        Value::Null => true,
+        Value::Int(_) => false,
+        Value::Text(_) => false,
+    }
+}
+
+/// Whether one of the record's key values is Null.
+pub fn has_null(row: &Record, keys: &Keys) -> bool
+    requires { AreBelow (length row.now) keys.now }
+    ensures { result ≡ has_null (key_of keys.now row.now) }
+{
+    for n in 0..keys.len() {
+        if is_null(row.get(keys.at(n))) {
+            return true;
+        }
+    }
+    false
+}
+
+// The calls for the pairs of one left record, behind what was given before. Where Nulls don't match, a key with one
+// matches nothing.
 fn append_pairs(
     alloc: Global,
+    nulls: bool,
     f: &Valid,
     left_keys: &Keys,
     right_keys: &Keys,
@@ -46,11 +72,13 @@ fn append_pairs(
     requires left_width { length left.now ≡ f.now.fields }
     requires right_widths { AreWide f.now.fields rights.now }
     requires widths { AreWide f.now.fields out.old }
-    ensures given { OnOk result (out.new ≡ out.old ++ flat_map (matched (λ l r. Out f.now.fields f.now.function.body (of_pair l r)) left_keys.now right_keys.now left.now) rights.now) }
+    ensures given { OnOk result (out.new ≡ out.old ++ flat_map (matched nulls (λ l r. Out f.now.fields f.now.function.body (of_pair l r)) left_keys.now right_keys.now left.now) rights.now) }
     ensures widths { OnOk result (AreWide f.now.fields out.new) }
 {
     for right in rights.rows() {
-        if left.key_compare(left_keys, right, right_keys) == Ordering::Equal {
+        if left.key_compare(left_keys, right, right_keys) == Ordering::Equal
+            && (nulls || !has_null(left, left_keys))
+        {
             let mut emitted = call_pair(alloc, f, left, right)?;
             out.append(&mut emitted)?;
         }
@@ -58,9 +86,10 @@ fn append_pairs(
     Ok(())
 }
 
-/// What a Match gives.
+/// What a Match gives, where Nulls match in keys or don't.
 pub fn match_rows(
     alloc: Global,
+    nulls: bool,
     f: &Valid,
     left_keys: &Keys,
     right_keys: &Keys,
@@ -73,12 +102,14 @@ pub fn match_rows(
     requires right_below { AreBelow f.now.fields right_keys.now }
     requires left_widths { AreWide f.now.fields lefts.now }
     requires right_widths { AreWide f.now.fields rights.now }
-    ensures given { IfOk result (λ out. out ≡ crossed (matched (λ l r. Out f.now.fields f.now.function.body (of_pair l r)) left_keys.now right_keys.now) lefts.now rights.now) }
+    ensures given { IfOk result (λ out. out ≡ crossed (matched nulls (λ l r. Out f.now.fields f.now.function.body (of_pair l r)) left_keys.now right_keys.now) lefts.now rights.now) }
     ensures widths { IfOk result (AreWide f.now.fields) }
 {
     let mut out = Rows::new(alloc);
     for left in lefts.rows() {
-        append_pairs(alloc, f, left_keys, right_keys, left, rights, &mut out)?;
+        append_pairs(
+            alloc, nulls, f, left_keys, right_keys, left, rights, &mut out,
+        )?;
     }
     Ok(out)
 }
@@ -96,5 +127,5 @@ pub fn cross_rows(
     ensures given { IfOk result (λ out. out ≡ crossed (λ l r. Out f.now.fields f.now.function.body (of_pair l r)) lefts.now rights.now) }
     ensures widths { IfOk result (AreWide f.now.fields) }
 {
-    match_rows(alloc, f, &Keys::new(), &Keys::new(), lefts, rights)
+    match_rows(alloc, true, f, &Keys::new(), &Keys::new(), lefts, rights)
 }

@@ -60,7 +60,7 @@ pub is_written : IsWrittenPlan drill_draft drill_plan
 is_written = record { root = refl; follows = (refl, (refl, refl)); different = ((λ e. absurd (omega (arith, e)), (λ e. absurd (omega (arith, e)), tt)), ((λ e. absurd (omega (arith, e)), tt), (tt, tt))); all = all_there }
 
 pub is_program : IsProgramOf drill_draft drill_functions drill_program
-is_program = record { fields = refl; functions = refl; ops = refl; plan = is_written; sink = refl }
+is_program = record { version = refl; fields = refl; functions = refl; ops = refl; plan = is_written; sink = refl }
 
 -- ---- the rules
 

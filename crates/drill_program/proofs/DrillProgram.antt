@@ -1,5 +1,5 @@
 -- Some text spells the draft of a drill, and its program keeps what every program does.
-use Rattle.std.proofs.Common.{◌≤◌, ℕ, pos, FitsSigned, w64, rules, refl, arith}
+use Rattle.std.proofs.Common.{◌≤◌, ℕ, pos, FitsSigned, w64, inl, rules, refl, arith}
 use Rattle.tac_syntax.specs.Drafts.{IsSpelledDraft}
 use Rattle.tac_syntax.specs.Grammar.{IsSpelled}
 use Rattle.pact_operators.specs.Programs.{IsProgram}
@@ -33,9 +33,11 @@ low_spelled = ((n0, tt, n0), ((n1, fits 500 (omega arith)), ((n2, n0, n1), ((n2,
 
 pub is_spelled : IsSpelledDraft drill_draft
 is_spelled = record {
+  version = inl refl;
   some_field = omega arith;
   few_fields = omega arith;
   functions = (record { name = refl; keys = (omega arith, omega arith); body = total_spelled }, (record { name = refl; keys = refl; body = low_spelled }, tt));
+  registers = ((tt, ((tt, (tt, tt)), (tt, (tt, (tt, (tt, (tt, tt))))))), ((tt, (tt, (tt, ((tt, (tt, tt)), tt, tt)))), tt));
   declared = (
     (refl, refl, record { some = omega arith; few = omega arith; numbers = (n0, (n1, (n2, tt))) }),
     (

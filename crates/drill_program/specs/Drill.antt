@@ -55,6 +55,7 @@ drill_map = OpDecl (codes "m") Map (codes "low") (codes "r") [] [] []
 -- what its text declares
 abbrev pub drill_draft : DraftData
 drill_draft = record {
+  version = 1;
   fields = 4;
   functions = total ∷ low ∷ [];
   decls =
@@ -82,6 +83,7 @@ drill_plan = over 2 (over 1 (leaf 0))
 
 abbrev pub drill_program : ProgramData
 drill_program = record {
+  version = 1;
   fields = 4;
   functions = drill_functions;
   ops = ops_of (function_names drill_draft.functions) drill_draft.decls;

@@ -63,7 +63,7 @@ port_says p (both n t u) (suc (suc port)) q e = absurd (let none : None ≡ Some
 -- a setting in which nothing is done, for what is said of plans alone
 pub blank : PhysicalData → Setting
 blank p = record {
-  ops = record { kind = λ n. Source; rows = λ n. []; of_record = λ n row. []; of_pair = λ n l r. []; of_group = λ n key g. []; of_groups = λ n key l r. []; left_keys = λ n. []; right_keys = λ n. [] };
+  ops = record { nulls = false; kind = λ n. Source; rows = λ n. []; of_record = λ n row. []; of_pair = λ n l r. []; of_group = λ n key g. []; of_groups = λ n key l r. []; left_keys = λ n. []; right_keys = λ n. [] };
   fields = 0;
   physical = p;
 }

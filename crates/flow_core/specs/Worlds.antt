@@ -32,7 +32,7 @@ pub record WorldData : Type 0 where
 -- where there is no instance, none wants anything
 abbrev pub no_instance : Instance
 no_instance = record {
-  part = record { at = 0; kind = Source; body = stop; left_keys = []; right_keys = []; fields = 0; worker = 0; workers = 0; batch = 0; ports = []; out = None };
+  part = record { at = 0; kind = Source; body = stop; left_keys = []; right_keys = []; nulls = true; fields = 0; worker = 0; workers = 0; batch = 0; ports = []; out = None };
   left_ended = [];
   right_ended = [];
   left_kept = [];

@@ -1,5 +1,6 @@
 -- End marks that an instance takes.
 use Rattle.std.proofs.Common.{◌≡◌, ◌≤◌, ◌+◌, ◌&&◌, ◌==◌, ℕ, Bool, true, false, cond, Some, List, [], ◌∷◌, ◌++◌, length, map, refl, ap, sym, ◌∙◌, subst, arith, append-nil}
+use Rattle.std.specs.Prelude.{filter}
 use Rattle.std.specs.List.Sorted.{IsPermutation}
 use Rattle.std.proofs.Math.Nat.{add-zero}
 use Rattle.std.proofs.lemmas.List.{length-map}
@@ -7,10 +8,10 @@ use Rattle.std.proofs.lemmas.List.Sorted.{IsPermutation-refl}
 use Rattle.flow_model.proofs.Bags.{is_same, joined}
 use Rattle.flow_model.proofs.GivenForNotes.{none_at_end}
 use Rattle.flow_model.specs.Instances.{Instance, Part as PartData, all_ended, ended_at, kept_at, port_ended}
-use Rattle.flow_model.specs.Local.{Calls, Gave, IsGiven, KeepsRows, MayGive, works_at_once}
+use Rattle.flow_model.specs.Local.{Calls, Gave, IsGiven, KeepsRows, MayGive, may_match, works_at_once}
 use Rattle.plan_trees.specs.Senders.{all_below}
 use Rattle.flow_model.specs.Spots.{Port as PortData, Spot}
-use Rattle.flow_model.specs.Steps.{Carry, GivesNow, Mark, Took, kept_with}
+use Rattle.flow_model.specs.Steps.{Carry, GivesNow, KeepsMore, Mark, Took, kept_with}
 use Rattle.flow_model.specs.declared.notes.Note.TheVariants.{End}
 use Rattle.pact_operators.specs.Allowed.{Bag, CoGrouped, Grouped, count_of, keys_in, keys_in_either}
 use Rattle.pact_operators.specs.PlanOps.{PlanOps}
@@ -173,15 +174,13 @@ gives_nothing : (b : Bool) (s : Spot) (worker : ℕ) (i j : Instance) (port : �
 gives_nothing true s worker i j port e = (none_at_end s s.kind port (kept_at i 0) []).1 refl
 gives_nothing false s worker i j port e = subst (λ (b : Bool). Gave b (IsGiven s s.kind s.ports worker (kept_with (kept_at i) port End)) []) (sym e) refl
 
-end_keeps : (kind : OpKind) (i j : Instance) (port : ℕ) → IsPermutation i.left_kept j.left_kept → j.right_kept ≡ i.right_kept → KeepsRows kind (kept_with (kept_at i) port End) (kept_at j)
-end_keeps kind i j port p r = subst (λ (taken : ℕ → Bag). KeepsRows kind taken (kept_at j)) (no_more (kept_at i) port) (by kind) where
-  by : (k : OpKind) → KeepsRows k (kept_at i) (kept_at j)
-  by Source = tt
-  by Map = tt
-  by Reduce = p
-  by Match = p
-  by Cross = p
-  by CoGroup = (p, is_same (sym r))
+end_keeps : (s : Spot) (kind : OpKind) (i j : Instance) (port : ℕ) → IsPermutation i.left_kept j.left_kept → j.right_kept ≡ i.right_kept → KeepsMore s kind (kept_at i) port End (kept_at j)
+end_keeps s Source i j port p r = tt
+end_keeps s Map i j port p r = tt
+end_keeps s Reduce i j port p r = subst (λ (taken : ℕ → Bag). KeepsRows s Reduce taken (kept_at j)) (no_more (kept_at i) port) p
+end_keeps s Match i j port p r = joined (is_same (ap (λ (came : Bag). i.left_kept ++ filter (may_match s) came) (none_if (0 == port)) ∙ append-nil i.left_kept)) p
+end_keeps s Cross i j port p r = subst (λ (taken : ℕ → Bag). KeepsRows s Cross taken (kept_at j)) (no_more (kept_at i) port) p
+end_keeps s CoGroup i j port p r = subst (λ (taken : ℕ → Bag). KeepsRows s CoGroup taken (kept_at j)) (no_more (kept_at i) port) (p, is_same (sym r))
 
 pub took_more : {L : Type 0} (rows : L → Bag) (keys : L → List ℕ) (is_sealed : L → Bool) (s t : State L) (port from : ℕ) → IsReady rows keys is_sealed s port → HasEnded rows s port from t → all_ended (seen rows t) ≡ false → HasTaken rows s port from End t
 took_more rows keys is_sealed s t port from ready h not_yet = λ ops a.
@@ -192,7 +191,7 @@ took_more rows keys is_sealed s t port from ready h not_yet = λ ops a.
     subst (λ (u : State _). Took spot s.part.worker (seen rows s) port from End (seen rows u)) (sym h.same)
     (took_of spot s.part.worker (seen rows s) (seen rows new) port from End [] [] (IsPermutation-refl []) (gives_nothing (works_at_once s.part.kind) spot s.part.worker (seen rows s) (seen rows new) port all) refl refl
     (λ p k. ap (λ (u : State _). ended_at (seen rows u) p k) (sym h.same) ∙ h.ended p k)
-    (λ e. end_keeps s.part.kind (seen rows s) (seen rows new) port h.kept refl)
+    (λ e. end_keeps spot s.part.kind (seen rows s) (seen rows new) port h.kept refl)
     (each_wide s.part.fields (seen rows new) (wide_permuted s.part.fields (rows s.left) (rows t.left) h.kept sound.left_wide) sound.right_wide)
     (subst (Carry spot s.part.worker []) (sym (ap batches_in ready.none)) (nothing_sent spot s.part.worker))
     (no_marks spot s.part.worker (all_ended (seen rows new)) (marks_in s.queue.items) all (ap marks_in ready.none))

@@ -26,6 +26,7 @@ ops_of s on p h = record {
   calls = subst (λ (x : Spot). Calls x p.kind p.fields p.body) (sym (same_spot s on p h)) h.calls;
   left_keys = h.left_keys ∙ ap s.ops.left_keys (sym h.at);
   right_keys = h.right_keys ∙ ap s.ops.right_keys (sym h.at);
+  nulls = h.nulls;
 }
 
 -- ---- a note is taken
@@ -33,6 +34,7 @@ ops_of s on p h = record {
 -- operators that call the function of a part at any number
 abbrev own_ops : Part → PlanOps
 own_ops p = record {
+  nulls = p.nulls;
   kind = λ n. p.kind;
   rows = λ n. [];
   of_record = λ n row. Out p.fields p.body (of_record row);
@@ -44,7 +46,7 @@ own_ops p = record {
 }
 
 are_own : (p : Part) → AreOpsOf (own_ops p) p
-are_own p = record { calls = calls p.kind; left_keys = refl; right_keys = refl } where
+are_own p = record { calls = calls p.kind; left_keys = refl; right_keys = refl; nulls = refl } where
   calls : (kind : OpKind) → Calls (spot_of p (own_ops p)) kind p.fields p.body
   calls Source = tt
   calls Map = λ row. refl

@@ -1,11 +1,13 @@
 -- Pairs whose left records are found by the keys of the right one.
-use Rattle.std.proofs.Common.{◌≡◌, ◌<◌, ◌+◌, ◌++◌, ◌∷◌, [], ℕ, Bool, true, false, cond, List, length, take, get_or, refl, ap, sym, ◌∙◌, append-nil, append_assoc, subst, arith}
+use Rattle.std.proofs.Common.{◌≡◌, ◌<◌, ◌+◌, ◌++◌, ◌∷◌, ◌||◌, not, [], ℕ, Bool, true, false, cond, List, length, take, get_or, refl, ap, sym, ◌∙◌, append-nil, append_assoc, subst, arith}
 use Rattle.std.specs.Prelude.{flat_map}
 use Rattle.std.specs.List.Sorted.{IsPermutation}
 use Rattle.std.proofs.lemmas.List.{take_more}
 use Rattle.flow_model.proofs.Bags.{beside, crossed-left, crossed-nil, is_same, joined}
-use Rattle.pact_bag.specs.Groups.{group_of_key, is_same_key}
-use Rattle.pact_operators.specs.Allowed.{Bag, crossed, matched}
+use Rattle.pact_bag.specs.Groups.{do_match, group_of_key, is_same_key}
+use Rattle.pact_bag.proofs.KeyGroups.{group_keys}
+use Rattle.std.specs.List.{AllByRecursion}
+use Rattle.pact_operators.specs.Allowed.{Bag, crossed, has_null, matched, unless_null}
 use Rattle.pact_record.proofs.Lists.{AllByRecursion-filter, AllByRecursion-get_or}
 use Rattle.pact_record.proofs.Permutations.{flat_map-append, flat_map_perm, from_permutation, to_permutation, turn}
 use Rattle.pact_record.specs.Record.{key_of}
@@ -17,27 +19,71 @@ pub group_wide : (fields : ℕ) (keys : List ℕ) (rows group : Bag) (k : List V
 group_wide fields keys rows group k wide p =
     wide_permuted fields (group_of_key keys rows k) group p (AllByRecursion-filter (λ (r : List Value). length r ≡ fields) (λ row. is_same_key (key_of keys row) k) rows wide)
 
+-- a call where the keys are equal, whatever is called
+abbrev pub equal : (List Value → List Value → Bag) → List ℕ → List ℕ → List Value → List Value → Bag
+equal f left_keys right_keys l r = cond (do_match left_keys right_keys l r) (f l r) []
+
 -- the calls for the records that match are those for the records of the group
 if_matched : (f : List Value → Bag) (b : Bool) (l : List Value) (ls : Bag) → flat_map f (cond b (l ∷ ls) ls) ≡ cond b (f l) [] ++ flat_map f ls
 if_matched f true l ls = refl
 if_matched f false l ls = refl
 
 matched_group : (f : List Value → List Value → Bag) (left_keys right_keys : List ℕ) (ls : Bag) (r : List Value)
-    → flat_map (λ l. matched f left_keys right_keys l r) ls ≡ flat_map (λ l. f l r) (group_of_key left_keys ls (key_of right_keys r))
+    → flat_map (λ l. equal f left_keys right_keys l r) ls ≡ flat_map (λ l. f l r) (group_of_key left_keys ls (key_of right_keys r))
 matched_group f left_keys right_keys [] r = refl
 matched_group f left_keys right_keys (l ∷ ls) r =
-    ap (λ (rest : Bag). matched f left_keys right_keys l r ++ rest) (matched_group f left_keys right_keys ls r)
+    ap (λ (rest : Bag). equal f left_keys right_keys l r ++ rest) (matched_group f left_keys right_keys ls r)
     ∙ sym (if_matched (λ x. f x r) (is_same_key (key_of left_keys l) (key_of right_keys r)) l (group_of_key left_keys ls (key_of right_keys r)))
 
--- one right record more
-pub one_right : (f : List Value → List Value → Bag) (left_keys right_keys : List ℕ) (ls rs group out more : Bag) (n : ℕ) (r : List Value) → n < length rs → r ≡ get_or rs n r
+-- ---- where Nulls match, or don't
+
+cond_same : (b : Bool) (x : Bag) → cond b x x ≡ x
+cond_same true x = refl
+cond_same false x = refl
+
+cond_both : (b : Bool) (x y : Bag) → cond b x [] ++ cond b y [] ≡ cond b (x ++ y) []
+cond_both true x y = refl
+cond_both false x y = refl
+
+-- the records of one key match all, or nothing
+one_key : (nulls : Bool) (f : List Value → List Value → Bag) (keys : List ℕ) (k r : List Value) (group : Bag) → AllByRecursion (λ l. key_of keys l ≡ k) group
+    → flat_map (λ l. unless_null nulls f keys l r) group ≡ cond (nulls || not (has_null k)) (flat_map (λ l. f l r) group) []
+one_key nulls f keys k r [] h = sym (cond_same (nulls || not (has_null k)) [])
+one_key nulls f keys k r (l ∷ group) h =
+    (λ i. cond (nulls || not (has_null (h.0 i))) (f l r) [] ++ one_key nulls f keys k r group h.1 i) ∙ cond_both (nulls || not (has_null k)) (f l r) (flat_map (λ x. f x r) group)
+
+matches_of : (nulls : Bool) (f : List Value → List Value → Bag) (left_keys right_keys : List ℕ) (ls : Bag) (r : List Value)
+    → flat_map (λ l. matched nulls f left_keys right_keys l r) ls ≡ cond (nulls || not (has_null (key_of right_keys r))) (flat_map (λ l. f l r) (group_of_key left_keys ls (key_of right_keys r))) []
+matches_of nulls f left_keys right_keys ls r =
+    matched_group (unless_null nulls f left_keys) left_keys right_keys ls r
+    ∙ one_key nulls f left_keys (key_of right_keys r) r (group_of_key left_keys ls (key_of right_keys r)) (group_keys left_keys ls (key_of right_keys r))
+
+-- one right record whose key matches nothing
+pub no_right : (nulls : Bool) (f : List Value → List Value → Bag) (left_keys right_keys : List ℕ) (ls out : Bag) (r : List Value) (may : Bool) → may ≡ (nulls || not (has_null (key_of right_keys r))) → may ≡ false
+    → IsPermutation (out ++ flat_map (λ l. matched nulls f left_keys right_keys l r) ls) out
+no_right nulls f left_keys right_keys ls out r may is e =
+    let none = matches_of nulls f left_keys right_keys ls r ∙ ap (λ (b : Bool). cond b (flat_map (λ l. f l r) (group_of_key left_keys ls (key_of right_keys r))) []) (sym is ∙ e) in
+    is_same (ap (λ (l : Bag). out ++ l) none ∙ append-nil out)
+
+-- and one whose key may match
+pub some_right : (nulls : Bool) (f : List Value → List Value → Bag) (left_keys right_keys : List ℕ) (ls group out more : Bag) (r : List Value) (may : Bool) → may ≡ (nulls || not (has_null (key_of right_keys r))) → may ≡ true
     → IsPermutation (group_of_key left_keys ls (key_of right_keys r)) group → more ≡ out ++ flat_map (λ l. f l r) group
-    → IsPermutation (flat_map (λ x. flat_map (λ l. matched f left_keys right_keys l x) ls) (take n rs)) out
-    → IsPermutation (flat_map (λ x. flat_map (λ l. matched f left_keys right_keys l x) ls) (take (n + 1) rs)) more
-one_right f left_keys right_keys ls rs group out more n r lt e p m h =
-    let calls : List Value → Bag = λ x. flat_map (λ l. matched f left_keys right_keys l x) ls in
-    joined (is_same (ap (flat_map calls) (take_more rs n r lt ∙ ap (λ (x : List Value). take n rs ++ x ∷ []) (sym e)) ∙ flat_map-append calls (take n rs) (r ∷ []) ∙ ap (λ (l : Bag). flat_map calls (take n rs) ++ l) (append-nil (calls r) ∙ matched_group f left_keys right_keys ls r)))
-    (joined (beside h (to_permutation (flat_map_perm (λ l. f l r) (from_permutation (group_of_key left_keys ls (key_of right_keys r)) group p)))) (is_same (sym m)))
+    → IsPermutation (out ++ flat_map (λ l. matched nulls f left_keys right_keys l r) ls) more
+some_right nulls f left_keys right_keys ls group out more r may is e p m =
+    let k = key_of right_keys r in
+    let all = matches_of nulls f left_keys right_keys ls r ∙ ap (λ (b : Bool). cond b (flat_map (λ l. f l r) (group_of_key left_keys ls k)) []) (sym is ∙ e) in
+    joined (is_same (ap (λ (l : Bag). out ++ l) all))
+    (joined (beside (is_same refl) (to_permutation (flat_map_perm (λ l. f l r) (from_permutation (group_of_key left_keys ls k) group p)))) (is_same (sym m)))
+
+-- one right record more, in whatever way it is matched
+pub one_right : (g : List Value → List Value → Bag) (ls rs out more : Bag) (n : ℕ) (r : List Value) → n < length rs → r ≡ get_or rs n r
+    → IsPermutation (out ++ flat_map (λ l. g l r) ls) more
+    → IsPermutation (flat_map (λ x. flat_map (λ l. g l x) ls) (take n rs)) out
+    → IsPermutation (flat_map (λ x. flat_map (λ l. g l x) ls) (take (n + 1) rs)) more
+one_right g ls rs out more n r lt e m h =
+    let calls : List Value → Bag = λ x. flat_map (λ l. g l x) ls in
+    joined (is_same (ap (flat_map calls) (take_more rs n r lt ∙ ap (λ (x : List Value). take n rs ++ x ∷ []) (sym e)) ∙ flat_map-append calls (take n rs) (r ∷ []) ∙ ap (λ (l : Bag). flat_map calls (take n rs) ++ l) (append-nil (calls r))))
+    (joined (beside h (is_same refl)) m)
 
 -- one left record more
 pub pairs_more : (f : List Value → Bag) (xs : Bag) (n : ℕ) (x : List Value) (old new given whole : Bag) → n < length xs → x ≡ get_or xs n x → new ≡ old ++ flat_map f (take n xs) → given ≡ f x → whole ≡ new ++ given → whole ≡ old ++ flat_map f (take (n + 1) xs)
@@ -50,9 +96,8 @@ pairs_more f xs n x old new given whole lt e h g m =
 pub item_width : (fields : ℕ) (xs rows : Bag) (n : ℕ) (x : List Value) → xs ≡ rows → n < length xs → x ≡ get_or xs n x → AreWide fields rows → length x ≡ fields
 item_width fields xs rows n x same lt e wide = ap length e ∙ AllByRecursion-get_or (λ (r : List Value). length r ≡ fields) xs n x lt (subst (AreWide fields) (sym same) wide)
 
-pub turned_pairs : (f : List Value → List Value → Bag) (left_keys right_keys : List ℕ) (ls rs out : Bag) → IsPermutation (flat_map (λ x. flat_map (λ l. matched f left_keys right_keys l x) ls) rs) out
-    → IsPermutation (crossed (matched f left_keys right_keys) ls rs) out
-turned_pairs f left_keys right_keys ls rs out p = joined (to_permutation (turn (matched f left_keys right_keys) ls rs)) p
+pub turned_pairs : (g : List Value → List Value → Bag) (ls rs out : Bag) → IsPermutation (flat_map (λ x. flat_map (λ l. g l x) ls) rs) out → IsPermutation (crossed g ls rs) out
+turned_pairs g ls rs out p = joined (to_permutation (turn g ls rs)) p
 
 -- ---- a Cross
 

@@ -70,6 +70,7 @@ marked_some p ship old new o a = record {
 -- some sources and operators
 no_ops : PlanOps
 no_ops = record {
+  nulls = true;
   kind = λ n. Source;
   rows = λ n. [];
   of_record = λ n row. [];

@@ -62,6 +62,7 @@ module _ (p : ProgramData) (physical : PhysicalData) (at worker batch : ℕ) (pa
     calls = subst (λ (n : ℕ). Calls (spot (setting p inputs physical) (subtree_of at physical.tree)) part.kind n (body_in part.called)) (sym h.fields) (calls_by inputs part.kind part.called h.kind h.called);
     left_keys = h.left_keys ∙ ap (λ (n : ℕ). left_keys_in (slice_get p.ops n)) root;
     right_keys = h.right_keys ∙ ap (λ (n : ℕ). right_keys_in (slice_get p.ops n)) root;
+    nulls = h.nulls;
     fields = h.fields;
     worker = h.worker;
     workers = h.workers;
@@ -112,13 +113,13 @@ gives_by s Cross (p ∷ q ∷ []) worker all out a share none some = record { le
 gives_by s CoGroup ports worker all out a share none some = subst (λ (b : Bool). Gave b (IsGiven s CoGroup ports worker (λ port. [])) out) (sym (some refl)) (none refl)
 gives_by s kind ports worker all out a share none some = absurd (omega (arith, a))
 
-none_kept : (kind : OpKind) (kept : ℕ → Bag) → kept 0 ≡ [] → kept 1 ≡ [] → KeepsRows kind (λ port. []) kept
-none_kept Source kept e f = tt
-none_kept Map kept e f = tt
-none_kept Reduce kept e f = is_same (sym e)
-none_kept Match kept e f = is_same (sym e)
-none_kept Cross kept e f = is_same (sym e)
-none_kept CoGroup kept e f = (is_same (sym e), is_same (sym f))
+none_kept : (s : Spot) (kind : OpKind) (kept : ℕ → Bag) → kept 0 ≡ [] → kept 1 ≡ [] → KeepsRows s kind (λ port. []) kept
+none_kept s Source kept e f = tt
+none_kept s Map kept e f = tt
+none_kept s Reduce kept e f = is_same (sym e)
+none_kept s Match kept e f = is_same (sym e)
+none_kept s Cross kept e f = is_same (sym e)
+none_kept s CoGroup kept e f = (is_same (sym e), is_same (sym f))
 
 -- a port that there is waits for the worker's own sender
 first_port : (ports : List PortData) (worker : ℕ) → 0 < length ports → is_edge (slice_get ports 0) worker worker ≡ true
@@ -238,7 +239,7 @@ module _ {L : Type 0} (rows : L → Bag) (keys : L → List ℕ) (is_sealed : L 
           gives = gives_by (spot_of (part_of part) (plan_ops p inputs)) part.kind (map port_of part.ports.items) part.worker (all_ended (seen rows t)) out ports_fit own_share kind_none waits;
           part = subst (IsPartOf (spot_of (part_of part) (plan_ops p inputs)) part.worker) (sym part_of_started) own_part;
           ended = ended_each;
-          kept = none_kept part.kind (kept_at (seen rows t)) left right;
+          kept = none_kept (spot_of (part_of part) (plan_ops p inputs)) part.kind (kept_at (seen rows t)) left right;
           kept_wide = each_wide part.fields (seen rows t) (subst (AreWide part.fields) (sym left) tt) (subst (AreWide part.fields) (sym right) tt);
           carries = subst (λ (q : Part). Carry (spot_of (part_of q) (plan_ops p inputs)) q.worker out (batches_in t.queue.items)) f.part (b.carries (plan_ops p inputs));
           marks = subst (λ (q : Part). Mark (spot_of (part_of q) (plan_ops p inputs)) q.worker (all_ended (seen rows t)) (marks_in t.queue.items)) f.part (b.marks (plan_ops p inputs));

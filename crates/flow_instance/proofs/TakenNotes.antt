@@ -1,6 +1,6 @@
 -- Notes that an instance takes.
-use Rattle.std.proofs.Common.{◌≡◌, ◌<◌, ◌+◌, ◌&&◌, ◌||◌, ◌==◌, ◌⊎◌, inl, inr, ℕ, zero, suc, Bool, true, false, Option, Some, None, List, [], ◌∷◌, ◌++◌, length, map, refl, ap, sym, ◌∙◌, subst, arith, append-nil}
-use Rattle.std.specs.Prelude.{flat_map}
+use Rattle.std.proofs.Common.{◌≡◌, ◌<◌, ◌+◌, ◌&&◌, ◌||◌, ◌==◌, ◌⊎◌, inl, inr, ℕ, zero, suc, Bool, true, false, not, cond, Option, Some, None, List, [], ◌∷◌, ◌++◌, length, map, refl, ap, sym, ◌∙◌, subst, arith, append-nil}
+use Rattle.std.specs.Prelude.{filter, flat_map}
 use Rattle.std.specs.List.{AllByRecursion}
 use Rattle.std.specs.List.Sorted.{IsPermutation}
 use Rattle.std.proofs.Math.Nat.{add-zero}
@@ -8,16 +8,17 @@ use Rattle.std.proofs.lemmas.Bool.{and_left, and_right}
 use Rattle.std.proofs.lemmas.List.Sorted.{IsPermutation-refl, length_permutation}
 use Rattle.flow_model.proofs.Bags.{beside, is_same, joined}
 use Rattle.flow_model.specs.Instances.{Instance, all_ended, ended_at, kept_at, port_ended}
-use Rattle.flow_model.specs.Local.{IsReceiver, KeepsRows, Placed, marks_for, one_if, works_at_once, Calls}
+use Rattle.flow_model.specs.Local.{IsReceiver, Placed, marks_for, one_if, works_at_once, Calls}
 use Rattle.flow_model.specs.Spots.{Spot, sent}
 use Rattle.plan_trees.specs.Sending.{has_out, goes}
-use Rattle.flow_model.specs.Steps.{Carry, GivesAtOnce, GivesNow, Mark, Took, is_end, kept_with}
+use Rattle.flow_model.specs.Steps.{Carry, GivesAtOnce, GivesNow, KeepsMore, Mark, Took, is_end}
 use Rattle.flow_model.specs.declared.notes.Note.{Note}
 use Rattle.flow_model.specs.declared.notes.Note.TheVariants.{Batch}
-use Rattle.pact_operators.specs.Allowed.{Bag, count_of, crossed, matched}
+use Rattle.pact_operators.specs.Allowed.{Bag, count_of, crossed, has_null, matched}
 use Rattle.pact_operators.specs.PlanOps.{PlanOps}
 use Rattle.pact_operators.specs.Programs.{HasKeyLists, is_pair_kind, takes}
 use Rattle.pact_record.proofs.Permutations.{filter_perm, from_permutation, to_permutation}
+use Rattle.pact_record.specs.Record.{key_of}
 use Rattle.pact_record.specs.Widths.{AreWide}
 use Rattle.pact_record.specs.declared.values.Value.{Value}
 use Rattle.plan_trees.specs.declared.physicals.Ship.{Ship}
@@ -26,9 +27,10 @@ use Rattle.tac_syntax.specs.Call.{Out, of_pair, of_record}
 use Rattle.tac_syntax.specs.Valid.{WithFields}
 use Rattle.tac_syntax.specs.declared.declarations.OpKind.{OpKind}
 use Rattle.flow_model.specs.Sending.{AreFew, batch_parcel, batches_in, marks_in}
-use Rattle.flow_instance.specs.States.{AreOpsOf, AreOrderly, ArePairsGiven, HasFlags, HasTaken, IsSound, IsOperator, IsReady, PlacesAtRoot, body_in, is_cross, is_map, part_of, seen, spot_of}
+use Rattle.flow_instance.specs.States.{AreOpsOf, AreOrderly, ArePairsGiven, HasFlags, HasTaken, IsSound, IsOperator, IsReady, PlacesAtRoot, body_in, is_cross, is_map, is_match, needed_of, part_of, seen, spot_of}
 use Rattle.flow_instance.specs.Steps.{Gives, HasGiven, Takes}
-use Rattle.flow_instance.specs.Keeping.{IsKept}
+use Rattle.flow_instance.specs.Keeping.{IsKept, may_match}
+use Rattle.flow_instance.proofs.KeptRecords.{all_chosen}
 use Rattle.flow_model.proofs.NotesForReceivers.{none_few}
 use Rattle.flow_instance.proofs.SoundInstances.{sound_given}
 use Rattle.flow_instance.specs.declared.parts.Part.{Part}
@@ -45,7 +47,7 @@ placed_permuted (Some ship) before out real placed p h = h
 
 -- what was given stands in some order for what may be given
 pub took_of : (s : Spot) (worker : ℕ) (i j : Instance) (port from : ℕ) (note : Note) (out real : Bag) → IsPermutation out real → GivesNow (works_at_once s.kind) s worker i j port note out → j.part ≡ i.part → j.finished ≡ i.finished
-    → ((p k : ℕ) → ended_at j p k ≡ ((is_end note && ((p == port) && (k == from))) || ended_at i p k)) → (all_ended j ≡ false → KeepsRows s.kind (kept_with (kept_at i) port note) (kept_at j)) → ((p : ℕ) → AreWide s.fields (kept_at j p))
+    → ((p k : ℕ) → ended_at j p k ≡ ((is_end note && ((p == port) && (k == from))) || ended_at i p k)) → (all_ended j ≡ false → KeepsMore s s.kind (kept_at i) port note (kept_at j)) → ((p : ℕ) → AreWide s.fields (kept_at j p))
     → Carry s worker real j.waiting → Mark s worker (all_ended j) j.marks → Placed s.out (i.placed ++ real) j.placed → AreWide s.fields j.placed → j.given ≡ count_of (i.given + length real) → Took s worker i port from note j
 took_of s worker i j port from note out real p gives part finished ended kept kept_wide carry mark placed placed_wide given = record {
   out = out;
@@ -127,7 +129,7 @@ module _ {L : Type 0} (rows : L → Bag) (keys : L → List ℕ) (is_sealed : L 
 
   -- what works at once gave for a batch
   pub took_given : (t : State L) (ops : PlanOps) (from : ℕ) (batch out real : Bag) → works_at_once s.part.kind ≡ true → GivesAtOnce (spot_of (part_of s.part) ops) s.part.kind port (rows s.left) (Batch batch) out → IsPermutation out real
-      → KeepsRows s.part.kind (kept_with (kept_at (seen rows s)) port (Batch batch)) (kept_at (seen rows s)) → t ≡ record s { queue = t.queue; placed = t.placed; given = t.given } → t.given ≡ count_of (s.given + length real)
+      → KeepsMore (spot_of (part_of s.part) ops) s.part.kind (kept_at (seen rows s)) port (Batch batch) (kept_at (seen rows s)) → t ≡ record s { queue = t.queue; placed = t.placed; given = t.given } → t.given ≡ count_of (s.given + length real)
       → HasGiven (part_of s.part) real s.placed t.placed t.queue.items → Took (spot_of (part_of s.part) ops) s.part.worker (seen rows s) port from (Batch batch) (seen rows t)
   took_given t ops from batch out real at_once gives same kept frame counted given =
       let spot = spot_of (part_of s.part) ops in
@@ -136,7 +138,7 @@ module _ {L : Type 0} (rows : L → Bag) (keys : L → List ℕ) (is_sealed : L 
       took_of spot s.part.worker (seen rows s) (seen rows t) port from (Batch batch) out real same
       (subst (λ (b : Bool). GivesNow b spot s.part.worker (seen rows s) (seen rows t) port (Batch batch) out) (sym at_once) gives)
       (ap (λ (u : State L). part_of u.part) frame) (ap (λ (u : State L). u.finished) frame) (λ p k. ap (λ (u : State L). ended_at (seen rows u) p k) frame)
-      (λ e. subst (λ (u : State L). KeepsRows s.part.kind (kept_with (kept_at (seen rows s)) port (Batch batch)) (kept_at (seen rows u))) (sym frame) kept)
+      (λ e. subst (λ (u : State L). KeepsMore spot s.part.kind (kept_at (seen rows s)) port (Batch batch) (kept_at (seen rows u))) (sym frame) kept)
       (subst (λ (u : State L). (p : ℕ) → AreWide s.part.fields (kept_at (seen rows u) p)) (sym frame) wide)
       (subst (Carry spot s.part.worker real) (sym (ap batches_in given.is ∙ all_batches given.list)) (given.carries ops))
       (no_marks spot s.part.worker (all_ended (seen rows t)) (marks_in t.queue.items) all (ap marks_in given.is ∙ none_marked given.list))
@@ -144,7 +146,7 @@ module _ {L : Type 0} (rows : L → Bag) (keys : L → List ℕ) (is_sealed : L 
 
   -- what is kept of a batch
   pub took_kept : (t : State L) (ops : PlanOps) (from : ℕ) (batch : Bag) → GivesNow (works_at_once s.part.kind) (spot_of (part_of s.part) ops) s.part.worker (seen rows s) (seen rows t) port (Batch batch) []
-      → KeepsRows s.part.kind (kept_with (kept_at (seen rows s)) port (Batch batch)) (kept_at (seen rows t)) → ((p : ℕ) → AreWide s.part.fields (kept_at (seen rows t) p)) → t ≡ record s { left = t.left; right = t.right }
+      → KeepsMore (spot_of (part_of s.part) ops) s.part.kind (kept_at (seen rows s)) port (Batch batch) (kept_at (seen rows t)) → ((p : ℕ) → AreWide s.part.fields (kept_at (seen rows t) p)) → t ≡ record s { left = t.left; right = t.right }
       → Took (spot_of (part_of s.part) ops) s.part.worker (seen rows s) port from (Batch batch) (seen rows t)
   took_kept t ops from batch gives kept wide frame =
       let spot = spot_of (part_of s.part) ops in
@@ -166,10 +168,10 @@ gives_map : (p : Part) (ops : PlanOps) (kept : Bag) (kind : OpKind) (batch out :
 gives_map p ops kept Map batch out k e = e
 gives_map p ops kept kind batch out k e = absurd (cc)
 
-map_keeps : (kind : OpKind) (taken kept : ℕ → Bag) → is_map kind ≡ true → KeepsRows kind taken kept
-map_keeps Source taken kept k = tt
-map_keeps Map taken kept k = tt
-map_keeps kind taken kept k = absurd (cc)
+map_keeps : (s : Spot) (kind : OpKind) (old : ℕ → Bag) (note : Note) (new : ℕ → Bag) → is_map kind ≡ true → KeepsMore s kind old 0 note new
+map_keeps s Source old note new k = tt
+map_keeps s Map old note new k = tt
+map_keeps s kind old note new k = absurd (cc)
 
 map_at_once : (kind : OpKind) → is_map kind ≡ true → works_at_once kind ≡ true
 map_at_once Source k = refl
@@ -185,23 +187,29 @@ pub took_map : {L : Type 0} (rows : L → Bag) (keys : L → List ℕ) (is_seale
 took_map rows keys is_sealed s t f batch out ready k e o frame counted given from ops a =
     let calls = calls_of_map s.part ops f k ready.sound.operator e a in
     took_given rows keys is_sealed s 0 ready t ops from batch out out (map_at_once s.part.kind k) (gives_map s.part ops (rows s.left) s.part.kind batch out k (o ∙ (λ i. flat_map (λ row. sym (calls row) i) batch)))
-    (IsPermutation-refl out) (map_keeps s.part.kind _ _ k) frame counted given
+    (IsPermutation-refl out) (map_keeps (spot_of (part_of s.part) ops) s.part.kind (kept_at (seen rows s)) (Batch batch) (kept_at (seen rows s)) k) frame counted given
 
 -- ---- a Match or a Cross
 
+-- a key without values has no Null
+without_keys : (nulls : Bool) (rows : Bag) → cond (nulls || true) rows [] ≡ rows
+without_keys true rows = refl
+without_keys false rows = refl
+
 gives_pair : (p : Part) (ops : PlanOps) (kept : Bag) (kind : OpKind) (keys : ℕ) (batch out : Bag) → is_pair_kind kind ≡ true → HasKeyLists kind keys p.left_keys p.right_keys → ops.left_keys p.at ≡ p.left_keys → ops.right_keys p.at ≡ p.right_keys
-    → out ≡ crossed (matched (ops.of_pair p.at) p.left_keys p.right_keys) kept batch → GivesAtOnce (spot_of (part_of p) ops) kind 1 kept (Batch batch) out
-gives_pair p ops kept Match keys batch out k h l r e = e ∙ (λ i. crossed (matched (ops.of_pair p.at) (sym l i) (sym r i)) kept batch)
-gives_pair p ops kept Cross keys batch out k h l r e = e ∙ (λ i. crossed (matched (ops.of_pair p.at) (h.0 i) (h.1 i)) kept batch)
+    → out ≡ crossed (matched ops.nulls (ops.of_pair p.at) p.left_keys p.right_keys) kept batch → GivesAtOnce (spot_of (part_of p) ops) kind 1 kept (Batch batch) out
+gives_pair p ops kept Match keys batch out k h l r e = e ∙ (λ i. crossed (matched ops.nulls (ops.of_pair p.at) (sym l i) (sym r i)) kept batch)
+gives_pair p ops kept Cross keys batch out k h l r e =
+    e ∙ (λ i. crossed (matched ops.nulls (ops.of_pair p.at) (h.0 i) (h.1 i)) kept batch) ∙ (λ i. crossed (λ a b. without_keys ops.nulls (ops.of_pair p.at a b) i) kept batch)
 gives_pair p ops kept kind keys batch out k h l r e = absurd (cc)
 
-pair_keeps : (kind : OpKind) (i : Instance) (batch : Bag) → is_pair_kind kind ≡ true → KeepsRows kind (kept_with (kept_at i) 1 (Batch batch)) (kept_at i)
-pair_keeps Source i batch k = tt
-pair_keeps Map i batch k = tt
-pair_keeps Reduce i batch k = absurd (cc)
-pair_keeps Match i batch k = is_same (append-nil i.left_kept)
-pair_keeps Cross i batch k = is_same (append-nil i.left_kept)
-pair_keeps CoGroup i batch k = absurd (cc)
+pair_keeps : (s : Spot) (kind : OpKind) (i : Instance) (batch : Bag) → is_pair_kind kind ≡ true → KeepsMore s kind (kept_at i) 1 (Batch batch) (kept_at i)
+pair_keeps s Source i batch k = tt
+pair_keeps s Map i batch k = tt
+pair_keeps s Reduce i batch k = absurd (cc)
+pair_keeps s Match i batch k = is_same (append-nil i.left_kept)
+pair_keeps s Cross i batch k = is_same (append-nil i.left_kept)
+pair_keeps s CoGroup i batch k = absurd (cc)
 
 pair_at_once : (kind : OpKind) → is_pair_kind kind ≡ true → works_at_once kind ≡ true
 pair_at_once Source k = refl
@@ -218,10 +226,10 @@ took_pair rows keys is_sealed s t batch real ready k pairs frame counted given f
     let f = ready.sound.operator.function in
     let e = ready.sound.operator.called in
     let calls = calls_of_pair s.part ops f k ready.sound.operator e a in
-    let out = crossed (matched (λ l r. Out f.fields f.function.body (of_pair l r)) (keys s.left) s.part.right_keys) (rows s.left) batch in
-    let own : out ≡ crossed (matched (ops.of_pair s.part.at) s.part.left_keys s.part.right_keys) (rows s.left) batch = λ i. crossed (matched (λ l r. sym (calls l r) i) (ready.sound.left_keys i) s.part.right_keys) (rows s.left) batch in
+    let out = crossed (matched s.part.nulls (λ l r. Out f.fields f.function.body (of_pair l r)) (keys s.left) s.part.right_keys) (rows s.left) batch in
+    let own : out ≡ crossed (matched ops.nulls (ops.of_pair s.part.at) s.part.left_keys s.part.right_keys) (rows s.left) batch = λ i. crossed (matched (a.nulls i) (λ l r. sym (calls l r) i) (ready.sound.left_keys i) s.part.right_keys) (rows s.left) batch in
     took_given rows keys is_sealed s 1 ready t ops from batch out real (pair_at_once s.part.kind k)
-    (gives_pair s.part ops (rows s.left) s.part.kind ready.sound.operator.function.function.keys batch out k ready.sound.operator.keys (sym a.left_keys) (sym a.right_keys) own) (pairs f e) (pair_keeps s.part.kind (seen rows s) batch k) frame counted given
+    (gives_pair s.part ops (rows s.left) s.part.kind ready.sound.operator.function.function.keys batch out k ready.sound.operator.keys (sym a.left_keys) (sym a.right_keys) own) (pairs f e) (pair_keeps (spot_of (part_of s.part) ops) s.part.kind (seen rows s) batch k) frame counted given
 
 kind_of_cross : (kind : OpKind) → is_cross kind ≡ true → kind ≡ Cross
 kind_of_cross Cross e = refl
@@ -238,15 +246,25 @@ pub pairs_crossed : {L : Type 0} (rows : L → Bag) (keys : L → List ℕ) (is_
 pairs_crossed rows keys is_sealed s g rights out h k e p = λ f called.
     let none = no_keys rows keys is_sealed s h k in
     let same : g ≡ f = same_Some g f (sym e ∙ called) in
-    joined (is_same (λ i. crossed (matched (λ l r. Out ((sym same i).fields) ((sym same i).function.body) (of_pair l r)) (none.0 i) (none.1 i)) (rows s.left) rights)) p
+    let calls : List Value → List Value → Bag = λ l r. Out g.fields g.function.body (of_pair l r) in
+    joined (is_same (λ i. crossed (matched s.part.nulls (λ l r. Out ((sym same i).fields) ((sym same i).function.body) (of_pair l r)) (none.0 i) (none.1 i)) (rows s.left) rights))
+    (joined (is_same (λ i. crossed (λ l r. without_keys s.part.nulls (calls l r) i) (rows s.left) rights)) p)
 
 pub pairs_matched : {L : Type 0} (rows : L → Bag) (keys : L → List ℕ) (s : State L) (g : WithFields) (rights out : Bag) → s.part.called ≡ Some g
-    → IsPermutation (crossed (matched (λ l r. Out g.fields g.function.body (of_pair l r)) (keys s.left) s.part.right_keys) (rows s.left) rights) out → ArePairsGiven rows keys s rights out
+    → IsPermutation (crossed (matched s.part.nulls (λ l r. Out g.fields g.function.body (of_pair l r)) (keys s.left) s.part.right_keys) (rows s.left) rights) out → ArePairsGiven rows keys s rights out
 pairs_matched rows keys s g rights out e p = λ f called.
     let same : g ≡ f = same_Some g f (sym e ∙ called) in
-    joined (is_same (λ i. crossed (matched (λ l r. Out ((sym same i).fields) ((sym same i).function.body) (of_pair l r)) (keys s.left) s.part.right_keys) (rows s.left) rights)) p
+    joined (is_same (λ i. crossed (matched s.part.nulls (λ l r. Out ((sym same i).fields) ((sym same i).function.body) (of_pair l r)) (keys s.left) s.part.right_keys) (rows s.left) rights)) p
 
 -- ---- rows that are kept
+
+or_false : (b : Bool) → (b || false) ≡ b
+or_false true = refl
+or_false false = refl
+
+or_true : (b : Bool) → (b || true) ≡ true
+or_true true = refl
+or_true false = refl
 
 gives_kept_left : (p : Part) (ops : PlanOps) (i j : Instance) (kind : OpKind) (batch : Bag) → is_map kind ≡ false → all_ended j ≡ false → GivesNow (works_at_once kind) (record (spot_of (part_of p) ops) { kind = kind }) p.worker i j 0 (Batch batch) []
 gives_kept_left p ops i j Source batch k e = refl
@@ -256,20 +274,30 @@ gives_kept_left p ops i j Match batch k e = refl
 gives_kept_left p ops i j Cross batch k e = refl
 gives_kept_left p ops i j CoGroup batch k e = rw e refl
 
-left_keeps : (kind : OpKind) (i j : Instance) (batch : Bag) → is_map kind ≡ false → IsPermutation (i.left_kept ++ batch) j.left_kept → j.right_kept ≡ i.right_kept → KeepsRows kind (kept_with (kept_at i) 0 (Batch batch)) (kept_at j)
-left_keeps Source i j batch k p r = tt
-left_keeps Map i j batch k p r = tt
-left_keeps Reduce i j batch k p r = p
-left_keeps Match i j batch k p r = p
-left_keeps Cross i j batch k p r = p
-left_keeps CoGroup i j batch k p r = (p, is_same (append-nil i.right_kept ∙ sym r))
+-- what is kept of a batch at port 0, where Nulls are let pass for all but a Match
+pub needed_is : (p : Part) (kind : OpKind) (rows : Bag) → filter (may_match (p.nulls || not (is_match kind)) p.left_keys) rows ≡ needed_of p kind rows
+needed_is p Match rows = ap (λ (b : Bool). filter (may_match b p.left_keys) rows) (or_false p.nulls)
+needed_is p Source rows = ap (λ (b : Bool). filter (may_match b p.left_keys) rows) (or_true p.nulls) ∙ all_chosen p.left_keys rows
+needed_is p Map rows = ap (λ (b : Bool). filter (may_match b p.left_keys) rows) (or_true p.nulls) ∙ all_chosen p.left_keys rows
+needed_is p Reduce rows = ap (λ (b : Bool). filter (may_match b p.left_keys) rows) (or_true p.nulls) ∙ all_chosen p.left_keys rows
+needed_is p Cross rows = ap (λ (b : Bool). filter (may_match b p.left_keys) rows) (or_true p.nulls) ∙ all_chosen p.left_keys rows
+needed_is p CoGroup rows = ap (λ (b : Bool). filter (may_match b p.left_keys) rows) (or_true p.nulls) ∙ all_chosen p.left_keys rows
+
+left_keeps : (p : Part) (ops : PlanOps) (kind : OpKind) (i j : Instance) (batch : Bag) → AreOpsOf ops (part_of p) → is_map kind ≡ false → IsPermutation (i.left_kept ++ needed_of p kind batch) j.left_kept → j.right_kept ≡ i.right_kept
+    → KeepsMore (spot_of (part_of p) ops) kind (kept_at i) 0 (Batch batch) (kept_at j)
+left_keeps p ops Source i j batch a k m r = tt
+left_keeps p ops Map i j batch a k m r = tt
+left_keeps p ops Reduce i j batch a k m r = m
+left_keeps p ops Match i j batch a k m r = joined (is_same (λ x. i.left_kept ++ filter (λ row. sym a.nulls x || not (has_null (key_of (sym a.left_keys x) row))) batch)) m
+left_keeps p ops Cross i j batch a k m r = m
+left_keeps p ops CoGroup i j batch a k m r = (m, is_same (append-nil i.right_kept ∙ sym r))
 
 pub took_left : {L : Type 0} (rows : L → Bag) (keys : L → List ℕ) (is_sealed : L → Bool) (s t : State L) (batch : Bag) → IsReady rows keys is_sealed s 0 → is_map s.part.kind ≡ false → t ≡ record s { left = t.left; right = t.right } → rows t.right ≡ rows s.right
-    → IsPermutation (rows s.left ++ batch) (rows t.left) → AreWide s.part.fields (rows t.left) → (from : ℕ) (ops : PlanOps) → AreOpsOf ops (part_of s.part) → Took (spot_of (part_of s.part) ops) s.part.worker (seen rows s) 0 from (Batch batch) (seen rows t)
+    → IsPermutation (rows s.left ++ needed_of s.part s.part.kind batch) (rows t.left) → AreWide s.part.fields (rows t.left) → (from : ℕ) (ops : PlanOps) → AreOpsOf ops (part_of s.part) → Took (spot_of (part_of s.part) ops) s.part.worker (seen rows s) 0 from (Batch batch) (seen rows t)
 took_left rows keys is_sealed s t batch ready k frame right p wide from ops a =
     let all : all_ended (seen rows t) ≡ false = ap (λ (u : State _). all_ended (seen rows u)) frame ∙ still_taking rows keys is_sealed s 0 ready in
     took_kept rows keys is_sealed s 0 ready t ops from batch (gives_kept_left s.part ops (seen rows s) (seen rows t) s.part.kind batch k all)
-    (left_keeps s.part.kind (seen rows s) (seen rows t) batch k p right) (each_wide s.part.fields (seen rows t) wide (subst (AreWide s.part.fields) (sym right) ready.sound.right_wide)) frame
+    (left_keeps s.part ops s.part.kind (seen rows s) (seen rows t) batch a k p right) (each_wide s.part.fields (seen rows t) wide (subst (AreWide s.part.fields) (sym right) ready.sound.right_wide)) frame
 
 gives_kept_right : (p : Part) (ops : PlanOps) (i j : Instance) (kind : OpKind) (batch : Bag) → is_pair_kind kind ≡ false → 1 < takes kind → all_ended j ≡ false
     → GivesNow (works_at_once kind) (record (spot_of (part_of p) ops) { kind = kind }) p.worker i j 1 (Batch batch) []
@@ -280,13 +308,13 @@ gives_kept_right p ops i j Match batch k two e = absurd (cc)
 gives_kept_right p ops i j Cross batch k two e = absurd (cc)
 gives_kept_right p ops i j CoGroup batch k two e = rw e refl
 
-right_keeps : (kind : OpKind) (i j : Instance) (batch : Bag) → is_pair_kind kind ≡ false → 1 < takes kind → IsPermutation (i.right_kept ++ batch) j.right_kept → j.left_kept ≡ i.left_kept → KeepsRows kind (kept_with (kept_at i) 1 (Batch batch)) (kept_at j)
-right_keeps Source i j batch k two p l = tt
-right_keeps Map i j batch k two p l = tt
-right_keeps Reduce i j batch k two p l = absurd (omega (arith, two))
-right_keeps Match i j batch k two p l = absurd (cc)
-right_keeps Cross i j batch k two p l = absurd (cc)
-right_keeps CoGroup i j batch k two p l = (is_same (append-nil i.left_kept ∙ sym l), p)
+right_keeps : (s : Spot) (kind : OpKind) (i j : Instance) (batch : Bag) → is_pair_kind kind ≡ false → 1 < takes kind → IsPermutation (i.right_kept ++ batch) j.right_kept → j.left_kept ≡ i.left_kept → KeepsMore s kind (kept_at i) 1 (Batch batch) (kept_at j)
+right_keeps s Source i j batch k two p l = tt
+right_keeps s Map i j batch k two p l = tt
+right_keeps s Reduce i j batch k two p l = absurd (omega (arith, two))
+right_keeps s Match i j batch k two p l = absurd (cc)
+right_keeps s Cross i j batch k two p l = absurd (cc)
+right_keeps s CoGroup i j batch k two p l = (is_same (append-nil i.left_kept ∙ sym l), p)
 
 -- ---- what an instance is then
 
@@ -306,7 +334,7 @@ module _ {L : Type 0} (rows : L → Bag) (keys : L → List ℕ) (is_sealed : L 
         batches = subst (λ (p : Part). AreFew p.batch t.queue.items) (sym part) g.batches;
       }
 
-  pub takes_left : (new : L) → IsReady rows keys is_sealed s 0 → is_map s.part.kind ≡ false → IsKept rows keys is_sealed s.part.fields batch s.left new → (from : ℕ) → Takes rows keys is_sealed s 0 from (Batch batch) (record s { left = new })
+  pub takes_left : (new : L) → IsReady rows keys is_sealed s 0 → is_map s.part.kind ≡ false → IsKept rows keys is_sealed s.part.fields (needed_of s.part s.part.kind batch) s.left new → (from : ℕ) → Takes rows keys is_sealed s 0 from (Batch batch) (record s { left = new })
   takes_left new ready kind k from =
       let h = ready.sound in
       record {
@@ -339,7 +367,7 @@ module _ {L : Type 0} (rows : L → Bag) (keys : L → List ℕ) (is_sealed : L 
       let two = subst (λ (n : ℕ). 1 < n) (sym h.operator.arity) ready.there in
       record {
         took = λ ops a. took_kept rows keys is_sealed s 1 ready t ops from batch (gives_kept_right s.part ops (seen rows s) (seen rows t) s.part.kind batch kind two (still_taking rows keys is_sealed s 1 ready))
-            (right_keeps s.part.kind (seen rows s) (seen rows t) batch kind two k.kept refl) (each_wide s.part.fields (seen rows t) h.left_wide k.wide) refl;
+            (right_keeps (spot_of (part_of s.part) ops) s.part.kind (seen rows s) (seen rows t) batch kind two k.kept refl) (each_wide s.part.fields (seen rows t) h.left_wide k.wide) refl;
         sound = λ not_yet. record {
           batch = h.batch;
           worker = h.worker;

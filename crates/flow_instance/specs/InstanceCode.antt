@@ -20,21 +20,22 @@ coded_port = code_by (ℕ × Ship) (coded× coded_ℕ ship_row.coded) (λ p. (p.
 
 abbrev coded_part : Coded Part
 coded_part =
-    code_by (ℕ × (OpKind × (Code × (List ℕ × (List ℕ × (ℕ × (ℕ × (ℕ × (ℕ × (List Port × Option Ship))))))))))
-    (coded× coded_ℕ (coded× kind_row.coded (coded× coded_code (coded× (coded_list coded_ℕ) (coded× (coded_list coded_ℕ) (coded× coded_ℕ (coded× coded_ℕ (coded× coded_ℕ (coded× coded_ℕ (coded× (coded_list coded_port) (coded_option ship_row.coded)))))))))))
-    (λ p. (p.at, (p.kind, (p.body, (p.left_keys, (p.right_keys, (p.fields, (p.worker, (p.workers, (p.batch, (p.ports, p.out)))))))))))
+    code_by (ℕ × (OpKind × (Code × (List ℕ × (List ℕ × (Bool × (ℕ × (ℕ × (ℕ × (ℕ × (List Port × Option Ship)))))))))))
+    (coded× coded_ℕ (coded× kind_row.coded (coded× coded_code (coded× (coded_list coded_ℕ) (coded× (coded_list coded_ℕ) (coded× coded_bool (coded× coded_ℕ (coded× coded_ℕ (coded× coded_ℕ (coded× coded_ℕ (coded× (coded_list coded_port) (coded_option ship_row.coded))))))))))))
+    (λ p. (p.at, (p.kind, (p.body, (p.left_keys, (p.right_keys, (p.nulls, (p.fields, (p.worker, (p.workers, (p.batch, (p.ports, p.out))))))))))))
     (λ q. record {
       at = q.0;
       kind = q.1.0;
       body = q.1.1.0;
       left_keys = q.1.1.1.0;
       right_keys = q.1.1.1.1.0;
-      fields = q.1.1.1.1.1.0;
-      worker = q.1.1.1.1.1.1.0;
-      workers = q.1.1.1.1.1.1.1.0;
-      batch = q.1.1.1.1.1.1.1.1.0;
-      ports = q.1.1.1.1.1.1.1.1.1.0;
-      out = q.1.1.1.1.1.1.1.1.1.1;
+      nulls = q.1.1.1.1.1.0;
+      fields = q.1.1.1.1.1.1.0;
+      worker = q.1.1.1.1.1.1.1.0;
+      workers = q.1.1.1.1.1.1.1.1.0;
+      batch = q.1.1.1.1.1.1.1.1.1.0;
+      ports = q.1.1.1.1.1.1.1.1.1.1.0;
+      out = q.1.1.1.1.1.1.1.1.1.1.1;
     })
     (λ _. refl)
 

@@ -1,6 +1,6 @@
+pub mod Keeping
 pub mod States
 pub mod Steps
-pub mod Keeping
 pub mod Grouping
 pub mod Starting
 pub mod InstanceCode

@@ -3,7 +3,7 @@ use Rattle.std.specs.Prelude.{◌≡◌, ℕ, Option, Some, None, List, map, sli
 use Rattle.flow_model.specs.Spots.{ports_of}
 use Rattle.pact_operators.specs.Allowed.{Bag}
 use Rattle.pact_operators.specs.PlanOps.{body_at, kind_at, left_keys_in, plan_ops, right_keys_in}
-use Rattle.pact_operators.specs.Programs.{HasKeyLists, IsKindFor, ProgramData}
+use Rattle.pact_operators.specs.Programs.{HasKeyLists, IsKindFor, ProgramData, nulls_match}
 use Rattle.pact_record.specs.Widths.{AreBelow}
 use Rattle.plan_trees.specs.Sending.{share_from}
 use Rattle.plan_trees.specs.Physicals.{PhysicalData, ship_at}
@@ -40,6 +40,7 @@ pub record IsPartAt (p : ProgramData) (physical : PhysicalData) (number worker_n
   pub called : IsCalledAt p number part.called
   pub left_keys : part.left_keys ≡ left_keys_in (slice_get p.ops number)
   pub right_keys : part.right_keys ≡ right_keys_in (slice_get p.ops number)
+  pub nulls : part.nulls ≡ nulls_match p
   pub fields : part.fields ≡ p.fields
   pub worker : part.worker ≡ worker_number
   pub workers : part.workers ≡ physical.workers

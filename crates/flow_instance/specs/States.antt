@@ -1,5 +1,5 @@
 -- The fields of an instance, and the instance that they stand for.
-use Rattle.std.specs.Prelude.{◌≡◌, ◌≤◌, ◌<◌, ◌+◌, ◌&&◌, ◌||◌, ◌==◌, ◌⊎◌, ℕ, Bool, true, false, List, [], length, map, not, slice_get, Option, Some, None}
+use Rattle.std.specs.Prelude.{◌≡◌, ◌≤◌, ◌<◌, ◌+◌, ◌&&◌, ◌||◌, ◌==◌, ◌⊎◌, ℕ, Bool, true, false, List, [], filter, length, map, not, slice_get, Option, Some, None}
 use Rattle.flow_model.specs.Instances.{Instance, Part as PartData, all_ended, ended_at, kept_at, port_ended}
 use Rattle.flow_model.specs.Local.{Calls, IsGiven, Placed, works_at_once}
 use Rattle.flow_model.specs.Spots.{Port as PortData, Spot, is_edge}
@@ -14,12 +14,13 @@ use Rattle.tac_syntax.specs.Call.{Out, of_pair}
 use Rattle.tac_syntax.specs.Code.{Code, stop}
 use Rattle.tac_syntax.specs.Valid.{WithFields}
 use Rattle.tac_syntax.specs.declared.declarations.OpKind.{OpKind}
-use Rattle.tac_syntax.specs.declared.declarations.OpKind.TheVariants.{Map, Reduce, Cross}
+use Rattle.tac_syntax.specs.declared.declarations.OpKind.TheVariants.{Map, Reduce, Match, Cross}
 use Rattle.std.specs.List.{AllByRecursion}
 use Rattle.std.specs.VecDeque.{deque_capacity, deque_len}
 use Rattle.std.specs.List.Sorted.{IsPermutation}
 use Rattle.flow_model.specs.Sending.{IsInOrder, batches_in, marks_in}
 use Rattle.flow_model.specs.declared.parcels.Parcel.{Parcel}
+use Rattle.flow_instance.specs.Keeping.{may_match}
 use Rattle.flow_instance.specs.declared.parts.Part.{Part}
 use Rattle.flow_instance.specs.declared.parts.Port.{Port}
 use Rattle.flow_instance.specs.declared.states.State.{State}
@@ -43,6 +44,7 @@ part_of p = record {
   body = body_in p.called;
   left_keys = p.left_keys;
   right_keys = p.right_keys;
+  nulls = p.nulls;
   fields = p.fields;
   worker = p.worker;
   workers = p.workers;
@@ -78,6 +80,7 @@ pub record AreOpsOf (ops : PlanOps) (p : PartData) : Type 0 where
   pub calls : Calls (spot_of p ops) p.kind p.fields p.body
   pub left_keys : p.left_keys ≡ ops.left_keys p.at
   pub right_keys : p.right_keys ≡ ops.right_keys p.at
+  pub nulls : p.nulls ≡ ops.nulls
 
 -- what waits stands in order, for workers that there are
 pub record AreOrderly (workers : ℕ) (queue : List Parcel) : Type 0 where
@@ -103,7 +106,7 @@ AreGivenLast rows s out = (ops : PlanOps) → AreOpsOf ops (part_of s.part)
 -- what the function gives for the pairs of the kept left records and these right ones that match, in some order
 abbrev pub ArePairsGiven : {L : Type 0} → (L → Bag) → (L → List ℕ) → State L → (rights out : Bag) → Type 0
 ArePairsGiven rows keys s rights out = (f : WithFields) → s.part.called ≡ Some f
-    → IsPermutation (crossed (matched (λ l r. Out f.fields f.function.body (of_pair l r)) (keys s.left) s.part.right_keys) (rows s.left) rights) out
+    → IsPermutation (crossed (matched s.part.nulls (λ l r. Out f.fields f.function.body (of_pair l r)) (keys s.left) s.part.right_keys) (rows s.left) rights) out
 
 -- it took a note at a port from a sender
 abbrev pub HasTaken : {L : Type 0} → (L → Bag) → State L → (port from : ℕ) → Note → State L → Type 0
@@ -165,6 +168,15 @@ is_cross kind = false
 abbrev pub is_reduce : OpKind → Bool
 is_reduce Reduce = true
 is_reduce kind = false
+
+abbrev pub is_match : OpKind → Bool
+is_match Match = true
+is_match kind = false
+
+-- the rows that are kept of those that come to port 0: a Match keeps those that may match
+abbrev pub needed_of : Part → OpKind → Bag → Bag
+needed_of p Match rows = filter (may_match p.nulls p.left_keys) rows
+needed_of p kind rows = rows
 
 -- what is kept of port 0 is sealed once port 0 has ended, where each row of port 1 asks for it
 abbrev pub is_built : OpKind → (left_ended : Bool) → Bool

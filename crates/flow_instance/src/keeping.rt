@@ -1,23 +1,60 @@
 //! Records that are kept until they are asked for.
 
-ghost use Rattle.std.specs.Prelude.{◌≡◌, false, OnOk};
+ghost use Rattle.std.specs.Prelude.{◌≡◌, ◌||◌, false, filter, length, not, OnOk};
+ghost use Rattle.pact_operators.specs.Allowed.{has_null};
+ghost use Rattle.pact_record.specs.Record.{key_of};
 ghost use Rattle.pact_record.specs.Widths.{AreBelow, AreWide};
-ghost use Rattle.flow_instance.specs.Keeping.{IsKept};
+ghost use Rattle.flow_instance.specs.Keeping.{IsKept, IsRowKept, may_match};
 
+use bag_calls::has_null;
 use local_strategy::Local;
 use pact_bag::Rows;
-use pact_record::OutOfMemory;
+use pact_record::{Keys, OutOfMemory, Record};
 
-/// Keeps the rows, which all have so many fields.
-pub(crate) fn keep<L: Local>(kept: &mut L, fields: u32, rows: Rows) -> Result<(), OutOfMemory>
+/// Whether a record may match another one, where Nulls match in keys or don't.
+pub(crate) fn may_match(nulls: bool, keys: &Keys, row: &Record) -> bool
+    requires { AreBelow (length row.now) keys.now }
+    ensures { result ≡ may_match nulls keys.now row.now }
+{
+    nulls || !has_null(row, keys)
+}
+
+// Keeps the row, where it may match by these keys.
+fn keep_row<L: Local>(
+    kept: &mut L,
+    nulls: bool,
+    keys: &Keys,
+    row: Record,
+) -> Result<(), OutOfMemory>
+    requires not_sealed { L.is_sealed kept.old ≡ false }
+    requires width { AreWide (length row) (L.rows kept.old) }
+    requires below { AreBelow (length row) (L.key_fields kept.old) }
+    requires keys { AreBelow (length row) keys.now }
+    ensures { OnOk result (IsRowKept L.rows L.key_fields L.is_sealed (may_match nulls keys.now) row kept.old kept.new) }
+{
+    if !may_match(nulls, keys, &row) {
+        return Ok(());
+    }
+    kept.add(row)
+}
+
+/// Keeps those of the rows, which all have so many fields, that may match by these keys.
+pub(crate) fn keep<L: Local>(
+    kept: &mut L,
+    fields: u32,
+    nulls: bool,
+    keys: &Keys,
+    rows: Rows,
+) -> Result<(), OutOfMemory>
     requires not_sealed { L.is_sealed kept.old ≡ false }
     requires wide { AreWide fields (L.rows kept.old) }
     requires rows_wide { AreWide fields rows }
     requires below { AreBelow fields (L.key_fields kept.old) }
-    ensures { OnOk result (IsKept L.rows L.key_fields L.is_sealed fields rows kept.old kept.new) }
+    requires keys { AreBelow fields keys.now }
+    ensures { OnOk result (IsKept L.rows L.key_fields L.is_sealed fields (filter (may_match nulls keys.now) rows) kept.old kept.new) }
 {
     for row in rows.into_records() {
-        kept.add(row)?;
+        keep_row(kept, nulls, keys, row)?;
     }
     Ok(())
 }

@@ -7,6 +7,7 @@ ghost use Rattle.tac_syntax.specs.declared.functions.Kind.TheVariants.{Cross, Ma
 ghost use Rattle.pact_operators.specs.Allowed.{crossed, matched};
 ghost use Rattle.pact_record.specs.Widths.{AreBelow, AreWide};
 
+use crate::keeping::may_match;
 use bag_calls::cross_rows;
 use local_strategy::Local;
 use pact_bag::Rows;
@@ -37,9 +38,38 @@ fn append_pairs(
     Ok(())
 }
 
-/// What a Match gives for its kept left records and these right ones, in any order.
+// The calls for the pairs of one right record and the kept ones, behind what was given before. Where Nulls don't match, no
+// group is asked for by a key that has one.
+fn append_matches<L: Local>(
+    alloc: Global,
+    nulls: bool,
+    f: &Valid,
+    kept: &L,
+    right: &Record,
+    right_keys: &Keys,
+    out: &mut Rows,
+) -> Result<(), OutOfMemory>
+    requires kind { (f.now.function.kind ≡ Match) ⊎ (f.now.function.kind ≡ Cross) }
+    requires sealed { L.is_sealed kept.now ≡ true }
+    requires keys { length right_keys.now ≡ length (L.key_fields kept.now) }
+    requires right_below { AreBelow f.now.fields right_keys.now }
+    requires left_widths { AreWide f.now.fields (L.rows kept.now) }
+    requires right_width { length right.now ≡ f.now.fields }
+    requires widths { AreWide f.now.fields out.old }
+    ensures given { OnOk result (IsPermutation (out.old ++ flat_map (λ l. matched nulls (λ a b. Out f.now.fields f.now.function.body (of_pair a b)) (L.key_fields kept.now) right_keys.now l right.now) (L.rows kept.now)) out.new) }
+    ensures widths { OnOk result (AreWide f.now.fields out.new) }
+{
+    if !may_match(nulls, right_keys, right) {
+        return Ok(());
+    }
+    let lefts = kept.group_of(right, right_keys);
+    append_pairs(alloc, f, lefts, right, out)
+}
+
+/// What a Match gives for its kept left records and these right ones, in any order, where Nulls match in keys or don't.
 pub(crate) fn match_kept<L: Local>(
     alloc: Global,
+    nulls: bool,
     f: &Valid,
     kept: &L,
     right_keys: &Keys,
@@ -51,13 +81,12 @@ pub(crate) fn match_kept<L: Local>(
     requires right_below { AreBelow f.now.fields right_keys.now }
     requires left_widths { AreWide f.now.fields (L.rows kept.now) }
     requires right_widths { AreWide f.now.fields rights.now }
-    ensures given { IfOk result (IsPermutation (crossed (matched (λ l r. Out f.now.fields f.now.function.body (of_pair l r)) (L.key_fields kept.now) right_keys.now) (L.rows kept.now) rights.now)) }
+    ensures given { IfOk result (IsPermutation (crossed (matched nulls (λ l r. Out f.now.fields f.now.function.body (of_pair l r)) (L.key_fields kept.now) right_keys.now) (L.rows kept.now) rights.now)) }
     ensures widths { IfOk result (AreWide f.now.fields) }
 {
     let mut out = Rows::new(alloc);
     for right in rights.rows() {
-        let lefts = kept.group_of(right, right_keys);
-        append_pairs(alloc, f, lefts, right, &mut out)?;
+        append_matches(alloc, nulls, f, kept, right, right_keys, &mut out)?;
     }
     Ok(out)
 }

@@ -1,9 +1,9 @@
 //! What an instance keeps of a program and of a physical plan.
 
-ghost use Rattle.std.specs.Prelude.{◌≡◌, Some, IsSome};
+ghost use Rattle.std.specs.Prelude.{◌≡◌, ◌||◌, not, Some, IsSome};
 ghost use Rattle.flow_model.specs.Local.{works_at_once};
 ghost use Rattle.pact_operators.specs.Programs.{is_pair_kind};
-ghost use Rattle.flow_instance.specs.States.{is_cross, is_map, is_reduce};
+ghost use Rattle.flow_instance.specs.States.{is_cross, is_map, is_match, is_reduce};
 
 use pact_record::Keys;
 use plan_trees::Ship;
@@ -25,6 +25,8 @@ pub(crate) struct Part {
     pub(crate) called: Option<Valid>,
     pub(crate) left_keys: Keys,
     pub(crate) right_keys: Keys,
+    /// Whether Nulls match in the keys of a Match.
+    pub(crate) nulls: bool,
     pub(crate) fields: u32,
     pub(crate) worker: u32,
     pub(crate) workers: u32,
@@ -62,6 +64,13 @@ impl Part {
         ensures { result ≡ is_cross self.now.kind }
     {
         self.kind == OpKind::Cross
+    }
+
+    /// Whether a record that comes to port 0 is kept though its key has Null.
+    pub(crate) fn keeps_nulls(&self) -> bool
+        ensures { result ≡ (self.now.nulls || not (is_match self.now.kind)) }
+    {
+        self.nulls || self.kind != OpKind::Match
     }
 
     pub(crate) fn reduces(&self) -> bool

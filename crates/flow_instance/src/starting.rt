@@ -76,6 +76,7 @@ pub(crate) fn part_at(
         called,
         left_keys: op.left_keys,
         right_keys: op.right_keys,
+        nulls: program.nulls_match(),
         fields: program.fields(),
         worker,
         workers: physical.workers(),

@@ -32,6 +32,7 @@ impl<L: Local> State<L> {
         }
         match_kept(
             self.alloc,
+            part.nulls,
             part.function(),
             &self.left,
             &part.right_keys,
@@ -49,7 +50,9 @@ impl<L: Local> State<L> {
             let out = map_rows(self.alloc, self.part.function(), &rows)?;
             return self.give(out);
         }
-        keep(&mut self.left, self.part.fields, rows)
+        let part = &self.part;
+        let nulls = part.keeps_nulls();
+        keep(&mut self.left, part.fields, nulls, &part.left_keys, rows)
     }
 
     // Takes a batch at port 1. A Match or a Cross gives records at once.
@@ -62,7 +65,8 @@ impl<L: Local> State<L> {
             let out = self.pairs(&rows)?;
             return self.give(out);
         }
-        keep(&mut self.right, self.part.fields, rows)
+        let part = &self.part;
+        keep(&mut self.right, part.fields, true, &part.right_keys, rows)
     }
 
     /// Takes a note at a port.

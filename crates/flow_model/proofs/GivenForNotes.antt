@@ -1,19 +1,23 @@
 -- What an operator gives for one note more.
-use Rattle.std.proofs.Common.{◌≡◌, ◌↔◌, ◌==◌, ℕ, zero, suc, Bool, true, false, cond, List, [], ◌∷◌, ◌++◌, slice_get, refl, ap, sym, ◌∙◌, subst, append-nil}
+use Rattle.std.proofs.Common.{◌≡◌, ◌↔◌, ◌==◌, ◌||◌, not, ℕ, zero, suc, Bool, true, false, cond, List, [], ◌∷◌, ◌++◌, slice_get, refl, ap, sym, ◌∙◌, subst, append-nil}
 use Rattle.std.proofs.lemmas.List.{nil_from_length}
-use Rattle.std.specs.Prelude.{flat_map}
+use Rattle.std.specs.Prelude.{filter, flat_map}
 use Rattle.std.specs.List.Sorted.{IsPermutation}
 use Rattle.std.proofs.lemmas.List.Concat.{flat_map-append}
+use Rattle.std.proofs.lemmas.List.Elements.{filter-append}
 use Rattle.std.proofs.lemmas.List.Sorted.{IsPermutation-refl, length_permutation}
 use Rattle.tac_syntax.specs.declared.declarations.OpKind.{OpKind}
 use Rattle.tac_syntax.specs.declared.declarations.OpKind.TheVariants.{Source, Map, Reduce, Match, Cross, CoGroup}
-use Rattle.pact_operators.specs.Allowed.{Bag, crossed, matched}
+use Rattle.pact_bag.specs.Groups.{do_match}
+use Rattle.pact_operators.specs.Allowed.{Bag, crossed, has_null, matched}
+use Rattle.pact_record.proofs.Permutations.{filter_perm, from_permutation, to_permutation}
+use Rattle.pact_record.specs.Record.{key_of}
 use Rattle.pact_record.specs.declared.values.Value.{Value}
 use Rattle.flow_model.specs.declared.notes.Note.{Note}
 use Rattle.flow_model.specs.declared.notes.Note.TheVariants.{Batch, End}
-use Rattle.flow_model.specs.Local.{IsGiven, MayGive, KeepsRows, works_at_once}
+use Rattle.flow_model.specs.Local.{IsGiven, MayGive, KeepsRows, may_match, works_at_once}
 use Rattle.flow_model.specs.Spots.{Spot, Port, is_edge}
-use Rattle.flow_model.specs.Steps.{GivesAtOnce, kept_with, note_rows}
+use Rattle.flow_model.specs.Steps.{GivesAtOnce, KeepsMore, kept_with, note_rows}
 use Rattle.flow_model.proofs.Bags.{is_same, joined, turned, beside, crossed-nil, crossed-append, crossed-left}
 
 -- the rows of each port after the note
@@ -69,7 +73,7 @@ left_first s kind f p q worker rows new batch given out into from grown none g e
 -- and its second one
 right_next : (s : Spot) (kind : OpKind) (f : List Value → List Value → Bag) (p q : Port) (worker : ℕ) (rows new : ℕ → Bag) (kept batch given out : Bag)
     → ((ls rs o : Bag) → MayGive s kind (p ∷ q ∷ []) worker ls rs o → o ≡ crossed f ls rs) → ((ls rs : Bag) → MayGive s kind (p ∷ q ∷ []) worker ls rs (crossed f ls rs))
-    → Grown rows 1 (Batch batch) new → IsPermutation (rows 0) kept → IsGiven s kind (p ∷ q ∷ []) worker rows given → out ≡ crossed f kept batch → IsGiven s kind (p ∷ q ∷ []) worker new (given ++ out)
+    → Grown rows 1 (Batch batch) new → ((ls : Bag) → IsPermutation (rows 0) ls → IsPermutation (crossed f ls batch) (crossed f kept batch)) → IsGiven s kind (p ∷ q ∷ []) worker rows given → out ≡ crossed f kept batch → IsGiven s kind (p ∷ q ∷ []) worker new (given ++ out)
 right_next s kind f p q worker rows new kept batch given out into from grown keeps g e = record {
   left = g.left;
   right = g.right ++ batch;
@@ -79,8 +83,35 @@ right_next s kind f p q worker rows new kept batch given out into from grown kee
   may = from g.left (g.right ++ batch);
   permuted = joined (crossed-append f g.left g.right batch)
       (beside (joined (is_same (sym (into g.left g.right g.out g.may))) g.permuted)
-      (joined (crossed-left f g.left kept batch (joined (turned g.of_left) keeps)) (is_same (sym e))));
+      (joined (keeps g.left g.of_left) (is_same (sym e))));
 }
+
+-- ---- a left record that matches nothing
+
+no_call : (matches : Bool) → ◌≡◌ {A = Bag} (cond matches [] []) []
+no_call true = refl
+no_call false = refl
+
+none_for : (nulls : Bool) (f : List Value → List Value → Bag) (ks js : List ℕ) (l : List Value) (rs : Bag) → (nulls || not (has_null (key_of ks l))) ≡ false → flat_map (matched nulls f ks js l) rs ≡ []
+none_for nulls f ks js l [] e = refl
+none_for nulls f ks js l (r ∷ rs) e =
+    ap (λ (b : Bool). cond (do_match ks js l r) (cond b (f l r) []) [] ++ flat_map (matched nulls f ks js l) rs) e
+    ∙ ap (λ (x : Bag). x ++ flat_map (matched nulls f ks js l) rs) (no_call (do_match ks js l r)) ∙ none_for nulls f ks js l rs e
+
+-- what is given for those that may match is what is given for all
+only_matching : (nulls : Bool) (f : List Value → List Value → Bag) (ks js : List ℕ) (ls rs : Bag)
+    → crossed (matched nulls f ks js) ls rs ≡ crossed (matched nulls f ks js) (filter (λ l. nulls || not (has_null (key_of ks l))) ls) rs
+only_matching nulls f ks js [] rs = refl
+only_matching nulls f ks js (l ∷ ls) rs = by (nulls || not (has_null (key_of ks l))) refl (only_matching nulls f ks js ls rs) where
+  g : List Value → List Value → Bag
+  g = matched nulls f ks js
+
+  others : Bag
+  others = filter (λ x. nulls || not (has_null (key_of ks x))) ls
+
+  by : (b : Bool) → (nulls || not (has_null (key_of ks l))) ≡ b → crossed g ls rs ≡ crossed g others rs → flat_map (g l) rs ++ crossed g ls rs ≡ crossed g (cond b (l ∷ others) others) rs
+  by true e same = ap (λ (rest : Bag). flat_map (g l) rs ++ rest) same
+  by false e same = ap (λ (x : Bag). x ++ crossed g ls rs) (none_for nulls f ks js l rs e) ∙ same
 
 -- for an end mark nothing is given at once
 pub none_at_end : (s : Spot) (kind : OpKind) (port : ℕ) (kept out : Bag) → GivesAtOnce s kind port kept End out ↔ (out ≡ [])
@@ -91,7 +122,7 @@ none_at_end s Cross (suc port) kept out = ((λ e. e), (λ e. e))
 none_at_end s kind port kept out = ((λ e. e), (λ e. e))
 
 pub given_more : (s : Spot) (kind : OpKind) (ports : List Port) (worker port from : ℕ) (note : Note) (rows new kept : ℕ → Bag) (given out : Bag)
-    → works_at_once kind ≡ true → is_edge (slice_get ports port) from worker ≡ true → Grown rows port note new → KeepsRows kind rows kept → (port ≡ 0 → rows 1 ≡ [])
+    → works_at_once kind ≡ true → is_edge (slice_get ports port) from worker ≡ true → Grown rows port note new → KeepsRows s kind rows kept → (port ≡ 0 → rows 1 ≡ [])
     → IsGiven s kind ports worker rows given → GivesAtOnce s kind port (kept 0) note out → IsGiven s kind ports worker new (given ++ out)
 given_more s kind ports worker port from End rows new kept given out w e grown keeps order g o = ended s kind ports worker port rows new given out grown g ((none_at_end s kind port (kept 0) out).0 o)
 given_more s kind (p ∷ q ∷ r ∷ ports) worker port from (Batch batch) rows new kept given out w e grown keeps order g o = absurd g.may
@@ -109,19 +140,24 @@ given_more s Map (p ∷ []) worker zero from (Batch batch) rows new kept given o
 given_more s Map (p ∷ q ∷ []) worker port from (Batch batch) rows new kept given out w e grown keeps order g o = absurd g.may
 given_more s Match (p ∷ []) worker port from (Batch batch) rows new kept given out w e grown keeps order g o = absurd g.may
 given_more s Match (p ∷ q ∷ []) worker zero from (Batch batch) rows new kept given out w e grown keeps order g o =
-    left_first s Match (matched (s.ops.of_pair s.at) (s.ops.left_keys s.at) (s.ops.right_keys s.at)) p q worker rows new batch given out (λ ls rs x m. m) (λ ls rs. refl) grown (order refl) g o
+    left_first s Match (matched s.ops.nulls (s.ops.of_pair s.at) (s.ops.left_keys s.at) (s.ops.right_keys s.at)) p q worker rows new batch given out (λ ls rs x m. m) (λ ls rs. refl) grown (order refl) g o
 given_more s Match (p ∷ q ∷ []) worker (suc zero) from (Batch batch) rows new kept given out w e grown keeps order g o =
-    right_next s Match (matched (s.ops.of_pair s.at) (s.ops.left_keys s.at) (s.ops.right_keys s.at)) p q worker rows new (kept 0) batch given out (λ ls rs x m. m) (λ ls rs. refl) grown keeps g o
+    let f : List Value → List Value → Bag = matched s.ops.nulls (s.ops.of_pair s.at) (s.ops.left_keys s.at) (s.ops.right_keys s.at) in
+    right_next s Match f p q worker rows new (kept 0) batch given out (λ ls rs x m. m) (λ ls rs. refl) grown
+    (λ ls same. joined (crossed-left f ls (rows 0) batch (turned same))
+    (joined (is_same (only_matching s.ops.nulls (s.ops.of_pair s.at) (s.ops.left_keys s.at) (s.ops.right_keys s.at) (rows 0) batch)) (crossed-left f (filter (may_match s) (rows 0)) (kept 0) batch keeps)))
+    g o
 given_more s Cross (p ∷ []) worker port from (Batch batch) rows new kept given out w e grown keeps order g o = absurd g.may
 given_more s Cross (p ∷ q ∷ []) worker zero from (Batch batch) rows new kept given out w e grown keeps order g o =
     left_first s Cross (s.ops.of_pair s.at) p q worker rows new batch given out (λ ls rs x m. m) (λ ls rs. refl) grown (order refl) g o
 given_more s Cross (p ∷ q ∷ []) worker (suc zero) from (Batch batch) rows new kept given out w e grown keeps order g o =
-    right_next s Cross (s.ops.of_pair s.at) p q worker rows new (kept 0) batch given out (λ ls rs x m. m) (λ ls rs. refl) grown keeps g o
+    right_next s Cross (s.ops.of_pair s.at) p q worker rows new (kept 0) batch given out (λ ls rs x m. m) (λ ls rs. refl) grown
+    (λ ls same. crossed-left (s.ops.of_pair s.at) ls (kept 0) batch (joined (turned same) keeps)) g o
 given_more s kind ports worker port from note rows new kept given out w e grown keeps order g o = absurd (cc)
 
 -- what an operator gives that waits for all
 pub given_last : (s : Spot) (kind : OpKind) (ports : List Port) (worker port from : ℕ) (note : Note) (rows new kept : ℕ → Bag) (out : Bag)
-    → works_at_once kind ≡ false → is_edge (slice_get ports port) from worker ≡ true → Grown rows port note new → KeepsRows kind rows kept
+    → works_at_once kind ≡ false → is_edge (slice_get ports port) from worker ≡ true → Grown rows port note new → KeepsRows s kind rows kept
     → IsGiven s kind ports worker (kept_with kept port note) out → IsGiven s kind ports worker new out
 given_last s kind (p ∷ q ∷ r ∷ ports) worker port from note rows new kept out w e grown keeps g = absurd g.may
 given_last s Reduce (p ∷ q ∷ []) worker port from note rows new kept out w e grown keeps g = absurd g.may
@@ -152,12 +188,15 @@ kept_port : (rows new kept more : ℕ → Bag) (port p : ℕ) (note : Note) → 
 kept_port rows new kept more port p note grown keeps m =
     joined (turned (grown p)) (joined (beside keeps (IsPermutation-refl (cond (p == port) (note_rows note) []))) m)
 
-pub kept_more : (kind : OpKind) (rows new kept more : ℕ → Bag) (port : ℕ) (note : Note) → Grown rows port note new → KeepsRows kind rows kept → KeepsRows kind (kept_with kept port note) more
-    → KeepsRows kind new more
-kept_more Source rows new kept more port note grown keeps m = tt
-kept_more Map rows new kept more port note grown keeps m = tt
-kept_more Reduce rows new kept more port note grown keeps m = kept_port rows new kept more port 0 note grown keeps m
-kept_more Match rows new kept more port note grown keeps m = kept_port rows new kept more port 0 note grown keeps m
-kept_more Cross rows new kept more port note grown keeps m = kept_port rows new kept more port 0 note grown keeps m
-kept_more CoGroup rows new kept more port note grown keeps m =
+pub kept_more : (s : Spot) (kind : OpKind) (rows new kept more : ℕ → Bag) (port : ℕ) (note : Note) → Grown rows port note new → KeepsRows s kind rows kept → KeepsMore s kind kept port note more
+    → KeepsRows s kind new more
+kept_more s Source rows new kept more port note grown keeps m = tt
+kept_more s Map rows new kept more port note grown keeps m = tt
+kept_more s Reduce rows new kept more port note grown keeps m = kept_port rows new kept more port 0 note grown keeps m
+kept_more s Match rows new kept more port note grown keeps m =
+    let came = cond (0 == port) (note_rows note) [] in
+    joined (to_permutation (filter_perm (may_match s) (from_permutation (new 0) (rows 0 ++ came) (turned (grown 0)))))
+    (joined (is_same (filter-append (may_match s) (rows 0) came)) (joined (beside keeps (IsPermutation-refl (filter (may_match s) came))) m))
+kept_more s Cross rows new kept more port note grown keeps m = kept_port rows new kept more port 0 note grown keeps m
+kept_more s CoGroup rows new kept more port note grown keeps m =
     (kept_port rows new kept more port 0 note grown keeps.0 m.0, kept_port rows new kept more port 1 note grown keeps.1 m.1)

@@ -193,7 +193,7 @@ started_local s worker i t =
       in_order = λ e from. refl;
       finished = λ e. absurd (let clash : true ≡ false = sym e ∙ t.finished in cc);
       ended = t.ended;
-      kept = λ e. subst (λ (r : ℕ → Bag). KeepsRows s.kind r (kept_at i)) rows t.kept;
+      kept = λ e. subst (λ (r : ℕ → Bag). KeepsRows s s.kind r (kept_at i)) rows t.kept;
       kept_wide = t.kept_wide;
       counted = t.given;
     }

@@ -87,7 +87,7 @@ gave_more true P Q out f g = f g
 gave_more false P Q out f g = g
 
 gave_next : (w : Bool) (s : Spot) (worker : ℕ) (i j : Instance) (port from : ℕ) (note : Note) (rows new : ℕ → Bag) (given out : Bag)
-    → works_at_once s.kind ≡ w → all_ended i ≡ false → is_edge (slice_get s.ports port) from worker ≡ true → Grown rows port note new → KeepsRows s.kind rows (kept_at i) → (port ≡ 0 → rows 1 ≡ [])
+    → works_at_once s.kind ≡ w → all_ended i ≡ false → is_edge (slice_get s.ports port) from worker ≡ true → Grown rows port note new → KeepsRows s s.kind rows (kept_at i) → (port ≡ 0 → rows 1 ≡ [])
     → Gave (w || all_ended i) (IsGiven s s.kind s.ports worker rows) given → GivesNow w s worker i j port note out → Gave (w || all_ended j) (IsGiven s s.kind s.ports worker new) (given ++ out)
 gave_next true s worker i j port from note rows new given out w not_yet e grown keeps order g o =
     given_more s s.kind s.ports worker port from note rows new (kept_at i) given out w e grown keeps order g o
@@ -164,7 +164,7 @@ took_local s worker i j taken new put port from note l wanted below edge unended
           ∙ sym (sender_ended-last (slice_get s.ports port) from worker (taken port from) note edge) ∙ ap (sender_ended (slice_get s.ports port) from worker) (sym a.here))
           (λ q m other lt. t.ended q m ∙ (λ x. (there_end (is_end note) q m port from other x || ended_at i q m)) ∙ l.ended q m lt ∙ ap (sender_ended (slice_get s.ports q) m worker) (sym (a.elsewhere q m other)))
           p k less;
-      kept = λ h. kept_more s.kind (taken_rows s.workers taken) (taken_rows s.workers new) (kept_at i) (kept_at j) port note grown (l.kept not_yet) (t.kept h);
+      kept = λ h. kept_more s s.kind (taken_rows s.workers taken) (taken_rows s.workers new) (kept_at i) (kept_at j) port note grown (l.kept not_yet) (t.kept h);
       kept_wide = t.kept_wide;
       counted = count_more (length l.given) (length t.out) j.given (t.given ∙ ap (λ (n : ℕ). count_of (n + length t.out)) l.counted) ∙ ap count_of (sym (length-append l.given t.out));
     }

@@ -102,8 +102,8 @@ two_give : (turns : ℕ → ℕ → ℕ) (s : Spot) (kind : OpKind) (p q : Port)
     → Gave b (IsGiven s kind (p ∷ q ∷ []) worker rows) given → length given ≤ two_bound kind x y (turns s.at)
 two_give turns s kind p q worker rows false given x y bounded small few e = omega (arith, ap length e)
 two_give turns s Match p q worker rows true given x y bounded small few e =
-    pairs_give (matched (s.ops.of_pair s.at) (s.ops.left_keys s.at) (s.ops.right_keys s.at)) (turns s.at 0) x y rows e.left e.right e.out given small few e.of_left e.of_right e.may e.permuted
-    (λ l t. matched_length (s.ops.of_pair s.at) (s.ops.left_keys s.at) (s.ops.right_keys s.at) (turns s.at 0) l t (bounded.of_pair s.at l t))
+    pairs_give (matched s.ops.nulls (s.ops.of_pair s.at) (s.ops.left_keys s.at) (s.ops.right_keys s.at)) (turns s.at 0) x y rows e.left e.right e.out given small few e.of_left e.of_right e.may e.permuted
+    (λ l t. matched_length s.ops.nulls (s.ops.of_pair s.at) (s.ops.left_keys s.at) (s.ops.right_keys s.at) (turns s.at 0) l t (bounded.of_pair s.at l t))
 two_give turns s Cross p q worker rows true given x y bounded small few e =
     pairs_give (s.ops.of_pair s.at) (turns s.at 0) x y rows e.left e.right e.out given small few e.of_left e.of_right e.may e.permuted (bounded.of_pair s.at)
 two_give turns s CoGroup p q worker rows true given x y bounded small few e =

@@ -1,12 +1,12 @@
 -- Sums over workers, and lengths.
-use Rattle.std.proofs.Common.{◌≡◌, ◌<◌, ◌≤◌, inl, inr, ◌+◌, ◌*◌, ◌%◌, ◌==◌, ℕ, zero, suc, Bool, true, false, cond, not, List, [], ◌∷◌, ◌++◌, length, map, filter, refl, ap, sym, ◌∙◌, arith, length-append}
+use Rattle.std.proofs.Common.{◌≡◌, ◌<◌, ◌≤◌, inl, inr, ◌+◌, ◌*◌, ◌%◌, ◌==◌, ℕ, zero, suc, Bool, true, false, ◌||◌, cond, not, List, [], ◌∷◌, ◌++◌, length, map, filter, refl, ap, sym, ◌∙◌, arith, length-append}
 use Rattle.std.proofs.lemmas.List.{length-map}
 use Rattle.std.specs.Prelude.{flat_map}
 use Rattle.std.proofs.Math.Nat.{mul-le-mul, suc-mul, le_refl, mul-zero}
 use Rattle.std.proofs.lemmas.Bool.{cases_eq, ne_eqb}
 use Rattle.std.proofs.lemmas.List.Sorted.{length_permutation}
 use Rattle.pact_bag.specs.Groups.{distinct_keys, do_match, group_of_key, is_same_key}
-use Rattle.pact_operators.specs.Allowed.{Bag, CoGrouped, Grouped, crossed, keys_in, keys_in_either, matched}
+use Rattle.pact_operators.specs.Allowed.{Bag, CoGrouped, Grouped, crossed, keys_in, keys_in_either, matched, has_null, unless_null}
 use Rattle.std.proofs.lemmas.List.Sums.{count_by-le-length, length-filter}
 use Rattle.pact_record.specs.declared.values.Value.{Value}
 use Rattle.pact_record.specs.Record.{key_of}
@@ -110,8 +110,9 @@ if_less : (b : Bool) (xs : Bag) (c : ℕ) → length xs ≤ c → length (cond b
 if_less true xs c h = h
 if_less false xs c h = omega arith
 
-pub matched_length : (f : List Value → List Value → Bag) (left_keys right_keys : List ℕ) (c : ℕ) (l r : List Value) → length (f l r) ≤ c → length (matched f left_keys right_keys l r) ≤ c
-matched_length f left_keys right_keys c l r h = if_less (do_match left_keys right_keys l r) (f l r) c h
+pub matched_length : (nulls : Bool) (f : List Value → List Value → Bag) (left_keys right_keys : List ℕ) (c : ℕ) (l r : List Value) → length (f l r) ≤ c → length (matched nulls f left_keys right_keys l r) ≤ c
+matched_length nulls f left_keys right_keys c l r h =
+    if_less (do_match left_keys right_keys l r) (unless_null nulls f left_keys l r) c (if_less (nulls || not (has_null (key_of left_keys l))) (f l r) c h)
 
 few_keys : (ks : List (List Value)) → length (distinct_keys ks) ≤ length ks
 few_keys [] = omega arith

@@ -17,6 +17,8 @@ pub record Part : Type 0 where
   pub body : Code
   pub left_keys : List ℕ
   pub right_keys : List ℕ
+  -- whether Nulls match in them
+  pub nulls : Bool
   pub fields : ℕ
   pub worker : ℕ
   pub workers : ℕ

@@ -1,8 +1,9 @@
 -- Instances that follow from the notes that they have taken and put.
-use Rattle.std.specs.Prelude.{◌≡◌, ◌<◌, ◌+◌, ◌&&◌, ◌||◌, ◌==◌, not, cond, ℕ, Bool, true, false, Option, Some, None, List, [], ◌∷◌, ◌++◌, length, slice_get}
+use Rattle.std.specs.Prelude.{◌≡◌, ◌<◌, ◌+◌, ◌&&◌, ◌||◌, ◌==◌, not, cond, ℕ, Bool, true, false, Option, Some, None, List, [], ◌∷◌, ◌++◌, length, filter, slice_get}
 use Rattle.std.specs.List.{AllByRecursion}
 use Rattle.std.specs.List.Sorted.{IsPermutation}
 use Rattle.pact_record.specs.declared.values.Value.{Value}
+use Rattle.pact_record.specs.Record.{key_of}
 use Rattle.pact_record.specs.Widths.{AreWide}
 use Rattle.tac_syntax.specs.Call.{of_record, of_pair, of_group, of_groups, Out}
 use Rattle.tac_syntax.specs.Code.{Code}
@@ -10,7 +11,7 @@ use Rattle.tac_syntax.specs.declared.declarations.OpKind.{OpKind}
 use Rattle.tac_syntax.specs.declared.declarations.OpKind.TheVariants.{Source, Map, Reduce, Match, Cross, CoGroup}
 use Rattle.plan_trees.specs.declared.physicals.Ship.{Ship}
 use Rattle.plan_trees.specs.Sending.{all_of, share_from, has_out}
-use Rattle.pact_operators.specs.Allowed.{Bag, Gives, GivesBoth, count_of}
+use Rattle.pact_operators.specs.Allowed.{Bag, Gives, GivesBoth, count_of, has_null}
 use Rattle.flow_model.specs.declared.notes.Note.{Note}
 use Rattle.flow_model.specs.Instances.{Instance, Part, all_ended, ended_at, kept_at, port_ended}
 use Rattle.flow_model.specs.Notes.{AreNotes, has_end, rows_of}
@@ -34,6 +35,7 @@ pub record IsPartOf (s : Spot) (on : ℕ) (p : Part) : Type 0 where
   pub calls : Calls s p.kind p.fields p.body
   pub left_keys : p.left_keys ≡ s.ops.left_keys s.at
   pub right_keys : p.right_keys ≡ s.ops.right_keys s.at
+  pub nulls : p.nulls ≡ s.ops.nulls
   pub fields : p.fields ≡ s.fields
   pub worker : p.worker ≡ on
   pub workers : p.workers ≡ s.workers
@@ -111,14 +113,18 @@ IsWaiting s worker w = IsReceiver s worker w.0 × (0 < length w.1) × AreWide s.
 
 -- ---- what is kept
 
+-- whether a left record of a Match may match another one: where Nulls don't, its key has none
+abbrev pub may_match : Spot → List Value → Bool
+may_match s row = s.ops.nulls || not (has_null (key_of (s.ops.left_keys s.at) row))
+
 -- the rows of each port that a call may still need, in some order
-abbrev pub KeepsRows : OpKind → (taken kept : ℕ → Bag) → Type 0
-KeepsRows Source taken kept = Unit {0}
-KeepsRows Map taken kept = Unit {0}
-KeepsRows Reduce taken kept = IsPermutation (taken 0) (kept 0)
-KeepsRows Match taken kept = IsPermutation (taken 0) (kept 0)
-KeepsRows Cross taken kept = IsPermutation (taken 0) (kept 0)
-KeepsRows CoGroup taken kept = IsPermutation (taken 0) (kept 0) × IsPermutation (taken 1) (kept 1)
+abbrev pub KeepsRows : Spot → OpKind → (taken kept : ℕ → Bag) → Type 0
+KeepsRows s Source taken kept = Unit {0}
+KeepsRows s Map taken kept = Unit {0}
+KeepsRows s Reduce taken kept = IsPermutation (taken 0) (kept 0)
+KeepsRows s Match taken kept = IsPermutation (filter (may_match s) (taken 0)) (kept 0)
+KeepsRows s Cross taken kept = IsPermutation (taken 0) (kept 0)
+KeepsRows s CoGroup taken kept = IsPermutation (taken 0) (kept 0) × IsPermutation (taken 1) (kept 1)
 
 -- ---- the instance
 
@@ -151,5 +157,5 @@ pub record IsLocal (s : Spot) (worker : ℕ) (i : Instance) (taken : ℕ → ℕ
   -- the senders that have ended are those whose end mark was taken
   pub ended : (port from : ℕ) → from < s.workers → ended_at i port from ≡ sender_ended (slice_get s.ports port) from worker (taken port from)
   -- it keeps the rows that are still needed
-  pub kept : all_ended i ≡ false → KeepsRows s.kind (taken_rows s.workers taken) (kept_at i)
+  pub kept : all_ended i ≡ false → KeepsRows s s.kind (taken_rows s.workers taken) (kept_at i)
   pub kept_wide : (port : ℕ) → AreWide s.fields (kept_at i port)

@@ -1,5 +1,5 @@
 -- What a note does to an instance.
-use Rattle.std.specs.Prelude.{◌≡◌, ◌≢◌, ◌<◌, ◌+◌, ◌&&◌, ◌||◌, ◌⊎◌, ◌==◌, ℕ, suc, Bool, true, false, cond, List, [], ◌∷◌, ◌++◌, length, slice_get}
+use Rattle.std.specs.Prelude.{◌≡◌, ◌≢◌, ◌<◌, ◌+◌, ◌&&◌, ◌||◌, ◌⊎◌, ◌==◌, ℕ, suc, Bool, true, false, cond, List, [], ◌∷◌, ◌++◌, filter, length, slice_get}
 use Rattle.std.specs.List.{AllByRecursion}
 use Rattle.std.specs.List.Sorted.{IsPermutation}
 use Rattle.pact_record.specs.Widths.{AreWide}
@@ -9,7 +9,7 @@ use Rattle.pact_operators.specs.Allowed.{Bag, Gives, GivesBoth, count_of}
 use Rattle.flow_model.specs.declared.notes.Note.{Note}
 use Rattle.flow_model.specs.declared.notes.Note.TheVariants.{Batch, End}
 use Rattle.flow_model.specs.Instances.{Instance, all_ended, ended_at, kept_at}
-use Rattle.flow_model.specs.Local.{Gave, IsGiven, IsPartOf, IsReceiver, IsWaiting, KeepsRows, Placed, marks_for, one_if, rows_for, sender_ended, works_at_once}
+use Rattle.flow_model.specs.Local.{Gave, IsGiven, IsPartOf, IsReceiver, IsWaiting, KeepsRows, Placed, marks_for, may_match, one_if, rows_for, sender_ended, works_at_once}
 use Rattle.flow_model.specs.Spots.{Spot, sent}
 use Rattle.plan_trees.specs.Sending.{has_out}
 
@@ -36,6 +36,11 @@ GivesAtOnce s kind port kept note out = out ≡ []
 abbrev pub kept_with : (ℕ → Bag) → (port : ℕ) → Note → ℕ → Bag
 kept_with kept port note p = kept p ++ cond (p == port) (note_rows note) []
 
+-- the rows that are kept after a note at a port
+abbrev pub KeepsMore : Spot → OpKind → (old : ℕ → Bag) → (port : ℕ) → Note → (new : ℕ → Bag) → Type 0
+KeepsMore s Match old port note new = IsPermutation (old 0 ++ filter (may_match s) (cond (0 == port) (note_rows note) [])) (new 0)
+KeepsMore s kind old port note new = KeepsRows s kind (kept_with old port note) new
+
 -- what an instance gives for one note
 abbrev pub GivesNow : (at_once : Bool) → Spot → (worker : ℕ) → (i j : Instance) → (port : ℕ) → Note → Bag → Type 0
 GivesNow true s worker i j port note out = GivesAtOnce s s.kind port (kept_at i 0) note out
@@ -58,7 +63,7 @@ pub record Took (s : Spot) (worker : ℕ) (i : Instance) (port from : ℕ) (note
   pub part : j.part ≡ i.part
   pub finished : j.finished ≡ i.finished
   pub ended : (p k : ℕ) → ended_at j p k ≡ ((is_end note && ((p == port) && (k == from))) || ended_at i p k)
-  pub kept : all_ended j ≡ false → KeepsRows s.kind (kept_with (kept_at i) port note) (kept_at j)
+  pub kept : all_ended j ≡ false → KeepsMore s s.kind (kept_at i) port note (kept_at j)
   pub kept_wide : (p : ℕ) → AreWide s.fields (kept_at j p)
   pub carries : Carry s worker out j.waiting
   pub marks : Mark s worker (all_ended j) j.marks
@@ -119,7 +124,7 @@ pub record Started (s : Spot) (worker : ℕ) (i : Instance) : Type 0 where
   pub gives : Gave (works_at_once s.kind || all_ended i) (IsGiven s s.kind s.ports worker (λ port. [])) out
   pub part : IsPartOf s worker i.part
   pub ended : (port from : ℕ) → from < s.workers → ended_at i port from ≡ sender_ended (slice_get s.ports port) from worker []
-  pub kept : KeepsRows s.kind (λ port. []) (kept_at i)
+  pub kept : KeepsRows s s.kind (λ port. []) (kept_at i)
   pub kept_wide : (port : ℕ) → AreWide s.fields (kept_at i port)
   pub carries : Carry s worker out i.waiting
   pub marks : Mark s worker (all_ended i) i.marks

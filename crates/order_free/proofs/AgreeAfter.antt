@@ -1,5 +1,5 @@
 -- Two stores that agree on what is live before a statement of one line agree behind it, and emit the same.
-use Rattle.std.proofs.Common.{◌≡◌, ◌<◌, ◌==◌, ◌-◌, ℕ, true, false, not, ◌&&◌, List, [], ◌∷◌, ◌++◌, get_or, slice_set, refl, sym, ap, ◌∙◌, append-nil, arith}
+use Rattle.std.proofs.Common.{◌≡◌, ◌<◌, ◌==◌, ◌-◌, ℕ, true, false, not, ◌&&◌, ◌||◌, List, [], ◌∷◌, ◌++◌, get_or, slice_set, refl, sym, ap, ◌∙◌, append-nil, arith}
 use Rattle.std.proofs.lemmas.Bool.{and_from, or_left, or_right, eq-eqb}
 use Rattle.std.proofs.lemmas.List.{get_or-take}
 use Rattle.pact_record.specs.declared.values.Value.{Value}
@@ -9,10 +9,10 @@ use Rattle.pact_record.specs.Operations.{applied1, applied2}
 use Rattle.tac_syntax.specs.declared.functions.Kind.{Kind}
 use Rattle.tac_syntax.specs.declared.statements.Rec.{Rec}
 use Rattle.tac_syntax.specs.declared.statements.Rec.TheVariants.{Reg, Loop, Input, Left, Right, Join, First}
-use Rattle.tac_syntax.specs.Code.{Simple, load_int, load_text, load_null, move_value, get_field, get_key, apply_one, apply_two, new_record, copy_record, set_field, emit_record, stop, plain}
-use Rattle.tac_syntax.specs.Call.{Store, value_in, record_in, named_record, key_values, empty_record, after}
+use Rattle.tac_syntax.specs.Code.{Simple, load_int, load_text, load_null, move_value, get_field, get_at, get_key, apply_one, apply_two, new_record, copy_record, set_field, set_at, emit_record, stop, plain}
+use Rattle.tac_syntax.specs.Call.{Store, numbered, at_numbered, set_numbered, value_in, record_in, named_record, key_values, empty_record, after}
 use Rattle.tac_syntax.specs.WellFormed.{CanRead, IsWellFormedSimple}
-use Rattle.order_free.specs.Registers.{Register, value_at, record_at, RegisterSet, is_register_of, is_first, has_operand, assigns, reads_first}
+use Rattle.order_free.specs.Registers.{Register, value_at, record_at, RegisterSet, is_value, is_register_of, is_first, has_operand, assigns, reads_first}
 use Rattle.order_free.specs.Liveness.{live}
 use Rattle.order_free.proofs.AgreeingStores.{Agree, Agree-fewer, Agree-put_value, Agree-put_record}
 
@@ -53,6 +53,12 @@ module _ (kind : Kind) (F n : ℕ) (set : RegisterSet) (s t : Store) where
       let a = get_field to from field in
       Agree-put_value set to (at_field (named_record s from) field) (at_field (named_record t from) field) w.0 (unassigned a h)
       (ap (λ (r : List Value). at_field r field) (named_record-agree kind n (live_before a set) s t from w.1 f (operand a) h))
+  after-agree (get_at to from at) w f h =
+      let a = get_at to from at in
+      let p = named_record-agree kind n (live_before a set) s t from w.1 f (λ r e. operand a r (or_left (is_register_of from r) (is_value at r) e)) h in
+      let q = h.values at (operand a (value_at at) (or_right (is_register_of from (value_at at)) (at == at) (eq-eqb at at refl))) in
+      Agree-put_value set to (at_numbered (named_record s from) (numbered s.fields (value_in s at))) (at_numbered (named_record t from) (numbered t.fields (value_in t at))) w.0 (unassigned a h)
+      (λ i. at_numbered (p i) (numbered (h.fields i) (q i)))
   after-agree (get_key to at) w f h =
       Agree-put_value set to (get_or (key_values s.input) at Null) (get_or (key_values t.input) at Null) w.0 (unassigned (get_key to at) h) (ap (λ (k : List Value). get_or k at Null) h.inputs.key)
   after-agree (apply_one to op b) w f h =
@@ -72,6 +78,13 @@ module _ (kind : Kind) (F n : ℕ) (set : RegisterSet) (s t : Store) where
       let p = h.records to (operand a (record_at to) (or_left (to == to) false (eq-eqb to to refl))) in
       let q = h.values v (operand a (value_at v) (or_right false (v == v) (eq-eqb v v refl))) in
       Agree-put_record set to (slice_set (record_in s to) field (value_in s v)) (slice_set (record_in t to) field (value_in t v)) w.0 (unassigned a h) (λ i. slice_set (p i) field (q i))
+  after-agree (set_at to at v) w f h =
+      let a = set_at to at v in
+      let p = h.records to (operand a (record_at to) (or_left (to == to) false (eq-eqb to to refl))) in
+      let number = h.values at (operand a (value_at at) (or_right false (at == at || at == v) (or_left (at == at) (at == v) (eq-eqb at at refl)))) in
+      let q = h.values v (operand a (value_at v) (or_right false (v == at || v == v) (or_right (v == at) (v == v) (eq-eqb v v refl)))) in
+      Agree-put_record set to (set_numbered (record_in s to) (numbered s.fields (value_in s at)) (value_in s v)) (set_numbered (record_in t to) (numbered t.fields (value_in t at)) (value_in t v)) w.0 (unassigned a h)
+      (λ i. set_numbered (p i) (numbered (h.fields i) (number i)) (q i))
   after-agree (emit_record from) w f h =
       let kept = unassigned (emit_record from) h in
       record {

@@ -8,8 +8,8 @@ use Rattle.pact_record.specs.Value.{is_true}
 use Rattle.pact_record.specs.Record.{at_field}
 use Rattle.pact_record.specs.Operations.{applied1, applied2}
 use Rattle.tac_syntax.specs.declared.functions.Kind.{Kind}
-use Rattle.tac_syntax.specs.Code.{Simple, load_int, load_text, load_null, move_value, get_field, get_key, apply_one, apply_two, new_record, copy_record, set_field, emit_record, Code, stop, plain, branch, again, each}
-use Rattle.tac_syntax.specs.Call.{Store, value_in, record_in, named_record, key_values, empty_record, put_value, put_record, bind, after, rows_of}
+use Rattle.tac_syntax.specs.Code.{Simple, load_int, load_text, load_null, move_value, get_field, get_at, get_key, apply_one, apply_two, new_record, copy_record, set_field, set_at, emit_record, Code, stop, plain, branch, again, each}
+use Rattle.tac_syntax.specs.Call.{Store, numbered, at_numbered, set_numbered, value_in, record_in, named_record, key_values, empty_record, put_value, put_record, bind, after, rows_of}
 use Rattle.tac_syntax.specs.Exec.{times, for_each, exec}
 use Rattle.tac_syntax.specs.WellFormed.{IsWellFormed}
 use Rattle.order_free.specs.Registers.{Register, value_at, record_at, RegisterSet, is_value, is_record, assigns, is_assigned}
@@ -47,12 +47,14 @@ module _ (set : RegisterSet) where
   after-kept n s (load_null to) spares h = put_value-kept n s to Null spares h
   after-kept n s (move_value to from) spares h = put_value-kept n s to (value_in s from) spares h
   after-kept n s (get_field to from field) spares h = put_value-kept n s to (at_field (named_record s from) field) spares h
+  after-kept n s (get_at to from at) spares h = put_value-kept n s to (at_numbered (named_record s from) (numbered s.fields (value_in s at))) spares h
   after-kept n s (get_key to at) spares h = put_value-kept n s to (get_or (key_values s.input) at Null) spares h
   after-kept n s (apply_one to op a) spares h = put_value-kept n s to (applied1 op (value_in s a)) spares h
   after-kept n s (apply_two to op a b) spares h = put_value-kept n s to (applied2 op (value_in s a) (value_in s b)) spares h
   after-kept n s (new_record to) spares h = put_record-kept n s to (empty_record s.fields) spares h
   after-kept n s (copy_record to from) spares h = put_record-kept n s to (named_record s from) spares h
   after-kept n s (set_field to field v) spares h = put_record-kept n s to (slice_set (record_in s to) field (value_in s v)) spares h
+  after-kept n s (set_at to at v) spares h = put_record-kept n s to (set_numbered (record_in s to) (numbered s.fields (value_in s at)) (value_in s v)) spares h
   after-kept n s (emit_record from) spares h = record {
     own = h;
     other = record { values = h.values; records = h.records; loops = h.loops };

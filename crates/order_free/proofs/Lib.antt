@@ -1,3 +1,4 @@
+pub mod OccurInTurn
 pub mod RegisterSets
 pub mod StatementsInTurn
 pub mod ValueOrder

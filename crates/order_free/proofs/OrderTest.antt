@@ -5,7 +5,7 @@ use Rattle.tac_syntax.specs.declared.functions.Kind.{Kind}
 use Rattle.tac_syntax.specs.declared.functions.Kind.TheVariants.{Reduce, CoGroup}
 use Rattle.tac_syntax.specs.declared.statements.Rec.{Rec}
 use Rattle.tac_syntax.specs.declared.statements.Rec.TheVariants.{Reg}
-use Rattle.tac_syntax.specs.Code.{Simple, load_int, load_text, load_null, move_value, get_field, get_key, apply_one, apply_two, new_record, copy_record, set_field, emit_record, Code, stop, plain, branch, again, each}
+use Rattle.tac_syntax.specs.Code.{Simple, load_int, load_text, load_null, move_value, get_field, get_at, get_key, apply_one, apply_two, new_record, copy_record, set_field, set_at, emit_record, Code, stop, plain, branch, again, each}
 use Rattle.tac_syntax.specs.Valid.{IsValid}
 use Rattle.tac_syntax.specs.WellFormed.{CanRead, IsWellFormedSimple, IsWellFormed}
 use Rattle.tac_syntax.proofs.WellFormed.{valid_is_well_formed}
@@ -25,10 +25,12 @@ module _ (kind : Kind) (F : ℕ) where
   operands_in_range : (depth : ℕ) (s : Simple) → IsWellFormedSimple kind F depth s → AreOperandsInRange s
   operands_in_range depth (move_value to from) h = h.1
   operands_in_range depth (get_field to from field) h = record_in_range depth from h.1
+  operands_in_range depth (get_at to from at) h = (record_in_range depth from h.1, h.2)
   operands_in_range depth (apply_one to op a) h = h.1
   operands_in_range depth (apply_two to op a b) h = (h.1, h.2)
   operands_in_range depth (copy_record to from) h = record_in_range depth from h.1
   operands_in_range depth (set_field to field value) h = (h.0, h.2)
+  operands_in_range depth (set_at to at value) h = h
   operands_in_range depth (emit_record from) h = h
   operands_in_range depth s h = tt
 
@@ -38,12 +40,14 @@ module _ (kind : Kind) (F : ℕ) where
   target_in_range depth (load_null to) h = h
   target_in_range depth (move_value to from) h = h.0
   target_in_range depth (get_field to from field) h = h.0
+  target_in_range depth (get_at to from at) h = h.0
   target_in_range depth (get_key to at) h = h.0
   target_in_range depth (apply_one to op a) h = h.0
   target_in_range depth (apply_two to op a b) h = h.0
   target_in_range depth (new_record to) h = h
   target_in_range depth (copy_record to from) h = h.0
   target_in_range depth (set_field to field value) h = h.0
+  target_in_range depth (set_at to at value) h = h.0
   target_in_range depth (emit_record from) h = tt
 
   well_formed_in_range : (depth : ℕ) (c : Code) → IsWellFormed kind F depth c → AreRegistersInRange c

@@ -2,7 +2,7 @@
 use Rattle.std.specs.Prelude.{ℕ, Bool, true, false, ◌||◌, ◌==◌}
 use Rattle.tac_syntax.specs.declared.statements.Rec.{Rec}
 use Rattle.tac_syntax.specs.declared.statements.Rec.TheVariants.{Reg, First}
-use Rattle.tac_syntax.specs.Code.{Simple, load_int, load_text, load_null, move_value, get_field, get_key, apply_one, apply_two, new_record, copy_record, set_field, emit_record, Code, stop, plain, branch, again, each}
+use Rattle.tac_syntax.specs.Code.{Simple, load_int, load_text, load_null, move_value, get_field, get_at, get_key, apply_one, apply_two, new_record, copy_record, set_field, set_at, emit_record, Code, stop, plain, branch, again, each}
 
 -- a register for values or for records, by its number
 pub data Register : Type 0 where
@@ -32,13 +32,16 @@ is_register_of from r = false
 -- ---- statements of one line
 
 -- The register is an operand. Those of a `set` are its record register, whose other fields it keeps, and its value; that of an `emit` is its record register.
+-- The register that a field's number is taken from is one, too.
 abbrev pub has_operand : Simple → Register → Bool
 has_operand (move_value to from) r = is_value from r
 has_operand (get_field to from field) r = is_register_of from r
+has_operand (get_at to from at) r = is_register_of from r || is_value at r
 has_operand (apply_one to op a) r = is_value a r
 has_operand (apply_two to op a b) r = is_value a r || is_value b r
 has_operand (copy_record to from) r = is_register_of from r
 has_operand (set_field to field value) r = is_record to r || is_value value r
+has_operand (set_at to at value) r = is_record to r || (is_value at r || is_value value r)
 has_operand (emit_record from) r = is_record from r
 has_operand statement r = false
 
@@ -49,12 +52,14 @@ assigns (load_text to bytes) r = is_value to r
 assigns (load_null to) r = is_value to r
 assigns (move_value to from) r = is_value to r
 assigns (get_field to from field) r = is_value to r
+assigns (get_at to from at) r = is_value to r
 assigns (get_key to at) r = is_value to r
 assigns (apply_one to op a) r = is_value to r
 assigns (apply_two to op a b) r = is_value to r
 assigns (new_record to) r = is_record to r
 assigns (copy_record to from) r = is_record to r
 assigns (set_field to field value) r = is_record to r
+assigns (set_at to at value) r = is_record to r
 assigns (emit_record from) r = false
 
 -- the register occurs in the statement
@@ -68,6 +73,7 @@ is_first from = false
 -- it reads the first record of a group
 abbrev pub reads_first : Simple → Bool
 reads_first (get_field to from field) = is_first from
+reads_first (get_at to from at) = is_first from
 reads_first (copy_record to from) = is_first from
 reads_first statement = false
 

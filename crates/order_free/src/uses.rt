@@ -29,9 +29,14 @@ pub(crate) fn operands(stmt: &Stmt) -> Registers
     match stmt {
         Stmt::Mov { from, .. } => Registers::value(*from),
         Stmt::Get { from, .. } | Stmt::Copy { from, .. } => register_of(*from),
+        Stmt::GetAt { from, at, .. } => register_of(*from).union(&Registers::value(*at)),
         Stmt::One { a, .. } => Registers::value(*a),
         Stmt::Two { a, b, .. } => Registers::value(*a).union(&Registers::value(*b)),
         Stmt::Set { to, value, .. } => Registers::record(*to).union(&Registers::value(*value)),
+        Stmt::SetAt { to, at, value } => {
+            let values = Registers::value(*at).union(&Registers::value(*value));
+            Registers::record(*to).union(&values)
+        }
         Stmt::Emit { from } => Registers::record(*from),
         _ => Registers::none(),
     }
@@ -48,10 +53,12 @@ pub(crate) fn target(stmt: &Stmt) -> Registers
         | Stmt::Null { to }
         | Stmt::Mov { to, .. }
         | Stmt::Get { to, .. }
+        | Stmt::GetAt { to, .. }
         | Stmt::Key { to, .. }
         | Stmt::One { to, .. }
         | Stmt::Two { to, .. } => Registers::value(*to),
-        Stmt::New { to } | Stmt::Copy { to, .. } | Stmt::Set { to, .. } => Registers::record(*to),
+        Stmt::New { to } | Stmt::Copy { to, .. } | Stmt::Set { to, .. } | Stmt::SetAt { to, .. } =>
+            Registers::record(*to),
         _ => Registers::none(),
     }
 }
@@ -88,7 +95,9 @@ fn reads_first(stmt: &Stmt) -> bool
     ensures { result ≡ specs.has_first (only stmt.now) }
 {
     match stmt {
-        Stmt::Get { from, .. } | Stmt::Copy { from, .. } => matches!(from, Rec::First),
+        Stmt::Get { from, .. } | Stmt::GetAt { from, .. } | Stmt::Copy { from, .. } => {
+            matches!(from, Rec::First)
+        }
         Stmt::If { body, other, .. } => has_first(body) || has_first(other),
         Stmt::Repeat { body, .. } | Stmt::Each { body, .. } => has_first(body),
         _ => false,

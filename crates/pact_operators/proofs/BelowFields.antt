@@ -2,7 +2,6 @@
 use Rattle.std.proofs.Common.{◌≡◌, ◌<◌, inl, inr, ℕ, zero, suc, List, [], ◌∷◌, arith}
 use Rattle.std.specs.List.{AllByRecursion}
 use Rattle.pact_record.specs.declared.columns.Column.{Column}
-use Rattle.tac_syntax.specs.Bounded.{Names}
 use Rattle.tac_syntax.specs.Valid.{IsValid, WithFields}
 use Rattle.tac_syntax.proofs.Naming.{NamesBelow-valid}
 use Rattle.tac_syntax.specs.declared.declarations.OpKind.{OpKind}
@@ -10,7 +9,7 @@ use Rattle.tac_syntax.specs.declared.declarations.OpKind.TheVariants.{Source, Ma
 use Rattle.pact_operators.specs.declared.operators.Op.{Op}
 use Rattle.plan_trees.specs.Plans.{PlanTree, leaf, over, both}
 use Rattle.pact_bag.specs.SourceRows.{IsColumnField}
-use Rattle.pact_operators.specs.Programs.{HasAttribute, Owns, OwnsBy, body_of, fields_of, source_fields}
+use Rattle.pact_operators.specs.Programs.{FunctionNames, HasAttribute, Owns, OwnsBy, fields_of, source_fields}
 use Rattle.pact_record.proofs.Lists.{AllByRecursion-left, AllByRecursion-right}
 
 -- the functions are valid, with this number of fields
@@ -18,7 +17,7 @@ pub record AreOf (fields : ℕ) (v : List WithFields) : Type 0 where
   pub same : AllByRecursion (λ v. v.fields ≡ fields) v
   pub valid : AllByRecursion (λ v. IsValid v.function v.fields) v
 
-named-below : (fields : ℕ) (v : List WithFields) (n k : ℕ) → AllByRecursion (λ v. v.fields ≡ fields) v → AllByRecursion (λ v. IsValid v.function v.fields) v → Names k (body_of v n) → k < fields
+named-below : (fields : ℕ) (v : List WithFields) (n k : ℕ) → AllByRecursion (λ v. v.fields ≡ fields) v → AllByRecursion (λ v. IsValid v.function v.fields) v → FunctionNames v n k → k < fields
 named-below fields [] n k same valid h = absurd h
 named-below fields (w ∷ v) zero k same valid h = omega (arith, NamesBelow-valid w.function w.fields valid.0 k h, same.0)
 named-below fields (w ∷ v) (suc n) k same valid h = named-below fields v n k same.1 valid.1 h

@@ -10,6 +10,7 @@ use Rattle.pact_operators.specs.declared.operators.Op.{Op}
 use Rattle.pact_operators.specs.declared.program_rules.ProgramRule.TheVariants.{WrongField}
 use Rattle.plan_trees.specs.Distinct.{AreDifferent, IsAbsent}
 use Rattle.tac_syntax.specs.Drafts.{AreDeclared, DraftData}
+use Rattle.tac_syntax.specs.Versions.{field_limit}
 use Rattle.pact_operators.specs.ProgramRules.{NoneBreaks, all_columns, column_fields, some_too_large, times_in}
 use Rattle.pact_operators.specs.Programs.{IsFieldList, fields_of, source_fields}
 use Rattle.pact_operators.specs.Resolved.{ops_of, sink_fields, sink_inputs}
@@ -97,8 +98,8 @@ columns-different d v h = different (all_columns d.decls) (all_columns d.decls) 
 
 -- ---- the sink
 
-pub sink-is : (d : DraftData) (v : List WithFields) (n count : ℕ) (front decls : List Decl) → AreDeclared n count decls → NoneBreaks WrongField d v front decls → 1 ≤ length (sink_inputs decls)
-    → IsFieldList d.fields (sink_fields decls)
+pub sink-is : (d : DraftData) (v : List WithFields) (n count : ℕ) (front decls : List Decl) → AreDeclared d.version n count decls → NoneBreaks WrongField d v front decls → 1 ≤ length (sink_inputs decls)
+    → IsFieldList (field_limit d.version) d.fields (sink_fields decls)
 sink-is d v n count front [] s h some = absurd (omega (arith, some))
 sink-is d v n count front (Source name file columns ∷ decls) s h some = sink-is d v n count (front ++ Source name file columns ∷ []) decls s.1 h.1 some
 sink-is d v n count front (FunctionDecl number ∷ decls) s h some = sink-is d v (n + 1) count (front ++ FunctionDecl number ∷ []) decls s.1 h.1 some

@@ -89,14 +89,14 @@ kept-NamesDiffer d v p program kept m n a b at_m at_n same =
 
 -- ---- their bytes
 
-names_spelled : (functions : List (List ℕ)) (n count : ℕ) (decls : List Decl) → AreDeclared n count decls → AllByRecursion (λ op. IsTrue (is_name op.name)) (ops_of functions decls)
-names_spelled functions n count [] h = tt
-names_spelled functions n count (Source name file columns ∷ decls) h = (h.0.0, names_spelled functions n count decls h.1)
-names_spelled functions n count (FunctionDecl number ∷ decls) h = names_spelled functions (n + 1) count decls h.1
-names_spelled functions n count (OpDecl name kind function left right left_keys right_keys ∷ decls) h = (h.0.0, names_spelled functions n count decls h.1)
-names_spelled functions n count (Sink input fields ∷ decls) h = names_spelled functions n count decls h.1
+names_spelled : (version : ℕ) (functions : List (List ℕ)) (n count : ℕ) (decls : List Decl) → AreDeclared version n count decls → AllByRecursion (λ op. IsTrue (is_name op.name)) (ops_of functions decls)
+names_spelled version functions n count [] h = tt
+names_spelled version functions n count (Source name file columns ∷ decls) h = (h.0.0, names_spelled version functions n count decls h.1)
+names_spelled version functions n count (FunctionDecl number ∷ decls) h = names_spelled version functions (n + 1) count decls h.1
+names_spelled version functions n count (OpDecl name kind function left right left_keys right_keys ∷ decls) h = (h.0.0, names_spelled version functions n count decls h.1)
+names_spelled version functions n count (Sink input fields ∷ decls) h = names_spelled version functions n count decls h.1
 
 pub spelled-AreNames : (d : DraftData) (v : List WithFields) (p : ProgramData) → IsProgramOf d v p → IsSpelledDraft d → AreNames p.ops
 spelled-AreNames d v p program h n op at_n =
-    AllByRecursion-slice_get (λ o. IsTrue (is_name o.name)) (ops_of (function_names d.functions) d.decls) n op (names_spelled (function_names d.functions) 0 (length d.functions) d.decls h.declared)
+    AllByRecursion-slice_get (λ o. IsTrue (is_name o.name)) (ops_of (function_names d.functions) d.decls) n op (names_spelled d.version (function_names d.functions) 0 (length d.functions) d.decls h.declared)
     (subst (λ (ops : List Op). slice_get ops n ≡ Some op) program.ops at_n)

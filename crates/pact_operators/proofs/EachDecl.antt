@@ -21,18 +21,18 @@ none-at rule d v front (x ∷ decls) zero decl h e = let same : x ≡ decl = cc 
 none-at rule d v front (x ∷ decls) (suc m) decl h e = none-at rule d v (front ++ x ∷ []) decls m decl h.1 e
 
 -- it is spelled, but for a function, which is declared elsewhere
-abbrev pub IsSpelledIn : Decl → Type 0
-IsSpelledIn (Source name file columns) = IsSpelledDecl (Source name file columns)
-IsSpelledIn (FunctionDecl number) = Unit {0}
-IsSpelledIn (OpDecl name kind function left right left_keys right_keys) = IsSpelledDecl (OpDecl name kind function left right left_keys right_keys)
-IsSpelledIn (Sink input fields) = IsSpelledDecl (Sink input fields)
+abbrev pub IsSpelledIn : ℕ → Decl → Type 0
+IsSpelledIn v (Source name file columns) = IsSpelledDecl v (Source name file columns)
+IsSpelledIn v (FunctionDecl number) = Unit {0}
+IsSpelledIn v (OpDecl name kind function left right left_keys right_keys) = IsSpelledDecl v (OpDecl name kind function left right left_keys right_keys)
+IsSpelledIn v (Sink input fields) = IsSpelledDecl v (Sink input fields)
 
-pub spelled : (n count : ℕ) (decls : List Decl) → AreDeclared n count decls → AllByRecursion IsSpelledIn decls
-spelled n count [] h = tt
-spelled n count (Source name file columns ∷ decls) h = (h.0, spelled n count decls h.1)
-spelled n count (FunctionDecl number ∷ decls) h = (tt, spelled (n + 1) count decls h.1)
-spelled n count (OpDecl name kind function left right left_keys right_keys ∷ decls) h = (h.0, spelled n count decls h.1)
-spelled n count (Sink input fields ∷ decls) h = (h.0, spelled n count decls h.1)
+pub spelled : (v n count : ℕ) (decls : List Decl) → AreDeclared v n count decls → AllByRecursion (IsSpelledIn v) decls
+spelled v n count [] h = tt
+spelled v n count (Source name file columns ∷ decls) h = (h.0, spelled v n count decls h.1)
+spelled v n count (FunctionDecl number ∷ decls) h = (tt, spelled v (n + 1) count decls h.1)
+spelled v n count (OpDecl name kind function left right left_keys right_keys ∷ decls) h = (h.0, spelled v n count decls h.1)
+spelled v n count (Sink input fields ∷ decls) h = (h.0, spelled v n count decls h.1)
 
 -- ---- its lists of keys are short
 
@@ -47,12 +47,12 @@ few-keys_of Match right left_keys right_keys h = (h.1.few, h.2.few)
 few-keys_of Cross right left_keys right_keys h = (none_few left_keys h.1, none_few right_keys h.2)
 few-keys_of CoGroup right left_keys right_keys h = (h.1.few, h.2.few)
 
-few-keys_in : (decl : Decl) → IsSpelledIn decl → HasFewKeys decl
-few-keys_in (Source name file columns) h = tt
-few-keys_in (FunctionDecl number) h = tt
-few-keys_in (OpDecl name kind function left right left_keys right_keys) h = few-keys_of kind right left_keys right_keys h.3
-few-keys_in (Sink input fields) h = tt
+few-keys_in : (v : ℕ) (decl : Decl) → IsSpelledIn v decl → HasFewKeys decl
+few-keys_in v (Source name file columns) h = tt
+few-keys_in v (FunctionDecl number) h = tt
+few-keys_in v (OpDecl name kind function left right left_keys right_keys) h = few-keys_of kind right left_keys right_keys h.3
+few-keys_in v (Sink input fields) h = tt
 
-pub few-keys : (decls : List Decl) → AllByRecursion IsSpelledIn decls → AllByRecursion HasFewKeys decls
-few-keys [] h = tt
-few-keys (decl ∷ decls) h = (few-keys_in decl h.0, few-keys decls h.1)
+pub few-keys : (v : ℕ) (decls : List Decl) → AllByRecursion (IsSpelledIn v) decls → AllByRecursion HasFewKeys decls
+few-keys v [] h = tt
+few-keys v (decl ∷ decls) h = (few-keys_in v decl h.0, few-keys v decls h.1)

@@ -53,16 +53,16 @@ not_too_many before decl h =
 pub declared-operators : (d : DraftData) (v : List WithFields) → NoneBreaks TooMany d v [] d.decls → times_so is_operator d.decls ≤ operator_limit
 declared-operators d v h = few_so is_operator operator_limit d v [] d.decls (λ before decl one. (not_too_many before decl one).1) h (omega arith)
 
-functions_in : (n count : ℕ) (decls : List Decl) → AreDeclared n count decls → n + times_so is_function decls ≡ count
-functions_in n count [] h = omega (arith, h)
-functions_in n count (Source name file columns ∷ decls) h = functions_in n count decls h.1
-functions_in n count (FunctionDecl number ∷ decls) h = omega (arith, functions_in (n + 1) count decls h.1)
-functions_in n count (OpDecl name kind function left right left_keys right_keys ∷ decls) h = functions_in n count decls h.1
-functions_in n count (Sink input fields ∷ decls) h = functions_in n count decls h.1
+functions_in : (version n count : ℕ) (decls : List Decl) → AreDeclared version n count decls → n + times_so is_function decls ≡ count
+functions_in version n count [] h = omega (arith, h)
+functions_in version n count (Source name file columns ∷ decls) h = functions_in version n count decls h.1
+functions_in version n count (FunctionDecl number ∷ decls) h = omega (arith, functions_in version (n + 1) count decls h.1)
+functions_in version n count (OpDecl name kind function left right left_keys right_keys ∷ decls) h = functions_in version n count decls h.1
+functions_in version n count (Sink input fields ∷ decls) h = functions_in version n count decls h.1
 
-pub few-functions : (d : DraftData) (v : List WithFields) → AreDeclared 0 (length d.functions) d.decls → NoneBreaks TooMany d v [] d.decls → length d.functions ≤ function_limit
+pub few-functions : (d : DraftData) (v : List WithFields) → AreDeclared d.version 0 (length d.functions) d.decls → NoneBreaks TooMany d v [] d.decls → length d.functions ≤ function_limit
 few-functions d v declared h =
-    omega (arith, functions_in 0 (length d.functions) d.decls declared, few_so is_function function_limit d v [] d.decls (λ before decl one. (not_too_many before decl one).0) h (omega arith))
+    omega (arith, functions_in d.version 0 (length d.functions) d.decls declared, few_so is_function function_limit d v [] d.decls (λ before decl one. (not_too_many before decl one).0) h (omega arith))
 
 -- ---- sources and operators
 

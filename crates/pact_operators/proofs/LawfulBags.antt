@@ -1,5 +1,5 @@
 -- The records of a bag that a plan allows are Null outside the plan's attributes.
-use Rattle.std.proofs.Common.{◌≡◌, ◌<◌, ◌+◌, ◌⊎◌, inl, inr, ℕ, List, [], ◌∷◌, length, refl, sym, subst}
+use Rattle.std.proofs.Common.{◌≡◌, ◌<◌, ◌+◌, ◌⊎◌, ◌||◌, not, inl, inr, ℕ, List, [], ◌∷◌, length, refl, sym, subst}
 use Rattle.std.specs.List.{AllByRecursion}
 use Rattle.pact_bag.specs.Groups.{is_same_key}
 use Rattle.pact_record.specs.Widths.{AreWide}
@@ -15,7 +15,7 @@ use Rattle.tac_syntax.specs.declared.declarations.OpKind.{OpKind}
 use Rattle.tac_syntax.specs.declared.declarations.OpKind.TheVariants.{Source, Map, Reduce, Match, Cross, CoGroup}
 use Rattle.plan_trees.specs.Plans.{PlanTree, leaf, over, both}
 use Rattle.pact_operators.specs.declared.operators.Op.{Op}
-use Rattle.pact_operators.specs.Allowed.{Bag, Allows, Gives, GivesBoth, matched}
+use Rattle.pact_operators.specs.Allowed.{Bag, Allows, Gives, GivesBoth, has_null, matched, unless_null}
 use Rattle.pact_operators.specs.PlanOps.{PlanOps}
 use Rattle.pact_operators.specs.Programs.{HasAttribute, Owns}
 use Rattle.pact_operators.specs.SoundOps.{AreOpsOf, IsCallOf, called}
@@ -107,8 +107,9 @@ module _ (fields : ℕ) (v : List WithFields) (ops : List Op) (o : PlanOps) (goo
   both_fits n s t Map e ls rs out h j p = absurd p
   both_fits n s t Reduce e ls rs out h j p = absurd p
   both_fits n s t Match e ls rs out h j p =
-      subst (AllByRecursion (IsWithin fields (OverBoth v ops n s t))) (sym p) (crossed_each (IsWithin fields s) (IsWithin fields t) (IsWithin fields (OverBoth v ops n s t)) (matched (o.of_pair n) (o.left_keys n) (o.right_keys n)) ls rs h j
-      (λ l r fl fr. AllByRecursion-cond (IsWithin fields (OverBoth v ops n s t)) (is_same_key (key_of (o.left_keys n) l) (key_of (o.right_keys n) r)) (o.of_pair n l r) [] (match_fits n s t e l r fl fr) tt))
+      subst (AllByRecursion (IsWithin fields (OverBoth v ops n s t))) (sym p) (crossed_each (IsWithin fields s) (IsWithin fields t) (IsWithin fields (OverBoth v ops n s t)) (matched o.nulls (o.of_pair n) (o.left_keys n) (o.right_keys n)) ls rs h j
+      (λ l r fl fr. AllByRecursion-cond (IsWithin fields (OverBoth v ops n s t)) (is_same_key (key_of (o.left_keys n) l) (key_of (o.right_keys n) r)) (unless_null o.nulls (o.of_pair n) (o.left_keys n) l r) []
+      (AllByRecursion-cond (IsWithin fields (OverBoth v ops n s t)) (o.nulls || not (has_null (key_of (o.left_keys n) l))) (o.of_pair n l r) [] (match_fits n s t e l r fl fr) tt) tt))
   both_fits n s t Cross e ls rs out h j p =
       subst (AllByRecursion (IsWithin fields (OverBoth v ops n s t))) (sym p) (crossed_each (IsWithin fields s) (IsWithin fields t) (IsWithin fields (OverBoth v ops n s t)) (o.of_pair n) ls rs h j (λ l r fl fr. cross_fits n s t e l r fl fr))
   both_fits n s t CoGroup e ls rs out h j p =

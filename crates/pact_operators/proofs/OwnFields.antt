@@ -6,11 +6,12 @@ use Rattle.std.proofs.lemmas.List.{drop_more}
 use Rattle.std.proofs.lemmas.Option.{slice_get_read, slice_get_past}
 use Rattle.pact_record.specs.declared.columns.Column.{Column}
 use Rattle.pact_record.specs.FieldSets.{has_field}
+use Rattle.tac_syntax.specs.Bounded.{Names}
 use Rattle.tac_syntax.specs.Code.{stop}
 use Rattle.tac_syntax.specs.Valid.{WithFields}
 use Rattle.pact_operators.specs.declared.operators.Op.{Op}
 use Rattle.pact_bag.specs.SourceRows.{IsColumnField}
-use Rattle.pact_operators.specs.Programs.{Owns, OwnsBy, body_of, fields_of, source_fields}
+use Rattle.pact_operators.specs.Programs.{FunctionNames, Owns, OwnsBy, body_of, fields_of, source_fields}
 use Rattle.pact_record.proofs.Lists.{AllByRecursion-left, AllByRecursion-right}
 
 -- ---- columns
@@ -58,6 +59,18 @@ pub body_of-none : (valids : List WithFields) (n : ℕ) → slice_get valids n �
 body_of-none [] n e = refl
 body_of-none (v ∷ valids) zero e = let bad : Some v ≡ None = e in absurd cc
 body_of-none (v ∷ valids) (suc n) e = body_of-none valids n e
+
+pub names_of-some : (valids : List WithFields) (n k : ℕ) (v : WithFields) → slice_get valids n ≡ Some v → FunctionNames valids n k ↔ Names v.fields k v.function.body
+names_of-some [] n k v e = let bad : None ≡ Some v = e in absurd cc
+names_of-some (w ∷ valids) zero k v e =
+    let same : w ≡ v = cc in subst (λ (x : WithFields). Names w.fields k w.function.body ↔ Names x.fields k x.function.body) same (λ h. h, λ h. h)
+names_of-some (w ∷ valids) (suc n) k v e = names_of-some valids n k v e
+
+-- and sets nothing
+pub names_of-none : (valids : List WithFields) (n k : ℕ) → slice_get valids n ≡ None → FunctionNames valids n k → ⊥
+names_of-none [] n k e h = h
+names_of-none (v ∷ valids) zero k e h = let bad : Some v ≡ None = e in absurd cc
+names_of-none (v ∷ valids) (suc n) k e h = names_of-none valids n k e h
 
 pub owned_at : (valids : List WithFields) (ops : List Op) (n k : ℕ) (op : Op) → slice_get ops n ≡ Some op → Owns valids ops n k ↔ OwnsBy op.kind valids op k
 owned_at valids [] n k op e = let bad : None ≡ Some op = e in absurd cc

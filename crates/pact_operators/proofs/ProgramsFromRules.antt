@@ -13,6 +13,7 @@ use Rattle.tac_syntax.specs.declared.declarations.Decl.TheVariants.{Source, Func
 use Rattle.pact_operators.specs.declared.operators.Op.{Op}
 use Rattle.pact_operators.specs.declared.program_rules.ProgramRule.{ProgramRule}
 use Rattle.pact_operators.specs.declared.program_rules.ProgramRule.TheVariants.{Undeclared, DeclaredTwice, NoSingleSink, TooMany, NotATree, OtherKind, OtherKeyCount, WrongField, NoAttribute, SharedAttribute}
+use Rattle.tac_syntax.proofs.FieldLimits.{wide_limit}
 use Rattle.pact_operators.specs.AttributeTests.{AreAttributesKnown}
 use Rattle.pact_operators.specs.Candidates.{CandidateData}
 use Rattle.pact_operators.specs.Checks.{KeepsBefore}
@@ -49,7 +50,7 @@ few-names c h s =
     omega (arith, few-functions c.draft c.valids s.declared (h TooMany (omega arith)).0, length-map c.draft.functions (λ (f : Function). f.name))
 
 pub few-keys_of : (d : DraftData) → IsSpelledDraft d → AllByRecursion HasFewKeys d.decls
-few-keys_of d s = few-keys d.decls (spelled 0 (length d.functions) d.decls s.declared)
+few-keys_of d s = few-keys d.version d.decls (spelled d.version 0 (length d.functions) d.decls s.declared)
 
 columns_below : (c : CandidateData) → NoneBreaks WrongField c.draft c.valids [] c.draft.decls → AllByRecursion (λ k. k < c.draft.fields) (source_fields (ops_of (function_names c.draft.functions) c.draft.decls))
 columns_below c h =
@@ -59,6 +60,10 @@ wider : (m n : ℕ) (ks : List ℕ) → m ≤ n → AllByRecursion (λ k. k < m)
 wider m n [] le h = tt
 wider m n (k ∷ ks) le h = (omega (arith, le, h.0), wider m n ks le h.1)
 
+-- no more than a set can have
+few_in : (d : DraftData) → IsSpelledDraft d → d.fields ≤ MAX_FIELDS
+few_in d s = omega (arith, s.few_fields, wide_limit d.version)
+
 pub attributes-known : (c : CandidateData) (ops : List Op) → KeepsBefore (order_of NoAttribute) c → IsSpelledDraft c.draft → ops ≡ small_ops c.draft → AreAttributesKnown c ops
 attributes-known c ops h s e =
     let below = columns_below c (h WrongField (omega arith)).0 in
@@ -67,7 +72,7 @@ attributes-known c ops h s e =
     record {
       same = e;
       below = subst (λ (fields : List ℕ). AllByRecursion (λ k. k < MAX_FIELDS) fields) same
-          (wider c.draft.fields MAX_FIELDS (source_fields (ops_of (function_names c.draft.functions) c.draft.decls)) s.few_fields below);
+          (wider c.draft.fields MAX_FIELDS (source_fields (ops_of (function_names c.draft.functions) c.draft.decls)) (few_in c.draft s) below);
     }
 
 -- ---- operators
@@ -89,7 +94,7 @@ op_rules d v h = record {
 }
 
 op_is : (c : CandidateData) (tree : PlanTree) (m : ℕ) (decl : Decl) → ((rule : ProgramRule) → Keeps rule c.draft c.valids) → IsWrittenPlan c.draft tree → AreValidated c.draft c.valids
-    → IsSpelledIn decl → slice_get c.draft.decls m ≡ Some decl → IsOpDecl c.draft c.valids decl
+    → IsSpelledIn c.draft.version decl → slice_get c.draft.decls m ≡ Some decl → IsOpDecl c.draft c.valids decl
 op_is c tree m (Source name file columns) h w valid s at = tt
 op_is c tree m (FunctionDecl number) h w valid s at = tt
 op_is c tree m (OpDecl name kind function left right left_keys right_keys) h w valid s at =
@@ -104,7 +109,7 @@ op_decls : (c : CandidateData) (tree : PlanTree) → ((rule : ProgramRule) → K
     → AllByRecursion (IsOpDecl c.draft c.valids) c.draft.decls
 op_decls c tree h w valid s =
     all_from (IsOpDecl c.draft c.valids) c.draft.decls
-    (λ m decl at. op_is c tree m decl h w valid (AllByRecursion-slice_get IsSpelledIn c.draft.decls m decl (spelled 0 (length c.draft.functions) c.draft.decls s.declared) at) at)
+    (λ m decl at. op_is c tree m decl h w valid (AllByRecursion-slice_get (IsSpelledIn c.draft.version) c.draft.decls m decl (spelled c.draft.version 0 (length c.draft.functions) c.draft.decls s.declared) at) at)
 
 ops_are : (d : DraftData) (v : List WithFields) (decls : List Decl) → AllByRecursion (IsOpDecl d v) decls → AllByRecursion (IsOpOf d.fields v) (ops_of (function_names d.functions) decls)
 ops_are d v [] h = tt
@@ -137,14 +142,15 @@ small_same d v (Sink input fields ∷ decls) le h = small_same d v decls le h.1
 -- ---- the program
 
 abbrev pub program : CandidateData → List Op → PlanTree → List ℕ → ProgramData
-program c ops tree sink = record { fields = c.draft.fields; functions = c.valids; ops = ops; plan = tree; sink = sink }
+program c ops tree sink = record { version = c.draft.version; fields = c.draft.fields; functions = c.valids; ops = ops; plan = tree; sink = sink }
 
 pub is-program_of : (c : CandidateData) (ops : List Op) (tree : PlanTree) (sink : List ℕ) → KeepsBefore (order_of SharedAttribute + 1) c → IsSpelledDraft c.draft → AreValidated c.draft c.valids
     → ops ≡ small_ops c.draft → IsWrittenPlan c.draft tree → sink ≡ sink_fields c.draft.decls → IsProgramOf c.draft c.valids (program c ops tree sink)
 is-program_of c ops tree sink h s valid e w told = record {
+  version = refl;
   fields = refl;
   functions = refl;
-  ops = e ∙ small_same c.draft c.valids c.draft.decls s.few_fields (op_decls c tree (keeps-all c h) w valid s);
+  ops = e ∙ small_same c.draft c.valids c.draft.decls (few_in c.draft s) (op_decls c tree (keeps-all c h) w valid s);
   plan = w;
   sink = told;
 }
@@ -160,6 +166,7 @@ made c tree h s valid w =
       few_functions = omega (arith, few-functions d v s.declared (h TooMany).0, ap length valid.functions, length-map v (λ (w : WithFields). w.function));
       few_operators = few-operators d v (function_names d.functions) (h TooMany).0;
       few_pairs = few-pairs d v (function_names d.functions) (h TooMany).0;
+      version = s.version;
       some_field = s.some_field;
       few_fields = s.few_fields;
       functions = valid.fields;
@@ -174,5 +181,5 @@ made c tree h s valid w =
 pub is-program : (c : CandidateData) (p : ProgramData) → ((rule : ProgramRule) → Keeps rule c.draft c.valids) → IsSpelledDraft c.draft → AreValidated c.draft c.valids → IsProgramOf c.draft c.valids p → IsProgram p
 is-program c p h s valid is =
     let same : program c (ops_of (function_names c.draft.functions) c.draft.decls) p.plan (sink_fields c.draft.decls) ≡ p =
-    λ i. record { fields = sym is.fields i; functions = sym is.functions i; ops = sym is.ops i; plan = p.plan; sink = sym is.sink i } in
+    λ i. record { version = sym is.version i; fields = sym is.fields i; functions = sym is.functions i; ops = sym is.ops i; plan = p.plan; sink = sym is.sink i } in
     subst IsProgram same (made c p.plan h s valid is.plan)

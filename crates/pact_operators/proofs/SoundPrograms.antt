@@ -23,9 +23,9 @@ use Rattle.pact_operators.specs.declared.operators.Op.{Op}
 use Rattle.pact_operators.specs.Allowed.{Bag}
 use Rattle.pact_operators.specs.Inputs.{HaveRows, AreInputsOf}
 use Rattle.pact_operators.specs.PlanOps.{plan_ops, kind_in, kind_at, function_in, left_keys_in, right_keys_in, body_at, is_source_kind, sources_of, source_place}
-use Rattle.pact_operators.specs.Programs.{HasKeyLists, IsKindFor, IsOpOf, IsProgram, Owns, OwnsBy, ProgramData, body_of}
+use Rattle.pact_operators.specs.Programs.{FunctionNames, HasKeyLists, IsKindFor, IsOpOf, IsProgram, Owns, OwnsBy, ProgramData, body_of}
 use Rattle.pact_operators.specs.SoundOps.{AreOpsOf, IsCallOf, called, function_kind, keyed_by}
-use Rattle.pact_operators.proofs.OwnFields.{body_of-some, owned_at}
+use Rattle.pact_operators.proofs.OwnFields.{body_of-some, names_of-some, owned_at}
 
 -- ---- what the operator of a number gives is the meaning of a call
 
@@ -71,7 +71,7 @@ rows_within fields v (op ∷ ops) inputs (suc n) h k =
 
 -- ---- calls
 
-named_is_owned : (v : List WithFields) (op : Op) (kind : OpKind) (k : ℕ) → (kind ≡ Source → ⊥) → Names k (body_of v op.function) → OwnsBy kind v op k
+named_is_owned : (v : List WithFields) (op : Op) (kind : OpKind) (k : ℕ) → (kind ≡ Source → ⊥) → FunctionNames v op.function k → OwnsBy kind v op k
 named_is_owned v op Source k operator h = absurd (operator refl)
 named_is_owned v op Map k operator h = h
 named_is_owned v op Reduce k operator h = h
@@ -129,7 +129,8 @@ module _ (p : ProgramData) (inputs : List Bag) (program : IsProgram p) where
       (λ row b. record {
         width = b.width;
         null = λ k out. b.null k (λ has. out (inl has)) (λ names. out (inr ((owned_at p.functions p.ops n k op e).1
-            (named_is_owned p.functions op op.kind k c.operator (subst (λ (q : Code). Names k q) (sym body) names)))));
+            (named_is_owned p.functions op op.kind k c.operator
+            ((names_of-some p.functions op.function k f a.function).1 (subst (λ (q : ℕ). Names q k f.function.body) (sym fields) names))))));
       }) bounded)
 
   calls_at : (n : ℕ) (x : CallInput) (found : Option Op) → slice_get p.ops n ≡ found → IsCallOf (kind_in found) (left_keys_in found) (right_keys_in found) x → AreWide p.fields (left_records x)

@@ -4,13 +4,14 @@ use Rattle.pact_record.specs.declared.values.Value.{Value}
 use Rattle.tac_syntax.specs.declared.declarations.OpKind.{OpKind}
 use Rattle.tac_syntax.specs.declared.declarations.OpKind.TheVariants.{Source}
 use Rattle.pact_operators.specs.declared.operators.Op.{Op}
-use Rattle.pact_operators.specs.Programs.{ProgramData, body_of}
+use Rattle.pact_operators.specs.Programs.{ProgramData, body_of, nulls_match}
 use Rattle.tac_syntax.specs.Code.{Code}
 use Rattle.tac_syntax.specs.Call.{of_record, of_pair, of_group, of_groups, Out}
 
--- The kind, a source's rows, what one call gives for a record, for a pair, for the key values and the records of a group, and for
--- those of the groups of either side, and the key fields of either side.
+-- Whether Nulls match in the keys of a Match; and by number the kind, a source's rows, what one call gives for a record, for a pair, for the key
+-- values and the records of a group, and for those of the groups of either side, and the key fields of either side.
 pub record PlanOps : Type 0 where
+  pub nulls : Bool
   pub kind : ℕ → OpKind
   pub rows : ℕ → List (List Value)
   pub of_record : ℕ → List Value → List (List Value)
@@ -60,6 +61,7 @@ source_place ops n = length (sources_of (take n ops))
 -- over the rows of each source, in the order of the sources' numbers
 abbrev pub plan_ops : ProgramData → List (List (List Value)) → PlanOps
 plan_ops p inputs = record {
+  nulls = nulls_match p;
   kind = λ n. kind_at p.ops n;
   rows = λ n. get_or inputs (source_place p.ops n) [];
   of_record = λ n row. Out p.fields (body_at p n) (of_record row);

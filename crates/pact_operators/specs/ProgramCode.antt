@@ -11,8 +11,8 @@ use Rattle.pact_operators.specs.Programs.{ProgramData}
 
 abbrev pub coded_program : Coded ProgramData
 coded_program =
-    code_by (ℕ × (List WithFields × (List Op × (PlanTree × List ℕ))))
-    (coded× coded_ℕ (coded× (coded_list coded_with_fields) (coded× (coded_list op_row.coded) (coded× coded_plan (coded_list coded_ℕ)))))
-    (λ p. (p.fields, (p.functions, (p.ops, (p.plan, p.sink)))))
-    (λ p. record { fields = p.0; functions = p.1.0; ops = p.1.1.0; plan = p.1.1.1.0; sink = p.1.1.1.1 })
+    code_by (ℕ × (ℕ × (List WithFields × (List Op × (PlanTree × List ℕ)))))
+    (coded× coded_ℕ (coded× coded_ℕ (coded× (coded_list coded_with_fields) (coded× (coded_list op_row.coded) (coded× coded_plan (coded_list coded_ℕ))))))
+    (λ p. (p.version, (p.fields, (p.functions, (p.ops, (p.plan, p.sink))))))
+    (λ p. record { version = p.0; fields = p.1.0; functions = p.1.1.0; ops = p.1.1.1.0; plan = p.1.1.1.1.0; sink = p.1.1.1.1.1 })
     (λ _. refl)

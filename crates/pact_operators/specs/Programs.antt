@@ -1,5 +1,5 @@
 -- Programs: what a text declares, with each name resolved to a number.
-use Rattle.std.specs.Prelude.{◌≡◌, ◌<◌, ◌≤◌, ◌⊎◌, ℕ, zero, suc, Bool, true, false, List, [], ◌∷◌, length, map, filter, flat_map, slice_get, Some, IsTrue}
+use Rattle.std.specs.Prelude.{◌≡◌, ◌==◌, ◌<◌, ◌≤◌, ◌⊎◌, ℕ, zero, suc, Bool, true, false, List, [], ◌∷◌, length, map, filter, flat_map, slice_get, Some, IsTrue}
 use Rattle.std.specs.List.{AllByRecursion}
 use Rattle.tac_syntax.specs.declared.functions.Kind.{Kind}
 use Rattle.tac_syntax.specs.declared.functions.Kind.TheVariants as kinds
@@ -13,14 +13,15 @@ use Rattle.pact_bag.specs.SourceRows.{IsColumnField}
 use Rattle.tac_syntax.specs.declared.declarations.OpKind.{OpKind}
 use Rattle.tac_syntax.specs.declared.declarations.OpKind.TheVariants.{Source, Map, Reduce, Match, Cross, CoGroup}
 use Rattle.pact_operators.specs.declared.operators.Op.{Op}
-use Rattle.tac_syntax.specs.Declarations.{field_list_limit}
 use Rattle.plan_trees.specs.Distinct.{AreDifferent}
-use Rattle.tac_syntax.specs.Drafts.{DraftData, field_limit}
+use Rattle.tac_syntax.specs.Drafts.{DraftData}
+use Rattle.tac_syntax.specs.Versions.{IsVersion, field_limit}
 use Rattle.plan_trees.specs.Plans.{PlanTree, leaf, over, both, root_of, nodes, has}
 use Rattle.pact_operators.specs.Resolved.{Inputs, no_input, one_input, two_inputs, function_names, inputs_of, node_names, ops_of, place_among, sink_fields, sink_inputs}
 
--- The number of fields, the functions and the sources and operators in text order, the plan as written, and the fields of the sink.
+-- The version of the language, the number of fields, the functions and the sources and operators in text order, the plan as written, and the fields of the sink.
 pub record ProgramData : Type 0 where
+  pub version : ℕ
   pub fields : ℕ
   pub functions : List WithFields
   pub ops : List Op
@@ -56,8 +57,13 @@ pub record AreValidated (d : DraftData) (valids : List WithFields) : Type 0 wher
   pub fields : AllByRecursion (λ v. v.fields ≡ d.fields) valids
   pub valid : AllByRecursion (λ v. IsValid v.function v.fields) valids
 
+-- In version 1 a Null in a key of a Match equals another one; from version 2 on it matches nothing.
+abbrev pub nulls_match : ProgramData → Bool
+nulls_match p = p.version == 1
+
 -- the program that a draft declares
 pub record IsProgramOf (d : DraftData) (valids : List WithFields) (p : ProgramData) : Type 0 where
+  pub version : p.version ≡ d.version
   pub fields : p.fields ≡ d.fields
   pub functions : p.functions ≡ valids
   pub ops : p.ops ≡ ops_of (function_names d.functions) d.decls
@@ -72,10 +78,16 @@ body_of [] n = stop
 body_of (v ∷ valids) zero = v.function.body
 body_of (v ∷ valids) (suc n) = body_of valids n
 
+-- the function of a number sets the field
+abbrev pub FunctionNames : List WithFields → ℕ → ℕ → Type 0
+FunctionNames [] n k = ⊥
+FunctionNames (v ∷ valids) zero k = Names v.fields k v.function.body
+FunctionNames (v ∷ valids) (suc n) k = FunctionNames valids n k
+
 -- a source's own are its columns, an operator's those that its function names in a `set`
 abbrev pub OwnsBy : OpKind → List WithFields → Op → ℕ → Type 0
 OwnsBy Source valids op k = IsColumnField k op.columns
-OwnsBy kind valids op k = Names k (body_of valids op.function)
+OwnsBy kind valids op k = FunctionNames valids op.function k
 
 abbrev pub Owns : List WithFields → List Op → ℕ → ℕ → Type 0
 Owns valids [] n k = ⊥
@@ -164,9 +176,10 @@ fields_of columns = map (λ c. c.field) columns
 abbrev pub source_fields : List Op → List ℕ
 source_fields ops = flat_map (λ op. fields_of op.columns) ops
 
-pub record IsFieldList (fields : ℕ) (list : List ℕ) : Type 0 where
+-- some fields of the program, and at most so many
+pub record IsFieldList (most fields : ℕ) (list : List ℕ) : Type 0 where
   pub some : 1 ≤ length list
-  pub few : length list ≤ field_list_limit
+  pub few : length list ≤ most
   pub below : AllByRecursion (λ k. k < fields) list
 
 -- a program has at most so many functions, operators, and operators that pair records
@@ -195,12 +208,13 @@ pub record IsProgram (p : ProgramData) : Type 0 where
   pub few_functions : length p.functions ≤ function_limit
   pub few_operators : times_of_kind is_operator_kind p.ops ≤ operator_limit
   pub few_pairs : times_of_kind is_pair_kind p.ops ≤ pair_limit
+  pub version : IsVersion p.version
   pub some_field : 1 ≤ p.fields
-  pub few_fields : p.fields ≤ field_limit
+  pub few_fields : p.fields ≤ field_limit p.version
   pub functions : AllByRecursion (λ v. v.fields ≡ p.fields) p.functions
   pub valid : AllByRecursion (λ v. IsValid v.function v.fields) p.functions
   pub ops : AllByRecursion (IsOpOf p.fields p.functions) p.ops
   pub plan : IsPlanOf p.functions p.ops p.plan
   pub columns_different : AreDifferent (source_fields p.ops)
   pub columns_below : AllByRecursion (λ k. k < p.fields) (source_fields p.ops)
-  pub sink : IsFieldList p.fields p.sink
+  pub sink : IsFieldList (field_limit p.version) p.fields p.sink

@@ -6,11 +6,10 @@ ghost use Rattle.pact_bag.specs.SourceRows.{IsColumnField};
 ghost use Rattle.pact_record.specs.declared.records.TheConstants.{MAX_FIELDS};
 ghost use Rattle.pact_record.specs.FieldSets.{has_field};
 ghost use Rattle.plan_trees.specs.Plans.{has, subtree_of};
-ghost use Rattle.tac_syntax.specs.Bounded.{Names};
 ghost use Rattle.tac_syntax.specs.Contexts.{IsContextOf};
 ghost use Rattle.tac_syntax.specs.declared.declarations.OpKind.TheVariants.{Source};
 ghost use Rattle.pact_operators.specs.PlanOps.{kind_at, left_keys_in, right_keys_in};
-ghost use Rattle.pact_operators.specs.Programs.{HasAttribute, HasLeftAttribute, Owns, OwnsBy, HasRightAttribute, body_of, fields_of, source_fields};
+ghost use Rattle.pact_operators.specs.Programs.{FunctionNames, HasAttribute, HasLeftAttribute, Owns, OwnsBy, HasRightAttribute, fields_of, source_fields};
 
 use crate::operators::Op;
 use crate::programs::Program;
@@ -30,7 +29,7 @@ fn column_fields(columns: &[Column]) -> Fields
 }
 
 fn called_fields(functions: &[Valid], number: u32) -> Fields
-    ensures { (k : ℕ) → IsTrue (has_field result k) ↔ Names k (body_of functions.now number) }
+    ensures { (k : ℕ) → IsTrue (has_field result k) ↔ FunctionNames functions.now number k }
 {
     match functions.get(number as usize) {
         Some(called) => called.named(),

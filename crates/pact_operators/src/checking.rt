@@ -153,8 +153,8 @@ struct Resolved {
 
 fn resolve(alloc: Global, draft: &Draft, valids: &[Valid]) -> Result<Resolved, NotProgram>
     requires { AreValidated draft.now valids.now }
-    ensures program { IfOk result (λ r. IsProgramOf draft.now valids.now (record { fields = draft.now.fields; functions = valids.now; ops = r.ops.items; plan = r.plan; sink = r.sink.items })) }
-    ensures whole { IfOk result (λ r. IsProgram (record { fields = draft.now.fields; functions = valids.now; ops = r.ops.items; plan = r.plan; sink = r.sink.items })) }
+    ensures program { IfOk result (λ r. IsProgramOf draft.now valids.now (record { version = draft.now.version; fields = draft.now.fields; functions = valids.now; ops = r.ops.items; plan = r.plan; sink = r.sink.items })) }
+    ensures whole { IfOk result (λ r. IsProgram (record { version = draft.now.version; fields = draft.now.fields; functions = valids.now; ops = r.ops.items; plan = r.plan; sink = r.sink.items })) }
     ensures kept { IfOk result (λ _. (rule : ProgramRule) → Keeps rule draft.now valids.now) }
     ensures refused { IfErr result (λ e. IsToldBy draft.now valids.now e) }
 {
@@ -187,6 +187,7 @@ pub fn check_program(
     let _decls = draft.decls();
     let resolved = resolve(alloc, draft, functions.functions())?;
     Ok(Program::of(
+        draft.version(),
         draft.fields(),
         functions,
         resolved.ops,

@@ -1,9 +1,10 @@
 //! Programs whose names are resolved.
 
-ghost use Rattle.std.specs.Prelude.{◌≡◌, Some, slice_get};
+ghost use Rattle.std.specs.Prelude.{◌≡◌, ◌≤◌, Some, length, slice_get};
+ghost use Rattle.pact_record.specs.declared.records.TheConstants.{MAX_FIELDS};
 ghost use Rattle.tac_syntax.specs.declared.declarations.OpKind.TheVariants.{Source};
 ghost use Rattle.pact_operators.specs.PlanOps.{function_in, kind_at};
-ghost use Rattle.pact_operators.specs.Programs.{IsProgram};
+ghost use Rattle.pact_operators.specs.Programs.{IsProgram, nulls_match};
 
 use crate::operators::Op;
 use plan_trees::Plan;
@@ -14,6 +15,7 @@ use tac_syntax::{Valid, ValidList};
 /// their places among them.
 #[derive(Debug, Drop)]
 pub struct Program {
+    version: u32,
     fields: u32,
     functions: ValidList,
     ops: Vec<Op>,
@@ -29,24 +31,26 @@ impl Model for Program {
 
     ghost coded = { coded_program };
 
-    ghost view = { λ p. record { fields = p.fields; functions = p.functions; ops = p.ops.items; plan = p.plan; sink = p.sink.items } };
+    ghost view = { λ p. record { version = p.version; fields = p.fields; functions = p.functions; ops = p.ops.items; plan = p.plan; sink = p.sink.items } };
 
-    ghost invariant = { λ p. IsProgram (record { fields = p.fields; functions = p.functions; ops = p.ops.items; plan = p.plan; sink = p.sink.items }) };
+    ghost invariant = { λ p. IsProgram (record { version = p.version; fields = p.fields; functions = p.functions; ops = p.ops.items; plan = p.plan; sink = p.sink.items }) };
 }
 
 impl Program {
     // A program of these parts.
     pub(crate) fn of(
+        version: u32,
         fields: u32,
         functions: ValidList,
         ops: Vec<Op>,
         plan: Plan,
         sink: Vec<u32>,
     ) -> Program
-        requires { IsProgram (record { fields = fields; functions = functions; ops = ops.items; plan = plan; sink = sink.items }) }
-        ensures { result ≡ record { fields = fields; functions = functions; ops = ops.items; plan = plan; sink = sink.items } }
+        requires { IsProgram (record { version = version; fields = fields; functions = functions; ops = ops.items; plan = plan; sink = sink.items }) }
+        ensures { result ≡ record { version = version; fields = fields; functions = functions; ops = ops.items; plan = plan; sink = sink.items } }
     {
         Program {
+            version,
             fields,
             functions,
             ops,
@@ -55,8 +59,24 @@ impl Program {
         }
     }
 
+    /// The version of the language, 1 or 2.
+    pub fn version(&self) -> u32
+        ensures version { result ≡ self.now.version }
+        ensures keeps { IsProgram self.now }
+    {
+        self.version
+    }
+
+    /// Whether a Null in a key of a Match matches another one, as in version 1.
+    pub fn nulls_match(&self) -> bool
+        ensures { result ≡ nulls_match self.now }
+    {
+        self.version == 1
+    }
+
     pub fn fields(&self) -> u32
         ensures fields { result ≡ self.now.fields }
+        ensures few { result ≤ MAX_FIELDS }
         ensures keeps { IsProgram self.now }
     {
         self.fields
@@ -99,6 +119,7 @@ impl Program {
     /// The fields that the result keeps, in their order.
     pub fn sink(&self) -> &[u32]
         ensures sink { result.now ≡ self.now.sink }
+        ensures few { length result.now ≤ MAX_FIELDS }
         ensures keeps { IsProgram self.now }
     {
         &self.sink

@@ -29,13 +29,13 @@ HasFileName op = op.kind ≡ SourceKind → IsTrue (is_file_name op.file)
 no_source : (kind : OpKind) (right left_keys right_keys : List ℕ) → HasInputs kind right left_keys right_keys → kind ≡ SourceKind → ⊥
 no_source kind right left_keys right_keys h e = subst (λ (k : OpKind). HasInputs k right left_keys right_keys) e h
 
-names_in : (functions : List (List ℕ)) (n count : ℕ) (decls : List Decl) → AreDeclared n count decls → AllByRecursion HasFileName (ops_of functions decls)
-names_in functions n count [] h = tt
-names_in functions n count (Source name file columns ∷ decls) h = ((λ _. h.0.1), names_in functions n count decls h.1)
-names_in functions n count (Function number ∷ decls) h = names_in functions (n + 1) count decls h.1
-names_in functions n count (OpDecl name kind function left right left_keys right_keys ∷ decls) h =
-    ((λ e. absurd (no_source kind right left_keys right_keys h.0.3 e)), names_in functions n count decls h.1)
-names_in functions n count (Sink input fields ∷ decls) h = names_in functions n count decls h.1
+names_in : (version : ℕ) (functions : List (List ℕ)) (n count : ℕ) (decls : List Decl) → AreDeclared version n count decls → AllByRecursion HasFileName (ops_of functions decls)
+names_in version functions n count [] h = tt
+names_in version functions n count (Source name file columns ∷ decls) h = ((λ _. h.0.1), names_in version functions n count decls h.1)
+names_in version functions n count (Function number ∷ decls) h = names_in version functions (n + 1) count decls h.1
+names_in version functions n count (OpDecl name kind function left right left_keys right_keys ∷ decls) h =
+    ((λ e. absurd (no_source kind right left_keys right_keys h.0.3 e)), names_in version functions n count decls h.1)
+names_in version functions n count (Sink input fields ∷ decls) h = names_in version functions n count decls h.1
 
 sources_named : (ops : List Op) → AllByRecursion HasFileName ops → AllByRecursion (λ s. IsTrue (is_file_name s.file)) (sources_of ops)
 sources_named [] h = tt
@@ -49,7 +49,7 @@ file_sources_named : (files : Option (List NamedFile)) (name : List ℕ) (p : Pr
 file_sources_named files name p r h =
     let m = program_made files name p r h in
     let d = m.drafted in
-    subst (AllByRecursion HasFileName) (sym m.from.program.ops) (names_in (function_names d.functions) 0 (length d.functions) d.decls m.spelled.writable.spelled.declared)
+    subst (AllByRecursion HasFileName) (sym m.from.program.ops) (names_in d.version (function_names d.functions) 0 (length d.functions) d.decls m.spelled.writable.spelled.declared)
 
 -- ---- the names of the files that may not be read
 

@@ -1,7 +1,7 @@
 //! From a program's text to the program.
 
 ghost use Rattle.std.specs.Prelude.{◌≡◌, ◌≤◌, ◌++◌, ◌∷◌, [], OnOk};
-ghost use Rattle.tac_syntax.specs.Drafts.{field_limit};
+ghost use Rattle.pact_record.specs.declared.records.TheConstants.{MAX_FIELDS};
 ghost use Rattle.pact_operators.specs.Programs.{AreValidated};
 ghost use Rattle.pact_top.specs.Refusal.{Decides, ProgramRefused, TextRefused};
 ghost use Rattle.pact_top.specs.Work as work;
@@ -38,7 +38,7 @@ fn read_draft(alloc: Global, name: &[u8], text: &[u8]) -> Result<Draft, Refusal>
 
 fn valid_function(alloc: Global, function: &Function, fields: u32) -> Result<Valid, Refusal>
     requires some_field { 1 ≤ fields }
-    requires few_fields { fields ≤ field_limit }
+    requires few_fields { fields ≤ MAX_FIELDS }
     ensures { Decides (work.valid fields function.now) result }
 {
     match validate(function.copy(alloc)?, fields) {

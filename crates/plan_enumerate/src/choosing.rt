@@ -6,6 +6,7 @@ ghost use Rattle.plan_trees.specs.Plans.{PlanTree, node_limit};
 ghost use Rattle.pact_operators.specs.Programs.{IsPlanOf, ProgramData};
 ghost use Rattle.ship_strategy.specs.Facts.{Facts};
 ghost use Rattle.ship_strategy.specs.Layouts.{layout_count, ways_of};
+ghost use Rattle.ship_strategy.specs.Seen.{AreTold};
 ghost use Rattle.ship_strategy.specs.Views.{ways_in};
 ghost use Rattle.plan_enumerate.specs.Choices.{IsChosen, layout_cost, pair_cost};
 ghost use Rattle.plan_enumerate.specs.Leasts.{IsLeastBelow};
@@ -20,7 +21,7 @@ use crate::plan_rows::{Rows, rows_of};
 use crate::weights::{Weight, row_weight, source_weight};
 use pact_bag::Counts;
 use pact_operators::{MAX_NODES, Op, Plan, Program};
-use ship_strategy::{Ways, chosen, known, layouts};
+use ship_strategy::{Seen, Ways, chosen, known_after, layouts};
 
 /// Which listed plan and which of its layouts is chosen, and what it is expected to cost.
 #[derive(Clone, Copy, Debug, PartialEq, Eq)]
@@ -108,14 +109,17 @@ fn cheapest_in(rows: &Rows, ops: &[Op], workers: u32, count: u32) -> Least
     least
 }
 
-fn cheapest(program: &Program, plan: &Plan, counts: &Counts, workers: u32) -> Least
+// The first layout of a plan that costs least, by what was seen of the plans before.
+fn cheapest(program: &Program, plan: &Plan, counts: &Counts, workers: u32, seen: &mut Seen) -> Least
     requires of { IsPlanOf program.now.functions program.now.ops plan.now }
     requires workers { (1 ≤ workers) × (workers ≤ worker_limit) }
-    ensures { IsLeastBelow (layout_cost program.now counts.now workers plan.now) (layout_count program.now.ops) result.layout result.cost }
+    requires seen { AreTold program.now seen.old.tables }
+    ensures seen { AreTold program.now seen.new.tables }
+    ensures least { IsLeastBelow (layout_cost program.now counts.now workers plan.now) (layout_count program.now.ops) result.layout result.cost }
 {
     // Its clause says that the numbers of a plan are small.
     let _root = plan.root();
-    let rows = rows_of(program, counts, &known(program, plan), plan);
+    let rows = rows_of(program, counts, &known_after(program, plan, seen), plan);
     cheapest_in(&rows, program.ops(), workers, layouts(program, plan))
 }
 
@@ -126,32 +130,36 @@ fn cheapest_at(
     entry: usize,
     counts: &Counts,
     workers: u32,
+    seen: &mut Seen,
 ) -> Least
     requires within { entry < length entries.now }
     requires of { (t : PlanTree) → IsListed t entries.now → IsPlanOf program.now.functions program.now.ops t }
     requires workers { (1 ≤ workers) × (workers ≤ worker_limit) }
-    ensures { IsLeastBelow (pair_cost program.now (plans_of entries.now) counts.now workers entry) (layout_count program.now.ops) result.layout result.cost }
+    requires seen { AreTold program.now seen.old.tables }
+    ensures seen { AreTold program.now seen.new.tables }
+    ensures least { IsLeastBelow (pair_cost program.now (plans_of entries.now) counts.now workers entry) (layout_count program.now.ops) result.layout result.cost }
 {
-    cheapest(program, &entries.at(entry).plan, counts, workers)
+    cheapest(program, &entries.at(entry).plan, counts, workers, seen)
 }
 
 /// The first pair of a listed plan and one of its layouts that is expected to cost least, where each source has the number of rows that `counts`
-/// has at its number: the entries count first, then the layouts. It takes no memory. Time grows with the plans times their layouts, of which there
-/// are at most 6,561 each.
+/// has at its number: the entries count first, then the layouts. It takes no memory: what is known of operators is kept on the stack, of the last plans
+/// alone. Time grows with the plans times their layouts, of which there are at most 6,561 each.
 pub fn choose(program: &Program, listed: &Listed, counts: &Counts, workers: u32) -> Chosen
     requires of { (t : PlanTree) → IsListed t listed.now.entries → IsPlanOf program.now.functions program.now.ops t }
     requires workers { (1 ≤ workers) × (workers ≤ worker_limit) }
     ensures { IsChosen program.now (plans_of listed.now.entries) counts.now workers result }
 {
     let entries = listed.entries();
-    let first = cheapest_at(program, entries, 0, counts, workers);
+    let mut seen = Seen::nothing();
+    let first = cheapest_at(program, entries, 0, counts, workers, &mut seen);
     let mut chosen = Chosen {
         entry: 0,
         layout: first.layout,
         cost: first.cost,
     };
     for entry in 1..entries.len() {
-        let next = cheapest_at(program, entries, entry, counts, workers);
+        let next = cheapest_at(program, entries, entry, counts, workers, &mut seen);
         if next.cost < chosen.cost {
             chosen = Chosen {
                 entry: entry as u32,

@@ -1,4 +1,5 @@
 ghost use Rattle.std.specs.Prelude.{◌≡◌, ◌≤◌, length, IfOk};
+ghost use Rattle.pact_record.specs.declared.records.TheConstants.{MAX_FIELDS};
 
 use pact_bag::Rows;
 use pact_record::{OutOfMemory, Record, Value};
@@ -62,10 +63,10 @@ end
 // The function of this text, where it is one, in programs with so many fields.
 fn valid(alloc: Global, text: &[u8], fields: u32) -> Result<Valid, Fail>
     requires some { 1 ≤ fields }
-    requires few { fields ≤ 64 }
+    requires few { fields ≤ MAX_FIELDS }
     ensures { IfOk result (λ f. f.fields ≡ fields) }
 {
-    let Ok((function, _)) = read_function(alloc, text, 0) else {
+    let Ok((function, _)) = read_function(alloc, text, 0, 1) else {
         return Err(Fail::new("no function"));
     };
     let Ok(valid) = validate(function, fields) else {

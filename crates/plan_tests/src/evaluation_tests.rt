@@ -47,6 +47,57 @@ fn counts_of(alloc: Global, text: &str, rows: &[&str]) -> Result<(Vec<u64>, usiz
     Ok((counts, outcome.rows.len()))
 }
 
+// Each record matches the other source's record with the same keys.
+const ONE_KEY: &str = "
+fields 4
+source l l.csv int:0 int:1
+source r r.csv int:2 int:3
+function pair match
+  r0 = copy join
+  emit r0
+end
+match m pair l r by 0 = 2
+sink m 1 3
+";
+
+const TWO_KEYS: &str = "
+fields 6
+source l l.csv int:0 int:1 int:2
+source r r.csv int:3 int:4 int:5
+function pair match
+  r0 = copy join
+  emit r0
+end
+match m pair l r by 0 1 = 3 4
+sink m 2 5
+";
+
+// How many pairs match where both sources have these rows.
+fn matches(alloc: Global, first: &str, rest: &str, rows: &str) -> Result<usize, Fail> {
+    let mut text = String::new(alloc);
+    text.push_str(first)?;
+    text.push_str(rest)?;
+    let (_, root) = counts_of(alloc, text.as_str(), &[rows, rows])?;
+    Ok(root)
+}
+
+#[test]
+fn null_keys_match_in_version_1_alone(rt: HostRuntime) -> Result<(), Fail> {
+    let alloc = rt.alloc();
+    assert_eq!(rt; matches(alloc, "pact 1", ONE_KEY, "1,1\n,2\n")?, 2);
+    assert_eq!(rt; matches(alloc, "pact 2", ONE_KEY, "1,1\n,2\n")?, 1);
+    // Null at each place of a key, and at both
+    assert_eq!(rt;
+        matches(alloc, "pact 1", TWO_KEYS, "1,1,1\n,1,2\n1,,3\n,,4\n")?,
+        4
+    );
+    assert_eq!(rt;
+        matches(alloc, "pact 2", TWO_KEYS, "1,1,1\n,1,2\n1,,3\n,,4\n")?,
+        1
+    );
+    Ok(())
+}
+
 #[test]
 fn counts_groups(rt: HostRuntime) -> Result<(), Fail> {
     let alloc = rt.alloc();

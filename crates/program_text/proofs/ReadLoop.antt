@@ -2,10 +2,12 @@
 use Rattle.std.proofs.Common.{◌≡◌, Bool, true, false, Result, Ok, Err, IfOk, List, ap, sym, subst, ◌∙◌, ◌<◌, ◌≤◌, ◌+◌, inl, inr, max, ℕ, [], ◌∷◌, ◌++◌, length, Some, None, IfErr, refl, append_assoc, append-nil, arith, length-append}
 use Rattle.tac_syntax.specs.Code.{close}
 use Rattle.tac_syntax.specs.Drafts.{DraftData}
+use Rattle.tac_syntax.specs.FieldRegisters.{Takes, has_registers}
 use Rattle.text_lines.specs.declared.faults.NotRead.{NotRead}
 use Rattle.text_lines.specs.declared.line_words.LineWord.{LineWord}
 use Rattle.tac_text.specs.FunctionStates.{OpenData, TakesWords, function_of}
 use Rattle.tac_text.specs.FunctionLines.{inside}
+use Rattle.tac_text.specs.Places.{FitsBuild}
 use Rattle.tac_text.proofs.FunctionReads.{LeadsOn-TakesWords, at_own_end}
 use Rattle.program_text.specs.declared.program_reading.State.{State}
 use Rattle.program_text.specs.ProgramStates.{LeadsOn, state_of, EndsWith, GivesDraft, TellsFirstFault, of_function, in_program, drafted, open_function, with_function, MaySay, ProgramState, RunsTo, nothing_read, program_place, said_on, words_of_program_line}
@@ -20,11 +22,11 @@ use Rattle.text_lines.specs.declared.lines.TextFault.TheVariants as told
 -- ---- one step inside a function
 
 -- the function's own `end`
-pub ended_words : (d : DraftData) (old now : OpenData) (said : List LineWord) (ended : Bool) (r : Result State NotRead) → ended ≡ true → TakesWords ended said old now
+pub ended_words : (d : DraftData) (old now : OpenData) (said : List LineWord) (ended : Bool) (r : Result State NotRead) → ended ≡ true → TakesWords (has_registers d.version) ended said old now
     → IfOk r (λ t. state_of t ≡ drafted (with_function d (function_of now))) → IfOk r (λ t. LeadsOn (open_function d old) said (state_of t))
 ended_words d old now said ended (Err e) is taken h = tt
 ended_words d old now said ended (Ok t) is taken h =
-    let own : TakesWords true said old now = subst (λ (b : Bool). TakesWords b said old now) is taken in (
+    let own : TakesWords (has_registers d.version) true said old now = subst (λ (b : Bool). TakesWords (has_registers d.version) b said old now) is taken in (
       of_function (inside close),
       own.0,
       tt,
@@ -32,10 +34,14 @@ ended_words d old now said ended (Ok t) is taken h =
     )
 
 -- a line of its body
-pub inner_words : (d : DraftData) (old now : OpenData) (said : List LineWord) (ended : Bool) → ended ≡ false → TakesWords ended said old now → LeadsOn (open_function d old) said (open_function d now)
+pub inner_words : (d : DraftData) (old now : OpenData) (said : List LineWord) (ended : Bool) → ended ≡ false → TakesWords (has_registers d.version) ended said old now → LeadsOn (open_function d old) said (open_function d now)
 inner_words d old now said ended is taken =
-    let on = LeadsOn-TakesWords false said old now (subst (λ (b : Bool). TakesWords b said old now) is taken) in
+    let on = LeadsOn-TakesWords (has_registers d.version) false said old now (subst (λ (b : Bool). TakesWords (has_registers d.version) b said old now) is taken) in
     (of_function on.0, on.1, on.2, ap (in_program d) on.3)
+
+-- what it is then takes fields from registers only where that may be
+pub takes_whole : (d : DraftData) (o : OpenData) → FitsBuild (has_registers d.version) o.build → o.build.blocks ≡ [] → Takes (has_registers d.version) (function_of o).body
+takes_whole d o h none = h.1.2
 
 -- ---- behind some lines
 

@@ -4,6 +4,8 @@ use Rattle.pact_record.specs.declared.columns.Column.{Column}
 use Rattle.tac_syntax.specs.declared.declarations.Decl.{Decl}
 use Rattle.tac_syntax.specs.Declarations.{AreColumns, AreNumbers, IsKeyList, IsSpelledDecl}
 use Rattle.tac_syntax.specs.Functions.{key_limit}
+use Rattle.tac_syntax.specs.FieldRegisters.{has_registers}
+use Rattle.tac_syntax.specs.Versions.{IsVersion}
 use Rattle.text_lines.specs.declared.line_words.LineWord.{LineWord}
 use Rattle.text_lines.specs.declared.line_words.LineWord.TheVariants.{Plain as plain_word}
 use Rattle.text_lines.specs.LineReading.{Gives, IsFaultOf}
@@ -15,7 +17,7 @@ use Rattle.tac_syntax.specs.Drafts.{DraftData}
 use Rattle.tac_syntax.specs.declared.functions.Function.{Function}
 use Rattle.tac_text.specs.FunctionStates.{OpenData, FunctionState, waiting, reading, whole, MayFollow, after}
 use Rattle.tac_text.specs.FunctionLines.{FunctionLine, words_of_function_line}
-use Rattle.tac_text.specs.Places.{place_of}
+use Rattle.tac_text.specs.Places.{FitsBuild, place_of}
 use Rattle.text_lines.specs.Runs.{Runs}
 use Rattle.program_text.specs.FirstLines.{version_words, field_count_words, IsFieldCount}
 use Rattle.program_text.specs.ProgramTexts.{ProgramPlace, version_due, fields_due, between, in_function, IsProgramText, program_fault, program_missing}
@@ -28,9 +30,9 @@ use Rattle.program_text.specs.declared.program_reading.State.TheVariants as stat
 -- ---- parts
 
 -- lists up to the line's end
-abbrev pub ReadsColumns : Result (List Column) NotRead → List LineWord → Type 0
-ReadsColumns (Ok columns) words = (words ≡ map column_word columns) × AreColumns columns
-ReadsColumns (Err e) words = IsFaultOf e (columns_fault words)
+abbrev pub ReadsColumns : ℕ → Result (List Column) NotRead → List LineWord → Type 0
+ReadsColumns most (Ok columns) words = (words ≡ map column_word columns) × AreColumns most columns
+ReadsColumns most (Err e) words = IsFaultOf e (columns_fault most words)
 
 abbrev pub ReadsNumbers : ℕ → Result (List ℕ) NotRead → List LineWord → Type 0
 ReadsNumbers limit (Ok numbers) words = (words ≡ number_words numbers) × (1 ≤ length numbers) × (length numbers ≤ limit) × AreNumbers numbers
@@ -48,9 +50,9 @@ ReadsKeyPair (Err e) words = IsFaultOf e (key_pair_fault words)
 -- ---- one declaration
 
 -- the declaration whose words these are behind this first word, or their fault
-abbrev pub ReadsDecl : List ℕ → Result Decl NotRead → List LineWord → Type 0
-ReadsDecl first (Ok d) words = IsSpelledDecl d × (plain_word first ∷ words ≡ words_of_decl d)
-ReadsDecl first (Err e) words = IsFaultOf e (word_fault first words)
+abbrev pub ReadsDecl : ℕ → List ℕ → Result Decl NotRead → List LineWord → Type 0
+ReadsDecl v first (Ok d) words = IsSpelledDecl v d × (plain_word first ∷ words ≡ words_of_decl d)
+ReadsDecl v first (Err e) words = IsFaultOf e (word_fault v first words)
 
 -- this declaration, or want of memory
 abbrev pub GivesDecl : Result Decl NotRead → Decl → Type 0
@@ -58,13 +60,13 @@ GivesDecl r decl = Gives (λ found. found ≡ decl) r
 
 -- what a line of a program says
 pub data ProgramLine : Type 0 where
-  version : ProgramLine
+  version : (number : ℕ) → ProgramLine
   field_count : (count : ℕ) → ProgramLine
   declares : (decl : Decl) → ProgramLine
   of_function : (line : FunctionLine) → ProgramLine
 
 abbrev pub words_of_program_line : ProgramLine → List LineWord
-words_of_program_line version = version_words
+words_of_program_line (version number) = version_words number
 words_of_program_line (field_count count) = field_count_words count
 words_of_program_line (declares decl) = words_of_decl decl
 words_of_program_line (of_function line) = words_of_function_line line
@@ -72,29 +74,35 @@ words_of_program_line (of_function line) = words_of_function_line line
 -- what was read: nothing yet, the version, a draft so far, and besides it a function that is open
 pub data ProgramState : Type 0 where
   nothing_read : ProgramState
-  version_read : ProgramState
+  version_read : (version : ℕ) → ProgramState
   drafted : (draft : DraftData) → ProgramState
   open_function : (draft : DraftData) → (function : OpenData) → ProgramState
 
 abbrev pub program_place : ProgramState → ProgramPlace
 program_place nothing_read = version_due
-program_place version_read = fields_due
-program_place (drafted d) = between
-program_place (open_function d o) = in_function (place_of o.build)
+program_place (version_read v) = fields_due v
+program_place (drafted d) = between d.version
+program_place (open_function d o) = in_function (place_of (has_registers d.version) o.build)
+
+-- what was read as the version is one, and a function's lines are of the version
+abbrev pub FitsVersion : ProgramState → Type 0
+FitsVersion (version_read v) = IsVersion v
+FitsVersion (open_function d o) = FitsBuild (has_registers d.version) o.build
+FitsVersion state = Unit {0}
 
 abbrev pub MaySay : ProgramState → ProgramLine → Type 0
-MaySay nothing_read version = Unit {0}
-MaySay version_read (field_count count) = IsFieldCount count
-MaySay (drafted d) (declares decl) = IsSpelledDecl decl
-MaySay (drafted d) (of_function line) = MayFollow waiting line
-MaySay (open_function d o) (of_function line) = MayFollow (reading o) line
+MaySay nothing_read (version number) = IsVersion number
+MaySay (version_read v) (field_count count) = IsFieldCount v count
+MaySay (drafted d) (declares decl) = IsSpelledDecl d.version decl
+MaySay (drafted d) (of_function line) = MayFollow (has_registers d.version) waiting line
+MaySay (open_function d o) (of_function line) = MayFollow (has_registers d.version) (reading o) line
 MaySay state line = ⊥
 
 abbrev pub with_decl : DraftData → Decl → DraftData
-with_decl d decl = record { fields = d.fields; functions = d.functions; decls = d.decls ++ decl ∷ [] }
+with_decl d decl = record { version = d.version; fields = d.fields; functions = d.functions; decls = d.decls ++ decl ∷ [] }
 
 abbrev pub with_function : DraftData → Function → DraftData
-with_function d f = record { fields = d.fields; functions = d.functions ++ f ∷ []; decls = d.decls ++ FunctionDecl (length d.functions) ∷ [] }
+with_function d f = record { version = d.version; fields = d.fields; functions = d.functions ++ f ∷ []; decls = d.decls ++ FunctionDecl (length d.functions) ∷ [] }
 
 -- where the lines of a function lead, behind a draft
 abbrev pub in_program : DraftData → FunctionState → ProgramState
@@ -104,8 +112,8 @@ in_program d (whole f) = drafted (with_function d f)
 
 -- behind a line; one that can't be said there leads nowhere
 abbrev pub said_on : ProgramState → ProgramLine → ProgramState
-said_on nothing_read version = version_read
-said_on version_read (field_count count) = drafted (record { fields = count; functions = []; decls = [] })
+said_on nothing_read (version number) = version_read number
+said_on (version_read v) (field_count count) = drafted (record { version = v; fields = count; functions = []; decls = [] })
 said_on (drafted d) (declares decl) = drafted (with_decl d decl)
 said_on (drafted d) (of_function line) = in_program d (after waiting line)
 said_on (open_function d o) (of_function line) = in_program d (after (reading o) line)
@@ -120,7 +128,7 @@ RunsTo s text t = Runs words_of_program_line MaySay said_on s text t
 -- what the reader holds
 abbrev pub state_of : State → ProgramState
 state_of state.NothingRead = nothing_read
-state_of state.VersionRead = version_read
+state_of (state.VersionRead v) = version_read v
 state_of (state.Drafted draft) = drafted draft
 state_of (state.Open draft function) = open_function draft function
 

@@ -39,7 +39,7 @@ SpellsDecls functions (Sink input fields ∷ decls) said =
 
 -- the version, the number of fields, and the declarations
 abbrev pub SpellsProgram : DraftData → List (List LineWord) → Type 0
-SpellsProgram d said = (decls : List (List LineWord)) × (said ≡ version_words ∷ field_count_words d.fields ∷ decls) × SpellsDecls d.functions d.decls decls
+SpellsProgram d said = (decls : List (List LineWord)) × (said ≡ version_words d.version ∷ field_count_words d.fields ∷ decls) × SpellsDecls d.functions d.decls decls
 
 -- some text spells it
 pub record IsWritableDraft (d : DraftData) : Type 0 where
@@ -59,30 +59,30 @@ IsProgramText lines = (d : DraftData) × ProgramText d lines
 
 -- ---- faults
 
--- where a line stands: it is the first or the second with words, it declares something, or it stands in a function
+-- where a line stands, and from the second on in a program of which version: it is the first or the second with words, it declares something, or it stands in a function
 pub data ProgramPlace : Type 0 where
   version_due : ProgramPlace
-  fields_due : ProgramPlace
-  between : ProgramPlace
+  fields_due : (version : ℕ) → ProgramPlace
+  between : (version : ℕ) → ProgramPlace
   in_function : (place : LinePlace) → ProgramPlace
 
 -- a line that declares something, or begins a function
-abbrev pub between_fault : List LineWord → Option ℕ
-between_fault [] = None
-between_fault (plain_word word ∷ words) = if bytes_eq word (codes "function") then header_fault (plain_word word ∷ words) else declaration_fault (plain_word word ∷ words)
-between_fault (literal_word bytes ∷ words) = declaration_fault (literal_word bytes ∷ words)
+abbrev pub between_fault : ℕ → List LineWord → Option ℕ
+between_fault version [] = None
+between_fault version (plain_word word ∷ words) = if bytes_eq word (codes "function") then header_fault (plain_word word ∷ words) else declaration_fault version (plain_word word ∷ words)
+between_fault version (literal_word bytes ∷ words) = declaration_fault version (literal_word bytes ∷ words)
 
 abbrev pub program_fault : ProgramPlace → List LineWord → Option ℕ
 program_fault version_due words = version_fault words
-program_fault fields_due words = fields_fault words
-program_fault between words = between_fault words
+program_fault (fields_due version) words = fields_fault version words
+program_fault (between version) words = between_fault version words
 program_fault (in_function place) words = statement_fault place words
 
 -- what is told where the text ends
 abbrev pub program_missing : ProgramPlace → Option ℕ
 program_missing version_due = Some 12
-program_missing fields_due = Some 12
-program_missing between = None
+program_missing (fields_due version) = Some 12
+program_missing (between version) = None
 program_missing (in_function place) = Some 10
 
 -- ---- the canonical spelling
@@ -97,11 +97,11 @@ decl_spelling functions decl = line_spelling 0 (words_of_decl decl)
 
 -- in the order of the declarations
 abbrev pub program_spelling : DraftData → List ℕ
-program_spelling d = line_spelling 0 version_words ++ (line_spelling 0 (field_count_words d.fields) ++ flat_map (decl_spelling d.functions) d.decls)
+program_spelling d = line_spelling 0 (version_words d.version) ++ (line_spelling 0 (field_count_words d.fields) ++ flat_map (decl_spelling d.functions) d.decls)
 
 -- ---- what can be written
 
--- a declaration that a text can spell, or that of one of these functions
-abbrev pub CanWrite : List Function → Decl → Type 0
-CanWrite functions (FunctionDecl number) = (f : Function) × (slice_get functions number ≡ Some f) × IsSpelledFunction f
-CanWrite functions decl = IsSpelledDecl decl
+-- a declaration that a text of the version can spell, or that of one of these functions
+abbrev pub CanWrite : ℕ → List Function → Decl → Type 0
+CanWrite version functions (FunctionDecl number) = (f : Function) × (slice_get functions number ≡ Some f) × IsSpelledFunction f
+CanWrite version functions decl = IsSpelledDecl version decl

@@ -2,6 +2,7 @@
 
 ghost use Rattle.std.specs.Prelude.{◌≡◌, ◌≤◌, ◌++◌, ◌∷◌, [], IsTrue, OnOk, ◌<◌, ℕ, None, Some, IfErr, IfOk, codes, length};
 ghost use Rattle.tac_syntax.specs.Grammar.{IsNumber};
+ghost use Rattle.tac_syntax.specs.Versions.{field_limit};
 ghost use Rattle.tac_syntax.specs.Names.{is_file_name, is_name};
 ghost use Rattle.text_lines.specs.LineReading.{ReadsNext, IsFaultOf, TellsFault, TellsNoFault};
 ghost use Rattle.text_lines.specs.declared.line_words.LineWord.TheVariants.{Plain as plain_word};
@@ -15,11 +16,8 @@ ghost use Rattle.program_text.specs.DeclarationWords.{words_of_decl};
 
 use pact_record::{Column, Columns, MAX_KEYS, OutOfMemory, Word};
 use std::alloc::Global;
-use tac_syntax::{Decl, Numbers, OpKind};
+use tac_syntax::{Decl, Numbers, OpKind, field_limit};
 use text_lines::{Cursor, LineWord, NotRead, is_word};
-
-// A source has at most so many columns, and a sink so many fields.
-const MAX_LISTED: usize = 64;
 
 fn read_name(alloc: Global, words: &mut Cursor<'_>) -> Result<Word, NotRead>
     ensures { ReadsNext identifier (λ name. IsTrue (is_name name)) (λ name. plain_word name) result words.old words.new }
@@ -48,16 +46,17 @@ fn add_number(numbers: &mut Numbers, number: u32) -> Result<(), OutOfMemory>
     Ok(())
 }
 
-// The columns up to the line's end, one or more.
-fn read_columns(alloc: Global, words: &mut Cursor<'_>) -> Result<Columns, NotRead>
-    ensures { ReadsColumns result words.old }
+// The columns up to the line's end, one or more, and at most so many.
+fn read_columns(alloc: Global, limit: usize, words: &mut Cursor<'_>) -> Result<Columns, NotRead>
+    requires { 1 ≤ limit }
+    ensures { ReadsColumns limit result words.old }
 {
     let mut columns = Columns::new(alloc);
     let first = words.column()?;
     add_column(&mut columns, first)?;
     while words.left() > 0 {
         let column = words.column()?;
-        if columns.len() == MAX_LISTED {
+        if columns.len() == limit {
             return Err(NotRead::Fault { what: 5 });
         }
         add_column(&mut columns, column)?;
@@ -111,12 +110,20 @@ fn read_key_pair(alloc: Global, words: &mut Cursor<'_>) -> Result<(Numbers, Numb
 
 // ---- behind a line's first word
 
-fn read_source(alloc: Global, words: &mut Cursor<'_>) -> Result<Decl, NotRead>
-    ensures { ReadsDecl (codes "source") result words.old }
+// A source has at most so many columns, and a sink so many fields.
+fn listed(version: u32) -> usize
+    ensures limit { result ≡ field_limit version }
+    ensures some { 1 ≤ result }
+{
+    field_limit(version) as usize
+}
+
+fn read_source(alloc: Global, version: u32, words: &mut Cursor<'_>) -> Result<Decl, NotRead>
+    ensures { ReadsDecl version (codes "source") result words.old }
 {
     let name = read_name(alloc, words)?;
     let file = read_file_name(alloc, words)?;
-    let columns = read_columns(alloc, words)?;
+    let columns = read_columns(alloc, listed(version), words)?;
     Ok(Decl::Source {
         name,
         file,
@@ -125,7 +132,7 @@ fn read_source(alloc: Global, words: &mut Cursor<'_>) -> Result<Decl, NotRead>
 }
 
 fn read_map(alloc: Global, words: &mut Cursor<'_>) -> Result<Decl, NotRead>
-    ensures { ReadsDecl (codes "map") result words.old }
+    ensures { (version : ℕ) → ReadsDecl version (codes "map") result words.old }
 {
     let name = read_name(alloc, words)?;
     let function = read_name(alloc, words)?;
@@ -143,7 +150,7 @@ fn read_map(alloc: Global, words: &mut Cursor<'_>) -> Result<Decl, NotRead>
 }
 
 fn read_reduce(alloc: Global, words: &mut Cursor<'_>) -> Result<Decl, NotRead>
-    ensures { ReadsDecl (codes "reduce") result words.old }
+    ensures { (version : ℕ) → ReadsDecl version (codes "reduce") result words.old }
 {
     let name = read_name(alloc, words)?;
     let function = read_name(alloc, words)?;
@@ -162,7 +169,7 @@ fn read_reduce(alloc: Global, words: &mut Cursor<'_>) -> Result<Decl, NotRead>
 }
 
 fn read_cross(alloc: Global, words: &mut Cursor<'_>) -> Result<Decl, NotRead>
-    ensures { ReadsDecl (codes "cross") result words.old }
+    ensures { (version : ℕ) → ReadsDecl version (codes "cross") result words.old }
 {
     let name = read_name(alloc, words)?;
     let function = read_name(alloc, words)?;
@@ -182,8 +189,8 @@ fn read_cross(alloc: Global, words: &mut Cursor<'_>) -> Result<Decl, NotRead>
 
 // An operator that matches the keys of two inputs.
 fn read_matching(alloc: Global, kind: OpKind, words: &mut Cursor<'_>) -> Result<Decl, NotRead>
-    ensures matching { kind ≡ Match → ReadsDecl (codes "match") result words.old }
-    ensures cogrouping { kind ≡ CoGroup → ReadsDecl (codes "cogroup") result words.old }
+    ensures matching { (version : ℕ) → kind ≡ Match → ReadsDecl version (codes "match") result words.old }
+    ensures cogrouping { (version : ℕ) → kind ≡ CoGroup → ReadsDecl version (codes "cogroup") result words.old }
 {
     let name = read_name(alloc, words)?;
     let function = read_name(alloc, words)?;
@@ -202,21 +209,26 @@ fn read_matching(alloc: Global, kind: OpKind, words: &mut Cursor<'_>) -> Result<
     })
 }
 
-fn read_sink(alloc: Global, words: &mut Cursor<'_>) -> Result<Decl, NotRead>
-    ensures { ReadsDecl (codes "sink") result words.old }
+fn read_sink(alloc: Global, version: u32, words: &mut Cursor<'_>) -> Result<Decl, NotRead>
+    ensures { ReadsDecl version (codes "sink") result words.old }
 {
     let input = read_name(alloc, words)?;
-    let fields = read_numbers(alloc, MAX_LISTED, words)?;
+    let fields = read_numbers(alloc, listed(version), words)?;
     Ok(Decl::Sink { input, fields })
 }
 
 // ---- lines
 
-fn read_behind(alloc: Global, first: &[u8], words: &mut Cursor<'_>) -> Result<Decl, NotRead>
-    ensures { ReadsDecl first.now result words.old }
+fn read_behind(
+    alloc: Global,
+    version: u32,
+    first: &[u8],
+    words: &mut Cursor<'_>,
+) -> Result<Decl, NotRead>
+    ensures { ReadsDecl version first.now result words.old }
 {
     if is_word(first, b"source") {
-        read_source(alloc, words)
+        read_source(alloc, version, words)
     } else if is_word(first, b"map") {
         read_map(alloc, words)
     } else if is_word(first, b"reduce") {
@@ -228,7 +240,7 @@ fn read_behind(alloc: Global, first: &[u8], words: &mut Cursor<'_>) -> Result<De
     } else if is_word(first, b"cogroup") {
         read_matching(alloc, OpKind::CoGroup, words)
     } else if is_word(first, b"sink") {
-        read_sink(alloc, words)
+        read_sink(alloc, version, words)
     } else if is_word(first, b"else") || is_word(first, b"end") {
         Err(NotRead::Fault { what: 10 })
     } else {
@@ -236,26 +248,26 @@ fn read_behind(alloc: Global, first: &[u8], words: &mut Cursor<'_>) -> Result<De
     }
 }
 
-fn read_line(alloc: Global, words: &[LineWord]) -> Result<Decl, NotRead>
+fn read_line(alloc: Global, version: u32, words: &[LineWord]) -> Result<Decl, NotRead>
     requires { 0 < length words.now }
-    ensures decl { IfOk result (λ d. IsSpelledDecl d × (words.now ≡ words_of_decl d)) }
-    ensures fault { IfErr result (λ e. IsFaultOf e (declaration_fault words.now)) }
+    ensures decl { IfOk result (λ d. IsSpelledDecl version d × (words.now ≡ words_of_decl d)) }
+    ensures fault { IfErr result (λ e. IsFaultOf e (declaration_fault version words.now)) }
 {
     let mut words = Cursor::new(words);
     match words.next()? {
-        LineWord::Plain(first) => read_behind(alloc, first.bytes(), &mut words),
+        LineWord::Plain(first) => read_behind(alloc, version, first.bytes(), &mut words),
         LineWord::Literal(_) => Err(NotRead::Fault { what: 3 }),
     }
 }
 
-/// The declaration that a line's words make, or their first fault.
-pub fn read_declaration(alloc: Global, words: &[LineWord]) -> Result<Decl, NotRead>
+/// The declaration that a line's words make in a program of the version, or their first fault.
+pub fn read_declaration(alloc: Global, version: u32, words: &[LineWord]) -> Result<Decl, NotRead>
     requires some { 0 < length words.now }
-    ensures decl { IfOk result (λ d. IsSpelledDecl d × (words.now ≡ words_of_decl d)) }
-    ensures fault { IfErr result (λ e. IsFaultOf e (declaration_fault words.now)) }
-    ensures decl_always { (d : DeclData) → IsSpelledDecl d → words.now ≡ words_of_decl d → GivesDecl result d }
-    ensures faultless_always { declaration_fault words.now ≡ None → TellsNoFault result }
-    ensures fault_always { (what : ℕ) → declaration_fault words.now ≡ Some what → TellsFault result what }
+    ensures decl { IfOk result (λ d. IsSpelledDecl version d × (words.now ≡ words_of_decl d)) }
+    ensures fault { IfErr result (λ e. IsFaultOf e (declaration_fault version words.now)) }
+    ensures decl_always { (d : DeclData) → IsSpelledDecl version d → words.now ≡ words_of_decl d → GivesDecl result d }
+    ensures faultless_always { declaration_fault version words.now ≡ None → TellsNoFault result }
+    ensures fault_always { (what : ℕ) → declaration_fault version words.now ≡ Some what → TellsFault result what }
 {
-    read_line(alloc, words)
+    read_line(alloc, version, words)
 }

@@ -2,11 +2,14 @@
 
 ghost use Rattle.std.specs.Prelude.{◌≡◌, ◌<◌, ◌∷◌, [], true, false, length, IfErr, IfOk};
 ghost use Rattle.tac_syntax.specs.Drafts.{DraftData};
+ghost use Rattle.tac_syntax.specs.FieldRegisters.{Takes, has_registers};
+ghost use Rattle.tac_syntax.specs.Versions.{IsVersion};
 ghost use Rattle.text_lines.specs.LineReading.{IsFaultOf};
-ghost use Rattle.program_text.specs.ProgramStates.{EndsWith, GivesDraft, LeadsOn, TellsFirstFault, begins_function, state_of, drafted, nothing_read, open_function, program_place, RunsTo, version_read, with_function};
+ghost use Rattle.program_text.specs.ProgramStates.{EndsWith, FitsVersion, GivesDraft, LeadsOn, TellsFirstFault, begins_function, state_of, drafted, nothing_read, open_function, program_place, RunsTo, version_read, with_function};
 ghost use Rattle.program_text.specs.ProgramTexts.{ProgramText, program_fault};
 ghost use Rattle.text_lines.specs.declared.faults.NotRead.TheVariants.{Memory};
 ghost use Rattle.tac_text.specs.FunctionStates.{function_of};
+ghost use Rattle.tac_text.specs.Places.{FitsBuild};
 ghost use Rattle.text_lines.specs.FirstFaults.{IsLineFault};
 ghost use Rattle.text_lines.specs.TextLines.{lines_of};
 ghost use Rattle.text_lines.specs.CanonicalLines.{AreLineWords};
@@ -23,7 +26,7 @@ use text_lines::{LineWord, NotRead, TextFault, first_line, is_word, read_words, 
 #[derive(Drop)]
 enum State {
     NothingRead,
-    VersionRead,
+    VersionRead(u32),
     Drafted(Draft),
     // in the text of a function
     Open(Draft, OpenFunction),
@@ -31,13 +34,14 @@ enum State {
 
 // ---- one line's words
 
-fn second_words(alloc: Global, words: &[LineWord]) -> Result<State, NotRead>
-    requires { 0 < length words.now }
-    ensures leads { IfOk result (λ t. LeadsOn version_read words.now (state_of t)) }
-    ensures fault { IfErr result (λ e. IsFaultOf e (program_fault (program_place version_read) words.now)) }
+fn second_words(alloc: Global, version: u32, words: &[LineWord]) -> Result<State, NotRead>
+    requires version { IsVersion version }
+    requires some { 0 < length words.now }
+    ensures leads { IfOk result (λ t. LeadsOn (version_read version) words.now (state_of t)) }
+    ensures fault { IfErr result (λ e. IsFaultOf e (program_fault (program_place (version_read version)) words.now)) }
 {
-    match read_field_count(words) {
-        Ok(fields) => Ok(State::Drafted(Draft::new(alloc, fields))),
+    match read_field_count(version, words) {
+        Ok(fields) => Ok(State::Drafted(Draft::new(alloc, version, fields))),
         Err(what) => Err(NotRead::Fault { what }),
     }
 }
@@ -67,11 +71,18 @@ fn decl_words(alloc: Global, mut draft: Draft, words: &[LineWord]) -> Result<Sta
     ensures leads { IfOk result (λ t. LeadsOn (drafted draft) words.now (state_of t)) }
     ensures fault { IfErr result (λ e. IsFaultOf e (program_fault (program_place (drafted draft)) words.now)) }
 {
-    let decl = read_declaration(alloc, words)?;
+    let decl = read_declaration(alloc, draft.version(), words)?;
     match draft.push(decl) {
         Ok(()) => Ok(State::Drafted(draft)),
         Err(_) => Err(NotRead::Memory),
     }
+}
+
+// Whether its functions may take fields from registers.
+fn has_registers(draft: &Draft) -> bool
+    ensures { result ≡ has_registers draft.now.version }
+{
+    draft.version() == 2
 }
 
 fn inside_words(
@@ -80,12 +91,13 @@ fn inside_words(
     mut function: OpenFunction,
     words: &[LineWord],
 ) -> Result<State, NotRead>
+    requires version { FitsBuild (has_registers draft.version) function.build }
     requires some { 0 < length words.now }
     requires words { AreLineWords words.now }
     ensures leads { IfOk result (λ t. LeadsOn (open_function draft function) words.now (state_of t)) }
     ensures fault { IfErr result (λ e. IsFaultOf e (program_fault (program_place (open_function draft function)) words.now)) }
 {
-    let ended = function.read_line(alloc, words)?;
+    let ended = function.read_line(alloc, has_registers(&draft), words)?;
     if ended {
         with_function(draft, function)
     } else {
@@ -95,7 +107,8 @@ fn inside_words(
 
 // The draft with a function whose text has ended.
 fn with_function(mut draft: Draft, function: OpenFunction) -> Result<State, NotRead>
-    requires { function.build.blocks ≡ [] }
+    requires ended { function.build.blocks ≡ [] }
+    requires registers { Takes (has_registers draft.version) function.build.body }
     ensures function { IfOk result (λ t. state_of t ≡ drafted (with_function draft (function_of function))) }
     ensures memory { IfErr result (λ e. e ≡ Memory) }
 {
@@ -106,6 +119,7 @@ fn with_function(mut draft: Draft, function: OpenFunction) -> Result<State, NotR
 }
 
 fn next(alloc: Global, state: State, words: &[LineWord]) -> Result<State, NotRead>
+    requires version { FitsVersion (state_of state) }
     requires some { 0 < length words.now }
     requires words { AreLineWords words.now }
     ensures leads { IfOk result (λ t. LeadsOn (state_of state) words.now (state_of t)) }
@@ -113,10 +127,10 @@ fn next(alloc: Global, state: State, words: &[LineWord]) -> Result<State, NotRea
 {
     match state {
         State::NothingRead => match read_version(words) {
-            Ok(()) => Ok(State::VersionRead),
+            Ok(version) => Ok(State::VersionRead(version)),
             Err(what) => Err(NotRead::Fault { what }),
         },
-        State::VersionRead => second_words(alloc, words),
+        State::VersionRead(version) => second_words(alloc, version, words),
         State::Drafted(draft) => {
             if begins_function(words) {
                 open_words(alloc, draft, words)
@@ -131,6 +145,7 @@ fn next(alloc: Global, state: State, words: &[LineWord]) -> Result<State, NotRea
 // ---- lines
 
 fn read_line(alloc: Global, state: State, line: &[u8]) -> Result<State, NotRead>
+    requires { FitsVersion (state_of state) }
     ensures leads { IfOk result (λ t. RunsTo (state_of state) (line.now ∷ []) (state_of t)) }
     ensures fault { IfErr result (λ e. IsLineFault (program_fault (program_place (state_of state))) e line.now) }
 {
@@ -148,7 +163,7 @@ fn ended(state: State, lines: u64) -> Result<Draft, TextFault>
     let line = lines.max(1);
     match state {
         State::Drafted(draft) => Ok(draft),
-        State::NothingRead | State::VersionRead => Err(TextFault::At { line, what: 12 }),
+        State::NothingRead | State::VersionRead(_) => Err(TextFault::At { line, what: 12 }),
         State::Open(..) => Err(TextFault::At { line, what: 10 }),
     }
 }

@@ -1,6 +1,6 @@
 //! The canonical lines of declarations, and programs, written as text.
 
-ghost use Rattle.std.specs.Prelude.{◌≡◌, ◌++◌, ◌∷◌, [], IfOk, codes, map, ◌≤◌};
+ghost use Rattle.std.specs.Prelude.{◌≡◌, ◌++◌, ◌∷◌, [], IfOk, ℕ, codes, map, ◌≤◌};
 ghost use Rattle.tac_syntax.specs.Declarations.{IsSpelledDecl};
 ghost use Rattle.text_lines.specs.CanonicalLines.{canonical_line, word_text, line_spelling};
 ghost use Rattle.text_lines.specs.declared.line_words.LineWord.TheVariants.{Plain as plain_word};
@@ -73,7 +73,7 @@ fn and_others(
 }
 
 fn decl_words(alloc: Global, decl: &Decl) -> Result<Words, OutOfMemory>
-    requires { IsSpelledDecl decl.now }
+    requires { (version : ℕ) × IsSpelledDecl version decl.now }
     ensures { IfOk result (λ words. words ≡ map word_text (words_of_decl decl.now)) }
 {
     match decl {
@@ -116,7 +116,7 @@ fn decl_words(alloc: Global, decl: &Decl) -> Result<Words, OutOfMemory>
 
 /// The one canonical line of a declaration, with its end.
 pub fn write_declaration(alloc: Global, decl: &Decl) -> Result<Bytes, OutOfMemory>
-    requires { IsSpelledDecl decl.now }
+    requires { (version : ℕ) × IsSpelledDecl version decl.now }
     ensures { IfOk result (λ text. text ≡ canonical_line 0 (words_of_decl decl.now) ++ 10 ∷ []) }
 {
     let mut text = Bytes::new(alloc);
@@ -125,10 +125,13 @@ pub fn write_declaration(alloc: Global, decl: &Decl) -> Result<Bytes, OutOfMemor
 }
 
 // The version, and the number of fields.
-fn first_lines(alloc: Global, fields: u32) -> Result<Bytes, OutOfMemory>
-    ensures { IfOk result (λ text. text ≡ line_spelling 0 version_words ++ line_spelling 0 (field_count_words fields)) }
+fn first_lines(alloc: Global, version: u32, fields: u32) -> Result<Bytes, OutOfMemory>
+    ensures { IfOk result (λ text. text ≡ line_spelling 0 (version_words version) ++ line_spelling 0 (field_count_words fields)) }
 {
-    let mut text = Bytes::from_slice(alloc, b"pact 1\nfields ")?;
+    let mut text = Bytes::from_slice(alloc, b"pact ")?;
+    let number = version.to_string(alloc)?;
+    text.extend_from_slice(number.as_bytes())?;
+    text.extend_from_slice(b"\nfields ")?;
     let digits = fields.to_string(alloc)?;
     text.extend_from_slice(digits.as_bytes())?;
     text.extend_from_slice(b"\n")?;
@@ -136,7 +139,7 @@ fn first_lines(alloc: Global, fields: u32) -> Result<Bytes, OutOfMemory>
 }
 
 fn write_decl(alloc: Global, functions: &[Function], decl: &Decl) -> Result<Bytes, OutOfMemory>
-    requires { CanWrite functions.now decl.now }
+    requires { (version : ℕ) × CanWrite version functions.now decl.now }
     ensures { IfOk result (λ text. text ≡ decl_spelling functions.now decl.now) }
 {
     match decl {
@@ -159,7 +162,7 @@ pub fn write_program(alloc: Global, draft: &Draft) -> Result<Bytes, OutOfMemory>
     ensures spelled { IfOk result (λ text. text ≡ program_spelling draft.now) }
     ensures read_again { IfOk result (λ text. ProgramText draft.now (lines_of text)) }
 {
-    let mut out = first_lines(alloc, draft.fields())?;
+    let mut out = first_lines(alloc, draft.version(), draft.fields())?;
     let functions = functions_of(draft);
     tell_nesting(functions);
     for decl in draft.decls() {

@@ -5,7 +5,6 @@ use Rattle.pact_record.specs.FieldSets.{has_field}
 use Rattle.tac_syntax.specs.declared.contexts.Context.{Context}
 use Rattle.tac_syntax.specs.declared.contexts.Side.{Side}
 use Rattle.tac_syntax.specs.declared.functions.Kind.{Kind}
-use Rattle.tac_syntax.specs.Bounded.{Names}
 use Rattle.tac_syntax.specs.Call.{Out}
 use Rattle.tac_syntax.specs.Code.{Code}
 use Rattle.tac_syntax.specs.Contexts.{Has, IsContextOf, ports_of}
@@ -21,21 +20,22 @@ use Rattle.plan_trees.specs.Plans.{PlanTree, subtree_of}
 use Rattle.pact_operators.specs.declared.operators.Op.{Op}
 use Rattle.pact_operators.specs.Allowed.{Bag}
 use Rattle.pact_operators.specs.PlanOps.{function_in, kind_at, left_keys_in, plan_ops, right_keys_in}
-use Rattle.pact_operators.specs.Programs.{HasLeftAttribute, HasRightAttribute, IsProgram, Owns, OwnsBy, ProgramData, body_of}
+use Rattle.pact_operators.specs.Programs.{FunctionNames, HasLeftAttribute, HasRightAttribute, IsProgram, Owns, OwnsBy, ProgramData}
 use Rattle.pact_operators.specs.SoundOps.{called, function_kind}
 use Rattle.pact_operators.proofs.BelowFields.{AreOf}
 use Rattle.pact_operators.proofs.PlanContexts.{keys-below, left-below, right-below, set-below}
 use Rattle.pact_operators.proofs.SmallerContexts.{IsSmaller, form_in_smaller, form_of_ops}
 use Rattle.pact_operators.proofs.CalledFunctions.{called_function, called_kind}
+use Rattle.pact_operators.proofs.OwnFields.{names_of-some}
 use Rattle.reorder_pair.specs.declared.finding.Found.{Found}
 use Rattle.reorder_pair.specs.Places.{IsFound}
 use Rattle.reorder_pair.proofs.PermittedExchanges.{AreSetsOf, UsedFields, joint}
 
 -- what an operator owns its function names
-owned_is_named : (v : List WithFields) (ops : List Op) (n k : ℕ) → (kind_at ops n ≡ Source → ⊥) → Owns v ops n k → Names k (body_of v (function_in (slice_get ops n)))
+owned_is_named : (v : List WithFields) (ops : List Op) (n k : ℕ) → (kind_at ops n ≡ Source → ⊥) → Owns v ops n k → FunctionNames v (function_in (slice_get ops n)) k
 owned_is_named v [] n k operator h = absurd h
 owned_is_named v (op ∷ ops) zero k operator h = by op.kind refl h where
-  by : (q : OpKind) → op.kind ≡ q → OwnsBy q v op k → Names k (body_of v op.function)
+  by : (q : OpKind) → op.kind ≡ q → OwnsBy q v op k → FunctionNames v op.function k
   by Source e g = absurd (operator e)
   by Map e g = g
   by Reduce e g = g
@@ -55,7 +55,7 @@ pub record IsFoundIn (p : ProgramData) (n : ℕ) (one other : PlanTree) (s : Fou
   pub function : WithFields
   pub function_is : slice_get p.functions (function_in (slice_get p.ops n)) ≡ Some function
   pub sets : found_of s.sets ≡ sets_in function context
-  pub touched : (k : ℕ) → Has (has_field s.sets.touched) k ↔ IsTouched (found_of s.sets) function.function.body k
+  pub touched : (k : ℕ) → Has (has_field s.sets.touched) k ↔ IsTouched (found_of s.sets) function.fields function.function.body k
   pub least : s.lo ≡ least_emits function.function.body
   pub most : s.hi ≡ most_emits function.function.body
 
@@ -130,8 +130,7 @@ module _ (p : ProgramData) (program : IsProgram p) (n : ℕ) (one other : PlanTr
 
   pub owned_touched : (kind_at p.ops n ≡ Source → ⊥) → (k : ℕ) → Owns p.functions p.ops n k → Has (has_field s.sets.touched) k
   owned_touched operator k own =
-      let c = (called_function p program n h.function operator h.function_is).1 in
-      (h.touched k).1 (inr (inr (subst (Names k) (sym c.body) (owned_is_named p.functions p.ops n k operator own))))
+      (h.touched k).1 (inr (inr ((names_of-some p.functions (function_in (slice_get p.ops n)) k h.function h.function_is).0 (owned_is_named p.functions p.ops n k operator own))))
 
   pub sets_found : (inputs : List Bag) (side : Side) → (kind_at p.ops n ≡ Source → ⊥) → IsAnchoredOn (function_kind (kind_at p.ops n)) side (found_of s.sets)
       → AreSetsOf p.fields p.functions p.ops (plan_ops p inputs) n (joint p.functions p.ops (plan_ops p inputs) n one other) side (used_in s)

@@ -1,5 +1,5 @@
 -- Forms of functions of one record and of pairs: calls that agree on what is read give outputs that differ where something is written alone.
-use Rattle.std.proofs.Common.{◌≡◌, ℕ, Bool, cond, List, [], ◌∷◌, length, get_or, sym, ap, subst, ◌∙◌, arith}
+use Rattle.std.proofs.Common.{◌≡◌, ◌||◌, not, ℕ, Bool, cond, List, [], ◌∷◌, length, get_or, sym, ap, subst, ◌∙◌, arith}
 use Rattle.std.specs.List.{AllByRecursion, AllZip}
 use Rattle.pact_record.specs.declared.values.Value.{Value}
 use Rattle.pact_record.specs.declared.values.Value.TheVariants.{Null, Int, Text}
@@ -10,7 +10,7 @@ use Rattle.pact_record.proofs.SideBySide.{AllZip-cond, AllZip-weaker}
 use Rattle.pact_bag.specs.Groups.{is_same_key}
 use Rattle.tac_syntax.specs.Contexts.{FieldSet, Has}
 use Rattle.tac_syntax.specs.Forms.{AreAnchored, AreAnchoredAt, AreApart, IsWithin}
-use Rattle.pact_operators.specs.Allowed.{Bag, matched}
+use Rattle.pact_operators.specs.Allowed.{Bag, has_null, matched, unless_null}
 use Rattle.pact_operators.proofs.WithinFields.{same_key_of}
 
 abbrev pub Row : Type 0
@@ -108,13 +108,29 @@ flip_form fields a b R W f d p = record {
 
 -- ---- a function of pairs that match
 
+-- a key that is read has a Null in both, or in neither
+unless_null_form : (fields : ℕ) (a b : ℕ → Type 0) (R W : FieldSet) (nulls : Bool) (f : Row → Row → Bag) (ks : List ℕ) → AllByRecursion (Has R) ks
+    → PairForm fields a b R W f → PairForm fields a b R W (unless_null nulls f ks)
+unless_null_form fields a b R W nulls f ks hk p = record {
+  outputs = λ l m r s fl fm fr fs al ar.
+      let test : Row → Bool = λ row. nulls || not (has_null (key_of ks row)) in
+      let e : test l ≡ test m = λ i. nulls || not (has_null (same_key_of R ks l m hk al i)) in
+      subst (λ (t : Bool). AllZip (AreAnchored W (joined_record l r) (joined_record m s)) (cond (test l) (f l r) []) (cond t (f m s) [])) e
+      (AllZip-cond (AreAnchored W (joined_record l r) (joined_record m s)) (test l) (f l r) (f m s) (p.outputs l m r s fl fm fr fs al ar));
+  wide = λ l r fl fr. AllByRecursion-cond (λ o. length o ≡ fields) (nulls || not (has_null (key_of ks l))) (f l r) [] (p.wide l r fl fr) tt;
+}
+
 -- keys that are read are equal
-pub matched_form : (fields : ℕ) (a b : ℕ → Type 0) (R W : FieldSet) (f : Row → Row → Bag) (ks js : List ℕ) → AllByRecursion (Has R) ks → AllByRecursion (Has R) js
-    → PairForm fields a b R W f → PairForm fields a b R W (matched f ks js)
-matched_form fields a b R W f ks js hk hj p = record {
+equal_form : (fields : ℕ) (a b : ℕ → Type 0) (R W : FieldSet) (f : Row → Row → Bag) (ks js : List ℕ) → AllByRecursion (Has R) ks → AllByRecursion (Has R) js
+    → PairForm fields a b R W f → PairForm fields a b R W (λ l r. cond (is_same_key (key_of ks l) (key_of js r)) (f l r) [])
+equal_form fields a b R W f ks js hk hj p = record {
   outputs = λ l m r s fl fm fr fs al ar.
       let e : is_same_key (key_of ks l) (key_of js r) ≡ is_same_key (key_of ks m) (key_of js s) = λ i. is_same_key (same_key_of R ks l m hk al i) (same_key_of R js r s hj ar i) in
       subst (λ (t : Bool). AllZip (AreAnchored W (joined_record l r) (joined_record m s)) (cond (is_same_key (key_of ks l) (key_of js r)) (f l r) []) (cond t (f m s) [])) e
       (AllZip-cond (AreAnchored W (joined_record l r) (joined_record m s)) (is_same_key (key_of ks l) (key_of js r)) (f l r) (f m s) (p.outputs l m r s fl fm fr fs al ar));
   wide = λ l r fl fr. AllByRecursion-cond (λ o. length o ≡ fields) (is_same_key (key_of ks l) (key_of js r)) (f l r) [] (p.wide l r fl fr) tt;
 }
+
+pub matched_form : (fields : ℕ) (a b : ℕ → Type 0) (R W : FieldSet) (nulls : Bool) (f : Row → Row → Bag) (ks js : List ℕ) → AllByRecursion (Has R) ks → AllByRecursion (Has R) js
+    → PairForm fields a b R W f → PairForm fields a b R W (matched nulls f ks js)
+matched_form fields a b R W nulls f ks js hk hj p = equal_form fields a b R W (unless_null nulls f ks) ks js hk hj (unless_null_form fields a b R W nulls f ks hk p)

@@ -48,8 +48,8 @@ module _ (p : ProgramData) (n : ℕ) (before after : PlanTree) where
       let f = same_Some h.found.called g.found.called (sym h.found.function ∙ g.found.function) in
       let sets : found_of s.sets ≡ found_of r.sets =
       h.found.sets ∙ sets_one h.found.called h.context g.context h.union g.union ∙ ap (λ (w : WithFields). sets_in w g.context) f ∙ sym g.found.sets in
-      let touches = λ (k : ℕ). subst (λ (x : FoundSets). Has (has_field s.sets.touched) k ↔ IsTouched x g.found.called.function.body k) sets
-      (subst (λ (w : WithFields). Has (has_field s.sets.touched) k ↔ IsTouched (found_of s.sets) w.function.body k) f (h.found.touched k)) in
+      let touches = λ (k : ℕ). subst (λ (x : FoundSets). Has (has_field s.sets.touched) k ↔ IsTouched x g.found.called.fields g.found.called.function.body k) sets
+      (subst (λ (w : WithFields). Has (has_field s.sets.touched) k ↔ IsTouched (found_of s.sets) w.fields w.function.body k) f (h.found.touched k)) in
       let touched = same_set (has_field s.sets.touched) (has_field r.sets.touched) (λ k. both_by (touches k) (g.found.touched k)) in
       let low = h.found.least ∙ ap (λ (w : WithFields). least_emits w.function.body) f ∙ sym g.found.least in
       let high = h.found.most ∙ ap (λ (w : WithFields). most_emits w.function.body) f ∙ sym g.found.most in

@@ -1,5 +1,5 @@
 -- The calls of a pair operator, and the bags that a plan with one at its root allows.
-use Rattle.std.proofs.Common.{◌≡◌, inl, inr, ℕ, List, [], refl, sym, subst}
+use Rattle.std.proofs.Common.{◌≡◌, ◌||◌, not, inl, inr, ℕ, List, [], refl, sym, subst}
 use Rattle.std.specs.List.{AllByRecursion}
 use Rattle.pact_record.specs.Record.{joined_record, key_of}
 use Rattle.pact_record.proofs.Lists.{AllByRecursion-cond}
@@ -15,7 +15,7 @@ use Rattle.tac_syntax.specs.declared.declarations.OpKind.{OpKind}
 use Rattle.tac_syntax.specs.declared.declarations.OpKind.TheVariants.{Match, Cross}
 use Rattle.plan_trees.specs.Plans.{PlanTree, both}
 use Rattle.pact_operators.specs.declared.operators.Op.{Op}
-use Rattle.pact_operators.specs.Allowed.{Bag, Allows, GivesBoth, crossed, matched}
+use Rattle.pact_operators.specs.Allowed.{Bag, Allows, GivesBoth, crossed, has_null, matched, unless_null}
 use Rattle.pact_operators.specs.PlanOps.{PlanOps}
 use Rattle.pact_operators.specs.SoundOps.{AreOpsOf, called, function_kind}
 use Rattle.pact_operators.proofs.LawfulBags.{OverBoth, all_wide, cross_fits, match_fits}
@@ -24,7 +24,7 @@ use Rattle.reorder_pair.proofs.PermittedExchanges.{AreSetsOf, IsPair, UsedFields
 
 -- what a pair operator gives for a pair
 abbrev pub pair_of : PlanOps → OpKind → ℕ → Row → Row → Bag
-pair_of o Match n = matched (o.of_pair n) (o.left_keys n) (o.right_keys n)
+pair_of o Match n = matched o.nulls (o.of_pair n) (o.left_keys n) (o.right_keys n)
 pair_of o Cross n = o.of_pair n
 pair_of o kind n = λ l r. []
 
@@ -80,7 +80,8 @@ module _ (fields : ℕ) (v : List WithFields) (ops : List Op) (o : PlanOps) (goo
       → AllByRecursion (IsWithin fields (OverBoth v ops n s t)) (pair_of o (o.kind n) n l r)
   pair_fits n s t (inl e) l r h j =
       subst (λ (k : OpKind). AllByRecursion (IsWithin fields (OverBoth v ops n s t)) (pair_of o k n l r)) (sym e)
-      (AllByRecursion-cond (IsWithin fields (OverBoth v ops n s t)) (is_same_key (key_of (o.left_keys n) l) (key_of (o.right_keys n) r)) (o.of_pair n l r) [] (called_fits n s t (inl e) l r h j) tt)
+      (AllByRecursion-cond (IsWithin fields (OverBoth v ops n s t)) (is_same_key (key_of (o.left_keys n) l) (key_of (o.right_keys n) r)) (unless_null o.nulls (o.of_pair n) (o.left_keys n) l r) []
+      (AllByRecursion-cond (IsWithin fields (OverBoth v ops n s t)) (o.nulls || not (has_null (key_of (o.left_keys n) l))) (o.of_pair n l r) [] (called_fits n s t (inl e) l r h j) tt) tt)
   pair_fits n s t (inr e) l r h j = subst (λ (k : OpKind). AllByRecursion (IsWithin fields (OverBoth v ops n s t)) (pair_of o k n l r)) (sym e) (called_fits n s t (inr e) l r h j)
 
   called_form : (n : ℕ) (c : Ports) (R W : FieldSet) → IsPair (o.kind n) → AreApart c.left c.right → HasForm (function_kind (o.kind n)) fields c R W on_left (called o n) → PairForm fields c.left c.right R W (o.of_pair n)
@@ -95,6 +96,6 @@ module _ (fields : ℕ) (v : List WithFields) (ops : List Op) (o : PlanOps) (goo
       → PairForm fields c.left c.right s.reads s.writes (pair_of o (o.kind n) n)
   pair_form n c s (inl e) apart h =
       subst (λ (k : OpKind). PairForm fields c.left c.right s.reads s.writes (pair_of o k n)) (sym e)
-      (matched_form fields c.left c.right s.reads s.writes (o.of_pair n) (o.left_keys n) (o.right_keys n) h.left_keys h.right_keys (called_form n c s.reads s.writes (inl e) apart h.form))
+      (matched_form fields c.left c.right s.reads s.writes o.nulls (o.of_pair n) (o.left_keys n) (o.right_keys n) h.left_keys h.right_keys (called_form n c s.reads s.writes (inl e) apart h.form))
   pair_form n c s (inr e) apart h =
       subst (λ (k : OpKind). PairForm fields c.left c.right s.reads s.writes (pair_of o k n)) (sym e) (called_form n c s.reads s.writes (inr e) apart h.form)

@@ -38,7 +38,7 @@ pub record IsFoundFor (p : ProgramData) (n : ℕ) (context : Context) (s : Found
   pub called : WithFields
   pub function : slice_get p.functions (function_in (slice_get p.ops n)) ≡ Some called
   pub sets : found_of s.sets ≡ sets_in called context
-  pub touched : (k : ℕ) → Has (has_field s.sets.touched) k ↔ IsTouched (found_of s.sets) called.function.body k
+  pub touched : (k : ℕ) → Has (has_field s.sets.touched) k ↔ IsTouched (found_of s.sets) called.fields called.function.body k
   pub least : s.lo ≡ least_emits called.function.body
   pub most : s.hi ≡ most_emits called.function.body
 

@@ -33,7 +33,7 @@ given_over-Gives o n Reduce e rows = grouped (o.of_group n) (o.left_keys n) rows
 given_over-Gives o n kind e rows = absurd (omega (arith, e))
 
 given_both : PlanOps → ℕ → OpKind → Bag → Bag → Bag
-given_both o n Match ls rs = crossed (matched (o.of_pair n) (o.left_keys n) (o.right_keys n)) ls rs
+given_both o n Match ls rs = crossed (matched o.nulls (o.of_pair n) (o.left_keys n) (o.right_keys n)) ls rs
 given_both o n Cross ls rs = crossed (o.of_pair n) ls rs
 given_both o n CoGroup ls rs =
     flat_map (λ k. o.of_groups n k (group_of_key (o.left_keys n) ls k) (group_of_key (o.right_keys n) rs k)) (keys_in_either (o.left_keys n) (o.right_keys n) ls rs)

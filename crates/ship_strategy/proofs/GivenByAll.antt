@@ -18,7 +18,7 @@ use Rattle.tac_syntax.specs.declared.declarations.OpKind.TheVariants.{Source, Ma
 use Rattle.plan_trees.specs.declared.physicals.Ship.{Ship}
 use Rattle.plan_trees.specs.declared.physicals.Ship.TheVariants.{Forward, Partition, Broadcast}
 use Rattle.plan_trees.specs.Sending.{all_of}
-use Rattle.pact_operators.specs.Allowed.{Bag, Gives, GivesBoth, crossed, matched, keys_in, keys_in_either}
+use Rattle.pact_operators.specs.Allowed.{Bag, Gives, GivesBoth, crossed, matched, unless_null, keys_in, keys_in_either}
 use Rattle.pact_operators.specs.PlanOps.{PlanOps}
 use Rattle.pact_operators.proofs.ChosenForKeys.{AreChosen, IsGivenFor, chosen-CoGrouped, chosen-Grouped, cogrouped-AreChosen, grouped-AreChosen, of_one_side}
 use Rattle.pact_operators.proofs.PermutedPairs.{pairs_perm}
@@ -163,11 +163,11 @@ module _ (o : PlanOps) (n W : ℕ) (some : 1 ≤ W) where
 
     match_gives : ByKey → ((w : ℕ) → w < W → GivesBoth o Match n (l w) (r w) (out w)) → GivesBothAll Match ls rs out
     match_gives k h =
-        let M = matched (o.of_pair n) (o.left_keys n) (o.right_keys n) in (
+        let M = matched o.nulls (o.of_pair n) (o.left_keys n) (o.right_keys n) in (
           crossed M ls rs,
           refl,
           is_same (same_each out (λ w. crossed M (l w) (r w)) W h
-              ∙ sym (equal_pairs-all (o.of_pair n) (target W) (o.left_keys n) (o.right_keys n) W l r (at_left k) (at_right k)) ∙ sym (λ i. crossed M (all_left k i) (all_right k i))),
+              ∙ sym (equal_pairs-all (unless_null o.nulls (o.of_pair n) (o.left_keys n)) (target W) (o.left_keys n) (o.right_keys n) W l r (at_left k) (at_right k)) ∙ sym (λ i. crossed M (all_left k i) (all_right k i))),
         )
 
     pub both_give : (k : OpKind) → IsLegalBoth k (o.left_keys n) (o.right_keys n) (is_broadcast sl) (is_broadcast sr) (edge_placement sl pl) (edge_placement sr pr)
@@ -178,7 +178,7 @@ module _ (o : PlanOps) (n W : ℕ) (some : 1 ≤ W) where
     both_give Match legal h = elim legal as (λ _. GivesBothAll Match ls rs out) [
       | inl key ↦ match_gives key h
       | inr all ↦
-          let M = matched (o.of_pair n) (o.left_keys n) (o.right_keys n) in
+          let M = matched o.nulls (o.of_pair n) (o.left_keys n) (o.right_keys n) in
           (crossed M ls rs, refl, chains (is_same (same_each out (λ w. over_pairs M (l w) (r w)) W h)) (pairs_together W M (is_broadcast sl) (is_broadcast sr) all l r ls rs left right))
     ]
     both_give Cross legal h =

@@ -1,5 +1,5 @@
 -- Where the records lie that an operator gives: a placement that the operator passes on holds of them.
-use Rattle.std.proofs.Common.{◌≡◌, ◌<◌, ◌+◌, inl, inr, ℕ, Bool, true, false, cond, Some, None, List, [], ◌∷◌, length, refl, sym, ap, subst, ◌∙◌}
+use Rattle.std.proofs.Common.{◌≡◌, ◌<◌, ◌+◌, ◌||◌, not, inl, inr, ℕ, Bool, true, false, cond, Some, None, List, [], ◌∷◌, length, refl, sym, ap, subst, ◌∙◌}
 use Rattle.std.specs.List.{AllByRecursion, list_any}
 use Rattle.std.proofs.lemmas.Bool.{both_ways, or_parts}
 use Rattle.pact_bag.specs.Groups.{do_match}
@@ -17,7 +17,7 @@ use Rattle.tac_syntax.specs.Call.{CallInput, of_record, of_pair, of_group, of_gr
 use Rattle.tac_syntax.specs.Contexts.{FieldSet, Has, Ports}
 use Rattle.tac_syntax.specs.Forms.{AreAnchoredAt, AreApart, HasForm, HaveKey, IsLawful, IsWithin, anchors, left_records, right_records}
 use Rattle.tac_flow.specs.Known.{either}
-use Rattle.pact_operators.specs.Allowed.{Bag, Gives, GivesBoth, crossed, matched}
+use Rattle.pact_operators.specs.Allowed.{Bag, Gives, GivesBoth, crossed, matched, has_null, unless_null}
 use Rattle.pact_operators.specs.PlanOps.{PlanOps}
 use Rattle.pact_operators.specs.SoundOps.{called, function_kind}
 use Rattle.pact_operators.proofs.EachOfGroups.{cogrouped_each, crossed_each, grouped_each}
@@ -235,14 +235,15 @@ module _ (fields : ℕ) (o : PlanOps) (n W w : ℕ) (in_left in_right : ℕ → 
       both_lie Map form la ra left_edge right_edge legal at_left at_right given = absurd legal
       both_lie Reduce form la ra left_edge right_edge legal at_left at_right given = absurd legal
       both_lie Match form la ra left_edge right_edge legal at_left at_right given =
-          let f = matched (o.of_pair n) (o.left_keys n) (o.right_keys n) in
+          let f = matched o.nulls (o.of_pair n) (o.left_keys n) (o.right_keys n) in
           let by_key = placement_of_keys x.writes x.left x.right x.left_keys x.right_keys in
           let pairs : IsOfPairs Match f = record {
             lawful = λ l r fl fr. record { apart = apart; called = tt; some = tt; keyed = tt; left = (fl, tt); right = (fr, tt) };
             anchor = tt;
             form = form;
             given = given;
-            within = λ Q l r h. AllByRecursion-cond Q (do_match (o.left_keys n) (o.right_keys n) l r) (o.of_pair n l r) [] h tt;
+            within = λ Q l r h. AllByRecursion-cond Q (do_match (o.left_keys n) (o.right_keys n) l r) (unless_null o.nulls (o.of_pair n) (o.left_keys n) l r) []
+                (AllByRecursion-cond Q (o.nulls || not (has_null (key_of (o.left_keys n) l))) (o.of_pair n l r) [] h tt) tt;
           } in
           pairs_lie Match f pairs la ra left_edge right_edge by_key at_left at_right
           (λ no_left no_right. elim legal as (λ _. LieBy W by_key w out) [

@@ -9,6 +9,7 @@ pub mod ChosenWays
 pub mod PlacesOfChoices
 pub mod BlankTables
 pub mod FilledTables
+pub mod SeenRows
 pub mod PlanAttributes
 pub mod PlanSets
 pub mod ProgramLayouts

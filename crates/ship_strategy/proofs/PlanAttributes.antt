@@ -1,22 +1,22 @@
 -- Attributes as sets are those of the program.
 use Rattle.std.proofs.Common.{◌≡◌, ◌==◌, ◌||◌, ◌↔◌, ◌⊎◌, inl, inr, ℕ, zero, suc, Bool, true, false, IsTrue, List, [], ◌∷◌, sym}
-use Rattle.std.proofs.lemmas.Bool.{eq-eqb, eqb-true, or_cases, or_left, or_right, true≢false}
+use Rattle.std.proofs.lemmas.Bool.{eq-eqb, eqb-true, lt-ltb, ltb-true, or_cases, or_left, or_right, true≢false}
 use Rattle.pact_bag.specs.SourceRows.{IsColumnField}
 use Rattle.pact_record.specs.declared.columns.Column.{Column}
 use Rattle.pact_record.specs.FieldSets.{has_field}
 use Rattle.pact_record.proofs.Members.{same_tests}
 use Rattle.tac_syntax.specs.Bounded.{Names, NamesField}
-use Rattle.tac_syntax.specs.Code.{Simple, load_int, load_text, load_null, move_value, get_field, get_key, apply_one, apply_two, new_record, copy_record, set_field, emit_record, Code, stop, plain, branch, again, each}
+use Rattle.tac_syntax.specs.Code.{Simple, load_int, load_text, load_null, move_value, get_field, get_at, get_key, apply_one, apply_two, new_record, copy_record, set_field, set_at, emit_record, Code, stop, plain, branch, again, each}
 use Rattle.tac_syntax.specs.Contexts.{Has, IsBelow}
 use Rattle.tac_syntax.specs.declared.declarations.OpKind.{OpKind}
 use Rattle.tac_syntax.specs.declared.declarations.OpKind.TheVariants.{Source, Map, Reduce, Match, Cross, CoGroup}
 use Rattle.tac_syntax.specs.Valid.{WithFields}
 use Rattle.plan_trees.specs.Plans.{PlanTree, leaf, over, both, has, subtree_of}
 use Rattle.pact_operators.specs.declared.operators.Op.{Op}
-use Rattle.pact_operators.specs.Programs.{HasAttribute, HasLeftAttribute, HasRightAttribute, IsProgram, Owns, OwnsBy, ProgramData, body_of}
+use Rattle.pact_operators.specs.Programs.{FunctionNames, HasAttribute, HasLeftAttribute, HasRightAttribute, IsProgram, Owns, OwnsBy, ProgramData}
 use Rattle.pact_operators.proofs.BelowFields.{attribute-below}
 use Rattle.pact_operators.proofs.PlanContexts.{set-below}
-use Rattle.ship_strategy.specs.PlanFacts.{attribute, facts_of, field_named, is_column, left_attribute, named, owned, owned_by, right_attribute}
+use Rattle.ship_strategy.specs.PlanFacts.{attribute, facts_of, field_named, function_named, is_column, left_attribute, named, owned, owned_by, right_attribute}
 
 -- ---- each test says what it is named for
 
@@ -29,28 +29,38 @@ either_true a b A B h g = (
 never_true : (false ≡ true) ↔ ⊥
 never_true = ((λ e. true≢false (sym e)), (λ h. absurd h))
 
-field_named_true : (s : Simple) (k : ℕ) → (field_named s k ≡ true) ↔ NamesField k s
-field_named_true (load_int to value) k = never_true
-field_named_true (load_text to bytes) k = never_true
-field_named_true (load_null to) k = never_true
-field_named_true (move_value to from) k = never_true
-field_named_true (get_field to from field) k = never_true
-field_named_true (get_key to at) k = never_true
-field_named_true (apply_one to op a) k = never_true
-field_named_true (apply_two to op a b) k = never_true
-field_named_true (new_record to) k = never_true
-field_named_true (copy_record to from) k = never_true
-field_named_true (set_field to field value) k = (eqb-true k field, eq-eqb k field)
-field_named_true (emit_record from) k = never_true
+field_named_true : (fields : ℕ) (s : Simple) (k : ℕ) → (field_named fields s k ≡ true) ↔ NamesField fields k s
+field_named_true fields (load_int to value) k = never_true
+field_named_true fields (load_text to bytes) k = never_true
+field_named_true fields (load_null to) k = never_true
+field_named_true fields (move_value to from) k = never_true
+field_named_true fields (get_field to from field) k = never_true
+field_named_true fields (get_at to from at) k = never_true
+field_named_true fields (get_key to at) k = never_true
+field_named_true fields (apply_one to op a) k = never_true
+field_named_true fields (apply_two to op a b) k = never_true
+field_named_true fields (new_record to) k = never_true
+field_named_true fields (copy_record to from) k = never_true
+field_named_true fields (set_field to field value) k = (eqb-true k field, eq-eqb k field)
+field_named_true fields (set_at to at value) k = (ltb-true k fields, lt-ltb k fields)
+field_named_true fields (emit_record from) k = never_true
 
-named_true : (c : Code) (k : ℕ) → (named c k ≡ true) ↔ Names k c
-named_true stop k = never_true
-named_true (plain s next) k = either_true (field_named s k) (named next k) (NamesField k s) (Names k next) (field_named_true s k) (named_true next k)
-named_true (branch on body other next) k =
-    either_true (named body k) (named other k || named next k) (Names k body) (Names k other ⊎ Names k next) (named_true body k)
-    (either_true (named other k) (named next k) (Names k other) (Names k next) (named_true other k) (named_true next k))
-named_true (again count body next) k = either_true (named body k) (named next k) (Names k body) (Names k next) (named_true body k) (named_true next k)
-named_true (each name list body next) k = either_true (named body k) (named next k) (Names k body) (Names k next) (named_true body k) (named_true next k)
+named_true : (fields : ℕ) (c : Code) (k : ℕ) → (named fields c k ≡ true) ↔ Names fields k c
+named_true fields stop k = never_true
+named_true fields (plain s next) k =
+    either_true (field_named fields s k) (named fields next k) (NamesField fields k s) (Names fields k next) (field_named_true fields s k) (named_true fields next k)
+named_true fields (branch on body other next) k =
+    either_true (named fields body k) (named fields other k || named fields next k) (Names fields k body) (Names fields k other ⊎ Names fields k next) (named_true fields body k)
+    (either_true (named fields other k) (named fields next k) (Names fields k other) (Names fields k next) (named_true fields other k) (named_true fields next k))
+named_true fields (again count body next) k =
+    either_true (named fields body k) (named fields next k) (Names fields k body) (Names fields k next) (named_true fields body k) (named_true fields next k)
+named_true fields (each name list body next) k =
+    either_true (named fields body k) (named fields next k) (Names fields k body) (Names fields k next) (named_true fields body k) (named_true fields next k)
+
+function_true : (v : List WithFields) (n k : ℕ) → (function_named v n k ≡ true) ↔ FunctionNames v n k
+function_true [] n k = never_true
+function_true (w ∷ v) zero k = named_true w.fields w.function.body k
+function_true (w ∷ v) (suc n) k = function_true v n k
 
 column_true : (columns : List Column) (k : ℕ) → (is_column columns k ≡ true) ↔ IsColumnField k columns
 column_true [] k = never_true
@@ -58,11 +68,11 @@ column_true (c ∷ columns) k = either_true (k == c.field) (is_column columns k)
 
 owned_by_true : (kind : OpKind) (v : List WithFields) (op : Op) (k : ℕ) → (owned_by kind v op k ≡ true) ↔ OwnsBy kind v op k
 owned_by_true Source v op k = column_true op.columns k
-owned_by_true Map v op k = named_true (body_of v op.function) k
-owned_by_true Reduce v op k = named_true (body_of v op.function) k
-owned_by_true Match v op k = named_true (body_of v op.function) k
-owned_by_true Cross v op k = named_true (body_of v op.function) k
-owned_by_true CoGroup v op k = named_true (body_of v op.function) k
+owned_by_true Map v op k = function_true v op.function k
+owned_by_true Reduce v op k = function_true v op.function k
+owned_by_true Match v op k = function_true v op.function k
+owned_by_true Cross v op k = function_true v op.function k
+owned_by_true CoGroup v op k = function_true v op.function k
 
 owned_true : (v : List WithFields) (ops : List Op) (n k : ℕ) → (owned v ops n k ≡ true) ↔ Owns v ops n k
 owned_true v [] n k = never_true

@@ -1,8 +1,8 @@
 -- What is known of the operators of a program in a plan.
-use Rattle.std.specs.Prelude.{◌==◌, ◌||◌, ℕ, zero, suc, false, if◌then◌else◌, List, [], ◌∷◌, slice_get}
+use Rattle.std.specs.Prelude.{◌==◌, ◌||◌, ℕ, zero, suc, false, if◌then◌else◌, List, [], ◌∷◌, nat_lt, slice_get}
 use Rattle.std.specs.List.{list_any}
 use Rattle.pact_record.specs.declared.columns.Column.{Column}
-use Rattle.tac_syntax.specs.Code.{Simple, set_field, Code, stop, plain, branch, again, each}
+use Rattle.tac_syntax.specs.Code.{Simple, set_field, set_at, Code, stop, plain, branch, again, each}
 use Rattle.tac_syntax.specs.Contexts.{FieldSet}
 use Rattle.tac_syntax.specs.declared.declarations.OpKind.{OpKind}
 use Rattle.tac_syntax.specs.declared.declarations.OpKind.TheVariants.{Source}
@@ -13,31 +13,38 @@ use Rattle.tac_flow.specs.Steps.{Scope}
 use Rattle.plan_trees.specs.Plans.{PlanTree, leaf, over, both, root_of, has, subtree_of}
 use Rattle.pact_operators.specs.declared.operators.Op.{Op}
 use Rattle.pact_operators.specs.PlanOps.{body_at, kind_at, left_keys_in, right_keys_in}
-use Rattle.pact_operators.specs.Programs.{ProgramData, body_of}
+use Rattle.pact_operators.specs.Programs.{ProgramData}
 use Rattle.pact_operators.specs.SoundOps.{function_kind}
 use Rattle.ship_strategy.specs.Facts.{NodeFacts, Facts}
 use Rattle.ship_strategy.specs.Views.{unknown, put}
 
 -- ---- attributes, as sets
 
--- the fields that a body sets
-abbrev pub field_named : Simple → FieldSet
-field_named (set_field to field value) k = k == field
-field_named statement k = false
+-- the fields that a body sets: each below the number of fields where a statement takes one from a register
+abbrev pub field_named : ℕ → Simple → FieldSet
+field_named fields (set_field to field value) k = k == field
+field_named fields (set_at to at value) k = nat_lt k fields
+field_named fields statement k = false
 
-abbrev pub named : Code → FieldSet
-named stop k = false
-named (plain s next) k = field_named s k || named next k
-named (branch on body other next) k = named body k || (named other k || named next k)
-named (again count body next) k = named body k || named next k
-named (each name list body next) k = named body k || named next k
+abbrev pub named : ℕ → Code → FieldSet
+named fields stop k = false
+named fields (plain s next) k = field_named fields s k || named fields next k
+named fields (branch on body other next) k = named fields body k || (named fields other k || named fields next k)
+named fields (again count body next) k = named fields body k || named fields next k
+named fields (each name list body next) k = named fields body k || named fields next k
+
+-- those of a function, by its number
+abbrev pub function_named : List WithFields → ℕ → FieldSet
+function_named [] n k = false
+function_named (v ∷ valids) zero k = named v.fields v.function.body k
+function_named (v ∷ valids) (suc n) k = function_named valids n k
 
 abbrev pub is_column : List Column → FieldSet
 is_column columns k = list_any (λ c. k == c.field) columns
 
 abbrev pub owned_by : OpKind → List WithFields → Op → FieldSet
 owned_by Source valids op k = is_column op.columns k
-owned_by kind valids op k = named (body_of valids op.function) k
+owned_by kind valids op k = function_named valids op.function k
 
 abbrev pub owned : List WithFields → List Op → ℕ → FieldSet
 owned valids [] n k = false

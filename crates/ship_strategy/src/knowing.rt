@@ -11,8 +11,10 @@ ghost use Rattle.pact_operators.specs.PlanOps.{kind_at, left_keys_in, right_keys
 ghost use Rattle.pact_operators.specs.Programs.{HasLeftAttribute, HasRightAttribute};
 ghost use Rattle.ship_strategy.specs.PlanFacts as known;
 ghost use Rattle.ship_strategy.specs.PlanFacts.{attribute, facts_of, filled, no_sets, owned, sets_at};
+ghost use Rattle.ship_strategy.specs.Seen.{AreTold};
 ghost use Rattle.ship_strategy.specs.Views.{facts_in, known_of, put};
 
+use crate::seen::Seen;
 use crate::tables::{OpFacts, Table};
 use pact_operators::{OpKind, Parts, Plan, Program, attrs};
 use pact_record::{Fields, Keys};
@@ -110,37 +112,76 @@ fn facts_for(program: &Program, at: u32, left: Fields, right: Fields) -> OpFacts
     }
 }
 
+// The same, by what was found before where it was found in this context.
+fn facts_after(program: &Program, at: u32, left: Fields, right: Fields, seen: &Seen) -> OpFacts
+    requires left { IsBelow program.now.fields (has_field left) }
+    requires right { IsBelow program.now.fields (has_field right) }
+    requires seen { AreTold program.now seen.now.tables }
+    ensures { known_of result ≡ known.facts_for program.now at (has_field left) (has_field right) }
+{
+    match seen.row(at, left, right) {
+        Some(x) => x,
+        None => facts_for(program, at, left, right),
+    }
+}
+
 // Puts into the table what is known of a tree's root, by the attributes of its inputs, and tells the tree's attributes.
-fn fill_root(program: &Program, at: u32, left: Fields, right: Fields, table: &mut Table) -> Fields
+fn fill_root(
+    program: &Program,
+    at: u32,
+    left: Fields,
+    right: Fields,
+    seen: &Seen,
+    table: &mut Table,
+) -> Fields
     requires at { at < node_limit }
+    requires seen { AreTold program.now seen.now.tables }
     requires left { IsBelow program.now.fields (has_field left) }
     requires right { IsBelow program.now.fields (has_field right) }
     ensures attributes { (k : ℕ) → has_field result k ≡ (owned program.now.functions program.now.ops at k || (has_field left k || has_field right k)) }
     ensures below { IsBelow program.now.fields (has_field result) }
     ensures table { facts_in table.new ≡ put at (known.facts_for program.now at (has_field left) (has_field right)) (facts_in table.old) }
 {
-    table.set(at, facts_for(program, at, left, right));
+    table.set(at, facts_after(program, at, left, right, seen));
     own_fields(program, at).union(left.union(right))
 }
 
 // The same for the whole tree.
-fn fill(program: &Program, tree: &Plan, table: &mut Table) -> Fields
+fn fill(program: &Program, tree: &Plan, seen: &Seen, table: &mut Table) -> Fields
+    requires seen { AreTold program.now seen.now.tables }
     ensures attributes { has_field result ≡ attribute program.now tree.now }
     ensures below { IsBelow program.now.fields (has_field result) }
     ensures table { facts_in table.new ≡ filled program.now tree.now (facts_in table.old) }
 {
     match tree.parts() {
-        Parts::Alone { at } => { fill_root(program, at, Fields::empty(), Fields::empty(), table) }
+        Parts::Alone { at } => {
+            fill_root(program, at, Fields::empty(), Fields::empty(), seen, table)
+        }
         Parts::OverOne { at, input } => {
-            let below = fill(program, &input, table);
-            fill_root(program, at, below, Fields::empty(), table)
+            let below = fill(program, &input, seen, table);
+            fill_root(program, at, below, Fields::empty(), seen, table)
         }
         Parts::OverTwo { at, left, right } => {
-            let on_right = fill(program, &right, table);
-            let on_left = fill(program, &left, table);
-            fill_root(program, at, on_left, on_right, table)
+            let on_right = fill(program, &right, seen, table);
+            let on_left = fill(program, &left, seen, table);
+            fill_root(program, at, on_left, on_right, seen, table)
         }
     }
+}
+
+/// What is known of each source and operator of the plan, which is seen from now on. A function is analysed only where no plan that is still remembered
+/// had its operator in the same context.
+pub fn known_after(program: &Program, plan: &Plan, seen: &mut Seen) -> Table
+    requires seen { AreTold program.now seen.old.tables }
+    ensures value { facts_in result ≡ facts_of program.now plan.now }
+    ensures left { (n k : ℕ) → has n plan.now ≡ true → Has (facts_in result n).left k ↔ HasLeftAttribute program.now.functions program.now.ops (subtree_of n plan.now) k }
+    ensures right { (n k : ℕ) → has n plan.now ≡ true → Has (facts_in result n).right k ↔ HasRightAttribute program.now.functions program.now.ops (subtree_of n plan.now) k }
+    ensures seen { AreTold program.now seen.new.tables }
+{
+    let mut table = Table::blank();
+    fill(program, plan, seen, &mut table);
+    seen.keep(&table);
+    table
 }
 
 /// What is known of each source and operator of the plan. Each function is analysed once.
@@ -149,7 +190,6 @@ pub fn known(program: &Program, plan: &Plan) -> Table
     ensures left { (n k : ℕ) → has n plan.now ≡ true → Has (facts_in result n).left k ↔ HasLeftAttribute program.now.functions program.now.ops (subtree_of n plan.now) k }
     ensures right { (n k : ℕ) → has n plan.now ≡ true → Has (facts_in result n).right k ↔ HasRightAttribute program.now.functions program.now.ops (subtree_of n plan.now) k }
 {
-    let mut table = Table::blank();
-    fill(program, plan, &mut table);
-    table
+    let mut seen = Seen::nothing();
+    known_after(program, plan, &mut seen)
 }

@@ -7,7 +7,7 @@
 //! evaluation of the plan: `layout` and `legal_ship` tell both.
 //!
 //! `layouts`, `layout` and `legal_ship` are for one plan at a time. For many layouts of one plan, `known` finds what is known of its operators
-//! once, `chosen` tells the ways of a number, and `left_ship`, `right_ship`, `only_ship`, `placed_over` and `placed_both` take a
+//! once, and for many plans `known_after` what the plans before don't tell; `chosen` tells the ways of a number, and `left_ship`, `right_ship`, `only_ship`, `placed_over` and `placed_both` take a
 //! step each, without a physical plan.
 #![tactic(auto)]
 
@@ -18,14 +18,16 @@ mod laying;
 mod legality;
 mod numbering;
 mod placements;
+mod seen;
 mod tables;
 mod ways;
 
 pub use all_layouts::{layout, layout_in, layouts};
 pub use edges::{left_ship, only_ship, right_ship};
-pub use knowing::known;
+pub use knowing::{known, known_after};
 pub use legality::legal_ship;
 pub use numbering::{choices_of, chosen};
 pub use placements::{placed_both, placed_over};
+pub use seen::Seen;
 pub use tables::{OpFacts, Table};
 pub use ways::{Way, Ways};

@@ -28,7 +28,7 @@ pub struct OpFacts {
 /// What is known of each source and operator of a plan, by its number.
 #[derive(Clone, Copy, Debug)]
 pub struct Table {
-    nodes: [OpFacts; MAX_NODES],
+    pub(crate) nodes: [OpFacts; MAX_NODES],
 }
 
 impl Table {

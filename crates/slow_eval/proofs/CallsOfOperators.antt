@@ -1,5 +1,5 @@
 -- What an operator of a program calls, and what it then gives.
-use Rattle.std.proofs.Common.{◌≡◌, ◌<◌, ℕ, suc, List, length, get_or, slice_get, ap, sym, ◌∙◌, subst, arith}
+use Rattle.std.proofs.Common.{◌≡◌, ◌<◌, ℕ, suc, Bool, List, length, get_or, slice_get, ap, sym, ◌∙◌, subst, arith}
 use Rattle.std.specs.Prelude.{flat_map}
 use Rattle.std.proofs.lemmas.Option.{slice_get_within}
 use Rattle.tac_syntax.specs.declared.declarations.OpKind.{OpKind}
@@ -7,7 +7,7 @@ use Rattle.tac_syntax.specs.declared.declarations.OpKind.TheVariants.{Source, Ma
 use Rattle.pact_operators.specs.declared.operators.Op.{Op}
 use Rattle.pact_operators.specs.Allowed.{Bag, CoGrouped, Gives, GivesBoth, Grouped, crossed, keys_in, keys_in_either, matched}
 use Rattle.pact_operators.specs.PlanOps.{body_at, kind_at, kind_in, left_keys_in, plan_ops, right_keys_in}
-use Rattle.pact_operators.specs.Programs.{IsProgram, ProgramData, Takes, takes}
+use Rattle.pact_operators.specs.Programs.{IsProgram, ProgramData, Takes, nulls_match, takes}
 use Rattle.tac_syntax.specs.Call.{Out, of_group, of_groups, of_pair, of_record}
 use Rattle.tac_syntax.specs.Code.{Code}
 use Rattle.tac_syntax.specs.Valid.{WithFields}
@@ -46,13 +46,13 @@ gives_reduce p inputs at op v ls out h k g =
     (subst (λ (n : ℕ). Grouped (λ key group. Out n (body_at p at) (of_group key group)) op.left_keys ls (keys_in op.left_keys ls) out) h.fields
     (subst (λ (body : Code). Grouped (λ key group. Out v.fields body (of_group key group)) op.left_keys ls (keys_in op.left_keys ls) out) h.body g)))
 
-pub gives_match : (p : ProgramData) (inputs : List Bag) (at : ℕ) (op : Op) (v : WithFields) (ls rs out : Bag) → IsCalled p at op v → op.kind ≡ Match
-    → out ≡ crossed (matched (λ l r. Out v.fields v.function.body (of_pair l r)) op.left_keys op.right_keys) ls rs → GivesBoth (plan_ops p inputs) (kind_at p.ops at) at ls rs out
-gives_match p inputs at op v ls rs out h k e =
+pub gives_match : (p : ProgramData) (inputs : List Bag) (nulls : Bool) (at : ℕ) (op : Op) (v : WithFields) (ls rs out : Bag) → nulls ≡ nulls_match p → IsCalled p at op v → op.kind ≡ Match
+    → out ≡ crossed (matched nulls (λ l r. Out v.fields v.function.body (of_pair l r)) op.left_keys op.right_keys) ls rs → GivesBoth (plan_ops p inputs) (kind_at p.ops at) at ls rs out
+gives_match p inputs nulls at op v ls rs out n h k e =
     let left : op.left_keys ≡ left_keys_in (slice_get p.ops at) = sym (ap left_keys_in h.found) in
     let right : op.right_keys ≡ right_keys_in (slice_get p.ops at) = sym (ap right_keys_in h.found) in
     subst (λ (kind : OpKind). GivesBoth (plan_ops p inputs) kind at ls rs out) (kind_is p at op v Match h k)
-    (e ∙ (λ i. crossed (matched (λ l r. Out (h.fields i) (h.body i) (of_pair l r)) (left i) (right i)) ls rs))
+    (e ∙ (λ i. crossed (matched (n i) (λ l r. Out (h.fields i) (h.body i) (of_pair l r)) (left i) (right i)) ls rs))
 
 pub gives_cross : (p : ProgramData) (inputs : List Bag) (at : ℕ) (op : Op) (v : WithFields) (ls rs out : Bag) → IsCalled p at op v → op.kind ≡ Cross
     → out ≡ crossed (λ l r. Out v.fields v.function.body (of_pair l r)) ls rs → GivesBoth (plan_ops p inputs) (kind_at p.ops at) at ls rs out

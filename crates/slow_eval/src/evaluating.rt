@@ -69,7 +69,17 @@ fn over_two(
     let f = &program.functions()[op.function as usize];
     let (left_keys, right_keys) = (&op.left_keys, &op.right_keys);
     match op.kind {
-        OpKind::Match => match_rows(alloc, f, left_keys, right_keys, lefts, rights),
+        OpKind::Match => {
+            match_rows(
+                alloc,
+                program.nulls_match(),
+                f,
+                left_keys,
+                right_keys,
+                lefts,
+                rights,
+            )
+        }
         OpKind::Cross => cross_rows(alloc, f, lefts, rights),
         OpKind::CoGroup => cogroup_rows(alloc, f, left_keys, right_keys, lefts, rights),
         OpKind::Source | OpKind::Map | OpKind::Reduce => unreachable!(),

@@ -5,7 +5,7 @@ use Rattle.pact_record.specs.declared.operations.Op1.TheVariants.{Not, IsNull, L
 use Rattle.pact_record.specs.declared.operations.Op2.{Op2}
 use Rattle.pact_record.specs.declared.operations.Op2.TheVariants.{Add, Sub, Mul, Div, Rem, AddW, Min, Max, Lt, Le, Eq, And, Or, Cat}
 use Rattle.statement_lines.specs.declared.operation_words.TheConstants.{OPS1, OPS2}
-use Rattle.std.proofs.Common.{◌≡◌, ◌<◌, ◌^◌, ◌==◌, inr, inl, ℕ, suc, ℤ, pos, negsuc, neg_ℤ, if◌then◌else◌, Option, None, unwrap_or, FitsSigned, List, [], ◌∷◌, ◌++◌, map, length, drop, get_or, nat_lt, codes, bytes_eq, decimal, refl, ap, ◌∙◌, arith, w64, ◌≢◌, ◌+◌, true, false, Some, Result, Ok, Err, sym, subst}
+use Rattle.std.proofs.Common.{◌≡◌, ◌<◌, ◌^◌, ◌==◌, inr, inl, ℕ, suc, Bool, ℤ, pos, negsuc, neg_ℤ, if◌then◌else◌, Option, None, unwrap_or, FitsSigned, List, [], ◌∷◌, ◌++◌, map, length, drop, get_or, nat_lt, codes, bytes_eq, decimal, refl, ap, ◌∙◌, arith, w64, ◌≢◌, ◌+◌, true, false, Some, Result, Ok, Err, sym, subst}
 use Rattle.std.specs.Fmt.{signed_decimal}
 use Rattle.std.specs.Str.Parse.{AllDigits}
 use Rattle.std.proofs.lemmas.Fmt.{decimal_is_IsNumeral}
@@ -13,24 +13,25 @@ use Rattle.tac_syntax.specs.declared.statements.Rec.{Rec}
 use Rattle.tac_syntax.specs.declared.statements.Rec.TheVariants.{Reg, Loop, Input, Left, Right, Join, First}
 use Rattle.tac_syntax.specs.declared.statements.LoopList.{LoopList}
 use Rattle.tac_syntax.specs.declared.statements.LoopList.TheVariants.{Group, Left as LeftGroup, Right as RightGroup}
-use Rattle.tac_syntax.specs.Code.{load_int, load_text, load_null, move_value, get_field, get_key, apply_one, apply_two, new_record, copy_record, set_field, emit_record, Line, simple, test, turns, over, otherwise, close}
-use Rattle.tac_syntax.specs.Grammar.{IsSpelledRecord, IsSpelledLine, IsNumber, IsLoopName}
+use Rattle.tac_syntax.specs.Code.{Simple, load_int, load_text, load_null, move_value, get_field, get_at, get_key, apply_one, apply_two, new_record, copy_record, set_field, set_at, emit_record, Line, simple, test, turns, over, otherwise, close}
+use Rattle.tac_syntax.specs.Grammar.{IsSpelledRecord, IsSpelledSimple, IsSpelledLine, IsNumber, IsLoopName}
 use Rattle.text_lines.specs.declared.line_words.LineWord.{LineWord}
 use Rattle.text_lines.specs.declared.line_words.LineWord.TheVariants.{Plain as plain_word, Literal as literal_word}
+use Rattle.text_lines.specs.declared.operands.FieldWord.TheVariants.{Number as by_number, Register as by_register}
 use Rattle.text_lines.specs.OperandWords.{fixed_record, list_word, named_in, record_word, value_register, record_register}
 use Rattle.text_lines.proofs.DigitWords.{number_back, number_in, number_in-decimal, are_digits-decimal, is_in_range-decimal, is_signed_word-signed_decimal}
-use Rattle.text_lines.proofs.FilledSlots.{bytes_eq-decimal, digit_other, register_fault-letter, number_fits, operand_fault-record_word, is_list_word-list_word, name_fault-loop_name, fine_slot}
+use Rattle.text_lines.proofs.FilledSlots.{bytes_eq-decimal, no_digit_at, field_fault-field_text, digit_other, register_fault-letter, number_fits, operand_fault-record_word, is_list_word-list_word, name_fault-loop_name, fine_slot}
 use Rattle.statement_lines.specs.Spelling.{op1_word, op2_word, words_of_line}
 use Rattle.std.proofs.lemmas.Bool.{lt-ltb}
 use Rattle.tac_syntax.specs.Limits.{nesting_limit}
-use Rattle.statement_lines.specs.StatementLines.{LinePlace, MayStand}
+use Rattle.statement_lines.specs.StatementLines.{LinePlace, MayStand, MayStandSimple}
 use Rattle.text_lines.specs.LineReading.{TellsFault}
 use Rattle.text_lines.specs.declared.faults.NotRead.{NotRead}
 use Rattle.text_lines.specs.declared.faults.NotRead.TheVariants.{Fault, Memory}
 use Rattle.statement_lines.specs.declared.lines.BodyLine.{BodyLine}
 use Rattle.statement_lines.specs.StatementAnswers.{said, GivesLine, IsLineAt, ReadsLine}
 use Rattle.statement_lines.specs.StatementFaults.{is_target, to_value, wanted_by, statement_fault}
-use Rattle.text_lines.specs.Slots.{register, name_fault, register_fault, list as list_slot, loop, number, operand, signed}
+use Rattle.text_lines.specs.Slots.{begins_with, which_field, register, name_fault, register_fault, list as list_slot, loop, number, operand, signed}
 use Rattle.text_lines.proofs.CanonicalLines.{AreFine, IsFine}
 
 -- ---- what holds of each operation, by the tables of their words
@@ -88,6 +89,13 @@ record_in word = unwrap_or (fixed_record word) (numbered_record word)
 abbrev list_in : List ℕ → LoopList
 list_in word = if bytes_eq word (codes "left") then LeftGroup else (if bytes_eq word (codes "right") then RightGroup else Group)
 
+-- the field that is read or set, by its number or by a register
+abbrev get_said : (to : ℕ) → (from : Rec) → List ℕ → Line
+get_said to from word = if begins_with (codes "@") word then simple (get_at to from (register_in (drop 1 word))) else simple (get_field to from (number_in word))
+
+abbrev set_said : (to : ℕ) → List ℕ → (value : ℕ) → Line
+set_said to word value = if begins_with (codes "@") word then simple (set_at to (register_in (drop 1 word)) value) else simple (set_field to (number_in word) value)
+
 -- behind a target, `=` and the word that says what is assigned
 abbrev assigned_line : (target form : List ℕ) → List (List ℕ) → Line
 assigned_line target form words =
@@ -95,7 +103,7 @@ assigned_line target form words =
     else (if bytes_eq form (codes "text") then simple (load_text (register_in target) (word_in words 0))
     else (if bytes_eq form (codes "null") then simple (load_null (register_in target))
     else (if bytes_eq form (codes "mov") then simple (move_value (register_in target) (register_in (word_in words 0)))
-    else (if bytes_eq form (codes "get") then simple (get_field (register_in target) (record_in (word_in words 0)) (number_in (word_in words 1)))
+    else (if bytes_eq form (codes "get") then get_said (register_in target) (record_in (word_in words 0)) (word_in words 1)
     else (if bytes_eq form (codes "key") then simple (get_key (register_in target) (number_in (word_in words 0)))
     else (if bytes_eq form (codes "new") then simple (new_record (register_in target))
     else (if bytes_eq form (codes "copy") then simple (copy_record (register_in target) (record_in (word_in words 0)))
@@ -105,7 +113,7 @@ assigned_line target form words =
 -- behind another first word
 abbrev other_line : List ℕ → List (List ℕ) → Line
 other_line first words =
-    if bytes_eq first (codes "set") then simple (set_field (register_in (word_in words 0)) (number_in (word_in words 1)) (register_in (word_in words 2)))
+    if bytes_eq first (codes "set") then set_said (register_in (word_in words 0)) (word_in words 1) (register_in (word_in words 2))
     else (if bytes_eq first (codes "emit") then simple (emit_record (register_in (word_in words 0)))
     else (if bytes_eq first (codes "if") then test (register_in (word_in words 0))
     else (if bytes_eq first (codes "repeat") then turns (number_in (word_in words 0))
@@ -162,7 +170,11 @@ line_in-line_texts lists (simple (load_text to bytes)) h = rw (number_back to h.
 line_in-line_texts lists (simple (load_null to)) h = rw (number_back to h) refl
 line_in-line_texts lists (simple (move_value to from)) h = let x = number_back to h.0 in let y = number_back from h.1 in λ i. simple (move_value (x i) (y i))
 line_in-line_texts lists (simple (get_field to from field)) h =
-    let x = number_back to h.0 in let y = record_in-record_word from h.1 in let z = number_back field h.2 in λ i. simple (get_field (x i) (y i) (z i))
+    let other = no_digit_at (decimal field) (decimal_is_IsNumeral field (omega (arith, h.2))).0.1 in
+    let x = number_back to h.0 in let y = record_in-record_word from h.1 in let z = number_in-decimal field (omega (arith, h.2)) in
+    rw other (λ i. simple (get_field (x i) (y i) (z i)))
+line_in-line_texts lists (simple (get_at to from at)) h =
+    let x = number_back to h.0 in let y = record_in-record_word from h.1 in let z = number_back at h.2 in λ i. simple (get_at (x i) (y i) (z i))
 line_in-line_texts lists (simple (get_key to at)) h = let x = number_back to h.0 in let y = number_back at h.1 in λ i. simple (get_key (x i) (y i))
 line_in-line_texts lists (simple (apply_one to op a)) h =
     let x = number_back to h.0 in let z = number_back a h.1 in assigned_line-op1_word (value_register to) (value_register a) op ∙ (λ i. simple (apply_one (x i) op (z i)))
@@ -171,7 +183,10 @@ line_in-line_texts lists (simple (apply_two to op a b)) h =
     assigned_line-op2_word (value_register to) (value_register a) (value_register b) op ∙ (λ i. simple (apply_two (x i) op (z i) (u i)))
 line_in-line_texts lists (simple (new_record to)) h = let x = number_back to h in λ i. simple (new_record (x i))
 line_in-line_texts lists (simple (copy_record to from)) h = let x = number_back to h.0 in let y = record_in-record_word from h.1 in λ i. simple (copy_record (x i) (y i))
-line_in-line_texts lists (simple (set_field to field value)) h = rw (number_back to h.0, number_back field h.1, number_back value h.2) refl
+line_in-line_texts lists (simple (set_field to field value)) h =
+    let other = no_digit_at (decimal field) (decimal_is_IsNumeral field (omega (arith, h.1))).0.1 in
+    rw (other, number_back to h.0, number_back field h.1, number_back value h.2) refl
+line_in-line_texts lists (simple (set_at to at value)) h = rw (number_back to h.0, number_back at h.1, number_back value h.2) refl
 line_in-line_texts lists (simple (emit_record from)) h = rw (number_back from h) refl
 line_in-line_texts lists (test on) h = rw (number_back on h) refl
 line_in-line_texts lists (turns count) h =
@@ -199,11 +214,11 @@ value_target n h = register_fault-letter 118 n refl h
 record_target : (n : ℕ) → IsNumber n → register_fault 114 (record_register n) ≡ None
 record_target n h = register_fault-letter 114 n refl h
 
-wanted_by-op1_word : (op : Op1) → wanted_by (op1_word op) ≡ to_value (register 118 ∷ [])
-wanted_by-op1_word = each_op1 (λ op. wanted_by (op1_word op) ≡ to_value (register 118 ∷ [])) (refl, (refl, (refl, tt)))
+wanted_by-op1_word : (registers : Bool) (op : Op1) → wanted_by registers (op1_word op) ≡ to_value (register 118 ∷ [])
+wanted_by-op1_word registers = each_op1 (λ op. wanted_by registers (op1_word op) ≡ to_value (register 118 ∷ [])) (refl, (refl, (refl, tt)))
 
-wanted_by-op2_word : (op : Op2) → wanted_by (op2_word op) ≡ to_value (register 118 ∷ register 118 ∷ [])
-wanted_by-op2_word = each_op2 (λ op. wanted_by (op2_word op) ≡ to_value (register 118 ∷ register 118 ∷ [])) (refl, (refl, (refl, (refl, (refl, (refl, (refl, (refl, (refl, (refl, (refl, (refl, (refl, (refl, tt))))))))))))))
+wanted_by-op2_word : (registers : Bool) (op : Op2) → wanted_by registers (op2_word op) ≡ to_value (register 118 ∷ register 118 ∷ [])
+wanted_by-op2_word registers = each_op2 (λ op. wanted_by registers (op2_word op) ≡ to_value (register 118 ∷ register 118 ∷ [])) (refl, (refl, (refl, (refl, (refl, (refl, (refl, (refl, (refl, (refl, (refl, (refl, (refl, (refl, tt))))))))))))))
 
 each_name : (wanted name : ℕ) → name ≡ wanted → IsLoopName name → name_fault wanted (120 ∷ decimal name) ≡ None
 each_name wanted name e h = subst (λ (k : ℕ). name_fault k (120 ∷ decimal name) ≡ None) e (name_fault-loop_name name h)
@@ -213,13 +228,16 @@ statement_fault-words_of_line p (simple (load_int to value)) h = rw (is_target-v
 statement_fault-words_of_line p (simple (load_text to bytes)) h = rw (is_target-value to h.0, value_target to h.0) refl
 statement_fault-words_of_line p (simple (load_null to)) h = rw (is_target-value to h, value_target to h) refl
 statement_fault-words_of_line p (simple (move_value to from)) h = rw (is_target-value to h.0, value_target to h.0, value_target from h.1) refl
-statement_fault-words_of_line p (simple (get_field to from field)) h = rw (is_target-value to h.0, value_target to h.0, operand_fault-record_word from h.1, number_fits field h.2) refl
+statement_fault-words_of_line p (simple (get_field to from field)) h = rw (is_target-value to h.0, value_target to h.0, operand_fault-record_word from h.1, field_fault-field_text p.registers (by_number field) h.2) refl
+statement_fault-words_of_line p (simple (get_at to from at)) h =
+    rw (is_target-value to h.0.0, value_target to h.0.0, operand_fault-record_word from h.0.1, field_fault-field_text p.registers (by_register at) (h.0.2, h.1)) refl
 statement_fault-words_of_line p (simple (get_key to at)) h = rw (is_target-value to h.0, value_target to h.0, number_fits at h.1) refl
-statement_fault-words_of_line p (simple (apply_one to op a)) h = rw (is_target-value to h.0, wanted_by-op1_word op, value_target to h.0, value_target a h.1) refl
-statement_fault-words_of_line p (simple (apply_two to op a b)) h = rw (is_target-value to h.0, wanted_by-op2_word op, value_target to h.0, value_target a h.1, value_target b h.2) refl
+statement_fault-words_of_line p (simple (apply_one to op a)) h = rw (is_target-value to h.0, wanted_by-op1_word p.registers op, value_target to h.0, value_target a h.1) refl
+statement_fault-words_of_line p (simple (apply_two to op a b)) h = rw (is_target-value to h.0, wanted_by-op2_word p.registers op, value_target to h.0, value_target a h.1, value_target b h.2) refl
 statement_fault-words_of_line p (simple (new_record to)) h = rw (other_word to h, record_target to h, is_target-record to h) refl
 statement_fault-words_of_line p (simple (copy_record to from)) h = rw (other_word to h.0, record_target to h.0, is_target-record to h.0, operand_fault-record_word from h.1) refl
-statement_fault-words_of_line p (simple (set_field to field value)) h = rw (record_target to h.0, number_fits field h.1, value_target value h.2) refl
+statement_fault-words_of_line p (simple (set_field to field value)) h = rw (record_target to h.0, field_fault-field_text p.registers (by_number field) h.1, value_target value h.2) refl
+statement_fault-words_of_line p (simple (set_at to at value)) h = rw (record_target to h.0.0, field_fault-field_text p.registers (by_register at) (h.0.1, h.1), value_target value h.0.2) refl
 statement_fault-words_of_line p (simple (emit_record from)) h = rw (record_target from h) refl
 statement_fault-words_of_line p (test on) h = rw (lt-ltb p.blocks nesting_limit h.0, value_target on h.1) refl
 statement_fault-words_of_line p (turns count) h = rw (lt-ltb p.blocks nesting_limit h.0, is_in_range-decimal 1 1000 count h.1.0 h.1.1 (omega (arith, h.1.1))) refl
@@ -229,8 +247,24 @@ statement_fault-words_of_line p close h = refl
 
 -- ---- words are those of one line
 
+spelled_simple : (registers : Bool) (s : Simple) → MayStandSimple registers s → IsSpelledSimple s
+spelled_simple registers (load_int to value) h = h
+spelled_simple registers (load_text to bytes) h = h
+spelled_simple registers (load_null to) h = h
+spelled_simple registers (move_value to from) h = h
+spelled_simple registers (get_field to from field) h = h
+spelled_simple registers (get_at to from at) h = h.0
+spelled_simple registers (get_key to at) h = h
+spelled_simple registers (apply_one to op a) h = h
+spelled_simple registers (apply_two to op a b) h = h
+spelled_simple registers (new_record to) h = h
+spelled_simple registers (copy_record to from) h = h
+spelled_simple registers (set_field to field value) h = h
+spelled_simple registers (set_at to at value) h = h.0
+spelled_simple registers (emit_record from) h = h
+
 pub IsSpelledLine-MayStand : (p : LinePlace) (l : Line) → MayStand p l → IsSpelledLine p.lists l
-IsSpelledLine-MayStand p (simple s) h = h
+IsSpelledLine-MayStand p (simple s) h = spelled_simple p.registers s h
 IsSpelledLine-MayStand p (test on) h = h.1
 IsSpelledLine-MayStand p (turns count) h = h.1
 IsSpelledLine-MayStand p (over name items) h = h.1
@@ -297,12 +331,14 @@ AreFine-words_of_line lists (simple (load_text to bytes)) h = (value_word to h.0
 AreFine-words_of_line lists (simple (load_null to)) h = (value_word to h, (refl, (refl, tt)))
 AreFine-words_of_line lists (simple (move_value to from)) h = (value_word to h.0, (refl, (refl, (value_word from h.1, tt))))
 AreFine-words_of_line lists (simple (get_field to from field)) h = (value_word to h.0, (refl, (refl, (fine_slot operand from tt h.1, (number_word field h.2, tt)))))
+AreFine-words_of_line lists (simple (get_at to from at)) h = (value_word to h.0, (refl, (refl, (fine_slot operand from tt h.1, (fine_slot (which_field true) (by_register at) tt (h.2, refl), tt)))))
 AreFine-words_of_line lists (simple (get_key to at)) h = (value_word to h.0, (refl, (refl, (number_word at h.1, tt))))
 AreFine-words_of_line lists (simple (apply_one to op a)) h = (value_word to h.0, (refl, (fine_op1 op, (value_word a h.1, tt))))
 AreFine-words_of_line lists (simple (apply_two to op a b)) h = (value_word to h.0, (refl, (fine_op2 op, (value_word a h.1, (value_word b h.2, tt)))))
 AreFine-words_of_line lists (simple (new_record to)) h = (register_word to h, (refl, (refl, tt)))
 AreFine-words_of_line lists (simple (copy_record to from)) h = (register_word to h.0, (refl, (refl, (fine_slot operand from tt h.1, tt))))
 AreFine-words_of_line lists (simple (set_field to field value)) h = (refl, (register_word to h.0, (number_word field h.1, (value_word value h.2, tt))))
+AreFine-words_of_line lists (simple (set_at to at value)) h = (refl, (register_word to h.0, (fine_slot (which_field true) (by_register at) tt (h.1, refl), (value_word value h.2, tt))))
 AreFine-words_of_line lists (simple (emit_record from)) h = (refl, (register_word from h, tt))
 AreFine-words_of_line lists (test on) h = (refl, (value_word on h, tt))
 AreFine-words_of_line lists (turns count) h = (refl, (fine_slot (number 1 1000) count (omega arith) h, tt))

@@ -5,11 +5,12 @@ use Rattle.pact_record.specs.declared.operations.Op1.{Op1}
 use Rattle.pact_record.specs.declared.operations.Op1.TheVariants.{Not, IsNull, Len}
 use Rattle.pact_record.specs.declared.operations.Op2.{Op2}
 use Rattle.pact_record.specs.declared.operations.Op2.TheVariants.{Add, Sub, Mul, Div, Rem, AddW, Min, Max, Lt, Le, Eq, And, Or, Cat}
-use Rattle.tac_syntax.specs.Code.{Simple, load_int, load_text, load_null, move_value, get_field, get_key, apply_one, apply_two, new_record, copy_record, set_field, emit_record, Line, simple, test, turns, over, otherwise, close}
+use Rattle.tac_syntax.specs.Code.{Simple, load_int, load_text, load_null, move_value, get_field, get_at, get_key, apply_one, apply_two, new_record, copy_record, set_field, set_at, emit_record, Line, simple, test, turns, over, otherwise, close}
 use Rattle.text_lines.specs.CanonicalLines.{word_text}
 use Rattle.text_lines.specs.declared.line_words.LineWord.{LineWord}
 use Rattle.text_lines.specs.declared.line_words.LineWord.TheVariants.{Plain as plain_word, Literal as literal_word}
-use Rattle.text_lines.specs.OperandWords.{value_register, record_register, loop_name, record_word, list_word}
+use Rattle.text_lines.specs.declared.operands.FieldWord.TheVariants.{Register as by_register}
+use Rattle.text_lines.specs.OperandWords.{field_text, value_register, record_register, loop_name, record_word, list_word}
 
 -- ---- words
 
@@ -47,12 +48,14 @@ words_of_simple (load_text to bytes) = assigned (value_register to) (codes "text
 words_of_simple (load_null to) = assigned (value_register to) (codes "null") []
 words_of_simple (move_value to from) = assigned (value_register to) (codes "mov") (plain_word (value_register from) ∷ [])
 words_of_simple (get_field to from field) = assigned (value_register to) (codes "get") (plain_word (record_word from) ∷ plain_word (decimal field) ∷ [])
+words_of_simple (get_at to from at) = assigned (value_register to) (codes "get") (plain_word (record_word from) ∷ plain_word (field_text (by_register at)) ∷ [])
 words_of_simple (get_key to at) = assigned (value_register to) (codes "key") (plain_word (decimal at) ∷ [])
 words_of_simple (apply_one to op a) = assigned (value_register to) (op1_word op) (plain_word (value_register a) ∷ [])
 words_of_simple (apply_two to op a b) = assigned (value_register to) (op2_word op) (plain_word (value_register a) ∷ plain_word (value_register b) ∷ [])
 words_of_simple (new_record to) = assigned (record_register to) (codes "new") []
 words_of_simple (copy_record to from) = assigned (record_register to) (codes "copy") (plain_word (record_word from) ∷ [])
 words_of_simple (set_field to field value) = map plain_word (codes "set" ∷ record_register to ∷ decimal field ∷ value_register value ∷ [])
+words_of_simple (set_at to at value) = map plain_word (codes "set" ∷ record_register to ∷ field_text (by_register at) ∷ value_register value ∷ [])
 words_of_simple (emit_record from) = map plain_word (codes "emit" ∷ record_register from ∷ [])
 
 abbrev pub words_of_line : Line → List LineWord

@@ -1,17 +1,16 @@
 -- What reading the words of a line answers, and what a line that was read says.
-use Rattle.std.specs.Prelude.{Option, Some, None, ◌≡◌, ℕ, List, ◌∷◌, Result, Ok, Err, codes}
+use Rattle.std.specs.Prelude.{Bool, Option, Some, None, ◌≡◌, ℕ, List, ◌∷◌, Result, Ok, Err, codes}
 use Rattle.tac_syntax.specs.Code.{Line, simple, test, turns, over, otherwise, close}
 use Rattle.tac_syntax.specs.Trees.{Statement, one_line, statement_of}
 use Rattle.statement_lines.specs.declared.lines.BodyLine.{BodyLine}
 use Rattle.statement_lines.specs.declared.lines.BodyLine.TheVariants.{Plain, If, Repeat, Each, Else, End}
-use Rattle.tac_syntax.specs.Grammar.{IsSpelledSimple}
 use Rattle.tac_syntax.specs.declared.statements.Stmt.{Stmt}
 use Rattle.text_lines.specs.declared.line_words.LineWord.{LineWord}
 use Rattle.text_lines.specs.declared.line_words.LineWord.TheVariants.{Plain as plain_word}
 use Rattle.text_lines.specs.LineReading.{Gives, IsFaultOf}
 use Rattle.text_lines.specs.declared.faults.NotRead.{NotRead}
 use Rattle.statement_lines.specs.StatementFaults.{wanted_by, form_fault, assignment_fault, statement_fault}
-use Rattle.statement_lines.specs.StatementLines.{LinePlace, MayStand}
+use Rattle.statement_lines.specs.StatementLines.{LinePlace, MayStand, MayStandSimple}
 use Rattle.statement_lines.specs.Spelling.{words_of_simple, words_of_line}
 
 -- ---- what a line says
@@ -32,19 +31,19 @@ said End = Some close
 -- ---- one line
 
 -- a statement of one line, whose words these are
-abbrev pub HasWordsOf : Statement → List LineWord → Type 0
-HasWordsOf (one_line s) words = (words ≡ words_of_simple s) × IsSpelledSimple s
-HasWordsOf stmt words = ⊥
+abbrev pub HasWordsOf : Bool → Statement → List LineWord → Type 0
+HasWordsOf registers (one_line s) words = (words ≡ words_of_simple s) × MayStandSimple registers s
+HasWordsOf registers stmt words = ⊥
 
 -- the statement whose words these are behind a target, `=` and a form, or their fault
-abbrev pub ReadsForm : (form target : List ℕ) → Result Stmt NotRead → List LineWord → Type 0
-ReadsForm form target (Ok stmt) words = HasWordsOf (statement_of stmt) (plain_word target ∷ plain_word (codes "=") ∷ plain_word form ∷ words)
-ReadsForm form target (Err e) words = IsFaultOf e (form_fault target (wanted_by form) words)
+abbrev pub ReadsForm : (registers : Bool) → (form target : List ℕ) → Result Stmt NotRead → List LineWord → Type 0
+ReadsForm registers form target (Ok stmt) words = HasWordsOf registers (statement_of stmt) (plain_word target ∷ plain_word (codes "=") ∷ plain_word form ∷ words)
+ReadsForm registers form target (Err e) words = IsFaultOf e (form_fault target (wanted_by registers form) words)
 
 -- the statement whose words these are behind a target, or their fault
-abbrev pub ReadsAssignment : List ℕ → Result Stmt NotRead → List LineWord → Type 0
-ReadsAssignment target (Ok stmt) words = HasWordsOf (statement_of stmt) (plain_word target ∷ words)
-ReadsAssignment target (Err e) words = IsFaultOf e (assignment_fault target words)
+abbrev pub ReadsAssignment : Bool → List ℕ → Result Stmt NotRead → List LineWord → Type 0
+ReadsAssignment registers target (Ok stmt) words = HasWordsOf registers (statement_of stmt) (plain_word target ∷ words)
+ReadsAssignment registers target (Err e) words = IsFaultOf e (assignment_fault registers target words)
 
 -- the line of these words at a place
 abbrev pub IsLineAt : LinePlace → Option Line → List LineWord → Type 0

@@ -10,7 +10,7 @@ use Rattle.text_lines.specs.OperandWords.{named_in}
 use Rattle.statement_lines.specs.Spelling.{op1_word, op2_word}
 use Rattle.statement_lines.specs.StatementLines.{LinePlace}
 use Rattle.text_lines.specs.LineGrammar.{is_plain}
-use Rattle.text_lines.specs.Slots.{Slot, fixed, register, operand, number, signed, text, loop, list, numbered_fault, register_fault, first_fault}
+use Rattle.text_lines.specs.Slots.{Slot, fixed, register, operand, number, which_field, signed, text, loop, list, numbered_fault, register_fault, first_fault}
 
 -- ---- assignments
 
@@ -31,22 +31,22 @@ to_value slots = Some (record { letter = 118; slots = slots })
 abbrev pub to_record : List Slot → Option Wanted
 to_record slots = Some (record { letter = 114; slots = slots })
 
-abbrev pub wanted_by : List ℕ → Option Wanted
-wanted_by word =
+abbrev pub wanted_by : Bool → List ℕ → Option Wanted
+wanted_by registers word =
     if bytes_eq word (codes "int") then to_value (signed ∷ [])
     else (if bytes_eq word (codes "text") then to_value (text ∷ [])
     else (if bytes_eq word (codes "null") then to_value []
     else (if bytes_eq word (codes "mov") then to_value (register 118 ∷ [])
-    else (if bytes_eq word (codes "get") then to_value (operand ∷ number 0 255 ∷ [])
+    else (if bytes_eq word (codes "get") then to_value (operand ∷ which_field registers ∷ [])
     else (if bytes_eq word (codes "key") then to_value (number 0 255 ∷ [])
     else (if bytes_eq word (codes "new") then to_record []
     else (if bytes_eq word (codes "copy") then to_record (operand ∷ [])
     else (if is_op1 word then to_value (register 118 ∷ [])
     else (if is_op2 word then to_value (register 118 ∷ register 118 ∷ []) else None)))))))))
 
-abbrev pub form_wanted : LineWord → Option Wanted
-form_wanted (plain_word word) = wanted_by word
-form_wanted (literal_word bytes) = None
+abbrev pub form_wanted : Bool → LineWord → Option Wanted
+form_wanted registers (plain_word word) = wanted_by registers word
+form_wanted registers (literal_word bytes) = None
 
 -- the target by itself, where no form says which is wanted
 abbrev pub target_alone : List ℕ → Option ℕ
@@ -57,10 +57,10 @@ form_fault target None words = or_else (target_alone target) (Some 9)
 form_fault target (Some w) words = or_else (register_fault w.letter target) (first_fault w.slots words)
 
 -- the words behind the target
-abbrev pub assignment_fault : List ℕ → List LineWord → Option ℕ
-assignment_fault target [] = or_else (target_alone target) (Some 4)
-assignment_fault target (equals ∷ []) = or_else (target_alone target) (if is_plain (codes "=") equals then Some 4 else Some 8)
-assignment_fault target (equals ∷ form ∷ words) = if is_plain (codes "=") equals then form_fault target (form_wanted form) words else or_else (target_alone target) (Some 8)
+abbrev pub assignment_fault : Bool → List ℕ → List LineWord → Option ℕ
+assignment_fault registers target [] = or_else (target_alone target) (Some 4)
+assignment_fault registers target (equals ∷ []) = or_else (target_alone target) (if is_plain (codes "=") equals then Some 4 else Some 8)
+assignment_fault registers target (equals ∷ form ∷ words) = if is_plain (codes "=") equals then form_fault target (form_wanted registers form) words else or_else (target_alone target) (Some 8)
 
 -- ---- lines
 
@@ -73,14 +73,14 @@ is_target word = is_in_form 118 word || is_in_form 114 word
 
 abbrev pub word_fault : LinePlace → List ℕ → List LineWord → Option ℕ
 word_fault p word words =
-    if bytes_eq word (codes "set") then first_fault (register 114 ∷ number 0 255 ∷ register 118 ∷ []) words
+    if bytes_eq word (codes "set") then first_fault (register 114 ∷ which_field p.registers ∷ register 118 ∷ []) words
     else (if bytes_eq word (codes "emit") then first_fault (register 114 ∷ []) words
     else (if bytes_eq word (codes "if") then block_fault p (register 118 ∷ []) words
     else (if bytes_eq word (codes "repeat") then block_fault p (number 1 1000 ∷ []) words
     else (if bytes_eq word (codes "each") then block_fault p (loop (p.lists + 1) ∷ fixed (codes "of") ∷ list ∷ []) words
     else (if bytes_eq word (codes "else") then (if p.may_part then first_fault [] words else Some 10)
     else (if bytes_eq word (codes "end") then first_fault [] words
-    else (if is_target word then assignment_fault word words else Some 3)))))))
+    else (if is_target word then assignment_fault p.registers word words else Some 3)))))))
 
 -- the fault of a line with words, and None where it has none
 abbrev pub statement_fault : LinePlace → List LineWord → Option ℕ

@@ -21,12 +21,13 @@ pub enum BodyLine {
 }
 
 /// Where a line stands: in how many blocks, and how many of them are `each`, and whether the innermost is the
-/// first body of an `if`.
+/// first body of an `if`; and whether fields may be taken from registers there.
 #[derive(Clone, Copy, Debug, PartialEq, Eq)]
 pub struct Place {
     pub blocks: u32,
     pub lists: u32,
     pub may_part: bool,
+    pub registers: bool,
 }
 
 impl Model for Place {
@@ -34,7 +35,7 @@ impl Model for Place {
 
     ghost Value = { LinePlace };
 
-    ghost view = { λ p. record { blocks = p.blocks; lists = p.lists; may_part = p.may_part } };
+    ghost view = { λ p. record { blocks = p.blocks; lists = p.lists; may_part = p.may_part; registers = p.registers } };
 
-    ghost inverse = { λ p. record { blocks = p.blocks; lists = p.lists; may_part = p.may_part } };
+    ghost inverse = { λ p. record { blocks = p.blocks; lists = p.lists; may_part = p.may_part; registers = p.registers } };
 }

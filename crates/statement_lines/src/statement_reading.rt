@@ -1,6 +1,6 @@
 //! Lines of statements, read from their words.
 
-ghost use Rattle.std.specs.Prelude.{◌≡◌, ◌≤◌, ◌<◌, ◌∷◌, ℕ, None, Some, IfErr, IfOk, OnErr, OnOk, codes, length};
+ghost use Rattle.std.specs.Prelude.{◌≡◌, ◌≤◌, ◌<◌, ◌∷◌, ℕ, Bool, None, Some, IfErr, IfOk, OnErr, OnOk, codes, length};
 ghost use Rattle.tac_syntax.specs.Code.{Line};
 ghost use Rattle.tac_syntax.specs.Grammar.{IsLiteral};
 ghost use Rattle.tac_syntax.specs.Limits.{nesting_limit};
@@ -20,13 +20,13 @@ use pact_record::{NotText, Op1, Op2, OutOfMemory, Text};
 use std::alloc::Global;
 use tac_syntax::{MAX_NESTING, Stmt};
 use text_lines::{
-    Cursor, LineWord, NotRead, is_in_form, is_in_range, is_word, record_in, value_in,
+    Cursor, FieldWord, LineWord, NotRead, is_in_form, is_in_range, is_word, record_in, value_in,
 };
 
 // ---- assignments, behind the word that says what is assigned
 
 fn read_int(target: &[u8], words: &mut Cursor<'_>) -> Result<Stmt, NotRead>
-    ensures { ReadsForm (codes "int") target.now result words.old }
+    ensures { (registers : Bool) → ReadsForm registers (codes "int") target.now result words.old }
 {
     let to = value_in(target)?;
     let value = words.signed()?;
@@ -48,7 +48,7 @@ fn text_of(alloc: Global, bytes: &[u8]) -> Result<Text, OutOfMemory>
 
 fn read_text(alloc: Global, target: &[u8], words: &mut Cursor<'_>) -> Result<Stmt, NotRead>
     requires { AreLineWords words.old }
-    ensures { ReadsForm (codes "text") target.now result words.old }
+    ensures { (registers : Bool) → ReadsForm registers (codes "text") target.now result words.old }
 {
     let to = value_in(target)?;
     let bytes = words.literal()?;
@@ -58,7 +58,7 @@ fn read_text(alloc: Global, target: &[u8], words: &mut Cursor<'_>) -> Result<Stm
 }
 
 fn read_null(target: &[u8], words: &mut Cursor<'_>) -> Result<Stmt, NotRead>
-    ensures { ReadsForm (codes "null") target.now result words.old }
+    ensures { (registers : Bool) → ReadsForm registers (codes "null") target.now result words.old }
 {
     let to = value_in(target)?;
     words.end()?;
@@ -66,7 +66,7 @@ fn read_null(target: &[u8], words: &mut Cursor<'_>) -> Result<Stmt, NotRead>
 }
 
 fn read_mov(target: &[u8], words: &mut Cursor<'_>) -> Result<Stmt, NotRead>
-    ensures { ReadsForm (codes "mov") target.now result words.old }
+    ensures { (registers : Bool) → ReadsForm registers (codes "mov") target.now result words.old }
 {
     let to = value_in(target)?;
     let from = words.value()?;
@@ -74,18 +74,21 @@ fn read_mov(target: &[u8], words: &mut Cursor<'_>) -> Result<Stmt, NotRead>
     Ok(Stmt::Mov { to, from })
 }
 
-fn read_get(target: &[u8], words: &mut Cursor<'_>) -> Result<Stmt, NotRead>
-    ensures { ReadsForm (codes "get") target.now result words.old }
+fn read_get(registers: bool, target: &[u8], words: &mut Cursor<'_>) -> Result<Stmt, NotRead>
+    ensures { ReadsForm registers (codes "get") target.now result words.old }
 {
     let to = value_in(target)?;
     let from = words.operand()?;
-    let field = words.number(0, 255)?;
+    let field = words.field(registers)?;
     words.end()?;
-    Ok(Stmt::Get { to, from, field })
+    Ok(match field {
+        FieldWord::Number(field) => Stmt::Get { to, from, field },
+        FieldWord::Register(at) => Stmt::GetAt { to, from, at },
+    })
 }
 
 fn read_key(target: &[u8], words: &mut Cursor<'_>) -> Result<Stmt, NotRead>
-    ensures { ReadsForm (codes "key") target.now result words.old }
+    ensures { (registers : Bool) → ReadsForm registers (codes "key") target.now result words.old }
 {
     let to = value_in(target)?;
     let at = words.number(0, 255)?;
@@ -94,7 +97,7 @@ fn read_key(target: &[u8], words: &mut Cursor<'_>) -> Result<Stmt, NotRead>
 }
 
 fn read_new(target: &[u8], words: &mut Cursor<'_>) -> Result<Stmt, NotRead>
-    ensures { ReadsForm (codes "new") target.now result words.old }
+    ensures { (registers : Bool) → ReadsForm registers (codes "new") target.now result words.old }
 {
     let to = record_in(target)?;
     words.end()?;
@@ -102,7 +105,7 @@ fn read_new(target: &[u8], words: &mut Cursor<'_>) -> Result<Stmt, NotRead>
 }
 
 fn read_copy(target: &[u8], words: &mut Cursor<'_>) -> Result<Stmt, NotRead>
-    ensures { ReadsForm (codes "copy") target.now result words.old }
+    ensures { (registers : Bool) → ReadsForm registers (codes "copy") target.now result words.old }
 {
     let to = record_in(target)?;
     let from = words.operand()?;
@@ -111,7 +114,7 @@ fn read_copy(target: &[u8], words: &mut Cursor<'_>) -> Result<Stmt, NotRead>
 }
 
 fn read_one(op: Op1, target: &[u8], words: &mut Cursor<'_>) -> Result<Stmt, NotRead>
-    ensures { ReadsForm (op1_word op) target.now result words.old }
+    ensures { (registers : Bool) → ReadsForm registers (op1_word op) target.now result words.old }
 {
     let to = value_in(target)?;
     let a = words.value()?;
@@ -120,7 +123,7 @@ fn read_one(op: Op1, target: &[u8], words: &mut Cursor<'_>) -> Result<Stmt, NotR
 }
 
 fn read_two(op: Op2, target: &[u8], words: &mut Cursor<'_>) -> Result<Stmt, NotRead>
-    ensures { ReadsForm (op2_word op) target.now result words.old }
+    ensures { (registers : Bool) → ReadsForm registers (op2_word op) target.now result words.old }
 {
     let to = value_in(target)?;
     let a = words.value()?;
@@ -141,12 +144,13 @@ fn target_or(target: &[u8], what: u32) -> NotRead
 
 fn read_form(
     alloc: Global,
+    registers: bool,
     form: &[u8],
     target: &[u8],
     words: &mut Cursor<'_>,
 ) -> Result<Stmt, NotRead>
     requires { AreLineWords words.old }
-    ensures { ReadsForm form.now target.now result words.old }
+    ensures { ReadsForm registers form.now target.now result words.old }
 {
     if is_word(form, b"int") {
         read_int(target, words)
@@ -157,7 +161,7 @@ fn read_form(
     } else if is_word(form, b"mov") {
         read_mov(target, words)
     } else if is_word(form, b"get") {
-        read_get(target, words)
+        read_get(registers, target, words)
     } else if is_word(form, b"key") {
         read_key(target, words)
     } else if is_word(form, b"new") {
@@ -175,9 +179,14 @@ fn read_form(
 
 // The words behind a target. The form tells which register the target is to be, so its fault is told behind one
 // of `=` and of the form.
-fn read_assignment(alloc: Global, target: &[u8], words: &mut Cursor<'_>) -> Result<Stmt, NotRead>
+fn read_assignment(
+    alloc: Global,
+    registers: bool,
+    target: &[u8],
+    words: &mut Cursor<'_>,
+) -> Result<Stmt, NotRead>
     requires { AreLineWords words.old }
-    ensures { ReadsAssignment target.now result words.old }
+    ensures { ReadsAssignment registers target.now result words.old }
 {
     let Ok(equals) = words.next() else {
         return Err(target_or(target, 4));
@@ -186,7 +195,7 @@ fn read_assignment(alloc: Global, target: &[u8], words: &mut Cursor<'_>) -> Resu
         return Err(target_or(target, 8));
     }
     match words.next() {
-        Ok(LineWord::Plain(form)) => read_form(alloc, form.bytes(), target, words),
+        Ok(LineWord::Plain(form)) => read_form(alloc, registers, form.bytes(), target, words),
         Ok(LineWord::Literal(_)) => Err(target_or(target, 9)),
         Err(_) => Err(target_or(target, 4)),
     }
@@ -194,14 +203,17 @@ fn read_assignment(alloc: Global, target: &[u8], words: &mut Cursor<'_>) -> Resu
 
 // ---- other lines, behind their first word
 
-fn read_set(words: &mut Cursor<'_>) -> Result<BodyLine, NotRead>
-    ensures { (p : LinePlace) → ReadsLine p result (plain_word (codes "set") ∷ words.old) }
+fn read_set(place: Place, words: &mut Cursor<'_>) -> Result<BodyLine, NotRead>
+    ensures { ReadsLine place result (plain_word (codes "set") ∷ words.old) }
 {
     let to = words.record()?;
-    let field = words.number(0, 255)?;
+    let field = words.field(place.registers)?;
     let value = words.value()?;
     words.end()?;
-    Ok(BodyLine::Plain(Stmt::Set { to, field, value }))
+    Ok(BodyLine::Plain(match field {
+        FieldWord::Number(field) => Stmt::Set { to, field, value },
+        FieldWord::Register(at) => Stmt::SetAt { to, at, value },
+    }))
 }
 
 fn read_emit(words: &mut Cursor<'_>) -> Result<BodyLine, NotRead>
@@ -290,7 +302,7 @@ fn read_behind(
     ensures { ReadsLine place result (plain_word first.now ∷ words.old) }
 {
     if is_word(first, b"set") {
-        read_set(words)
+        read_set(place, words)
     } else if is_word(first, b"emit") {
         read_emit(words)
     } else if is_word(first, b"if") {
@@ -304,7 +316,7 @@ fn read_behind(
     } else if is_word(first, b"end") {
         read_end(words)
     } else if is_target(first) {
-        Ok(BodyLine::Plain(read_assignment(alloc, first, words)?))
+        Ok(BodyLine::Plain(read_assignment(alloc, place.registers, first, words)?))
     } else {
         Err(NotRead::Fault { what: 3 })
     }

@@ -120,6 +120,9 @@ pub fn first_words(alloc: Global, stmt: &Stmt) -> Result<Words, OutOfMemory>
         Stmt::Get { to, from, field } => assignment(alloc, b"v", *to, b"get")?
             .and_record(alloc, *from)?
             .and_number(alloc, b"", *field),
+        Stmt::GetAt { to, from, at } => assignment(alloc, b"v", *to, b"get")?
+            .and_record(alloc, *from)?
+            .and_number(alloc, b"@v", *at),
         Stmt::Key { to, at } => assignment(alloc, b"v", *to, b"key")?.and_number(alloc, b"", *at),
         Stmt::One { to, op, a } => {
             assignment(alloc, b"v", *to, op1_name(*op))?.and_number(alloc, b"v", *a)
@@ -132,6 +135,10 @@ pub fn first_words(alloc: Global, stmt: &Stmt) -> Result<Words, OutOfMemory>
         Stmt::Set { to, field, value } => begun(alloc, b"set")?
             .and_number(alloc, b"r", *to)?
             .and_number(alloc, b"", *field)?
+            .and_number(alloc, b"v", *value),
+        Stmt::SetAt { to, at, value } => begun(alloc, b"set")?
+            .and_number(alloc, b"r", *to)?
+            .and_number(alloc, b"@v", *at)?
             .and_number(alloc, b"v", *value),
         Stmt::Emit { from } => begun(alloc, b"emit")?.and_number(alloc, b"r", *from),
         Stmt::If { on, .. } => begun(alloc, b"if")?.and_number(alloc, b"v", *on),

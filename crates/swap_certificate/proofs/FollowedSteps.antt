@@ -8,7 +8,7 @@ use Rattle.swap_certificate.specs.declared.certificates.CertFault.{CertFault}
 use Rattle.swap_certificate.specs.declared.certificates.CertFault.TheVariants.{C5}
 use Rattle.swap_certificate.specs.declared.certificates.Certificate.{Certificate}
 use Rattle.swap_certificate.specs.declared.certificates.Step.{Step}
-use Rattle.swap_certificate.specs.Checks.{Checks, EndsAt, Follow, StepTo, other_line}
+use Rattle.swap_certificate.specs.Checks.{EndsAt, Follow, Follows, StepTo, other_line}
 use Rattle.swap_certificate.specs.PlanLines.{line_of}
 use Rattle.swap_certificate.proofs.CheckedSteps.{step-Reach}
 
@@ -27,7 +27,7 @@ module _ (p : ProgramData) (c : Certificate) where
   pub record IsFollowed (done n : ℕ) (t : PlanTree) : Type 0 where
     pub number : n ≡ done + 1
     pub reached : Reach p t
-    pub comes_to : (r : Result PlanTree CertFault) → Follow p c.plan n t (drop done c.steps) r → Checks p c r
+    pub comes_to : (r : Result PlanTree CertFault) → Follow p c.plan n t (drop done c.steps) r → Follows p c r
 
   pub followed-start : (t : PlanTree) → t ≡ p.plan → IsFollowed 0 1 t
   followed-start t e = record {
@@ -45,11 +45,11 @@ module _ (p : ProgramData) (c : Certificate) where
         comes_to = λ r g. followed.comes_to r (subst (λ (xs : List Step). Follow p c.plan n t xs r) (sym (rest_of c.steps shown i s is same within)) (inr (u, h, g)));
       }
 
-      pub followed-fault : (fault : CertFault) → StepTo p n t s (Err fault) → Checks p c (Err fault)
+      pub followed-fault : (fault : CertFault) → StepTo p n t s (Err fault) → Follows p c (Err fault)
       followed-fault fault h =
           followed.comes_to (Err fault) (subst (λ (xs : List Step). Follow p c.plan n t xs (Err fault)) (sym (rest_of c.steps shown i s is same within)) (inl (fault, h, refl)))
 
-    pub followed-end : (r : Result PlanTree CertFault) → length shown ≤ i → EndsAt p c.plan t r → Checks p c r
+    pub followed-end : (r : Result PlanTree CertFault) → length shown ≤ i → EndsAt p c.plan t r → Follows p c r
     followed-end r past h = followed.comes_to r (subst (λ (xs : List Step). Follow p c.plan n t xs r) (sym (none_left c.steps shown i same past)) h)
 
   -- the line that is reached isn't the stated one

@@ -6,6 +6,7 @@ pub mod CheckedSteps
 pub mod FollowedSteps
 pub mod AcceptedSteps
 pub mod WritableTexts
+pub mod FoundBelow
 pub mod StatedSteps
 pub mod WrittenSteps
 pub mod ToldLines

@@ -11,7 +11,7 @@ use Rattle.reorder_pair.specs.Places.{IsPlace}
 use Rattle.reorder_pair.specs.Rules.{swapped, word_of}
 use Rattle.reorder_pair.proofs.OneFinding.{found_one, legal_or_refused}
 use Rattle.swap_certificate.specs.declared.certificates.CertFault.{CertFault}
-use Rattle.swap_certificate.specs.declared.certificates.CertFault.TheVariants.{C1, C2, C3, C4, C5, Memory}
+use Rattle.swap_certificate.specs.declared.certificates.CertFault.TheVariants.{C1, C2, C3, C4, C5, C6, Memory}
 use Rattle.swap_certificate.specs.declared.certificates.Certificate.{Certificate}
 use Rattle.swap_certificate.specs.declared.certificates.Step.{Step}
 use Rattle.swap_certificate.specs.Checks.{Asks, Checks, EndsAt, Follow, StepTo, is_legal, no_place, no_rule, not_legal, other_line, other_sets, same_line}
@@ -114,7 +114,10 @@ module _ (p : ProgramData) (differ : NamesDiffer p.ops) where
 -- ---- whole certificates
 
 pub checks-one : (p : ProgramData) → NamesDiffer p.ops → (c : Certificate) (q r : Result PlanTree CertFault) → Checks p c q → Checks p c r → q ≡ r
-checks-one p names c q r h k = follow_one p names c.plan 1 p.plan c.steps q r h k
+checks-one p names c q r (inl h) (inl k) = h.1 ∙ sym k.1
+checks-one p names c q r (inl h) (inr k) = absurd (h.0 k.0)
+checks-one p names c q r (inr h) (inl k) = absurd (k.0 h.0)
+checks-one p names c q r (inr h) (inr k) = follow_one p names c.plan 1 p.plan c.steps q r h.1 k.1
 
 -- an answer that what is checked comes to, where it isn't want of memory
 pub checked-one : (p : ProgramData) → NamesDiffer p.ops → (c : Certificate) (result other : Result PlanTree CertFault) → ((result ≡ Err Memory → ⊥) → Checks p c result) → Checks p c other
@@ -125,4 +128,5 @@ checked-one p names c (Err (C2 n)) other h k = inl (checks-one p names c (Err (C
 checked-one p names c (Err (C3 n upper lower)) other h k = inl (checks-one p names c (Err (C3 n upper lower)) other (h (λ e. cc)) k)
 checked-one p names c (Err (C4 n why)) other h k = inl (checks-one p names c (Err (C4 n why)) other (h (λ e. cc)) k)
 checked-one p names c (Err (C5 found)) other h k = inl (checks-one p names c (Err (C5 found)) other (h (λ e. cc)) k)
+checked-one p names c (Err (C6 stated found)) other h k = inl (checks-one p names c (Err (C6 stated found)) other (h (λ e. cc)) k)
 checked-one p names c (Err Memory) other h k = inr refl

@@ -1,5 +1,5 @@
 -- A JSON value is of one certificate.
-use Rattle.std.proofs.Common.{◌≡◌, ◌<◌, ◌≤◌, ◌==◌, ◌||◌, inl, inr, ℕ, zero, suc, Bool, true, false, cond, List, [], ◌∷◌, map, codes, bytes_eq, IsUtf8, Some, refl, sym, ap, ◌∙◌, arith}
+use Rattle.std.proofs.Common.{◌≡◌, ◌<◌, ◌≤◌, ◌==◌, ◌||◌, inl, inr, ℕ, zero, suc, Bool, true, false, cond, List, [], ◌∷◌, map, codes, bytes_eq, IsUtf8, Some, refl, sym, ap, subst, ◌∙◌, arith}
 use Rattle.std.proofs.lemmas.Bool.{cases_lt, or_from}
 use Rattle.std.proofs.lemmas.Bool.Decides.{nat_tests}
 use Rattle.std.proofs.lemmas.List.Folds.{list_any-append}
@@ -8,6 +8,8 @@ use Rattle.std.specs.Int.{bit_at}
 use Rattle.std.specs.List.{AllByRecursion, list_any}
 use Rattle.pact_record.specs.declared.records.TheConstants.{MAX_FIELDS}
 use Rattle.pact_record.specs.FieldSets.{has_field}
+use Rattle.tac_syntax.specs.Versions.{field_limit}
+use Rattle.tac_syntax.proofs.FieldLimits.{wide_limit}
 use Rattle.plan_printer.specs.FoundText.{anchor_word, rising_fields}
 use Rattle.reorder_pair.specs.declared.finding.Found.{Found}
 use Rattle.serde_json.specs.Data.{Data, Items, Members, null, boolean, number, string, array, object, no_members, member, item}
@@ -70,10 +72,10 @@ same_bit : (a b k : ℕ) → has_field a k ≡ has_field b k → bit_at a k ≡ 
 unfolding has_field
 same_bit a b k e = let x = bit_at-lt a k in let y = bit_at-lt b k in grind (arith, nat_tests)
 
-listed_one : (a b : ℕ) → IsSet a → IsSet b → rising_fields a MAX_FIELDS ≡ rising_fields b MAX_FIELDS → a ≡ b
-listed_one a b small few e =
-    same_from_bits_below MAX_FIELDS a b small few
-    (λ i less. same_bit a b i (sym (listed-is_set a MAX_FIELDS i less) ∙ ap (is_in i) e ∙ listed-is_set b MAX_FIELDS i less))
+listed_one : (most a b : ℕ) → most ≤ MAX_FIELDS → IsSet most a → IsSet most b → rising_fields a MAX_FIELDS ≡ rising_fields b MAX_FIELDS → a ≡ b
+listed_one most a b wide small few e =
+    same_from_bits_below most a b small few
+    (λ i less. same_bit a b i (sym (listed-is_set a MAX_FIELDS i (omega (arith, less, wide))) ∙ ap (is_in i) e ∙ listed-is_set b MAX_FIELDS i (omega (arith, less, wide))))
 
 -- ---- parts of a value
 
@@ -115,8 +117,8 @@ part n (object entries) = member_at n entries
 
 -- ---- a value is of one thing
 
-set_one : (a b : ℕ) → IsSet a → IsSet b → set_data a ≡ set_data b → a ≡ b
-set_one a b small few e = listed_one a b small few (wholes_one (rising_fields a MAX_FIELDS) (rising_fields b MAX_FIELDS) (array_one _ _ e))
+set_one : (most a b : ℕ) → most ≤ MAX_FIELDS → IsSet most a → IsSet most b → set_data a ≡ set_data b → a ≡ b
+set_one most a b wide small few e = listed_one most a b wide small few (wholes_one (rising_fields a MAX_FIELDS) (rising_fields b MAX_FIELDS) (array_one _ _ e))
 
 sides_of : List ℕ → Bool × Bool
 sides_of word = (bytes_eq word (codes "both") || bytes_eq word (codes "left"), bytes_eq word (codes "both") || bytes_eq word (codes "right"))
@@ -128,45 +130,47 @@ sides_of-word true false = refl
 sides_of-word false true = refl
 sides_of-word false false = refl
 
-found_one : (f g : Found) → MayBeFound f → MayBeFound g → found_data f ≡ found_data g → f ≡ g
-found_one f g may can e =
+found_one : (most : ℕ) (f g : Found) → most ≤ MAX_FIELDS → MayBeFound most f → MayBeFound most g → found_data f ≡ found_data g → f ≡ g
+found_one most f g wide may can e =
     let sides : (f.sets.anchor_left, f.sets.anchor_right) ≡ (g.sets.anchor_left, g.sets.anchor_right) =
     sym (sides_of-word f.sets.anchor_left f.sets.anchor_right) ∙ ap sides_of (string_one _ _ (ap (part 0) e)) ∙ sides_of-word g.sets.anchor_left g.sets.anchor_right in
-    let control = set_one f.sets.control g.sets.control may.sets.control can.sets.control (ap (part 1) e) in
+    let control = set_one most f.sets.control g.sets.control wide may.sets.control can.sets.control (ap (part 1) e) in
     let hi = whole_one f.hi g.hi (ap (part 2) e) in
     let lo = whole_one f.lo g.lo (ap (part 3) e) in
-    let reads = set_one f.sets.reads g.sets.reads may.sets.reads can.sets.reads (ap (part 4) e) in
-    let touched = set_one f.sets.touched g.sets.touched may.sets.touched can.sets.touched (ap (part 5) e) in
-    let writes = set_one f.sets.writes g.sets.writes may.sets.writes can.sets.writes (ap (part 6) e) in
+    let reads = set_one most f.sets.reads g.sets.reads wide may.sets.reads can.sets.reads (ap (part 4) e) in
+    let touched = set_one most f.sets.touched g.sets.touched wide may.sets.touched can.sets.touched (ap (part 5) e) in
+    let writes = set_one most f.sets.writes g.sets.writes wide may.sets.writes can.sets.writes (ap (part 6) e) in
     λ i. record {
       sets = record { reads = reads i; writes = writes i; control = control i; touched = touched i; anchor_left = (sides i).0; anchor_right = (sides i).1 };
       lo = lo i;
       hi = hi i;
     }
 
-step_one : (s t : Step) → MayBeStep s → MayBeStep t → step_data s ≡ step_data t → s ≡ t
-step_one s t may can e =
+step_one : (most : ℕ) (s t : Step) → most ≤ MAX_FIELDS → MayBeStep most s → MayBeStep most t → step_data s ≡ step_data t → s ≡ t
+step_one most s t wide may can e =
     let at = string_one s.at t.at (ap (part 0) e) in
-    let lower = found_one s.lower t.lower may.lower can.lower (ap (part 1) e) in
+    let lower = found_one most s.lower t.lower wide may.lower can.lower (ap (part 1) e) in
     let rule = string_one s.rule t.rule (ap (part 2) e) in
-    let upper = found_one s.upper t.upper may.upper can.upper (ap (part 3) e) in
+    let upper = found_one most s.upper t.upper wide may.upper can.upper (ap (part 3) e) in
     λ i. record { rule = rule i; at = at i; upper = upper i; lower = lower i }
 
-steps_one : (ss ts : List Step) → AllByRecursion MayBeStep ss → AllByRecursion MayBeStep ts → items_of (map step_data ss) ≡ items_of (map step_data ts) → ss ≡ ts
-steps_one [] [] may can e = refl
-steps_one [] (t ∷ ts) may can e = absurd (cc)
-steps_one (s ∷ ss) [] may can e = absurd (cc)
-steps_one (s ∷ ss) (t ∷ ts) may can e =
+steps_one : (most : ℕ) (ss ts : List Step) → most ≤ MAX_FIELDS → AllByRecursion (MayBeStep most) ss → AllByRecursion (MayBeStep most) ts → items_of (map step_data ss) ≡ items_of (map step_data ts) → ss ≡ ts
+steps_one most [] [] wide may can e = refl
+steps_one most [] (t ∷ ts) wide may can e = absurd (cc)
+steps_one most (s ∷ ss) [] wide may can e = absurd (cc)
+steps_one most (s ∷ ss) (t ∷ ts) wide may can e =
     let both = item_one (step_data s) (step_data t) (items_of (map step_data ss)) (items_of (map step_data ts)) e in
-    let first = step_one s t may.0 can.0 both.0 in
-    let rest = steps_one ss ts may.1 can.1 both.1 in
+    let first = step_one most s t wide may.0 can.0 both.0 in
+    let rest = steps_one most ss ts wide may.1 can.1 both.1 in
     λ i. first i ∷ rest i
 
 pub certificate_one : (c d : Certificate) → MayBeStated c → MayBeStated d → certificate_data c ≡ certificate_data d → c ≡ d
 certificate_one c d may can e =
-    let steps = steps_one c.steps d.steps may.steps can.steps (array_one _ _ (ap (part 1) e)) in
+    let version = whole_one c.version d.version (ap (part 2) e) in
+    let same = subst (λ (v : ℕ). AllByRecursion (MayBeStep (field_limit v)) d.steps) (sym version) can.steps in
+    let steps = steps_one (field_limit c.version) c.steps d.steps (wide_limit c.version) may.steps same (array_one _ _ (ap (part 1) e)) in
     let plan = string_one c.plan d.plan (ap (part 0) e) in
-    λ i. record { steps = steps i; plan = plan i }
+    λ i. record { version = version i; steps = steps i; plan = plan i }
 
 -- ---- and so is a text
 

@@ -1,8 +1,9 @@
 -- What a JSON value is, by what is read of it.
-use Rattle.std.proofs.Common.{◌≡◌, ◌<◌, ℕ, zero, suc, List, [], ◌∷◌, Some, None, map, length, get_or, refl, sym, ap, subst, ◌∙◌, arith}
+use Rattle.std.proofs.Common.{◌≡◌, ◌≢◌, ◌<◌, ◌≤◌, inl, inr, ℕ, zero, suc, List, [], ◌∷◌, Some, None, map, length, get_or, refl, sym, ap, subst, ◌∙◌, arith}
 use Rattle.std.specs.Prelude.{Err, IfNone, Option, Result}
 use Rattle.std.specs.List.{AllByRecursion}
 use Rattle.pact_record.specs.declared.records.TheConstants.{MAX_FIELDS}
+use Rattle.tac_syntax.specs.Versions.{IsVersion}
 use Rattle.plan_printer.specs.FoundText.{rising_fields}
 use Rattle.serde_json.specs.Data.{Data, Items, Members, array, object, member}
 use Rattle.serde_json.specs.Find.{as_array, as_object}
@@ -10,8 +11,8 @@ use Rattle.serde_json.specs.View.{items_of, view}
 use Rattle.serde_json.specs.declared.value.Value.{Value}
 use Rattle.swap_certificate.specs.declared.certificates.Step.{Step}
 use Rattle.swap_certificate.specs.RisingData.{RisesFrom}
-use Rattle.swap_certificate.specs.Shape.{MayBeStep, set_data, step_data, whole}
-use Rattle.swap_certificate.proofs.OneShape.{array_one, item_one}
+use Rattle.swap_certificate.specs.Shape.{IsSet, MayBeStep, set_data, step_data, whole}
+use Rattle.swap_certificate.proofs.OneShape.{array_one, item_one, whole_one}
 use Rattle.swap_certificate.proofs.RisingSets.{rising_fields-rise}
 
 -- ---- values by their kind
@@ -66,8 +67,24 @@ items_one (d ∷ ds) (c ∷ es) e =
 pub same_items : (d : Data) (ds es : List Data) → as_array d ≡ Some (items_of ds) → d ≡ array (items_of es) → ds ≡ es
 same_items d ds es h e = items_one ds es (array_one _ _ (sym (is_array d (items_of ds) h) ∙ e))
 
-pub set-rises : (d : Data) (ds : List Data) (set : ℕ) → as_array d ≡ Some (items_of ds) → d ≡ set_data set → RisesFrom 0 ds
-set-rises d ds set h e = subst (RisesFrom 0) (sym (same_items d ds (map whole (rising_fields set MAX_FIELDS)) h e)) (rising_fields-rise set)
+pub set-rises : (most : ℕ) (d : Data) (ds : List Data) (set : ℕ) → most ≤ MAX_FIELDS → IsSet most set → as_array d ≡ Some (items_of ds) → d ≡ set_data set → RisesFrom most 0 ds
+set-rises most d ds set wide small h e = subst (RisesFrom most 0) (sym (same_items d ds (map whole (rising_fields set MAX_FIELDS)) h e)) (rising_fields-rise most set wide small)
+
+-- ---- versions
+
+pub small_version : (v : ℕ) → IsVersion v → v ≤ 2
+small_version v (inl e) = omega (arith, e)
+small_version v (inr e) = omega (arith, e)
+
+pub no_version : (v n : ℕ) → IsVersion v → n ≡ 0 → whole n ≡ whole v → ⊥
+no_version v n (inl e) none same = let one = whole_one n v same in omega (arith, e, none, one)
+no_version v n (inr e) none same = let one = whole_one n v same in omega (arith, e, none, one)
+
+pub version_below : (n : ℕ) → n ≤ 2 → n ≢ 0 → IsVersion n
+version_below zero le some = absurd (some refl)
+version_below (suc zero) le some = inl (omega arith)
+version_below (suc (suc zero)) le some = inr (omega arith)
+version_below (suc (suc (suc n))) le some = absurd (omega (arith, le))
 
 -- ---- steps
 
@@ -75,9 +92,9 @@ cons_one : (d e : Data) (ds es : List Data) → d ∷ ds ≡ e ∷ es → (d ≡
 cons_one d e ds es h = (cc, cc)
 
 -- a step at a place of values that all are steps
-pub step-at : (items : List Value) (steps : List Step) (n : ℕ) (x : Value) → map view items ≡ map step_data steps → AllByRecursion MayBeStep steps → n < length items
-    → x ≡ get_or items n x → (s : Step) × MayBeStep s × (view x ≡ step_data s)
-step-at [] steps n x e all lt is = absurd (omega (arith, lt))
-step-at (y ∷ items) [] n x e all lt is = absurd (cc)
-step-at (y ∷ items) (s ∷ steps) zero x e all lt is = (s, all.0, ap view is ∙ (cons_one (view y) (step_data s) (map view items) (map step_data steps) e).0)
-step-at (y ∷ items) (s ∷ steps) (suc n) x e all lt is = step-at items steps n x (cons_one (view y) (step_data s) (map view items) (map step_data steps) e).1 all.1 (omega (arith, lt)) is
+pub step-at : (most : ℕ) (items : List Value) (steps : List Step) (n : ℕ) (x : Value) → map view items ≡ map step_data steps → AllByRecursion (MayBeStep most) steps → n < length items
+    → x ≡ get_or items n x → (s : Step) × MayBeStep most s × (view x ≡ step_data s)
+step-at most [] steps n x e all lt is = absurd (omega (arith, lt))
+step-at most (y ∷ items) [] n x e all lt is = absurd (cc)
+step-at most (y ∷ items) (s ∷ steps) zero x e all lt is = (s, all.0, ap view is ∙ (cons_one (view y) (step_data s) (map view items) (map step_data steps) e).0)
+step-at most (y ∷ items) (s ∷ steps) (suc n) x e all lt is = step-at most items steps n x (cons_one (view y) (step_data s) (map view items) (map step_data steps) e).1 all.1 (omega (arith, lt)) is

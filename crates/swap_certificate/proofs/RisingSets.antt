@@ -9,6 +9,7 @@ use Rattle.std.proofs.lemmas.Nat.Bits.{bit_at-lt, bit_at-suc, bit_at-zero, same_
 use Rattle.std.specs.Int.{bit_at}
 use Rattle.pact_record.specs.declared.records.TheConstants.{MAX_FIELDS}
 use Rattle.pact_record.specs.FieldSets.{IsEmpty, has_field}
+use Rattle.pact_record.proofs.Members.{has_field-above}
 use Rattle.plan_printer.specs.FoundText.{rising_fields}
 use Rattle.plan_printer.proofs.RisingFields.{rising_fields-zero, rising_fields-with, rising_fields-without}
 use Rattle.serde_json.specs.Data.{Data}
@@ -61,29 +62,35 @@ added-ends set new least field le ends h k above = added-same set new field k h 
 
 -- ---- what rises
 
-RisesFrom-rest : (least field : ℕ) (d : Data) (ds : List Data) → d ≡ whole field → RisesFrom least (d ∷ ds) → RisesFrom (field + 1) ds
-RisesFrom-rest least field d ds e h = subst (λ (n : ℕ). RisesFrom (n + 1) ds) (whole_one h.0 field (sym h.1 ∙ e)) h.4
+RisesFrom-rest : (most least field : ℕ) (d : Data) (ds : List Data) → d ≡ whole field → RisesFrom most least (d ∷ ds) → RisesFrom most (field + 1) ds
+RisesFrom-rest most least field d ds e h = subst (λ (n : ℕ). RisesFrom most (n + 1) ds) (whole_one h.0 field (sym h.1 ∙ e)) h.4
 
-RisesFrom-weaker : (least less : ℕ) (ds : List Data) → less ≤ least → RisesFrom least ds → RisesFrom less ds
-RisesFrom-weaker least less [] le h = tt
-RisesFrom-weaker least less (d ∷ ds) le h = (h.0, h.1, omega (arith, le, h.2), h.3, h.4)
+RisesFrom-weaker : (most least less : ℕ) (ds : List Data) → less ≤ least → RisesFrom most least ds → RisesFrom most less ds
+RisesFrom-weaker most least less [] le h = tt
+RisesFrom-weaker most least less (d ∷ ds) le h = (h.0, h.1, omega (arith, le, h.2), h.3, h.4)
 
 -- fields below a number, and then what rises from there
-one-then : (has : Bool) (before : List ℕ) (n : ℕ) (ds : List Data) → n < MAX_FIELDS → RisesFrom (suc n) ds → ((es : List Data) → RisesFrom n es → RisesFrom 0 (map whole before ++ es))
-    → RisesFrom 0 (map whole (before ++ cond has (n ∷ []) []) ++ ds)
-one-then true before n ds lt h rest =
-    let all = rest (whole n ∷ ds) (n, refl, omega arith, lt, subst (λ (m : ℕ). RisesFrom m ds) (suc-eq-add-one n) h) in
-    subst (RisesFrom 0) (sym (ap (λ (es : List Data). es ++ ds) (map-append whole before (n ∷ [])) ∙ append_assoc (map whole before) (whole n ∷ []) ds)) all
-one-then false before n ds lt h rest = subst (λ (fields : List ℕ). RisesFrom 0 (map whole fields ++ ds)) (sym (append-nil before)) (rest ds (RisesFrom-weaker (suc n) n ds (omega arith) h))
+one-then : (most : ℕ) (has : Bool) (before : List ℕ) (n : ℕ) (ds : List Data) → n < most → RisesFrom most (suc n) ds → ((es : List Data) → RisesFrom most n es → RisesFrom most 0 (map whole before ++ es))
+    → RisesFrom most 0 (map whole (before ++ cond has (n ∷ []) []) ++ ds)
+one-then most true before n ds lt h rest =
+    let all = rest (whole n ∷ ds) (n, refl, omega arith, lt, subst (λ (m : ℕ). RisesFrom most m ds) (suc-eq-add-one n) h) in
+    subst (RisesFrom most 0) (sym (ap (λ (es : List Data). es ++ ds) (map-append whole before (n ∷ [])) ∙ append_assoc (map whole before) (whole n ∷ []) ds)) all
+one-then most false before n ds lt h rest = subst (λ (fields : List ℕ). RisesFrom most 0 (map whole fields ++ ds)) (sym (append-nil before)) (rest ds (RisesFrom-weaker most (suc n) n ds (omega arith) h))
 
-fields-then : (set n : ℕ) (ds : List Data) → n ≤ MAX_FIELDS → RisesFrom n ds → RisesFrom 0 (map whole (rising_fields set n) ++ ds)
+fields-then : (most set n : ℕ) (ds : List Data) → n ≤ most → RisesFrom most n ds → RisesFrom most 0 (map whole (rising_fields set n) ++ ds)
 unfolding rising_fields
-fields-then set zero ds le h = h
-fields-then set (suc n) ds le h =
-    one-then (has_field set n) (rising_fields set n) n ds (omega (arith, le)) h (λ es g. fields-then set n es (omega (arith, le)) g)
+fields-then most set zero ds le h = h
+fields-then most set (suc n) ds le h =
+    one-then most (has_field set n) (rising_fields set n) n ds (omega (arith, le)) h (λ es g. fields-then most set n es (omega (arith, le)) g)
 
-pub rising_fields-rise : (set : ℕ) → RisesFrom 0 (map whole (rising_fields set MAX_FIELDS))
-rising_fields-rise set = subst (RisesFrom 0) (append-nil (map whole (rising_fields set MAX_FIELDS))) (fields-then set MAX_FIELDS [] (omega arith) tt)
+-- all fields of a set are below a number that its bits tell
+set-ends : (most set : ℕ) → IsSet most set → EndsBelow set most
+set-ends most set small k le = has_field-above most set k small le
+
+pub rising_fields-rise : (most set : ℕ) → most ≤ MAX_FIELDS → IsSet most set → RisesFrom most 0 (map whole (rising_fields set MAX_FIELDS))
+rising_fields-rise most set wide small =
+    let rise = subst (RisesFrom most 0) (append-nil (map whole (rising_fields set most))) (fields-then most set most [] (omega arith) tt) in
+    subst (λ (fields : List ℕ). RisesFrom most 0 (map whole fields)) (sym (rising_fields-ended set most MAX_FIELDS wide (set-ends most set small))) rise
 
 -- ---- a set whose fields end is one that a record may have
 
@@ -97,39 +104,39 @@ below_from_bits (suc w) n h =
     let half = below_from_bits w (n / 2) (λ i le. sym (bit_at-suc n i) ∙ h (suc i) (omega (arith, le))) in
     omega (arith, half, pow-suc 2 w)
 
-pub ended-is_set : (set n : ℕ) → n ≤ MAX_FIELDS → EndsBelow set n → IsSet set
-ended-is_set set n le ends = below_from_bits MAX_FIELDS set (λ i above. no_bit set i (ends i (omega (arith, le, above))))
+pub ended-is_set : (most set n : ℕ) → n ≤ most → EndsBelow set n → IsSet most set
+ended-is_set most set n le ends = below_from_bits most set (λ i above. no_bit set i (ends i (omega (arith, le, above))))
 
 -- ---- a walk over values, one value more
 
 -- what is known once so many values were read: the set has just their fields, and what rose from 0 goes on from the least field that may still come
-pub record HasRead (items : List Value) (n set least : ℕ) : Type 0 where
-  pub within : least ≤ MAX_FIELDS
+pub record HasRead (most : ℕ) (items : List Value) (n set least : ℕ) : Type 0 where
+  pub within : least ≤ most
   pub ends : EndsBelow set least
   pub fields : map view (take n items) ≡ map whole (rising_fields set least)
-  pub rest : RisesFrom 0 (map view items) → RisesFrom least (map view (drop n items))
+  pub rest : RisesFrom most 0 (map view items) → RisesFrom most least (map view (drop n items))
 
-pub nothing-read : (items : List Value) (set : ℕ) → IsEmpty set → HasRead items 0 set 0
-nothing-read items set h = record { within = omega arith; ends = λ k _. h k; fields = sym (ap (map whole) (rising_fields-zero set)); rest = λ r. r }
+pub nothing-read : (most : ℕ) (items : List Value) (set : ℕ) → IsEmpty set → HasRead most items 0 set 0
+nothing-read most items set h = record { within = omega arith; ends = λ k _. h k; fields = sym (ap (map whole) (rising_fields-zero set)); rest = λ r. r }
 
-next-rises : (items : List Value) (n set least : ℕ) (x : Value) → HasRead items n set least → n < length items → x ≡ get_or items n x → RisesFrom 0 (map view items)
-    → RisesFrom least (view x ∷ map view (drop (n + 1) items))
-next-rises items n set least x h lt e r =
+next-rises : (most : ℕ) (items : List Value) (n set least : ℕ) (x : Value) → HasRead most items n set least → n < length items → x ≡ get_or items n x → RisesFrom most 0 (map view items)
+    → RisesFrom most least (view x ∷ map view (drop (n + 1) items))
+next-rises most items n set least x h lt e r =
     let first : drop n items ≡ x ∷ drop (n + 1) items = drop_more items n x lt ∙ ap (λ (y : Value). y ∷ drop (n + 1) items) (sym e) in
-    subst (λ (ys : List Value). RisesFrom least (map view ys)) first (h.rest r)
+    subst (λ (ys : List Value). RisesFrom most least (map view ys)) first (h.rest r)
 
-pub field-read : (items : List Value) (n set least : ℕ) (x : Value) (field new : ℕ) → HasRead items n set least → n < length items → x ≡ get_or items n x
-    → least ≤ field → field ≤ 63 → view x ≡ whole field → AddsField set new field → HasRead items (n + 1) new (field + 1)
-field-read items n set least x field new h lt e le small is adds =
+pub field-read : (most : ℕ) (items : List Value) (n set least : ℕ) (x : Value) (field new : ℕ) → HasRead most items n set least → n < length items → x ≡ get_or items n x
+    → least ≤ field → 1 ≤ most → field ≤ most - 1 → view x ≡ whole field → AddsField set new field → HasRead most items (n + 1) new (field + 1)
+field-read most items n set least x field new h lt e le some small is adds =
     let front : take (n + 1) items ≡ take n items ++ x ∷ [] = take_more items n x lt ∙ ap (λ (y : Value). take n items ++ y ∷ []) (sym e) in
     record {
-      within = omega (arith, small);
+      within = omega (arith, some, small);
       ends = added-ends set new least field le h.ends adds;
       fields = ap (map view) front ∙ map-append view (take n items) (x ∷ []) ∙ (λ i. h.fields i ++ is i ∷ [])
           ∙ sym (ap (map whole) (rising_fields-added set new least field le h.ends adds) ∙ map-append whole (rising_fields set least) (field ∷ []));
-      rest = λ r. RisesFrom-rest least field (view x) (map view (drop (n + 1) items)) is (next-rises items n set least x h lt e r);
+      rest = λ r. RisesFrom-rest most least field (view x) (map view (drop (n + 1) items)) is (next-rises most items n set least x h lt e r);
     }
 
-pub all-read : (items : List Value) (n set least : ℕ) → length items ≤ n → HasRead items n set least → map view items ≡ map whole (rising_fields set MAX_FIELDS)
-all-read items n set least le h =
-    ap (map view) (sym (take_all n items le)) ∙ h.fields ∙ sym (ap (map whole) (rising_fields-ended set least MAX_FIELDS h.within h.ends))
+pub all-read : (most : ℕ) (items : List Value) (n set least : ℕ) → most ≤ MAX_FIELDS → length items ≤ n → HasRead most items n set least → map view items ≡ map whole (rising_fields set MAX_FIELDS)
+all-read most items n set least wide le h =
+    ap (map view) (sym (take_all n items le)) ∙ h.fields ∙ sym (ap (map whole) (rising_fields-ended set least MAX_FIELDS (omega (arith, wide, h.within)) h.ends))

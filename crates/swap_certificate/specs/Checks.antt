@@ -10,7 +10,7 @@ use Rattle.reorder_pair.specs.Legal.{IsFoundAt, IsLegalFor, IsRefusal}
 use Rattle.reorder_pair.specs.Places.{IsPlace}
 use Rattle.reorder_pair.specs.Rules.{swapped, word_of}
 use Rattle.swap_certificate.specs.declared.certificates.CertFault.{CertFault}
-use Rattle.swap_certificate.specs.declared.certificates.CertFault.TheVariants.{C1, C2, C3, C4, C5}
+use Rattle.swap_certificate.specs.declared.certificates.CertFault.TheVariants.{C1, C2, C3, C4, C5, C6}
 use Rattle.swap_certificate.specs.declared.certificates.Certificate.{Certificate}
 use Rattle.swap_certificate.specs.declared.certificates.Step.{Step}
 use Rattle.swap_certificate.specs.PlanLines.{IsNamed, line_of, name_at}
@@ -42,8 +42,12 @@ module _ (p : ProgramData) where
   Follow line n t (s ∷ steps) r = ((fault : CertFault) × StepTo n t s (Err fault) × (r ≡ Err fault)) ⊎ ((u : PlanTree) × StepTo n t s (Ok u) × Follow line (n + 1) u steps r)
 
   -- Steps are counted from 1.
+  abbrev pub Follows : Certificate → Result PlanTree CertFault → Type 0
+  Follows c r = Follow c.plan 1 p.plan c.steps r
+
+  -- before every step: the certificate's version isn't the program's
   abbrev pub Checks : Certificate → Result PlanTree CertFault → Type 0
-  Checks c r = Follow c.plan 1 p.plan c.steps r
+  Checks c r = ((c.version ≡ p.version → ⊥) × (r ≡ Err (C6 c.version p.version))) ⊎ ((c.version ≡ p.version) × Follows c r)
 
   -- ---- what is written down
 
@@ -52,4 +56,4 @@ module _ (p : ProgramData) where
 
   -- exchanges, and the plan that they lead to
   abbrev pub certificate_of : List Condition → PlanTree → Certificate
-  certificate_of by end = record { steps = map step_of by; plan = line_of p.ops end }
+  certificate_of by end = record { version = p.version; steps = map step_of by; plan = line_of p.ops end }

@@ -7,7 +7,7 @@ use Rattle.reorder_pair.specs.declared.legality.NotLegal.{NotLegal}
 use Rattle.reorder_pair.specs.declared.legality.NotLegal.TheVariants.{NoPlace, Conflict, Side, NotAnchored, KeyGroup}
 use Rattle.plan_printer.specs.FoundText.{found_text}
 use Rattle.swap_certificate.specs.declared.certificates.CertFault.{CertFault}
-use Rattle.swap_certificate.specs.declared.certificates.CertFault.TheVariants.{C1, C2, C3, C4, C5, Memory}
+use Rattle.swap_certificate.specs.declared.certificates.CertFault.TheVariants.{C1, C2, C3, C4, C5, C6, Memory}
 use Rattle.swap_certificate.specs.declared.certificates.Certificate.{Certificate}
 use Rattle.swap_certificate.specs.declared.certificates.Step.{Step}
 
@@ -46,6 +46,7 @@ fault_lines c (C2 n) = step_line n (codes "C2")
 fault_lines c (C3 n upper lower) = step_line n (codes "C3") ++ (stated_lines (slice_get c.steps (n - 1)) ++ both_lines (codes "found") upper lower)
 fault_lines c (C4 n why) = step_line n (codes "C4 " ++ why_text why)
 fault_lines c (C5 found) = codes "C5\n" ++ (told_line (codes "stated ") c.plan ++ told_line (codes "found ") found)
+fault_lines c (C6 stated found) = codes "C6\n" ++ (told_line (codes "stated ") (decimal stated) ++ told_line (codes "found ") (decimal found))
 fault_lines c Memory = []
 
 abbrev pub refused_text : List ℕ → List ℕ

@@ -2,5 +2,4 @@ pub mod PlanLines
 pub mod Checks
 pub mod Shape
 pub mod RisingData
-pub mod StatedSets
 pub mod FaultTexts

@@ -4,6 +4,7 @@ use Rattle.std.specs.List.{AllByRecursion}
 use Rattle.pact_record.specs.declared.records.TheConstants.{MAX_FIELDS}
 use Rattle.pact_record.specs.Limits.{word_limit}
 use Rattle.tac_syntax.specs.EmitBounds.{many}
+use Rattle.tac_syntax.specs.Versions.{IsVersion, field_limit}
 use Rattle.reorder_pair.specs.declared.finding.Found.{Found}
 use Rattle.plan_printer.specs.FoundText.{anchor_word, rising_fields}
 use Rattle.serde_json.specs.Data.{Data, number, string, array, object, no_members, member, unsigned}
@@ -42,30 +43,27 @@ step_with at lower rule upper = object (member (codes "at") at (member (codes "l
 abbrev pub step_data : Step → Data
 step_data s = step_with (string s.at) (found_data s.lower) (string s.rule) (found_data s.upper)
 
-abbrev pub format_version : ℕ
-format_version = 1
-
 abbrev pub certificate_with : Data → Data → Data → Data
 certificate_with plan steps version = object (member (codes "plan") plan (member (codes "steps") steps (member (codes "version") version no_members)))
 
 abbrev pub certificate_data : Certificate → Data
-certificate_data c = certificate_with (string c.plan) (array (items_of (map step_data c.steps))) (whole format_version)
+certificate_data c = certificate_with (string c.plan) (array (items_of (map step_data c.steps))) (whole c.version)
 
 -- ---- what may be stated
 
--- a set of fields that a record may have
-abbrev pub IsSet : ℕ → Type 0
-IsSet set = set < 2 ^ MAX_FIELDS
+-- a set of fields below a number
+abbrev pub IsSet : ℕ → ℕ → Type 0
+IsSet most set = set < 2 ^ most
 
-pub record AreSets (f : Found) : Type 0 where
-  pub reads : IsSet f.sets.reads
-  pub writes : IsSet f.sets.writes
-  pub control : IsSet f.sets.control
-  pub touched : IsSet f.sets.touched
+pub record AreSets (most : ℕ) (f : Found) : Type 0 where
+  pub reads : IsSet most f.sets.reads
+  pub writes : IsSet most f.sets.writes
+  pub control : IsSet most f.sets.control
+  pub touched : IsSet most f.sets.touched
 
--- bounds stop where counting does
-pub record MayBeFound (f : Found) : Type 0 where
-  pub sets : AreSets f
+-- sets of fields below a number; bounds stop where counting does
+pub record MayBeFound (most : ℕ) (f : Found) : Type 0 where
+  pub sets : AreSets most f
   pub lo : f.lo ≤ many
   pub hi : f.hi ≤ many
 
@@ -76,14 +74,16 @@ line_limit = 4096
 abbrev pub IsShortText : ℕ → List ℕ → Type 0
 IsShortText limit text = IsUtf8 text × (length text ≤ limit)
 
-pub record MayBeStep (s : Step) : Type 0 where
+pub record MayBeStep (most : ℕ) (s : Step) : Type 0 where
   pub rule : IsShortText word_limit s.rule
   pub at : IsShortText word_limit s.at
-  pub upper : MayBeFound s.upper
-  pub lower : MayBeFound s.lower
+  pub upper : MayBeFound most s.upper
+  pub lower : MayBeFound most s.lower
 
+-- the version tells which fields a set may have
 pub record MayBeStated (c : Certificate) : Type 0 where
-  pub steps : AllByRecursion MayBeStep c.steps
+  pub version : IsVersion c.version
+  pub steps : AllByRecursion (MayBeStep (field_limit c.version)) c.steps
   pub plan : IsShortText line_limit c.plan
 
 -- ---- shape and text

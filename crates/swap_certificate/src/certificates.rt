@@ -10,9 +10,6 @@ use std::marker::Model;
 /// A plan's line has at most so many bytes.
 pub(crate) const MAX_LINE: usize = 4096;
 
-/// The version of the format.
-pub(crate) const VERSION: u64 = 1;
-
 /// A stated exchange: the word of its rule, the name of its upper operator, and what is stated of the two operators.
 #[derive(Debug, Drop)]
 pub struct Step {
@@ -79,15 +76,16 @@ impl Steps {
     }
 }
 
-/// Exchanges from the plan as written on, and the line of the plan that they are said to lead to: `NAME`, `NAME(LINE)` or `NAME(LINE,LINE)` from the
+/// The version of the language, exchanges from the plan as written on, and the line of the plan that they are said to lead to: `NAME`, `NAME(LINE)` or `NAME(LINE,LINE)` from the
 /// plan's root.
 #[derive(Debug, Drop)]
 pub struct Certificate {
+    pub version: u32,
     pub steps: Steps,
     pub plan: Bytes,
 }
 
-/// Why a certificate is refused: at its first step with a fault the first that stands in the order C2, C1, C3, C4, and behind all steps C5. Steps are
+/// Why a certificate is refused: before all steps C6, at its first step with a fault the first that stands in the order C2, C1, C3, C4, and behind all steps C5. Steps are
 /// counted from 1.
 #[derive(Debug, Drop)]
 pub enum CertFault {
@@ -113,6 +111,11 @@ pub enum CertFault {
     /// The steps lead to the plan of this line, and another is stated.
     C5 {
         found: Bytes,
+    },
+    /// It states another version than the program's.
+    C6 {
+        stated: u32,
+        found: u32,
     },
     /// There is too little memory to tell.
     Memory,

@@ -147,6 +147,21 @@ fn push_other_sets(
     push_found(alloc, text, upper, lower)
 }
 
+fn push_versions(
+    alloc: Global,
+    text: &mut Bytes,
+    stated: u32,
+    found: u32,
+) -> Result<(), OutOfMemory>
+    ensures { OnOk result (text.new ≡ text.old ++ (codes "C6\n" ++ (texts.told_line (codes "stated ") (decimal stated) ++ texts.told_line (codes "found ") (decimal found)))) }
+{
+    let stated = stated.to_string(alloc)?;
+    let found = found.to_string(alloc)?;
+    text.extend_from_slice(b"C6\n")?;
+    push_told(text, b"stated ", stated.as_bytes())?;
+    push_told(text, b"found ", found.as_bytes())
+}
+
 // Puts the lines of a fault behind what is there.
 fn push_fault(
     alloc: Global,
@@ -168,12 +183,13 @@ fn push_fault(
             push_told(text, b"stated ", c.plan.bytes())?;
             push_told(text, b"found ", found.bytes())
         }
+        CertFault::C6 { stated, found } => push_versions(alloc, text, *stated, *found),
         CertFault::Memory => Ok(()),
     }
 }
 
 /// What is told of a certificate with a fault: one line, and behind it of C3 what is stated and what is found of the upper and of the lower operator,
-/// and of C5 the stated plan line and that of the plan which is reached. Want of memory is the only error.
+/// of C5 the stated plan line and that of the plan which is reached, and of C6 the stated version and the program's. Want of memory is the only error.
 pub fn fault_text(alloc: Global, c: &Certificate, fault: &CertFault) -> Result<Bytes, OutOfMemory>
     ensures { IfOk result (λ text. text ≡ texts.fault_text c.now fault.now) }
 {

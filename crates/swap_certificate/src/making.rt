@@ -5,14 +5,13 @@ ghost use Rattle.reorder_pair.specs.ToldExchanges.{Lead};
 ghost use Rattle.swap_certificate.specs.Checks.{Checks, certificate_of, step_of};
 ghost use Rattle.pact_operators.specs.Programs.{AreNames};
 ghost use Rattle.swap_certificate.specs.PlanLines.{name_at};
-ghost use Rattle.swap_certificate.specs.Shape.{AreSets, MayBeStated};
-ghost use Rattle.swap_certificate.specs.StatedSets.{HasSets};
+ghost use Rattle.swap_certificate.specs.Shape.{MayBeStated};
 
 use crate::certificates::{Certificate, Step, Steps};
 use crate::names::plan_line;
 use pact_operators::{Op, Plan, Program};
 use pact_record::{OutOfMemory, Word};
-use reorder_pair::{Condition, Found};
+use reorder_pair::Condition;
 use std::alloc::Global;
 
 // The name of an operator, or an empty one where there is none of that number.
@@ -25,23 +24,10 @@ fn name_of(alloc: Global, ops: &[Op], at: u32) -> Result<Word, OutOfMemory>
     }
 }
 
-// Tells that these are sets of fields which a record may have: of each set the clause of `has` says so.
-fn keeps_sets(found: &Found)
-    ensures { AreSets found.now }
-{
-    let _reads = found.sets.reads.has(0);
-    let _writes = found.sets.writes.has(0);
-    let _control = found.sets.control.has(0);
-    let _touched = found.sets.touched.has(0);
-}
-
 // The step that states an exchange.
 fn stated(alloc: Global, program: &Program, condition: &Condition) -> Result<Step, OutOfMemory>
-    ensures step { IfOk result (λ step. step ≡ step_of program.now condition.now) }
-    ensures sets { IfOk result HasSets }
+    ensures { IfOk result (λ step. step ≡ step_of program.now condition.now) }
 {
-    keeps_sets(&condition.upper);
-    keeps_sets(&condition.lower);
     let rule = Word::from_bytes(alloc, condition.rule.word().as_bytes())?;
     let at = name_of(alloc, program.ops(), condition.at)?;
     Ok(Step {
@@ -71,5 +57,9 @@ pub fn certificate(
     // Its clause says that the numbers of a plan differ, so that they are few.
     let _root = end.root();
     let plan = plan_line(alloc, program.ops(), end)?;
-    Ok(Certificate { steps, plan })
+    Ok(Certificate {
+        version: program.version(),
+        steps,
+        plan,
+    })
 }

@@ -1,7 +1,9 @@
 //! From a text to the certificate that it is.
 
-ghost use Rattle.std.specs.Prelude.{◌≡◌, ◌↔◌, ◌≤◌, Bool, ℕ, IfNone, IfOk, IfSome, IsTrue, List, map, ◌++◌, ◌∷◌, [], OnOk};
+ghost use Rattle.std.specs.Prelude.{◌≡◌, ◌≤◌, Bool, ℕ, IfNone, IfOk, IfSome, List, map, ◌++◌, ◌∷◌, [], OnOk};
 ghost use Rattle.std.specs.List.{AllByRecursion};
+ghost use Rattle.pact_record.specs.declared.records.TheConstants.{MAX_FIELDS};
+ghost use Rattle.tac_syntax.specs.Versions.{IsVersion};
 ghost use Rattle.pact_record.specs.Limits.{word_limit};
 ghost use Rattle.plan_printer.specs.FoundText.{anchor_word, rising_fields};
 ghost use Rattle.reorder_pair.specs.declared.finding.Found.{Found as FoundData};
@@ -11,16 +13,17 @@ ghost use Rattle.swap_certificate.specs.declared.certificates.Certificate.{Certi
 ghost use Rattle.swap_certificate.specs.declared.certificates.NotCertificate.TheVariants.{Shape};
 ghost use Rattle.swap_certificate.specs.declared.certificates.Step.{Step as StepData};
 ghost use Rattle.swap_certificate.specs.RisingData.{RisesFrom};
-ghost use Rattle.swap_certificate.specs.Shape.{IsCertificateText, IsSet, IsShaped, IsShortText, MayBeFound, MayBeStep, certificate_with, found_data, found_with, format_version, set_data, step_data, step_with, whole};
+ghost use Rattle.swap_certificate.specs.Shape.{IsCertificateText, IsSet, IsShaped, IsShortText, MayBeFound, MayBeStep, certificate_with, found_data, found_with, set_data, step_data, step_with, whole};
 
-use crate::certificates::{Certificate, MAX_LINE, NotCertificate, Step, Steps, VERSION};
+use crate::certificates::{Certificate, MAX_LINE, NotCertificate, Step, Steps};
 use emit_bounds::MANY;
-use pact_record::{Bytes, Fields, MAX_FIELDS, MAX_WORD, OutOfMemory, Word};
+use pact_record::{Bytes, Fields, MAX_WORD, OutOfMemory, Word};
 use reorder_pair::Found;
 use serde_json::Value;
 use std::alloc::Global;
 use std::collections::btree_map::Iter;
 use tac_flow::Sets;
+use tac_syntax::field_limit;
 
 // ---- objects, whose members come in the order of their keys
 
@@ -181,16 +184,17 @@ fn read_sides(value: &Value) -> Option<(bool, bool)>
     sides_of(value.as_str()?)
 }
 
-// The set of the fields that values are, strictly rising.
-fn rising_set(items: &[Value]) -> Option<Fields>
-    ensures set { IfSome result (λ set. IsSet set) }
+// The set of the fields below a number that values are, strictly rising.
+fn rising_set(limit: u32, items: &[Value]) -> Option<Fields>
+    requires limit { (1 ≤ limit) × (limit ≤ MAX_FIELDS) }
+    ensures set { IfSome result (λ set. IsSet limit set) }
     ensures some { IfSome result (λ set. map view items.now ≡ map whole (rising_fields set MAX_FIELDS)) }
-    ensures none { IfNone result (RisesFrom 0 (map view items.now) → ⊥) }
+    ensures none { IfNone result (RisesFrom limit 0 (map view items.now) → ⊥) }
 {
     let mut set = Fields::empty();
     let mut least = 0;
     for item in items {
-        let field = read_whole(item, MAX_FIELDS - 1)?;
+        let field = read_whole(item, limit - 1)?;
         if field < least {
             return None;
         }
@@ -200,27 +204,29 @@ fn rising_set(items: &[Value]) -> Option<Fields>
     Some(set)
 }
 
-fn read_set(value: &Value) -> Option<Fields>
-    ensures some { IfSome result (λ set. IsSet set × (view value.now ≡ set_data set)) }
-    ensures none { IfNone result ((set : ℕ) → IsSet set → view value.now ≡ set_data set → ⊥) }
+fn read_set(limit: u32, value: &Value) -> Option<Fields>
+    requires limit { (1 ≤ limit) × (limit ≤ MAX_FIELDS) }
+    ensures some { IfSome result (λ set. IsSet limit set × (view value.now ≡ set_data set)) }
+    ensures none { IfNone result ((set : ℕ) → IsSet limit set → view value.now ≡ set_data set → ⊥) }
 {
-    rising_set(value.as_array()?)
+    rising_set(limit, value.as_array()?)
 }
 
 // ---- what is stated of an operator
 
-fn read_found(value: &Value) -> Option<Found>
-    ensures some { IfSome result (λ f. MayBeFound f × (view value.now ≡ found_data f)) }
-    ensures none { IfNone result ((f : FoundData) → MayBeFound f → view value.now ≡ found_data f → ⊥) }
+fn read_found(limit: u32, value: &Value) -> Option<Found>
+    requires limit { (1 ≤ limit) × (limit ≤ MAX_FIELDS) }
+    ensures some { IfSome result (λ f. MayBeFound limit f × (view value.now ≡ found_data f)) }
+    ensures none { IfNone result ((f : FoundData) → MayBeFound limit f → view value.now ≡ found_data f → ⊥) }
 {
     let parts = found_parts(value)?;
     let (anchor_left, anchor_right) = read_sides(parts.anchor)?;
-    let control = read_set(parts.control)?;
+    let control = read_set(limit, parts.control)?;
     let hi = read_whole(parts.hi, MANY)?;
     let lo = read_whole(parts.lo, MANY)?;
-    let reads = read_set(parts.reads)?;
-    let touched = read_set(parts.touched)?;
-    let writes = read_set(parts.writes)?;
+    let reads = read_set(limit, parts.reads)?;
+    let touched = read_set(limit, parts.touched)?;
+    let writes = read_set(limit, parts.writes)?;
     let sets = Sets {
         reads,
         writes,
@@ -244,17 +250,18 @@ fn read_word(alloc: Global, value: &Value) -> Result<Word, NotCertificate>
     Ok(Word::from_bytes(alloc, text.as_bytes())?)
 }
 
-fn read_step(alloc: Global, value: &Value) -> Result<Step, NotCertificate>
-    ensures some { IfOk result (λ s. MayBeStep s × (view value.now ≡ step_data s)) }
-    ensures none { result ≡ Err Shape → (s : StepData) → MayBeStep s → view value.now ≡ step_data s → ⊥ }
+fn read_step(alloc: Global, limit: u32, value: &Value) -> Result<Step, NotCertificate>
+    requires limit { (1 ≤ limit) × (limit ≤ MAX_FIELDS) }
+    ensures some { IfOk result (λ s. MayBeStep limit s × (view value.now ≡ step_data s)) }
+    ensures none { result ≡ Err Shape → (s : StepData) → MayBeStep limit s → view value.now ≡ step_data s → ⊥ }
 {
     let Some(parts) = step_parts(value) else {
         return Err(NotCertificate::Shape);
     };
-    let Some(lower) = read_found(parts.lower) else {
+    let Some(lower) = read_found(limit, parts.lower) else {
         return Err(NotCertificate::Shape);
     };
-    let Some(upper) = read_found(parts.upper) else {
+    let Some(upper) = read_found(limit, parts.upper) else {
         return Err(NotCertificate::Shape);
     };
     let at = read_word(alloc, parts.at)?;
@@ -275,36 +282,44 @@ fn push_step(steps: &mut Steps, step: Step) -> Result<(), OutOfMemory>
     Ok(())
 }
 
-fn steps_of(alloc: Global, items: &[Value]) -> Result<Steps, NotCertificate>
-    ensures stated { IfOk result (λ steps. AllByRecursion MayBeStep steps) }
+fn steps_of(alloc: Global, limit: u32, items: &[Value]) -> Result<Steps, NotCertificate>
+    requires limit { (1 ≤ limit) × (limit ≤ MAX_FIELDS) }
+    ensures stated { IfOk result (λ steps. AllByRecursion (MayBeStep limit) steps) }
     ensures some { IfOk result (λ steps. map view items.now ≡ map step_data steps) }
-    ensures none { result ≡ Err Shape → (steps : List StepData) → AllByRecursion MayBeStep steps → map view items.now ≡ map step_data steps → ⊥ }
+    ensures none { result ≡ Err Shape → (steps : List StepData) → AllByRecursion (MayBeStep limit) steps → map view items.now ≡ map step_data steps → ⊥ }
 {
     let mut steps = Steps::new(alloc);
     for item in items {
-        let step = read_step(alloc, item)?;
+        let step = read_step(alloc, limit, item)?;
         push_step(&mut steps, step)?;
     }
     Ok(steps)
 }
 
-fn read_steps(alloc: Global, value: &Value) -> Result<Steps, NotCertificate>
-    ensures some { IfOk result (λ steps. AllByRecursion MayBeStep steps × (view value.now ≡ array (items_of (map step_data steps)))) }
-    ensures none { result ≡ Err Shape → (steps : List StepData) → AllByRecursion MayBeStep steps
+fn read_steps(alloc: Global, limit: u32, value: &Value) -> Result<Steps, NotCertificate>
+    requires limit { (1 ≤ limit) × (limit ≤ MAX_FIELDS) }
+    ensures some { IfOk result (λ steps. AllByRecursion (MayBeStep limit) steps × (view value.now ≡ array (items_of (map step_data steps)))) }
+    ensures none { result ≡ Err Shape → (steps : List StepData) → AllByRecursion (MayBeStep limit) steps
         → view value.now ≡ array (items_of (map step_data steps)) → ⊥ }
 {
     let Some(items) = value.as_array() else {
         return Err(NotCertificate::Shape);
     };
-    steps_of(alloc, items)
+    steps_of(alloc, limit, items)
 }
 
 // ---- certificates
 
-fn is_version(value: &Value) -> bool
-    ensures { IsTrue result ↔ view value.now ≡ whole format_version }
+// One of the two versions.
+fn read_version(value: &Value) -> Option<u32>
+    ensures some { IfSome result (λ version. IsVersion version × (view value.now ≡ whole version)) }
+    ensures none { IfNone result ((version : ℕ) → IsVersion version → view value.now ≡ whole version → ⊥) }
 {
-    value.as_u64() == Some(VERSION)
+    let version = read_whole(value, 2)?;
+    if version == 0 {
+        return None;
+    }
+    Some(version)
 }
 
 fn shaped(alloc: Global, value: &Value) -> Result<Certificate, NotCertificate>
@@ -314,15 +329,19 @@ fn shaped(alloc: Global, value: &Value) -> Result<Certificate, NotCertificate>
     let Some(parts) = certificate_parts(value) else {
         return Err(NotCertificate::Shape);
     };
-    if !is_version(parts.version) {
+    let Some(version) = read_version(parts.version) else {
         return Err(NotCertificate::Shape);
-    }
+    };
     let Some(line) = read_text(parts.plan, MAX_LINE) else {
         return Err(NotCertificate::Shape);
     };
-    let steps = read_steps(alloc, parts.steps)?;
+    let steps = read_steps(alloc, field_limit(version), parts.steps)?;
     let plan = Bytes::from_slice(alloc, line.as_bytes())?;
-    Ok(Certificate { steps, plan })
+    Ok(Certificate {
+        version,
+        steps,
+        plan,
+    })
 }
 
 /// The certificate that a text is: JSON of the shape that `write_certificate` writes, with blanks and the keys of an object in any order. A key that

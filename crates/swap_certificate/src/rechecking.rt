@@ -6,7 +6,7 @@ ghost use Rattle.pact_operators.specs.Programs.{IsPlanOf, NamesDiffer};
 ghost use Rattle.reorder_pair.specs.FindingTable.{AreFindings};
 ghost use Rattle.reorder_pair.specs.Legal.{KeepAnswers};
 ghost use Rattle.reorder_pair.specs.Reach.{Reach};
-ghost use Rattle.swap_certificate.specs.Checks.{Checks, StepTo};
+ghost use Rattle.swap_certificate.specs.Checks.{Checks, Follows, StepTo};
 ghost use Rattle.swap_certificate.specs.PlanLines.{line_of};
 ghost use Rattle.swap_certificate.specs.declared.certificates.CertFault.{CertFault as FaultData};
 ghost use Rattle.swap_certificate.specs.declared.certificates.CertFault.TheVariants.{Memory};
@@ -72,10 +72,10 @@ fn is_line(line: &[u8], stated: &[u8]) -> bool
     line == stated
 }
 
-// The plan that the steps lead to, where its line is the stated one.
+// The plan that the steps lead to, where its line is the stated one; the version isn't asked for.
 fn followed(alloc: Global, program: &Program, c: &Certificate) -> Result<Plan, CertFault>
     requires names { NamesDiffer program.now.ops }
-    ensures checked { (result ≡ Err Memory → ⊥) → Checks program.now c.now result }
+    ensures checked { (result ≡ Err Memory → ⊥) → Follows program.now c.now result }
     ensures line { IfOk result (λ plan. c.now.plan ≡ line_of program.now.ops plan) }
     ensures reached { IfOk result (Reach program.now) }
 {
@@ -99,9 +99,15 @@ fn followed(alloc: Global, program: &Program, c: &Certificate) -> Result<Plan, C
     }
 }
 
-/// The plan that a certificate leads to, or its first fault. Nothing that it states is believed: each rule and operator is looked up, the sets are found
-/// anew, each exchange is asked for, and the line of the plan is compared. An operator is analysed once for each context that the steps give it. No two
-/// sources or operators of the program have the same name, as in each that `check_program` gives.
+fn is_version(program: &Program, c: &Certificate) -> bool
+    ensures { IsTrue result ↔ (c.now.version ≡ program.now.version) }
+{
+    c.version == program.version()
+}
+
+/// The plan that a certificate leads to, or its first fault. Nothing that it states is believed: its version is compared, each rule and operator is
+/// looked up, the sets are found anew, each exchange is asked for, and the line of the plan is compared. An operator is analysed once for each context
+/// that the steps give it. No two sources or operators of the program have the same name, as in each that `check_program` gives.
 pub fn recheck(alloc: Global, program: &Program, c: &Certificate) -> Result<Plan, CertFault>
     requires names { NamesDiffer program.now.ops }
     ensures checked { (result ≡ Err Memory → ⊥) → Checks program.now c.now result }
@@ -113,5 +119,11 @@ pub fn recheck(alloc: Global, program: &Program, c: &Certificate) -> Result<Plan
 {
     // Its clause says that the program keeps every rule.
     let _fields = program.fields();
+    if !is_version(program, c) {
+        return Err(CertFault::C6 {
+            stated: c.version,
+            found: program.version(),
+        });
+    }
     followed(alloc, program, c)
 }

@@ -1,6 +1,6 @@
 //! From a certificate to its text.
 
-ghost use Rattle.std.specs.Prelude.{◌≡◌, ◌++◌, IfOk, IsUtf8, codes, map};
+ghost use Rattle.std.specs.Prelude.{◌≡◌, ◌++◌, IfOk, IsUtf8, ℕ, codes, map};
 ghost use Rattle.std.specs.List.{AllByRecursion};
 ghost use Rattle.serde_json.specs.Data.{array};
 ghost use Rattle.serde_json.specs.View.{items_of, view};
@@ -8,7 +8,7 @@ ghost use Rattle.serde_json.specs.Written.{compact_text};
 ghost use Rattle.swap_certificate.specs.declared.certificates.Certificate.{Certificate as CertificateData};
 ghost use Rattle.swap_certificate.specs.Shape.{IsCertificateText, MayBeStated, MayBeStep, certificate_data, found_data, set_data, step_data};
 
-use crate::certificates::{Certificate, Step, VERSION};
+use crate::certificates::{Certificate, Step};
 use pact_record::{Bytes, Fields, MAX_FIELDS, OutOfMemory};
 use plan_printer::anchor_word;
 use reorder_pair::Found;
@@ -54,7 +54,7 @@ fn text_of(bytes: &[u8]) -> &str
 }
 
 fn step_value(alloc: Global, step: &Step) -> Result<Value, OutOfMemory>
-    requires { MayBeStep step.now }
+    requires { (most : ℕ) × MayBeStep most step.now }
     ensures { IfOk result (λ value. view value ≡ step_data step.now) }
 {
     let at = text_of(step.at.bytes());
@@ -65,7 +65,7 @@ fn step_value(alloc: Global, step: &Step) -> Result<Value, OutOfMemory>
 }
 
 fn steps_value(alloc: Global, steps: &[Step]) -> Result<Value, OutOfMemory>
-    requires { AllByRecursion MayBeStep steps.now }
+    requires { (most : ℕ) × AllByRecursion (MayBeStep most) steps.now }
     ensures { IfOk result (λ value. view value ≡ array (items_of (map step_data steps.now))) }
 {
     let mut values = Vec::new(alloc);
@@ -81,7 +81,7 @@ fn certificate_value(alloc: Global, c: &Certificate) -> Result<Value, OutOfMemor
 {
     let plan = text_of(c.plan.bytes());
     let steps = steps_value(alloc, c.steps.steps())?;
-    json!(in alloc; {"plan": plan, "steps": steps, "version": VERSION})
+    json!(in alloc; {"plan": plan, "steps": steps, "version": c.version})
 }
 
 /// A certificate as text: JSON without blanks, each object's keys in the order of their bytes, and no line end. Its rules, names and plan line are

@@ -12,7 +12,7 @@ use Rattle.tac_syntax.specs.declared.statements.LoopList.{LoopList}
 use Rattle.tac_syntax.specs.declared.statements.LoopList.TheVariants.{Group, Left as LeftGroup, Right as RightGroup}
 use Rattle.tac_syntax.specs.Rules.{is_cogroup}
 use Rattle.tac_syntax.specs.Limits.{record_registers}
-use Rattle.tac_syntax.specs.Code.{Simple, load_int, load_text, load_null, move_value, get_field, get_key, apply_one, apply_two, new_record, copy_record, set_field, emit_record, Code, stop, plain, branch, again, each}
+use Rattle.tac_syntax.specs.Code.{Simple, load_int, load_text, load_null, move_value, get_field, get_at, get_key, apply_one, apply_two, new_record, copy_record, set_field, set_at, emit_record, Code, stop, plain, branch, again, each}
 use Rattle.tac_flow.specs.Known.{Side, left, Base, first, bound, some, nowhere, same_base, side_of, met, joined_base, Held, Known, State, joined, joined_held, dropped_base, dropped_held, dropped, with_field, without_field, either}
 use Rattle.tac_flow.specs.Steps.{Scope, fresh, fresh_by, record_at, value_at, held_of, is_copy, written, learns, start_state}
 use Rattle.tac_flow.specs.Walks.{Note, decides, emits, noted, side_of_list, settled, walk, notes}
@@ -96,9 +96,9 @@ module _ (c : Scope) (single : is_cogroup c.kind ≡ false) where
     case false = e
 
   -- A record that is set stands in a register that there is; any other number sets none.
-  set_left : (k : State) (to field value : ℕ) → AllLeft k → AllLeft (record k { records = slice_set k.records to (written c (record_at c.fields k to) field (value_at k value)) })
-  set_left k to field value h = elim (cases_lt to record_registers) as (λ _. AllLeft (record k { records = slice_set k.records to (written c (record_at c.fields k to) field (value_at k value)) })) [
-    | inl p ↦ with_record k to _ h (written_left (record_at c.fields k to) field (value_at k value) (record_at-left k to p h))
+  set_left : (k : State) (to : ℕ) (g : Held) → (OnLeft (record_at c.fields k to) → OnLeft g) → AllLeft k → AllLeft (record k { records = slice_set k.records to g })
+  set_left k to g keeps h = elim (cases_lt to record_registers) as (λ _. AllLeft (record k { records = slice_set k.records to g })) [
+    | inl p ↦ with_record k to g h (keeps (record_at-left k to p h))
     | inr p ↦ record {
       all = subst (λ (l : List Held). AllByRecursion OnLeft l) (sym (set_past k.records to _ (omega (arith, p, h.count)))) h.all;
       count = length-set k.records to _ ∙ h.count;
@@ -112,12 +112,14 @@ module _ (c : Scope) (single : is_cogroup c.kind ≡ false) where
   learns-left sides (load_null to) k s f h = (record { all = h.all; count = h.count }, tt)
   learns-left sides (move_value to from) k s f h = (record { all = h.all; count = h.count }, tt)
   learns-left sides (get_field to from field) k s f h = (record { all = h.all; count = h.count }, tt)
+  learns-left sides (get_at to from at) k s f h = (record { all = h.all; count = h.count }, tt)
   learns-left sides (get_key to at) k s f h = (record { all = h.all; count = h.count }, tt)
   learns-left sides (apply_one to op a) k s f h = (record { all = h.all; count = h.count }, tt)
   learns-left sides (apply_two to op a b) k s f h = (record { all = h.all; count = h.count }, tt)
   learns-left sides (new_record to) k s f h = (with_record k to (fresh c) h fresh_left, tt)
   learns-left sides (copy_record to from) k s f h = (with_record k to (held_of c sides k from) h (held_of-left sides k from s f.1 h), tt)
-  learns-left sides (set_field to field value) k s f h = (set_left k to field value h, tt)
+  learns-left sides (set_field to field value) k s f h = (set_left k to _ (written_left (record_at c.fields k to) field (value_at k value)) h, tt)
+  learns-left sides (set_at to at value) k s f h = (set_left k to _ (λ e. e) h, tt)
   learns-left sides (emit_record from) k s f h = (h, (record_at-left k from f h, tt))
 
   pub walk-left : (code : Code) (sides : List Side) (depth : ℕ) (k : State) → depth ≡ length sides → AllByRecursion (λ s. s ≡ left) sides → IsWellFormed c.kind c.fields depth code → AllLeft k

@@ -1,5 +1,5 @@
 -- Two calls for groups that agree record by record in what is read can be followed side by side.
-use Rattle.std.proofs.Common.{◌≡◌, ◌<◌, ◌+◌, ℕ, true, List, [], inl, inr, length, get_or, refl, sym, ap, ◌∙◌, arith}
+use Rattle.std.proofs.Common.{◌≡◌, ◌<◌, ◌+◌, ℕ, true, false, List, [], inl, inr, length, get_or, refl, sym, ap, ◌∙◌, arith}
 use Rattle.std.specs.List.{AllByRecursion, AllZip}
 use Rattle.std.proofs.lemmas.Bool.{or_left, or_right, cases_lt}
 use Rattle.std.proofs.lemmas.List.{length-replicate}
@@ -14,7 +14,7 @@ use Rattle.tac_syntax.specs.declared.statements.Rec.{Rec}
 use Rattle.tac_syntax.specs.declared.statements.Rec.TheVariants.{Reg, Loop, Input, Left, Right, Join, First}
 use Rattle.tac_syntax.specs.Call.{of_group, of_groups}
 use Rattle.tac_flow.specs.Known.{FieldSet, Side, left, right, some, nowhere, State, fields_below}
-use Rattle.tac_flow.specs.Steps.{is_key_at, keys_by, held_of}
+use Rattle.tac_flow.specs.Steps.{is_key_at, keys_by, fields_by, held_of}
 use Rattle.tac_syntax.specs.Forms.{IsWithin, HaveKey, anchors}
 use Rattle.tac_syntax.specs.Contexts.{Has}
 use Rattle.tac_syntax.specs.WellFormed.{IsGiven}
@@ -25,7 +25,7 @@ module _ (fields : ℕ) (a b : FieldSet) (ks js : List ℕ) where
   -- a group
 
   group_call : (key : List Value) (g : List (List Value)) → AllByRecursion (IsWithin fields (Has a)) g → HaveKey ks key g → IsCall (scope Reduce fields a b ks js) (of_group key g)
-  group_call key g h e = record { wide = λ side p lt. (AllByRecursion-get_or (IsWithin fields (Has a)) g p [] lt h).width; keys = keys } where
+  group_call key g h e = record { wide = λ side p lt. (AllByRecursion-get_or (IsWithin fields (Has a)) g p [] lt h).width; keys = keys; null = λ side p lt k e. null_outside (AllByRecursion-get_or (IsWithin fields (Has a)) g p [] lt h) k e } where
     keys : (side : Side) (p : ℕ) → p < length g → (at k : ℕ) → is_key_at (keys_by Reduce ks js side) at k ≡ true
         → at_field (anchor_at side (of_group key g) p) k ≡ get_or key at Null
     keys left p lt at k m = key_is ks (get_or g p []) at k m ∙ ap (λ (l : List Value). get_or l at Null) (AllByRecursion-get_or (λ row. key_of ks row ≡ key) g p [] lt e)
@@ -81,10 +81,14 @@ module _ (fields : ℕ) (a b : FieldSet) (ks js : List ℕ) where
 
   groups_call : (key : List Value) (l r : List (List Value)) → AllByRecursion (IsWithin fields (Has a)) l → AllByRecursion (IsWithin fields (Has b)) r → HaveKey ks key l → HaveKey js key r
       → IsCall (scope CoGroup fields a b ks js) (of_groups key l r)
-  groups_call key l r hl hr kl kr = record { wide = wide; keys = keys } where
+  groups_call key l r hl hr kl kr = record { wide = wide; keys = keys; null = null } where
     wide : (side : Side) (p : ℕ) → p < length (anchors side (of_groups key l r)) → length (anchor_at side (of_groups key l r) p) ≡ fields
     wide left p lt = (AllByRecursion-get_or (IsWithin fields (Has a)) l p [] lt hl).width
     wide right p lt = (AllByRecursion-get_or (IsWithin fields (Has b)) r p [] lt hr).width
+
+    null : (side : Side) (p : ℕ) → p < length (anchors side (of_groups key l r)) → (k : ℕ) → fields_by CoGroup a b side k ≡ false → at_field (anchor_at side (of_groups key l r) p) k ≡ Null
+    null left p lt k e = null_outside (AllByRecursion-get_or (IsWithin fields (Has a)) l p [] lt hl) k e
+    null right p lt k e = null_outside (AllByRecursion-get_or (IsWithin fields (Has b)) r p [] lt hr) k e
 
     keys : (side : Side) (p : ℕ) → p < length (anchors side (of_groups key l r)) → (at k : ℕ) → is_key_at (keys_by CoGroup ks js side) at k ≡ true
         → at_field (anchor_at side (of_groups key l r) p) k ≡ get_or key at Null

@@ -13,7 +13,7 @@ use Rattle.tac_syntax.specs.declared.statements.Rec.TheVariants.{Reg, Loop, Inpu
 use Rattle.tac_syntax.specs.Rules.{is_pairing, is_map, is_reduce}
 use Rattle.tac_syntax.specs.Call.{of_record, of_pair, empty_record}
 use Rattle.tac_flow.specs.Known.{FieldSet, no_fields, either, Side, first, State}
-use Rattle.tac_flow.specs.Steps.{is_key_at, keys_by, fresh_by, held_of}
+use Rattle.tac_flow.specs.Steps.{is_key_at, keys_by, fields_by, fresh_by, held_of}
 use Rattle.tac_syntax.specs.Forms.{IsWithin, anchors}
 use Rattle.tac_syntax.specs.Contexts.{Has}
 use Rattle.tac_syntax.specs.WellFormed.{IsGiven}
@@ -28,10 +28,14 @@ module _ (fields : ℕ) (a b : FieldSet) (ks js : List ℕ) (disjoint : (k : ℕ
   -- one record
 
   one_call : (row : List Value) → IsWithin fields (Has a) row → IsCall (scope Map fields a b ks js) (of_record row)
-  one_call row h = record { wide = wide; keys = λ side p lt at k m. cc } where
+  one_call row h = record { wide = wide; keys = λ side p lt at k m. cc; null = null } where
     wide : (side : Side) (p : ℕ) → p < length (anchors side (of_record row)) → length (anchor_at side (of_record row) p) ≡ fields
     wide side zero lt = h.width
     wide side (suc p) lt = absurd (omega (arith, lt))
+
+    null : (side : Side) (p : ℕ) → p < length (anchors side (of_record row)) → (k : ℕ) → a k ≡ false → at_field (anchor_at side (of_record row) p) k ≡ Null
+    null side zero lt k e = null_outside h k e
+    null side (suc p) lt k e = absurd (omega (arith, lt))
 
   pub one_calls : (R : FieldSet) (r q : List Value) → IsWithin fields (Has a) r → IsWithin fields (Has a) q → Agree R r q → AreCalls R (scope Map fields a b ks js) (of_record r) (of_record q)
   one_calls R r q h g agree = record {
@@ -69,10 +73,23 @@ module _ (fields : ℕ) (a b : FieldSet) (ks js : List ℕ) (disjoint : (k : ℕ
   record_pair l r h g = length-joined_record l r (h.width ∙ sym g.width) ∙ h.width
 
   two_call : (kind : Kind) → PairKind kind → (l r : List Value) → IsWithin fields (Has a) l → IsWithin fields (Has b) r → IsCall (scope kind fields a b ks js) (of_pair l r)
-  two_call kind pair l r h g = record { wide = wide; keys = λ side p lt at k m. absurd (no_keys kind pair side at k m) } where
+  two_call kind pair l r h g = record { wide = wide; keys = λ side p lt at k m. absurd (no_keys kind pair side at k m); null = null } where
     wide : (side : Side) (p : ℕ) → p < length (anchors side (of_pair l r)) → length (anchor_at side (of_pair l r) p) ≡ fields
     wide side zero lt = record_pair l r h g
     wide side (suc p) lt = absurd (omega (arith, lt))
+
+    outside_both : (kd : Kind) → PairKind kd → (side : Side) (k : ℕ) → fields_by kd a b side k ≡ false → either a b k ≡ false
+    outside_both Map i side k e = cc
+    outside_both Match i side k e = e
+    outside_both Cross i side k e = e
+    outside_both Reduce i side k e = cc
+    outside_both CoGroup i side k e = cc
+
+    null : (side : Side) (p : ℕ) → p < length (anchors side (of_pair l r)) → (k : ℕ) → fields_by kind a b side k ≡ false → at_field (anchor_at side (of_pair l r) p) k ≡ Null
+    null side zero lt k e =
+        let q = or_parts (a k) (b k) (outside_both kind pair side k e) in
+        at_field-joined_record l r k (h.width ∙ sym g.width) ∙ (λ j. joined_value (null_outside h k q.0 j) (null_outside g k q.1 j))
+    null side (suc p) lt k e = absurd (omega (arith, lt))
 
     no_keys : (kd : Kind) → PairKind kd → (side : Side) (at k : ℕ) → is_key_at (keys_by kd ks js side) at k ≡ true → ⊥
     no_keys Map i side at k m = cc

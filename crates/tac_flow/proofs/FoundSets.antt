@@ -91,6 +91,6 @@ touched_is t r w n N e h = (
   ]),
 )
 
-pub answered_touched : (s : Sets) (body : Code) (named : ℕ) → IsTouchedOf s named → ((k : ℕ) → IsTrue (has_field named k) ↔ Names k body)
-    → (k : ℕ) → Has (has_field s.touched) k ↔ IsTouched (found_of s) body k
-answered_touched s body named h n k = touched_is (has_field s.touched k) (has_field s.reads k) (has_field s.writes k) (has_field named k) (Names k body) (h k) (n k)
+pub answered_touched : (s : Sets) (fields : ℕ) (body : Code) (named : ℕ) → IsTouchedOf s named → ((k : ℕ) → IsTrue (has_field named k) ↔ Names fields k body)
+    → (k : ℕ) → Has (has_field s.touched) k ↔ IsTouched (found_of s) fields body k
+answered_touched s fields body named h n k = touched_is (has_field s.touched k) (has_field s.reads k) (has_field s.writes k) (has_field named k) (Names fields k body) (h k) (n k)

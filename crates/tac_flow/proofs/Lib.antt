@@ -11,6 +11,7 @@ pub mod RoomToChange
 pub mod SameFacts
 pub mod LoopsSettle
 pub mod SetsBelowFields
+pub mod NotesBelowFields
 pub mod SamePaths
 pub mod StartingRecords
 pub mod CallsOfRecords

@@ -1,13 +1,15 @@
 -- What reading, writing and joining keep of two records and of two values.
 use Rattle.std.proofs.Common.{◌≡◌, ◌≢◌, ◌≤◌, ◌<◌, ◌==◌, ◌+◌, ◌&&◌, ◌||◌, not, ℕ, suc, Bool, true, false, if◌then◌else◌, Option, Some, None, List, [], ◌∷◌, inl, inr, length, get_or, slice_set, refl, sym, ap, subst, ◌∙◌, arith}
-use Rattle.std.proofs.lemmas.Bool.{and_parts, and_cases, and_from, or_cases, or_parts, or_left, or_right, eqb-true, eqb-false, eq-eqb, cases_Bool, cases_eq, cases_lt, not-true, not-false, not_from_false}
+use Rattle.std.proofs.lemmas.Bool.{and_parts, and_cases, and_from, or_cases, or_parts, or_left, or_right, eqb-true, eqb-false, eq-eqb, cases_Bool, cases_eq, cases_lt, not-true, not-false, not_from_false, ltb-false}
 use Rattle.std.proofs.lemmas.List.{get_or_past, length-set, get_or-set_same, get_or-set_other}
 use Rattle.pact_record.specs.declared.values.Value.{Value}
 use Rattle.pact_record.specs.declared.values.Value.TheVariants.{Null}
 use Rattle.pact_record.specs.Record.{Agree, at_field}
-use Rattle.tac_syntax.specs.Call.{CallInput, key_values}
-use Rattle.tac_flow.specs.Known.{FieldSet, only_field, with_field, without_field, either, Side, left, right, Base, first, bound, some, nowhere, Origin, field_of, key_at, unknown, same_base, same_origin, side_of, names_one, Known, Held, joined_known, joined_held, changed_from}
-use Rattle.tac_flow.specs.Steps.{Scope, keys_of, is_key_at, key_or, origin_of, read_from, is_key_of, is_copy, written}
+use Rattle.tac_syntax.specs.declared.functions.Kind.{Kind}
+use Rattle.tac_syntax.specs.declared.functions.Kind.TheVariants.{Map, Match, Cross, Reduce, CoGroup}
+use Rattle.tac_syntax.specs.Call.{CallInput, key_values, numbered, set_numbered}
+use Rattle.tac_flow.specs.Known.{FieldSet, only_field, with_field, without_field, either, less, fields_below, Side, left, right, Base, first, bound, some, nowhere, Origin, field_of, key_at, unknown, same_base, same_origin, side_of, names_one, Known, Held, joined_known, joined_held, changed_from}
+use Rattle.tac_flow.specs.Steps.{Scope, keys_of, is_key_at, key_or, origin_of, read_from, is_key_of, is_copy, written, written_at, kept_of, fields_by, fields_of}
 use Rattle.tac_syntax.specs.Forms.{anchors}
 use Rattle.tac_flow.proofs.TwoCalls.{anchor_at, Sub, HasOrigin, HaveBase, IsOver, IsAt, IsInScope, base_record, SameRecord, SameValue, IsCall, AreCalls}
 use Rattle.tac_flow.proofs.LooserBases.{same_base-true, same_origin-true, Loosens, loosens_joined, outside_same, loosened}
@@ -207,6 +209,90 @@ module _ (R : FieldSet) (c : Scope) (x y : CallInput) (calls : AreCalls R c x y)
           few = few;
         })
       ]
+
+  -- ---- fields by number
+
+  -- what two records of one register have outside what changed, where their anchors have the same
+  same_outside : (o : Option Side) (base : Base) (changed : FieldSet) (r q : List Value) (k : ℕ) → HaveBase x y depth rows others o base changed r q → changed k ≡ false
+      → ((side : Side) → o ≡ Some side → (p : ℕ) → p < length (anchors side x) → at_field (anchor_at side x p) k ≡ at_field (anchor_at side y p) k)
+      → at_field r k ≡ at_field q k
+  same_outside (Some side) base changed r q k h e agree = h.own.own k e ∙ agree side refl h.place h.there ∙ sym (h.other.own k e)
+  same_outside None base changed r q k h e agree = h k e
+
+  -- two anchors at a place in a field that no record of their side has
+  pub both_null : (side : Side) (p : ℕ) → p < length (anchors side x) → (k : ℕ) → fields_of c side k ≡ false → at_field (anchor_at side x p) k ≡ at_field (anchor_at side y p) k
+  both_null side p there k e = calls.own.null side p there k e ∙ sym (calls.other.null side p (subst (λ (n : ℕ). p < n) (calls.places side) there) k e)
+
+  -- in every field, where all that may have a value is read
+  pub same_everywhere : (h : Held) (r q : List Value) (w : FieldSet) → Same h r q → Sub h.depends R → Sub (less w h.changed) R
+      → ((side : Side) → side_of h.base ≡ Some side → (k : ℕ) → w k ≡ false → fields_of c side k ≡ false) → (k : ℕ) → at_field r k ≡ at_field q k
+  same_everywhere h r q w s deps kept within k = elim (cases_Bool (h.changed k)) as (λ _. at_field r k ≡ at_field q k) [
+    | inl p ↦ s.inside deps k p
+    | inr p ↦ elim (cases_Bool (w k)) as (λ _. at_field r k ≡ at_field q k) [
+      | inl m ↦ outside h r q k s p (kept k (and_from (w k) (not (h.changed k)) m (not_from_false (h.changed k) p)))
+      | inr n ↦ same_outside (side_of h.base) h.base h.changed r q k s.base p (λ side e place there. both_null side place there k (within side e k n))
+    ]
+  ]
+
+  -- a field of neither side is none of a side
+  pub outside_side : (kind : Kind) (a b : FieldSet) (side : Side) (k : ℕ) → either a b k ≡ false → fields_by kind a b side k ≡ false
+  outside_side Map a b side k e = (or_parts (a k) (b k) e).0
+  outside_side Match a b side k e = e
+  outside_side Cross a b side k e = e
+  outside_side Reduce a b side k e = (or_parts (a k) (b k) e).0
+  outside_side CoGroup a b left k e = (or_parts (a k) (b k) e).0
+  outside_side CoGroup a b right k e = (or_parts (a k) (b k) e).1
+
+  -- a register's record, where what it depends on and its kept fields are read
+  pub same_held : (h : Held) (r q : List Value) → Same h r q → Sub h.depends R → Sub (kept_of c h) R → (k : ℕ) → at_field r k ≡ at_field q k
+  same_held h r q s deps kept = same_everywhere h r q (either c.left c.right) s deps kept (λ side e k n. outside_side c.kind c.left c.right side k n)
+
+  -- setting the field that a value numbers
+  set_numbered_is : (r : List Value) (o : Option ℕ) (v : Value) → length (set_numbered r o v) ≡ length r
+  set_numbered_is r (Some k) v = length-set r k v
+  set_numbered_is r None v = refl
+
+  set_numbered_same : (r q : List Value) (o : Option ℕ) (v w : Value) → length r ≡ length q → v ≡ w → ((j : ℕ) → at_field r j ≡ at_field q j) → (j : ℕ) → at_field (set_numbered r o v) j ≡ at_field (set_numbered q o w) j
+  set_numbered_same r q (Some k) v w long e same j = at_set r q k j v w long (λ _. e) (λ _. same j)
+  set_numbered_same r q None v w long e same j = same j
+
+  -- past the number of fields there is nothing, neither in a record nor in its anchor
+  past_over : (z : CallInput) (ls : List (List Value)) (base : Base) (side : Side) (p : ℕ) (changed : FieldSet) (r : List Value) (o : Option ℕ) (v : Value) → length r ≤ c.fields
+      → IsOver z ls base side p changed r → IsOver z ls base side p (fields_below c.fields) (set_numbered r o v)
+  past_over z ls base side p changed r o v few h = record {
+    at = h.at;
+    own = λ j out.
+        let past = ltb-false j c.fields out in
+        get_or_past (set_numbered r o v) j Null (omega (arith, few, past, set_numbered_is r o v)) ∙ sym (get_or_past (anchor_at side z p) j Null (omega (arith, few, past, h.long)));
+    long = set_numbered_is r o v ∙ h.long;
+  }
+
+  base_set_at : (o : Option Side) (base : Base) (changed : FieldSet) (r q : List Value) (m n : Option ℕ) (a b : Value) → length r ≤ c.fields → length q ≤ c.fields → HaveBase x y depth rows others o base changed r q
+      → HaveBase x y depth rows others o base (fields_below c.fields) (set_numbered r m a) (set_numbered q n b)
+  base_set_at (Some side) base changed r q m n a b few more h = record {
+    place = h.place;
+    there = h.there;
+    in_scope = h.in_scope;
+    own = past_over x rows base side h.place changed r m a few h.own;
+    other = past_over y others base side h.place changed q n b more h.other;
+  }
+  base_set_at None base changed r q m n a b few more h = λ j out.
+      let past = ltb-false j c.fields out in
+      get_or_past (set_numbered r m a) j Null (omega (arith, few, past, set_numbered_is r m a)) ∙ sym (get_or_past (set_numbered q n b) j Null (omega (arith, more, past, set_numbered_is q n b)))
+
+  pub written_at_same : (h : Held) (n v : Known) (r q : List Value) (d e a b : Value) → Same h r q → SameV n d e → SameV v a b
+      → Same (written_at c h n v) (set_numbered r (numbered c.fields d) a) (set_numbered q (numbered c.fields e) b)
+  written_at_same h n v r q d e a b s number value = record {
+    base = base_set_at (side_of h.base) h.base h.changed r q (numbered c.fields d) (numbered c.fields e) a b s.few (omega (arith, s.few, s.long)) s.base;
+    inside = λ sub j m.
+        let rest : Sub (either (either n.deps v.deps) (kept_of c h)) R = λ i o. sub i (or_right (h.depends i) _ o) in
+        let same_number = number.same (λ i o. rest i (or_left _ (kept_of c h i) (or_left (n.deps i) (v.deps i) o))) in
+        let same_value = value.same (λ i o. rest i (or_left _ (kept_of c h i) (or_right (n.deps i) (v.deps i) o))) in
+        let same = same_held h r q s (λ i o. sub i (or_left (h.depends i) _ o)) (λ i o. rest i (or_right (either n.deps v.deps i) (kept_of c h i) o)) in
+        set_numbered_same r q (numbered c.fields d) a b s.long same_value same j ∙ ap (λ (t : Value). at_field (set_numbered q (numbered c.fields t) b) j) same_number;
+    long = set_numbered_is r (numbered c.fields d) a ∙ s.long ∙ sym (set_numbered_is q (numbered c.fields e) b);
+    few = omega (arith, s.few, set_numbered_is r (numbered c.fields d) a);
+  }
 
   -- ---- joins
 

@@ -6,7 +6,7 @@ use Rattle.pact_record.proofs.Lists.{AllByRecursion-left, AllByRecursion-right}
 use Rattle.pact_record.specs.declared.values.Value.{Value}
 use Rattle.pact_record.specs.Value.{is_true}
 use Rattle.tac_syntax.specs.declared.statements.LoopList.{LoopList}
-use Rattle.tac_syntax.specs.Code.{Simple, load_int, load_text, load_null, move_value, get_field, get_key, apply_one, apply_two, new_record, copy_record, set_field, emit_record, Code, stop, plain, branch, again, each}
+use Rattle.tac_syntax.specs.Code.{Simple, load_int, load_text, load_null, move_value, get_field, get_at, get_key, apply_one, apply_two, new_record, copy_record, set_field, set_at, emit_record, Code, stop, plain, branch, again, each}
 use Rattle.tac_syntax.specs.Call.{CallInput, Store, value_in, record_in, rows_of, after, bind}
 use Rattle.tac_syntax.specs.Exec.{times, for_each, exec}
 use Rattle.tac_flow.specs.Known.{FieldSet, Side, Held, State, joined, dropped}
@@ -54,12 +54,14 @@ module _ (R : FieldSet) (c : Scope) (x y : CallInput) (calls : AreCalls R c x y)
   outputs_after (load_null to) sides k s t g h = h.outputs
   outputs_after (move_value to from) sides k s t g h = h.outputs
   outputs_after (get_field to from field) sides k s t g h = h.outputs
+  outputs_after (get_at to from at) sides k s t g h = h.outputs
   outputs_after (get_key to at) sides k s t g h = h.outputs
   outputs_after (apply_one to op a) sides k s t g h = h.outputs
   outputs_after (apply_two to op a b) sides k s t g h = h.outputs
   outputs_after (new_record to) sides k s t g h = h.outputs
   outputs_after (copy_record to from) sides k s t g h = h.outputs
   outputs_after (set_field to field value) sides k s t g h = h.outputs
+  outputs_after (set_at to at value) sides k s t g h = h.outputs
   outputs_after (emit_record from) sides k s t g h =
       told.emitted (record_at c.fields k from) (length sides) s.loops t.loops (record_in s from) (record_in t from) s.emitted t.emitted g.0 (record_same R c x y calls sides k s t from h.twins) h.outputs
 

@@ -8,14 +8,14 @@ use Rattle.tac_syntax.specs.declared.functions.Kind.TheVariants.{Map, Match, Cro
 use Rattle.tac_syntax.specs.declared.statements.Rec.{Rec}
 use Rattle.tac_syntax.specs.declared.statements.Rec.TheVariants.{Reg, Loop, Input, Left, Right, Join, First}
 use Rattle.tac_syntax.specs.Limits.{value_registers, record_registers}
-use Rattle.tac_syntax.specs.Code.{Simple, load_int, load_text, load_null, move_value, get_field, get_key, apply_one, apply_two, new_record, copy_record, set_field, emit_record, Code, stop, plain, branch, again, each}
-use Rattle.tac_flow.specs.Known.{FieldSet, no_fields, only_field, with_field, without_field, either, Side, left, right, Base, first, bound, nowhere, unknown, Known, Held, State, dropped_known, dropped_held, dropped, fields_below}
-use Rattle.tac_flow.specs.Steps.{Scope, keys_of, keys_by, is_key_at, fresh, fresh_by, value_at, record_at, held_of, origin_of, read_from, is_copy, written, learns, learns_value, learns_record, constant, start_state}
+use Rattle.tac_syntax.specs.Code.{Simple, load_int, load_text, load_null, move_value, get_field, get_at, get_key, apply_one, apply_two, new_record, copy_record, set_field, set_at, emit_record, Code, stop, plain, branch, again, each}
+use Rattle.tac_flow.specs.Known.{FieldSet, no_fields, only_field, with_field, without_field, either, less, Side, left, right, Base, first, bound, nowhere, unknown, Known, Held, State, dropped_known, dropped_held, dropped, fields_below}
+use Rattle.tac_flow.specs.Steps.{Scope, keys_of, keys_by, is_key_at, fresh, fresh_by, value_at, record_at, held_of, origin_of, read_from, is_copy, written, written_at, kept_of, fields_by, all_of, learns, learns_value, learns_record, constant, start_state}
 use Rattle.tac_flow.specs.Walks.{side_of_list, walk}
 use Rattle.tac_syntax.specs.WellFormed.{IsWellFormedSimple, IsWellFormed}
 use Rattle.tac_flow.proofs.SmallScopes.{IsSmallScope}
 use Rattle.tac_syntax.specs.Contexts.{IsBelow}
-use Rattle.tac_flow.proofs.RoomToChange.{IsSmallKnown, IsSmallHeld, either_below, all_below}
+use Rattle.tac_flow.proofs.RoomToChange.{IsSmallKnown, IsSmallHeld, either_below, less_below, all_below}
 use Rattle.tac_flow.proofs.EachItem.{AllByRecursion-set, AllByRecursion-at_any, AllByRecursion-replicate, AllByRecursion-map}
 use Rattle.tac_flow.proofs.LoopsSettle.{IsSmall, joined-small, settled-small}
 
@@ -44,10 +44,10 @@ module _ (c : Scope) (small : IsSmallScope c) where
   fresh_small Reduce = record { changed = small.left; depends = λ k le. refl }
   fresh_small CoGroup = record { changed = all_below c.fields; depends = λ k le. refl }
 
-  value_at-small : (k : State) (n : ℕ) → IsSmall c.fields k → IsBelow c.fields (value_at k n).deps
+  pub value_at-small : (k : State) (n : ℕ) → IsSmall c.fields k → IsBelow c.fields (value_at k n).deps
   value_at-small k n h = AllByRecursion-at_any (IsSmallKnown c.fields) k.values n _ h.values (λ j le. refl)
 
-  record_at-small : (k : State) (n : ℕ) → IsSmall c.fields k → IsSmallHeld c.fields (record_at c.fields k n)
+  pub record_at-small : (k : State) (n : ℕ) → IsSmall c.fields k → IsSmallHeld c.fields (record_at c.fields k n)
   record_at-small k n h = AllByRecursion-at_any (IsSmallHeld c.fields) k.records n _ h.records (none_small nowhere (fields_below c.fields) (all_below c.fields))
 
   held_of-small : (sides : List Side) (k : State) (from : Rec) → IsSmall c.fields k → IsSmallHeld c.fields (held_of c sides k from)
@@ -64,6 +64,33 @@ module _ (c : Scope) (small : IsSmallScope c) where
     case : (b : Bool) → IsSmallKnown c.fields (if b then record { deps = h.depends; origin = unknown } else record { deps = only_field k; origin = origin_of c h.base k })
     case true = s.depends
     case false = only_below c.fields k lt
+
+  kept_small : (h : Held) → IsBelow c.fields (kept_of c h)
+  kept_small h = less_below c.fields (either c.left c.right) h.changed (either_below c.fields c.left c.right small.left small.right)
+
+  fields_small : (kind : Kind) (side : Side) → IsBelow c.fields (fields_by kind c.left c.right side)
+  fields_small Map side = small.left
+  fields_small Match side = either_below c.fields c.left c.right small.left small.right
+  fields_small Cross side = either_below c.fields c.left c.right small.left small.right
+  fields_small Reduce side = small.left
+  fields_small CoGroup left = small.left
+  fields_small CoGroup right = small.right
+
+  all_small : (sides : List Side) (k : State) (from : Rec) → IsSmall c.fields k → IsBelow c.fields (all_of c sides k from)
+  all_small sides k (Reg n) h = either_below c.fields (record_at c.fields k n).depends (kept_of c (record_at c.fields k n)) (record_at-small k n h).depends (kept_small (record_at c.fields k n))
+  all_small sides k (Loop name) h = fields_small c.kind (get_or sides (name - 1) left)
+  all_small sides k Input h = small.left
+  all_small sides k Left h = small.left
+  all_small sides k Right h = small.right
+  all_small sides k Join h = either_below c.fields c.left c.right small.left small.right
+  all_small sides k First h = fields_small c.kind left
+
+  written_at-small : (h : Held) (at v : Known) → IsSmallHeld c.fields h → IsSmallKnown c.fields at → IsSmallKnown c.fields v → IsSmallHeld c.fields (written_at c h at v)
+  written_at-small h at v s e f = record {
+    changed = all_below c.fields;
+    depends = either_below c.fields h.depends (either (either at.deps v.deps) (kept_of c h)) s.depends
+        (either_below c.fields (either at.deps v.deps) (kept_of c h) (either_below c.fields at.deps v.deps e f) (kept_small h));
+  }
 
   written_small : (h : Held) (k : ℕ) (v : Known) → k < c.fields → IsSmallHeld c.fields h → IsSmallKnown c.fields v → IsSmallHeld c.fields (written c h k v)
   written_small h k v lt s e = case (is_copy c h.base v.origin k) where
@@ -96,6 +123,8 @@ module _ (c : Scope) (small : IsSmallScope c) where
   learns-small sides (load_null to) k f h = with_value k to constant h (λ j le. refl)
   learns-small sides (move_value to from) k f h = with_value k to (value_at k from) h (value_at-small k from h)
   learns-small sides (get_field to from field) k f h = with_value k to (read_from c (held_of c sides k from) field) h (read_small (held_of c sides k from) field f.2 (held_of-small sides k from h))
+  learns-small sides (get_at to from at) k f h =
+      with_value k to _ h (either_below c.fields (value_at k at).deps (all_of c sides k from) (value_at-small k at h) (all_small sides k from h))
   learns-small sides (get_key to at) k f h = with_value k to _ h
       (either_below c.fields (is_key_at (keys_of c left) at) (is_key_at (keys_of c right) at)
       (key_below c.fields (keys_of c left) at (keys_below c.fields c.kind c.left_keys c.right_keys left small.left_keys small.right_keys))
@@ -106,6 +135,8 @@ module _ (c : Scope) (small : IsSmallScope c) where
   learns-small sides (copy_record to from) k f h = with_record k to (held_of c sides k from) h (held_of-small sides k from h)
   learns-small sides (set_field to field value) k f h =
       with_record k to _ h (written_small (record_at c.fields k to) field (value_at k value) f.1 (record_at-small k to h) (value_at-small k value h))
+  learns-small sides (set_at to at value) k f h =
+      with_record k to _ h (written_at-small (record_at c.fields k to) (value_at k at) (value_at k value) (record_at-small k to h) (value_at-small k at h) (value_at-small k value h))
   learns-small sides (emit_record from) k f h = h
 
   pub dropped-small : (name : ℕ) (k : State) → IsSmall c.fields k → IsSmall c.fields (dropped name k)

@@ -8,7 +8,7 @@ use Rattle.tac_syntax.specs.declared.statements.Rec.TheVariants.{Reg, Loop, Inpu
 use Rattle.tac_syntax.specs.Call.{CallInput, Store, empty_record, key_values, input_record, left_record, right_record, first_record}
 use Rattle.pact_record.specs.Record.{joined_record}
 use Rattle.tac_flow.specs.Known.{FieldSet, Side, left, Base, first, bound, some, nowhere, Origin, field_of, key_at, unknown, side_of, Known, Held, State}
-use Rattle.tac_flow.specs.Steps.{Scope, keys_of, is_key_at, key_deps, fresh, held_of}
+use Rattle.tac_flow.specs.Steps.{Scope, keys_of, is_key_at, key_deps, fields_of, fresh, held_of}
 use Rattle.tac_syntax.specs.Forms.{anchors}
 use Rattle.tac_syntax.specs.WellFormed.{InScope, IsGiven}
 use Rattle.tac_flow.proofs.ThreeLists.{Each}
@@ -127,6 +127,7 @@ given_record z First = first_record z
 pub record IsCall (c : Scope) (z : CallInput) : Type 0 where
   pub wide : (side : Side) (p : ℕ) → p < length (anchors side z) → length (anchor_at side z p) ≡ c.fields
   pub keys : (side : Side) (p : ℕ) → p < length (anchors side z) → (at k : ℕ) → is_key_at (keys_of c side) at k ≡ true → at_field (anchor_at side z p) k ≡ get_or (key_values z) at Null
+  pub null : (side : Side) (p : ℕ) → p < length (anchors side z) → (k : ℕ) → fields_of c side k ≡ false → at_field (anchor_at side z p) k ≡ Null
 
 -- of two calls whose inputs agree
 pub record AreCalls (R : FieldSet) (c : Scope) (x y : CallInput) : Type 0 where

@@ -114,8 +114,8 @@ pub record IsAlone (kind : Kind) (s : FoundSets) : Type 0 where
   pub right : s.anchor_right ≡ false
 
 -- A function touches what it reads, what it writes and what it names.
-abbrev pub IsTouched : FoundSets → Code → ℕ → Type 0
-IsTouched s body k = Has s.reads k ⊎ Has s.writes k ⊎ Names k body
+abbrev pub IsTouched : FoundSets → ℕ → Code → ℕ → Type 0
+IsTouched s fields body k = Has s.reads k ⊎ Has s.writes k ⊎ Names fields k body
 
 -- A Map gives one record for each, or at most one, and is decided by the keys.
 abbrev pub IsBoundToKeys : ℕ → ℕ → FieldSet → FieldSet → Type 0

@@ -5,8 +5,8 @@ use Rattle.tac_syntax.specs.declared.functions.Kind.TheVariants.{Map, Match, Cro
 use Rattle.tac_syntax.specs.declared.statements.Rec.{Rec}
 use Rattle.tac_syntax.specs.declared.statements.Rec.TheVariants.{Reg, Loop, Input, Left, Right, Join, First}
 use Rattle.tac_syntax.specs.Limits.{value_registers, record_registers}
-use Rattle.tac_syntax.specs.Code.{Simple, load_int, load_text, load_null, move_value, get_field, get_key, apply_one, apply_two, new_record, copy_record, set_field, emit_record}
-use Rattle.tac_flow.specs.Known.{FieldSet, no_fields, fields_below, only_field, with_field, without_field, either, Side, left, right, Base, first, bound, some, nowhere, Origin, field_of, key_at, unknown, same_base, side_of, names_one, Known, Held, State}
+use Rattle.tac_syntax.specs.Code.{Simple, load_int, load_text, load_null, move_value, get_field, get_at, get_key, apply_one, apply_two, new_record, copy_record, set_field, set_at, emit_record}
+use Rattle.tac_flow.specs.Known.{FieldSet, no_fields, fields_below, only_field, with_field, without_field, either, less, Side, left, right, Base, first, bound, some, nowhere, Origin, field_of, key_at, unknown, same_base, side_of, names_one, Known, Held, State}
 
 -- a function's kind and number of fields, and the fields and keys of either side
 pub record Scope : Type 0 where
@@ -88,6 +88,31 @@ abbrev pub read_from : Scope → Held → ℕ → Known
 read_from c h field =
     if h.changed field then record { deps = h.depends; origin = unknown } else record { deps = only_field field; origin = origin_of c h.base field }
 
+-- the fields in which the records of a side may have values; a record of a Map is on the left, and a pair is one record of both
+abbrev pub fields_by : Kind → FieldSet → FieldSet → Side → FieldSet
+fields_by Map a b side = a
+fields_by Reduce a b side = a
+fields_by CoGroup a b left = a
+fields_by CoGroup a b right = b
+fields_by kind a b side = either a b
+
+abbrev pub fields_of : Scope → Side → FieldSet
+fields_of c side = fields_by c.kind c.left c.right side
+
+-- the fields of either side in which a record is its base
+abbrev pub kept_of : Scope → Held → FieldSet
+kept_of c h = less (either c.left c.right) h.changed
+
+-- What a value depends on that is read of a record in a field that isn't known: all of the record.
+abbrev pub all_of : Scope → List Side → State → Rec → FieldSet
+all_of c sides k (Reg n) = let h = record_at c.fields k n in either h.depends (kept_of c h)
+all_of c sides k (Loop name) = fields_of c (get_or sides (name - 1) left)
+all_of c sides k Input = c.left
+all_of c sides k Left = c.left
+all_of c sides k Right = c.right
+all_of c sides k Join = either c.left c.right
+all_of c sides k First = fields_of c left
+
 -- ---- set
 
 abbrev pub is_key_of : Scope → Option Side → ℕ → ℕ → Bool
@@ -103,6 +128,10 @@ is_copy c base unknown field = false
 abbrev pub written : Scope → Held → ℕ → Known → Held
 written c h field v =
     if is_copy c h.base v.origin field then record h { changed = without_field field h.changed } else record h { changed = with_field field h.changed; depends = either h.depends v.deps }
+
+-- A field that isn't known is set to a value: each may have changed, and depends on the field's number, the value and what was there.
+abbrev pub written_at : Scope → Held → Known → Known → Held
+written_at c h at v = record h { changed = fields_below c.fields; depends = either h.depends (either (either at.deps v.deps) (kept_of c h)) }
 
 -- ---- steps
 
@@ -121,12 +150,14 @@ learns c sides (load_text to bytes) k = learns_value k to constant
 learns c sides (load_null to) k = learns_value k to constant
 learns c sides (move_value to from) k = learns_value k to (value_at k from)
 learns c sides (get_field to from field) k = learns_value k to (read_from c (held_of c sides k from) field)
+learns c sides (get_at to from at) k = learns_value k to (record { deps = either (value_at k at).deps (all_of c sides k from); origin = unknown })
 learns c sides (get_key to at) k = learns_value k to (record { deps = key_deps c at; origin = key_at at })
 learns c sides (apply_one to op a) k = learns_value k to (record { deps = (value_at k a).deps; origin = unknown })
 learns c sides (apply_two to op a b) k = learns_value k to (record { deps = either (value_at k a).deps (value_at k b).deps; origin = unknown })
 learns c sides (new_record to) k = learns_record k to (fresh c)
 learns c sides (copy_record to from) k = learns_record k to (held_of c sides k from)
 learns c sides (set_field to field value) k = learns_record k to (written c (record_at c.fields k to) field (value_at k value))
+learns c sides (set_at to at value) k = learns_record k to (written_at c (record_at c.fields k to) (value_at k at) (value_at k value))
 learns c sides (emit_record from) k = k
 
 -- before the first statement

@@ -32,7 +32,7 @@ use tac_syntax::{Context, Kind, Valid};
 pub fn sets(f: &Valid, context: &Context) -> Sets
     requires { IsContextOf f.now.fields context.now }
     ensures sets { found_of result ≡ sets_in f.now context.now }
-    ensures touched { (k : ℕ) → Has (has_field result.touched) k ↔ IsTouched (found_of result) f.now.function.body k }
+    ensures touched { (k : ℕ) → Has (has_field result.touched) k ↔ IsTouched (found_of result) f.now.fields f.now.function.body k }
     ensures left_keys { AllByRecursion (Has (has_field result.reads)) context.now.left_keys }
     ensures right_keys { AllByRecursion (Has (has_field result.reads)) context.now.right_keys }
     ensures form { (side : Side) → IsAnchoredOn f.now.function.kind side (found_of result)

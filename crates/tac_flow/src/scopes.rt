@@ -3,7 +3,7 @@
 ghost use Rattle.std.specs.Prelude.{◌≡◌, ◌<◌, ◌≤◌, length};
 ghost use Rattle.pact_record.specs.declared.records.TheConstants.{MAX_FIELDS};
 ghost use Rattle.pact_record.specs.FieldSets.{has_field};
-ghost use Rattle.tac_flow.specs.Known.{only_field};
+ghost use Rattle.tac_flow.specs.Known.{only_field, either};
 ghost use Rattle.tac_flow.specs.Steps as steps;
 ghost use Rattle.tac_flow.specs.Views.{known_of, held_of, scope_of};
 
@@ -45,6 +45,57 @@ impl Scope {
         ensures { has_field result ≡ steps.key_deps (scope_of self.now) at }
     {
         key_field(&self.keys(Side::Left), at).union(key_field(&self.keys(Side::Right), at))
+    }
+
+    // The fields of either side in which a record is its base.
+    fn kept(&self, row: &RecordFacts) -> Fields
+        ensures { has_field result ≡ steps.kept_of (scope_of self.now) (held_of row.now) }
+    {
+        self.context
+            .left
+            .union(self.context.right)
+            .minus(row.changed)
+    }
+
+    /// What a register's record depends on, all of its fields together.
+    pub(crate) fn all_of_held(&self, row: &RecordFacts) -> Fields
+        ensures { has_field result ≡ either (held_of row.now).depends (steps.kept_of (scope_of self.now) (held_of row.now)) }
+    {
+        row.depends.union(self.kept(row))
+    }
+
+    /// The fields in which the records of a side may have values.
+    pub(crate) fn fields_of(&self, side: Side) -> Fields
+        ensures { has_field result ≡ steps.fields_of (scope_of self.now) side }
+    {
+        match self.kind {
+            Kind::Map => self.context.left,
+            Kind::Reduce => self.context.left,
+            Kind::CoGroup => match side {
+                Side::Left => self.context.left,
+                Side::Right => self.context.right,
+            },
+            Kind::Match => self.context.left.union(self.context.right),
+            Kind::Cross => self.context.left.union(self.context.right),
+        }
+    }
+
+    /// What is known of a record after some field of it was set, by a number that depends on these fields.
+    pub(crate) fn written_at(
+        &self,
+        row: &RecordFacts,
+        at: &ValueFacts,
+        value: &ValueFacts,
+    ) -> RecordFacts
+        requires { (scope_of self.now).fields ≤ MAX_FIELDS }
+        ensures { held_of result ≡ steps.written_at (scope_of self.now) (held_of row.now) (known_of at.now) (known_of value.now) }
+    {
+        let given = at.deps.union(value.deps).union(self.kept(row));
+        RecordFacts {
+            base: row.base,
+            changed: Fields::all(self.fields),
+            depends: row.depends.union(given),
+        }
     }
 
     /// The empty record.

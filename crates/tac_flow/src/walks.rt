@@ -1,6 +1,7 @@
 //! Walks through bodies: what is known after each statement.
 
 ghost use Rattle.std.specs.Prelude.{◌≡◌, ◌≤◌, ◌<◌, ◌+◌, length, ℕ, List};
+ghost use Rattle.pact_record.specs.FieldSets.{has_field};
 ghost use Rattle.pact_record.specs.declared.records.TheConstants.{MAX_FIELDS};
 ghost use Rattle.tac_syntax.specs.Limits.{loop_limit, value_registers, record_registers};
 ghost use Rattle.tac_syntax.specs.Code as code;
@@ -55,6 +56,33 @@ fn learn_get(scope: &Scope, sides: &Sides, facts: &mut Facts, to: u32, from: Rec
     facts.set_value(to, scope.read_from(&row, field));
 }
 
+// What a value depends on that is read of the record in a field that isn't known.
+fn all_of(scope: &Scope, sides: &Sides, facts: &Facts, from: Rec) -> Fields
+    requires { CanRead scope.now.kind (length (sides_of sides.now)) from }
+    ensures { has_field result ≡ steps.all_of (scope_of scope.now) (sides_of sides.now) (state_of facts.now) from }
+{
+    match from {
+        Rec::Reg(n) => scope.all_of_held(&facts.record(n)),
+        Rec::Loop(name) => scope.fields_of(sides.at(name - 1)),
+        Rec::Input | Rec::Left => scope.context.left,
+        Rec::Right => scope.context.right,
+        Rec::Join => scope.context.left.union(scope.context.right),
+        Rec::First => scope.fields_of(Side::Left),
+    }
+}
+
+fn learn_get_at(scope: &Scope, sides: &Sides, facts: &mut Facts, to: u32, from: Rec, at: u32)
+    requires { IsWellFormedSimple scope.now.kind scope.now.fields (length (sides_of sides.now)) (code.get_at to from at) }
+    ensures { state_of facts.new ≡ steps.learns (scope_of scope.now) (sides_of sides.now) (code.get_at to from at) (state_of facts.old) }
+{
+    let deps = facts
+        .value(at)
+        .deps
+        .union(all_of(scope, sides, facts, from));
+    let origin = Origin::Unknown;
+    facts.set_value(to, ValueFacts { deps, origin });
+}
+
 fn learn_key(scope: &Scope, facts: &mut Facts, to: u32, at: u32)
     requires { to < value_registers }
     ensures { (sides : List Side) → state_of facts.new ≡ steps.learns (scope_of scope.now) sides (code.get_key to at) (state_of facts.old) }
@@ -71,6 +99,17 @@ fn learn_set(scope: &Scope, facts: &mut Facts, to: u32, field: u32, value: u32)
     ensures { (sides : List Side) → state_of facts.new ≡ steps.learns (scope_of scope.now) sides (code.set_field to field value) (state_of facts.old) }
 {
     let row = scope.written(&facts.record(to), field, &facts.value(value));
+    facts.set_record(to, row);
+}
+
+fn learn_set_at(scope: &Scope, facts: &mut Facts, to: u32, at: u32, value: u32)
+    requires to { to < record_registers }
+    requires at { at < value_registers }
+    requires value { value < value_registers }
+    requires fields { scope.now.fields ≤ MAX_FIELDS }
+    ensures { (sides : List Side) → state_of facts.new ≡ steps.learns (scope_of scope.now) sides (code.set_at to at value) (state_of facts.old) }
+{
+    let row = scope.written_at(&facts.record(to), &facts.value(at), &facts.value(value));
     facts.set_record(to, row);
 }
 
@@ -91,6 +130,7 @@ fn walk_stmt(scope: &Scope, sides: &Sides, stmt: &Stmt, facts: &mut Facts, noted
             facts.set_value(*to, value);
         }
         Stmt::Get { to, from, field } => learn_get(scope, sides, facts, *to, *from, *field),
+        Stmt::GetAt { to, from, at } => learn_get_at(scope, sides, facts, *to, *from, *at),
         Stmt::Key { to, at } => learn_key(scope, facts, *to, *at),
         Stmt::One { to, a, .. } => {
             let deps = facts.value(*a).deps;
@@ -108,6 +148,7 @@ fn walk_stmt(scope: &Scope, sides: &Sides, stmt: &Stmt, facts: &mut Facts, noted
             facts.set_record(*to, row);
         }
         Stmt::Set { to, field, value } => learn_set(scope, facts, *to, *field, *value),
+        Stmt::SetAt { to, at, value } => learn_set_at(scope, facts, *to, *at, *value),
         Stmt::Emit { from } => noted.emitted(&facts.record(*from)),
         Stmt::If { on, body, other } => {
             walk_if(scope, sides, *on, body, other, facts, noted);

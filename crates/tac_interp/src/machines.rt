@@ -6,7 +6,7 @@ ghost use Rattle.pact_record.specs.Record.{at_field};
 ghost use Rattle.pact_record.specs.Value as values;
 ghost use Rattle.tac_syntax.specs.Limits.{value_registers};
 ghost use Rattle.tac_syntax.specs.Code as code;
-ghost use Rattle.tac_syntax.specs.Call.{Store, value_in, named_record, rows_of, after, start_store};
+ghost use Rattle.tac_syntax.specs.Call.{Store, numbered, value_in, named_record, rows_of, after, start_store};
 ghost use Rattle.tac_syntax.specs.Call as call;
 ghost use Rattle.pact_record.specs.Widths.{AreWide};
 ghost use Rattle.tac_syntax.specs.CallInputs.{HasWidth};
@@ -190,6 +190,40 @@ impl<'a> Machine<'a> {
         self.values.set(to, value)
     }
 
+    // The field that a register numbers.
+    fn number_in(&self, at: u32) -> Option<u32>
+        requires { at < value_registers }
+        ensures { result ≡ numbered self.now.fields (value_in self.now at) }
+    {
+        let Value::Int(number) = self.values.get(at) else {
+            return None;
+        };
+        let number = *number;
+        if number < 0 || number >= i64::from(self.records.fields()) {
+            return None;
+        }
+        Some(number as u32)
+    }
+
+    pub(crate) fn get_at(
+        &mut self,
+        alloc: Global,
+        to: u32,
+        from: Rec,
+        at: u32,
+    ) -> Result<(), OutOfMemory>
+        requires { CanAct (code.get_at to from at) self.old }
+        ensures { OnOk result (self.new ≡ after (code.get_at to from at) self.old) }
+    {
+        match self.number_in(at) {
+            Some(field) => {
+                let value = self.field_of(from, field).copy(alloc)?;
+                self.values.set(to, value)
+            }
+            None => self.values.set(to, Value::Null),
+        }
+    }
+
     pub(crate) fn get_key(&mut self, alloc: Global, to: u32, at: u32) -> Result<(), OutOfMemory>
         requires { CanAct (code.get_key to at) self.old }
         ensures { OnOk result (self.new ≡ after (code.get_key to at) self.old) }
@@ -254,6 +288,25 @@ impl<'a> Machine<'a> {
     {
         let value = self.values.get(value).copy(alloc)?;
         self.records.set_field(alloc, to, field, value)
+    }
+
+    pub(crate) fn set_at(
+        &mut self,
+        alloc: Global,
+        to: u32,
+        at: u32,
+        value: u32,
+    ) -> Result<(), OutOfMemory>
+        requires { CanAct (code.set_at to at value) self.old }
+        ensures { OnOk result (self.new ≡ after (code.set_at to at value) self.old) }
+    {
+        match self.number_in(at) {
+            Some(field) => {
+                let value = self.values.get(value).copy(alloc)?;
+                self.records.set_field(alloc, to, field, value)
+            }
+            None => Ok(()),
+        }
     }
 
     pub(crate) fn emit_record(&mut self, alloc: Global, from: u32) -> Result<(), OutOfMemory>

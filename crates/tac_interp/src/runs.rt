@@ -27,12 +27,14 @@ pub(crate) fn run_stmt(
         Stmt::Null { to } => machine.load_null(*to),
         Stmt::Mov { to, from } => machine.move_value(alloc, *to, *from),
         Stmt::Get { to, from, field } => machine.get_field(alloc, *to, *from, *field),
+        Stmt::GetAt { to, from, at } => machine.get_at(alloc, *to, *from, *at),
         Stmt::Key { to, at } => machine.get_key(alloc, *to, *at),
         Stmt::One { to, op, a } => machine.apply_one(*to, *op, *a),
         Stmt::Two { to, op, a, b } => machine.apply_two(alloc, *to, *op, *a, *b),
         Stmt::New { to } => machine.new_record(alloc, *to),
         Stmt::Copy { to, from } => machine.copy_record(alloc, *to, *from),
         Stmt::Set { to, field, value } => machine.set_field(alloc, *to, *field, *value),
+        Stmt::SetAt { to, at, value } => machine.set_at(alloc, *to, *at, *value),
         Stmt::Emit { from } => machine.emit_record(alloc, *from),
         Stmt::If { on, body, other } => {
             if machine.is_true(*on) {

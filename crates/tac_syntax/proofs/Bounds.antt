@@ -1,5 +1,6 @@
 -- What a body emits has a value only in fields where its input has one or that it sets.
-use Rattle.std.proofs.Common.{◌≡◌, ◌≢◌, ◌<◌, ◌-◌, ℕ, zero, suc, List, [], ◌∷◌, ◌++◌, inl, inr, length, take, slice_set, refl, ap, sym, ◌∙◌, subst, arith}
+use Rattle.std.proofs.Common.{◌≡◌, ◌≢◌, ◌<◌, ◌-◌, ℕ, zero, suc, Bool, true, nat_lt, pos, if◌then◌else◌, Option, Some, None, List, [], ◌∷◌, ◌++◌, inl, inr, length, take, slice_set, refl, ap, sym, ◌∙◌, subst, arith}
+use Rattle.std.proofs.lemmas.Bool.{cases_Bool, ltb-true}
 use Rattle.std.proofs.lemmas.List.{length-set, length-replicate, get_or-set_other}
 use Rattle.std.proofs.lemmas.List.Elements.{All-from_recursion, recursion_from_All, All-nil, All-set, All-push, All-take, All-get_or, All-replicate}
 use Rattle.std.specs.List.{All, AllByRecursion}
@@ -14,8 +15,8 @@ use Rattle.tac_syntax.specs.declared.statements.Rec.TheVariants.{Reg, Loop, Inpu
 use Rattle.tac_syntax.specs.declared.statements.LoopList.{LoopList}
 use Rattle.tac_syntax.specs.declared.statements.LoopList.TheVariants.{Group, Left as LeftGroup, Right as RightGroup}
 use Rattle.tac_syntax.specs.Limits.{record_registers}
-use Rattle.tac_syntax.specs.Code.{Simple, load_int, load_text, load_null, move_value, get_field, get_key, apply_one, apply_two, new_record, copy_record, set_field, emit_record, Code, stop, plain, branch, again, each, Line, simple, test, turns, over, otherwise, close}
-use Rattle.tac_syntax.specs.Call.{CallInput, of_record, of_pair, of_group, of_groups, Out, Store, empty_record, record_in, value_in, input_record, left_record, right_record, first_record, named_record, rows_of, after, bind, start_store}
+use Rattle.tac_syntax.specs.Code.{Simple, load_int, load_text, load_null, move_value, get_field, get_at, get_key, apply_one, apply_two, new_record, copy_record, set_field, set_at, emit_record, Code, stop, plain, branch, again, each, Line, simple, test, turns, over, otherwise, close}
+use Rattle.tac_syntax.specs.Call.{CallInput, of_record, of_pair, of_group, of_groups, Out, Store, numbered, set_numbered, empty_record, record_in, value_in, input_record, left_record, right_record, first_record, named_record, rows_of, after, bind, start_store}
 use Rattle.tac_syntax.specs.Exec.{exec}
 use Rattle.tac_syntax.specs.Places.{Place, Placed, placed, at_place, in_if, in_repeat, in_each, top_place}
 use Rattle.tac_syntax.specs.Valid.{IsValid}
@@ -94,6 +95,15 @@ first_record-bounded fields body (of_group key group) w h =
     All-get_or P group 0 [] w.0 (All-from_recursion P group (rows_of-bounded fields body (of_group key group) Group w))
 first_record-bounded fields body (of_groups key left right) w h = absurd h
 
+-- ---- fields by number
+
+pub numbered-below : (fields : ℕ) (v : Value) (k : ℕ) → numbered fields v ≡ Some k → k < fields
+numbered-below fields (Int (pos n)) k e = elim (cases_Bool (nat_lt n fields)) as (λ _. k < fields) [
+  | inl p ↦ let same : Some n ≡ Some k = subst (λ (b : Bool). (if b then Some n else None) ≡ Some k) p e in let at : n ≡ k = cc in omega (arith, ltb-true n fields p, at)
+  | inr p ↦ let none : None ≡ Some k = subst (λ (b : Bool). (if b then Some n else None) ≡ Some k) p e in cc
+]
+numbered-below fields v k e = cc
+
 -- ---- what a store keeps
 
 -- Each register, each loop's record and each emitted record is bounded.
@@ -110,33 +120,33 @@ abbrev BoundedStore : ℕ → Code → CallInput → Place → Store → Type 0
 BoundedStore fields body input p s = BoundedIn fields body input p s.fields s.input s.records s.loops s.emitted
 
 -- a statement of one line sets only what the whole body names
-abbrev SetsNamed : Code → Line → Type 0
-SetsNamed body (simple a) = (field : ℕ) → NamesField field a → Names field body
-SetsNamed body (test on) = Unit {0}
-SetsNamed body (turns count) = Unit {0}
-SetsNamed body (over name list) = Unit {0}
-SetsNamed body otherwise = Unit {0}
-SetsNamed body close = Unit {0}
+abbrev SetsNamed : ℕ → Code → Line → Type 0
+SetsNamed fields body (simple a) = (field : ℕ) → NamesField fields field a → Names fields field body
+SetsNamed fields body (test on) = Unit {0}
+SetsNamed fields body (turns count) = Unit {0}
+SetsNamed fields body (over name list) = Unit {0}
+SetsNamed fields body otherwise = Unit {0}
+SetsNamed fields body close = Unit {0}
 
-abbrev IsGood : Code → Placed → Type 0
-IsGood body x = IsInRange x × SetsNamed body x.line
+abbrev IsGood : ℕ → Code → Placed → Type 0
+IsGood fields body x = IsInRange x × SetsNamed fields body x.line
 
-SetsNamed-placed : (body c : Code) (p : Place) → ((field : ℕ) → Names field c → Names field body) → AllByRecursion (λ x. SetsNamed body x.line) (placed p c)
-SetsNamed-placed body stop p h = tt
-SetsNamed-placed body (plain a next) p h = (λ field n. h field (inl n), SetsNamed-placed body next p (λ field n. h field (inr n)))
-SetsNamed-placed body (branch on inner other next) p h = (
+SetsNamed-placed : (fields : ℕ) (body c : Code) (p : Place) → ((field : ℕ) → Names fields field c → Names fields field body) → AllByRecursion (λ x. SetsNamed fields body x.line) (placed p c)
+SetsNamed-placed fields body stop p h = tt
+SetsNamed-placed fields body (plain a next) p h = (λ field n. h field (inl n), SetsNamed-placed fields body next p (λ field n. h field (inr n)))
+SetsNamed-placed fields body (branch on inner other next) p h = (
   tt,
-  AllByRecursion-append (λ x. SetsNamed body x.line) (placed (in_if p) inner) (placed (in_if p) other ++ placed p next) (SetsNamed-placed body inner (in_if p) (λ field n. h field (inl n)))
-      (AllByRecursion-append (λ x. SetsNamed body x.line) (placed (in_if p) other) (placed p next) (SetsNamed-placed body other (in_if p) (λ field n. h field (inr (inl n)))) (SetsNamed-placed body next p (λ field n. h field (inr (inr n))))),
+  AllByRecursion-append (λ x. SetsNamed fields body x.line) (placed (in_if p) inner) (placed (in_if p) other ++ placed p next) (SetsNamed-placed fields body inner (in_if p) (λ field n. h field (inl n)))
+      (AllByRecursion-append (λ x. SetsNamed fields body x.line) (placed (in_if p) other) (placed p next) (SetsNamed-placed fields body other (in_if p) (λ field n. h field (inr (inl n)))) (SetsNamed-placed fields body next p (λ field n. h field (inr (inr n))))),
 )
-SetsNamed-placed body (again count inner next) p h =
-    (tt, AllByRecursion-append (λ x. SetsNamed body x.line) (placed (in_repeat count p) inner) (placed p next) (SetsNamed-placed body inner (in_repeat count p) (λ field n. h field (inl n))) (SetsNamed-placed body next p (λ field n. h field (inr n))))
-SetsNamed-placed body (each name list inner next) p h =
-    (tt, AllByRecursion-append (λ x. SetsNamed body x.line) (placed (in_each p) inner) (placed p next) (SetsNamed-placed body inner (in_each p) (λ field n. h field (inl n))) (SetsNamed-placed body next p (λ field n. h field (inr n))))
+SetsNamed-placed fields body (again count inner next) p h =
+    (tt, AllByRecursion-append (λ x. SetsNamed fields body x.line) (placed (in_repeat count p) inner) (placed p next) (SetsNamed-placed fields body inner (in_repeat count p) (λ field n. h field (inl n))) (SetsNamed-placed fields body next p (λ field n. h field (inr n))))
+SetsNamed-placed fields body (each name list inner next) p h =
+    (tt, AllByRecursion-append (λ x. SetsNamed fields body x.line) (placed (in_each p) inner) (placed p next) (SetsNamed-placed fields body inner (in_each p) (λ field n. h field (inl n))) (SetsNamed-placed fields body next p (λ field n. h field (inr n))))
 
-good_placed : (body : Code) (xs : List Placed) → AllByRecursion IsInRange xs → AllByRecursion (λ x. SetsNamed body x.line) xs → AllByRecursion (IsGood body) xs
-good_placed body [] h k = tt
-good_placed body (x ∷ xs) h k = ((h.0, k.0), good_placed body xs h.1 k.1)
+good_placed : (fields : ℕ) (body : Code) (xs : List Placed) → AllByRecursion IsInRange xs → AllByRecursion (λ x. SetsNamed fields body x.line) xs → AllByRecursion (IsGood fields body) xs
+good_placed fields body [] h k = tt
+good_placed fields body (x ∷ xs) h k = ((h.0, k.0), good_placed fields body xs h.1 k.1)
 
 empty_record-bounded : (fields : ℕ) (body : Code) (input : CallInput) → IsBounded fields body input (empty_record fields)
 empty_record-bounded fields body input = record { width = length-replicate fields Null; null = λ field none unset. at_field-nulls fields field }
@@ -164,11 +174,15 @@ module _ (fields : ℕ) (body : Code) (input : CallInput) (w : HasWidth fields i
   named_record-bounded p First s r h =
       subst (λ (i : CallInput). Bounded (first_record i)) (sym h.same_input) (first_record-bounded fields body input w (subst IsOfGroup h.same_input r))
 
-  set_field-bounded : (row : List Value) (k : ℕ) (v : Value) → ((field : ℕ) → field ≡ k → Names field body) → Bounded row → Bounded (slice_set row k v)
+  set_field-bounded : (row : List Value) (k : ℕ) (v : Value) → ((field : ℕ) → field ≡ k → Names fields field body) → Bounded row → Bounded (slice_set row k v)
   set_field-bounded row k v named h = record {
     width = length-set row k v ∙ h.width;
     null = λ field none unset. get_or-set_other row k field v Null (λ e. unset (named field e)) ∙ h.null field none unset;
   }
+
+  set_numbered-bounded : (row : List Value) (o : Option ℕ) (v : Value) → ((k : ℕ) → o ≡ Some k → Names fields k body) → Bounded row → Bounded (set_numbered row o v)
+  set_numbered-bounded row (Some k) v named h = set_field-bounded row k v (λ field e. subst (λ (n : ℕ). Names fields n body) (sym e) (named k refl)) h
+  set_numbered-bounded row None v named h = h
 
   with_record : (p : Place) (to : ℕ) (row : List Value) (s : Store) → Bounded row → BoundedStore fields body input p s
       → BoundedIn fields body input p s.fields s.input (slice_set s.records to row) s.loops s.emitted
@@ -182,12 +196,13 @@ module _ (fields : ℕ) (body : Code) (input : CallInput) (w : HasWidth fields i
     in_emitted = h.in_emitted;
   }
 
-  after-bounded : (p : Place) (a : Simple) (s : Store) → IsGood body (at_place p (simple a)) → BoundedStore fields body input p s → BoundedStore fields body input p (after a s)
+  after-bounded : (p : Place) (a : Simple) (s : Store) → IsGood fields body (at_place p (simple a)) → BoundedStore fields body input p s → BoundedStore fields body input p (after a s)
   after-bounded p (load_int to value) s g h = h
   after-bounded p (load_text to bytes) s g h = h
   after-bounded p (load_null to) s g h = h
   after-bounded p (move_value to from) s g h = h
   after-bounded p (get_field to from field) s g h = h
+  after-bounded p (get_at to from at) s g h = h
   after-bounded p (get_key to at) s g h = h
   after-bounded p (apply_one to op a) s g h = h
   after-bounded p (apply_two to op a b) s g h = h
@@ -198,6 +213,10 @@ module _ (fields : ℕ) (body : Code) (input : CallInput) (w : HasWidth fields i
   after-bounded p (set_field to field value) s g h =
       let can = CanAct-fits p (set_field to field value) s g.0 h.fits in
       with_record p to (slice_set (record_in s to) field (value_in s value)) s (set_field-bounded (record_in s to) field (value_in s value) g.1 (record_in-bounded p to s can.0 h)) h
+  after-bounded p (set_at to at value) s g h =
+      let can = CanAct-fits p (set_at to at value) s g.0 h.fits in
+      with_record p to _ s (set_numbered-bounded (record_in s to) (numbered s.fields (value_in s at)) (value_in s value)
+      (λ k e. g.1 k (subst (λ (n : ℕ). k < n) h.same_fields (numbered-below s.fields (value_in s at) k e))) (record_in-bounded p to s can.0 h)) h
   after-bounded p (emit_record from) s g h = record {
     fits = h.fits;
     same_fields = h.same_fields;
@@ -219,7 +238,7 @@ module _ (fields : ℕ) (body : Code) (input : CallInput) (w : HasWidth fields i
     in_emitted = h.in_emitted;
   }
 
-  bind-bounded : (p : Place) (name : ℕ) (list : LoopList) (row : List Value) (s : Store) → IsGood body (at_place p (over name list)) → Bounded row → BoundedStore fields body input p s
+  bind-bounded : (p : Place) (name : ℕ) (list : LoopList) (row : List Value) (s : Store) → IsGood fields body (at_place p (over name list)) → Bounded row → BoundedStore fields body input p s
       → BoundedStore fields body input (in_each p) (bind s name row)
   bind-bounded p name list row s g b h = record {
     fits = Fits-bind p name row s (next_name-over p name list g.0) h.fits;
@@ -231,7 +250,7 @@ module _ (fields : ℕ) (body : Code) (input : CallInput) (w : HasWidth fields i
     in_emitted = h.in_emitted;
   }
 
-  BoundedStore-kept : IsKept (IsGood body) Bounded (BoundedStore fields body input) input
+  BoundedStore-kept : IsKept (IsGood fields body) Bounded (BoundedStore fields body input) input
   BoundedStore-kept = record {
     same_input = λ p s h. h.same_input;
     rows = λ list. rows_of-bounded fields body input list w;
@@ -258,8 +277,8 @@ module _ (fields : ℕ) (body : Code) (input : CallInput) (w : HasWidth fields i
   -- For a call of any kind: its records have the program's width, and the body is in range at a place that fits the call.
   pub AreBounded-exec : (p : Place) → AreInRange p body → Fits p fields input [] → AreBounded fields body input (exec body (start_store fields input)).emitted
   AreBounded-exec p r f =
-      let good = good_placed body (placed p body) r (SetsNamed-placed body body p (λ field n. n)) in
-      let kept = exec-kept (IsGood body) Bounded (BoundedStore fields body input) input BoundedStore-kept body p (start_store fields input) good (start-bounded p f) in
+      let good = good_placed fields body (placed p body) r (SetsNamed-placed fields body body p (λ field n. n)) in
+      let kept = exec-kept (IsGood fields body) Bounded (BoundedStore fields body input) input BoundedStore-kept body p (start_store fields input) good (start-bounded p f) in
       recursion_from_All Bounded (exec body (start_store fields input)).emitted kept.in_emitted
 
 -- ---- what a call of a valid function emits

@@ -10,7 +10,7 @@ use Rattle.tac_syntax.specs.declared.statements.Rec.{Rec}
 use Rattle.tac_syntax.specs.declared.statements.Rec.TheVariants.{Reg, Loop, Input, Left, Right, Join, First}
 use Rattle.tac_syntax.specs.declared.statements.LoopList.{LoopList}
 use Rattle.tac_syntax.specs.Limits.{value_registers, record_registers}
-use Rattle.tac_syntax.specs.Code.{Simple, load_int, load_text, load_null, move_value, get_field, get_key, apply_one, apply_two, new_record, copy_record, set_field, emit_record, Code, simple, over}
+use Rattle.tac_syntax.specs.Code.{Simple, load_int, load_text, load_null, move_value, get_field, get_at, get_key, apply_one, apply_two, new_record, copy_record, set_field, set_at, emit_record, Code, simple, over}
 use Rattle.tac_syntax.specs.Call.{CallInput, of_group, of_groups, Store, key_values, rows_of, after, bind}
 use Rattle.tac_syntax.specs.Exec.{exec}
 use Rattle.tac_syntax.specs.Places.{Place, at_place, in_each}
@@ -79,6 +79,10 @@ CanAct-fits p (move_value to from) s r h =
 CanAct-fits p (get_field to from field) s r h =
     let both = or_parts (no_value_register to) (no_register_read from) r.registers in
     (value_register to both.0, HasRecord-fits p from s both.1 (not-false (has_record p from) r.operands) h, field_number p s field r.fields h)
+CanAct-fits p (get_at to from at) s r h =
+    let all = or_parts (no_value_register to || no_register_read from) (no_value_register at) r.registers in
+    let both = or_parts (no_value_register to) (no_register_read from) all.0 in
+    (value_register to both.0, HasRecord-fits p from s both.1 (not-false (has_record p from) r.operands) h, value_register at all.1)
 CanAct-fits p (get_key to at) s r h =
     (value_register to r.registers, at_key p.kind p.keys at s.input (not-false (is_reduce p.kind || is_cogroup p.kind) r.operands) (leb-false p.keys at r.key_positions) h.kind h.keys)
 CanAct-fits p (apply_one to op a) s r h =
@@ -95,6 +99,10 @@ CanAct-fits p (copy_record to from) s r h =
 CanAct-fits p (set_field to field value) s r h =
     let both = or_parts (nat_le record_registers to) (no_value_register value) r.registers in
     (leb-false record_registers to both.0, field_number p s field r.fields h, value_register value both.1)
+CanAct-fits p (set_at to at value) s r h =
+    let all = or_parts (nat_le record_registers to || no_value_register at) (no_value_register value) r.registers in
+    let both = or_parts (nat_le record_registers to) (no_value_register at) all.0 in
+    (leb-false record_registers to both.0, value_register at both.1, value_register value all.1)
 CanAct-fits p (emit_record from) s r h = leb-false record_registers from r.registers
 
 -- ---- the place fits after a body
@@ -124,12 +132,14 @@ FitsInput-after input p (load_text to bytes) s h = h
 FitsInput-after input p (load_null to) s h = h
 FitsInput-after input p (move_value to from) s h = h
 FitsInput-after input p (get_field to from field) s h = h
+FitsInput-after input p (get_at to from at) s h = h
 FitsInput-after input p (get_key to at) s h = h
 FitsInput-after input p (apply_one to op a) s h = h
 FitsInput-after input p (apply_two to op a b) s h = h
 FitsInput-after input p (new_record to) s h = h
 FitsInput-after input p (copy_record to from) s h = h
 FitsInput-after input p (set_field to field value) s h = h
+FitsInput-after input p (set_at to at value) s h = h
 FitsInput-after input p (emit_record from) s h = h
 
 any_rows : (rows : List (List Value)) → AllByRecursion (λ row. Unit {0}) rows

@@ -11,3 +11,4 @@ pub mod EmitsOfSteps
 pub mod EmitCounts
 pub mod LawfulExamples
 pub mod SpelledDrafts
+pub mod FieldLimits

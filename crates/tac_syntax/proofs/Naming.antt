@@ -7,7 +7,7 @@ use Rattle.pact_record.specs.FieldSets.{has_field}
 use Rattle.tac_syntax.specs.declared.functions.Function.{Function}
 use Rattle.tac_syntax.specs.declared.rules.Rule.TheVariants.{Fields}
 use Rattle.tac_syntax.specs.Bounded.{NamesField, Names, NamesBelow}
-use Rattle.tac_syntax.specs.Code.{Simple, load_int, load_text, load_null, move_value, get_field, get_key, apply_one, apply_two, new_record, copy_record, set_field, emit_record, Code, stop, plain, branch, again, each, simple}
+use Rattle.tac_syntax.specs.Code.{Simple, load_int, load_text, load_null, move_value, get_field, get_at, get_key, apply_one, apply_two, new_record, copy_record, set_field, set_at, emit_record, Code, stop, plain, branch, again, each, simple}
 use Rattle.tac_syntax.specs.Places.{Place, Placed, placed, at_place, top_place, in_if, in_repeat, in_each}
 use Rattle.tac_syntax.specs.Rules.{no_field, breaks_fields}
 use Rattle.tac_syntax.specs.Trees.{Statement, one_line, choice, turning, going_through, onto}
@@ -16,20 +16,20 @@ use Rattle.tac_syntax.proofs.Ranges.{none_of}
 
 -- ---- a statement and what follows it
 
-pub Names-onto : (k : ℕ) (s : Statement) (next : Code) → Names k (onto s next) ↔ (Names k (onto s stop) ⊎ Names k next)
-Names-onto k (one_line s) next = search rules
-Names-onto k (choice on body other) next = search rules
-Names-onto k (turning count body) next = search rules
-Names-onto k (going_through name list body) next = search rules
+pub Names-onto : (fields k : ℕ) (s : Statement) (next : Code) → Names fields k (onto s next) ↔ (Names fields k (onto s stop) ⊎ Names fields k next)
+Names-onto fields k (one_line s) next = search rules
+Names-onto fields k (choice on body other) next = search rules
+Names-onto fields k (turning count body) next = search rules
+Names-onto fields k (going_through name list body) next = search rules
 
 -- the fields found before a statement, or set by it or behind it, are those found before or in it, or set behind it
-pub found_more : (found more all k : ℕ) (s : Statement) (next whole : Code)
-    → ((IsTrue (has_field found k) ⊎ Names k (onto s next)) ↔ Names k whole)
-    → (IsTrue (has_field more k) ↔ Names k (onto s stop))
+pub found_more : (fields found more all k : ℕ) (s : Statement) (next whole : Code)
+    → ((IsTrue (has_field found k) ⊎ Names fields k (onto s next)) ↔ Names fields k whole)
+    → (IsTrue (has_field more k) ↔ Names fields k (onto s stop))
     → has_field all k ≡ (has_field found k || has_field more k)
-    → (IsTrue (has_field all k) ⊎ Names k next) ↔ Names k whole
-found_more found more all k s next whole before here both =
-    let parts = Names-onto k s next in (
+    → (IsTrue (has_field all k) ⊎ Names fields k next) ↔ Names fields k whole
+found_more fields found more all k s next whole before here both =
+    let parts = Names-onto fields k s next in (
       λ named. elim named [
         | inl now ↦ elim (or_cases (has_field found k) (has_field more k) (sym both ∙ now)) [
           | inl old ↦ before.0 (inl old)
@@ -65,18 +65,20 @@ All-right : (xs ys : List Placed) → All KeepsFields (xs ++ ys) → All KeepsFi
 All-right xs ys h =
     All-weaker (Contains ys) KeepsFields (λ y inside. All-contains KeepsFields (xs ++ ys) y h (Contains-append_right xs ys y inside)) ys (All-contains_itself ys)
 
-NamesField-below : (p : Place) (s : Simple) (k : ℕ) → no_field p s ≡ false → NamesField k s → k < p.fields
+NamesField-below : (p : Place) (s : Simple) (k : ℕ) → no_field p s ≡ false → NamesField p.fields k s → k < p.fields
 NamesField-below p (load_int to value) k h named = absurd named
 NamesField-below p (load_text to bytes) k h named = absurd named
 NamesField-below p (load_null to) k h named = absurd named
 NamesField-below p (move_value to from) k h named = absurd named
 NamesField-below p (get_field to from field) k h named = absurd named
+NamesField-below p (get_at to from at) k h named = absurd named
 NamesField-below p (get_key to at) k h named = absurd named
 NamesField-below p (apply_one to op a) k h named = absurd named
 NamesField-below p (apply_two to op a b) k h named = absurd named
 NamesField-below p (new_record to) k h named = absurd named
 NamesField-below p (copy_record to from) k h named = absurd named
 NamesField-below p (set_field to field value) k h named = omega (arith, named, leb-false p.fields field h)
+NamesField-below p (set_at to at value) k h named = named
 NamesField-below p (emit_record from) k h named = absurd named
 
 NamesBelow-placed : (p : Place) (c : Code) → All KeepsFields (placed p c) → NamesBelow p.fields c

@@ -4,7 +4,7 @@ use Rattle.pact_record.specs.declared.values.Value.{Value}
 use Rattle.pact_record.specs.Value.{is_true}
 use Rattle.tac_syntax.specs.declared.statements.LoopList.{LoopList}
 use Rattle.tac_syntax.specs.declared.statements.LoopList.TheVariants.{Group, Left as LeftGroup, Right as RightGroup}
-use Rattle.tac_syntax.specs.Code.{Simple, load_int, load_text, load_null, move_value, get_field, get_key, apply_one, apply_two, new_record, copy_record, set_field, emit_record, Code, stop, plain, branch, again, each}
+use Rattle.tac_syntax.specs.Code.{Simple, load_int, load_text, load_null, move_value, get_field, get_at, get_key, apply_one, apply_two, new_record, copy_record, set_field, set_at, emit_record, Code, stop, plain, branch, again, each}
 use Rattle.tac_syntax.specs.Call.{CallInput, of_record, of_pair, of_group, of_groups, Store, Item, act, choose, turns_left, rows_left, CallState, value_in, rows_of, after, items_of, bind, step, run, start_store, longest, turns, end_state, Out}
 use Rattle.tac_syntax.specs.Exec.{times, for_each, exec}
 
@@ -40,12 +40,14 @@ input-after (load_text to bytes) s = refl
 input-after (load_null to) s = refl
 input-after (move_value to from) s = refl
 input-after (get_field to from field) s = refl
+input-after (get_at to from at) s = refl
 input-after (get_key to at) s = refl
 input-after (apply_one to op a) s = refl
 input-after (apply_two to op a b) s = refl
 input-after (new_record to) s = refl
 input-after (copy_record to from) s = refl
 input-after (set_field to field value) s = refl
+input-after (set_at to at value) s = refl
 input-after (emit_record from) s = refl
 
 abbrev KeepsInput : (Store → Store) → Type 0

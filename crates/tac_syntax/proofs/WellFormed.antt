@@ -15,7 +15,7 @@ use Rattle.tac_syntax.specs.Valid.{IsValid, first_break_from}
 use Rattle.tac_syntax.specs.InRange.{IsInRange}
 use Rattle.tac_syntax.proofs.Ranges.{AreInRange-valid, none_of}
 use Rattle.pact_record.proofs.Lists.{AllByRecursion-left, AllByRecursion-right}
-use Rattle.tac_syntax.specs.Code.{Simple, load_int, load_text, load_null, move_value, get_field, get_key, apply_one, apply_two, new_record, copy_record, set_field, emit_record, Code, stop, plain, branch, again, each, simple}
+use Rattle.tac_syntax.specs.Code.{Simple, load_int, load_text, load_null, move_value, get_field, get_at, get_key, apply_one, apply_two, new_record, copy_record, set_field, set_at, emit_record, Code, stop, plain, branch, again, each, simple}
 use Rattle.tac_syntax.specs.WellFormed.{CanRead, HasList, IsWellFormedSimple, IsWellFormed}
 
 -- it keeps to the rules on loops
@@ -53,6 +53,10 @@ simple_is_well_formed p (move_value to from) h =
 simple_is_well_formed p (get_field to from field) h =
     let r = or_parts (no_value_register to) (no_register_read from) h.registers in
     (leb-false value_registers to r.0, can_read p from r.1 (not-false (has_record p from) h.operands), leb-false p.fields field h.fields)
+simple_is_well_formed p (get_at to from at) h =
+    let all = or_parts (no_value_register to || no_register_read from) (no_value_register at) h.registers in
+    let r = or_parts (no_value_register to) (no_register_read from) all.0 in
+    (leb-false value_registers to r.0, can_read p from r.1 (not-false (has_record p from) h.operands), leb-false value_registers at all.1)
 simple_is_well_formed p (get_key to at) h = (leb-false value_registers to h.registers, tt)
 simple_is_well_formed p (apply_one to op a) h =
     let r = or_parts (no_value_register to) (no_value_register a) h.registers in (leb-false value_registers to r.0, leb-false value_registers a r.1)
@@ -67,6 +71,10 @@ simple_is_well_formed p (copy_record to from) h =
 simple_is_well_formed p (set_field to field value) h =
     let r = or_parts (no_record_register to) (no_value_register value) h.registers in
     (leb-false record_registers to r.0, leb-false p.fields field h.fields, leb-false value_registers value r.1)
+simple_is_well_formed p (set_at to at value) h =
+    let all = or_parts (no_record_register to || no_value_register at) (no_value_register value) h.registers in
+    let r = or_parts (no_record_register to) (no_value_register at) all.0 in
+    (leb-false record_registers to r.0, leb-false value_registers at r.1, leb-false value_registers value all.1)
 simple_is_well_formed p (emit_record from) h = leb-false record_registers from h.registers
 
 placed_is_well_formed : (code : Code) (p : Place) → p.lists ≤ p.loops → AllByRecursion IsInRange (placed p code) → AllByRecursion Turns (placed p code) → IsWellFormed p.kind p.fields p.lists code

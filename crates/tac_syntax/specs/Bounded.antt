@@ -4,7 +4,7 @@ use Rattle.std.specs.List.{AllByRecursion}
 use Rattle.pact_record.specs.declared.values.Value.{Value}
 use Rattle.pact_record.specs.declared.values.Value.TheVariants.{Null}
 use Rattle.pact_record.specs.Record.{at_field}
-use Rattle.tac_syntax.specs.Code.{Simple, set_field, Code, stop, plain, branch, again, each}
+use Rattle.tac_syntax.specs.Code.{Simple, set_field, set_at, Code, stop, plain, branch, again, each}
 use Rattle.tac_syntax.specs.Call.{CallInput, of_record, of_pair, of_group, of_groups}
 
 -- a record has a value in a field where it isn't Null there
@@ -23,27 +23,28 @@ InputHasValue field (of_pair left right) = HasValue field left ⊎ HasValue fiel
 InputHasValue field (of_group key group) = SomeHasValue field group
 InputHasValue field (of_groups key left right) = SomeHasValue field left ⊎ SomeHasValue field right
 
--- a statement sets the field
-abbrev pub NamesField : ℕ → Simple → Type 0
-NamesField field (set_field to k value) = field ≡ k
-NamesField field statement = ⊥
+-- A statement sets the field. One that takes the field from a register may set each below the number of fields.
+abbrev pub NamesField : ℕ → ℕ → Simple → Type 0
+NamesField fields field (set_field to k value) = field ≡ k
+NamesField fields field (set_at to at value) = field < fields
+NamesField fields field statement = ⊥
 
 -- some statement of a body does
-abbrev pub Names : ℕ → Code → Type 0
-Names field stop = ⊥
-Names field (plain s next) = NamesField field s ⊎ Names field next
-Names field (branch on body other next) = Names field body ⊎ Names field other ⊎ Names field next
-Names field (again count body next) = Names field body ⊎ Names field next
-Names field (each name list body next) = Names field body ⊎ Names field next
+abbrev pub Names : ℕ → ℕ → Code → Type 0
+Names fields field stop = ⊥
+Names fields field (plain s next) = NamesField fields field s ⊎ Names fields field next
+Names fields field (branch on body other next) = Names fields field body ⊎ Names fields field other ⊎ Names fields field next
+Names fields field (again count body next) = Names fields field body ⊎ Names fields field next
+Names fields field (each name list body next) = Names fields field body ⊎ Names fields field next
 
--- each field that a body sets is below the bound
+-- each field that a body sets is below the number of fields
 abbrev pub NamesBelow : ℕ → Code → Type 0
-NamesBelow bound body = (field : ℕ) → Names field body → field < bound
+NamesBelow fields body = (field : ℕ) → Names fields field body → field < fields
 
 -- A record of the program's width that is Null outside the fields in which the input has a value and those that the body sets.
 pub record IsBounded (fields : ℕ) (body : Code) (input : CallInput) (row : List Value) : Type 0 where
   pub width : length row ≡ fields
-  pub null : (field : ℕ) → (InputHasValue field input → ⊥) → (Names field body → ⊥) → at_field row field ≡ Null
+  pub null : (field : ℕ) → (InputHasValue field input → ⊥) → (Names fields field body → ⊥) → at_field row field ≡ Null
 
 abbrev pub AreBounded : ℕ → Code → CallInput → List (List Value) → Type 0
 AreBounded fields body input rows = AllByRecursion (IsBounded fields body input) rows

@@ -1,5 +1,5 @@
 -- What one call of a function means, by small steps over a flat list of items still to do.
-use Rattle.std.specs.Prelude.{ℕ, zero, suc, ◌+◌, ◌-◌, ◌*◌, max, if◌then◌else◌, List, [], ◌∷◌, ◌++◌, length, get_or, slice_set, replicate, take}
+use Rattle.std.specs.Prelude.{ℕ, zero, suc, pos, Option, Some, None, nat_lt, ◌+◌, ◌-◌, ◌*◌, max, if◌then◌else◌, List, [], ◌∷◌, ◌++◌, length, get_or, slice_set, replicate, take}
 use Rattle.pact_record.specs.declared.values.Value.{Value}
 use Rattle.pact_record.specs.declared.values.Value.TheVariants.{Null, Int, Text}
 use Rattle.pact_record.specs.Value.{is_true}
@@ -10,7 +10,7 @@ use Rattle.tac_syntax.specs.declared.statements.Rec.TheVariants.{Reg, Loop, Inpu
 use Rattle.tac_syntax.specs.declared.statements.LoopList.{LoopList}
 use Rattle.tac_syntax.specs.declared.statements.LoopList.TheVariants.{Group, Left as LeftGroup, Right as RightGroup}
 use Rattle.tac_syntax.specs.Limits.{value_registers, record_registers}
-use Rattle.tac_syntax.specs.Code.{Simple, load_int, load_text, load_null, move_value, get_field, get_key, apply_one, apply_two, new_record, copy_record, set_field, emit_record, Code, stop, plain, branch, again, each}
+use Rattle.tac_syntax.specs.Code.{Simple, load_int, load_text, load_null, move_value, get_field, get_at, get_key, apply_one, apply_two, new_record, copy_record, set_field, set_at, emit_record, Code, stop, plain, branch, again, each}
 
 -- What a function is called for, by its kind: one record (Map), two records (Match, Cross),
 -- key values and the records of their group (Reduce), key values and a group of either side (CoGroup).
@@ -108,6 +108,23 @@ rows_of (of_groups key left right) Group = []
 rows_of (of_groups key left right) LeftGroup = left
 rows_of (of_groups key left right) RightGroup = right
 
+-- ---- fields by number
+
+-- the field that a value numbers: an Int from 0 up to below the number of fields
+abbrev pub numbered : ℕ → Value → Option ℕ
+numbered fields (Int (pos n)) = if nat_lt n fields then Some n else None
+numbered fields v = None
+
+-- a record's value in that field, if it is one
+abbrev pub at_numbered : List Value → Option ℕ → Value
+at_numbered r (Some k) = at_field r k
+at_numbered r None = Null
+
+-- a record with another value in that field, if it is one
+abbrev pub set_numbered : List Value → Option ℕ → Value → List Value
+set_numbered r (Some k) v = slice_set r k v
+set_numbered r None v = r
+
 -- ---- what a statement of one line does
 
 abbrev pub put_value : Store → ℕ → Value → Store
@@ -122,12 +139,14 @@ after (load_text to bytes) s = put_value s to (Text bytes)
 after (load_null to) s = put_value s to Null
 after (move_value to from) s = put_value s to (value_in s from)
 after (get_field to from field) s = put_value s to (at_field (named_record s from) field)
+after (get_at to from at) s = put_value s to (at_numbered (named_record s from) (numbered s.fields (value_in s at)))
 after (get_key to at) s = put_value s to (get_or (key_values s.input) at Null)
 after (apply_one to op a) s = put_value s to (applied1 op (value_in s a))
 after (apply_two to op a b) s = put_value s to (applied2 op (value_in s a) (value_in s b))
 after (new_record to) s = put_record s to (empty_record s.fields)
 after (copy_record to from) s = put_record s to (named_record s from)
 after (set_field to field value) s = put_record s to (slice_set (record_in s to) field (value_in s value))
+after (set_at to at value) s = put_record s to (set_numbered (record_in s to) (numbered s.fields (value_in s at)) (value_in s value))
 after (emit_record from) s = record s { emitted = s.emitted ++ record_in s from ∷ [] }
 
 -- ---- steps

@@ -12,12 +12,14 @@ pub data Simple : Type 0 where
   load_null : (to : ℕ) → Simple
   move_value : (to from : ℕ) → Simple
   get_field : (to : ℕ) → (from : Rec) → (field : ℕ) → Simple
+  get_at : (to : ℕ) → (from : Rec) → (at : ℕ) → Simple
   get_key : (to at : ℕ) → Simple
   apply_one : (to : ℕ) → (op : Op1) → (a : ℕ) → Simple
   apply_two : (to : ℕ) → (op : Op2) → (a b : ℕ) → Simple
   new_record : (to : ℕ) → Simple
   copy_record : (to : ℕ) → (from : Rec) → Simple
   set_field : (to field value : ℕ) → Simple
+  set_at : (to at value : ℕ) → Simple
   emit_record : (from : ℕ) → Simple
 
 -- A body: its first statement, and the body that follows it. A block has the bodies inside it besides.

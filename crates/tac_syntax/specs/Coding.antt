@@ -10,7 +10,7 @@ use Rattle.tac_syntax.specs.declared.statements.Rec.{Rec}
 use Rattle.tac_syntax.specs.declared.statements.Rec.TheVariants.{Reg, Loop, Input, Left, Right, Join, First}
 use Rattle.tac_syntax.specs.declared.statements.LoopList.{LoopList}
 use Rattle.tac_syntax.specs.declared.statements.LoopList.TheVariants.{Group, Left as LeftGroup, Right as RightGroup}
-use Rattle.tac_syntax.specs.Code.{load_int, load_text, load_null, move_value, get_field, get_key, apply_one, apply_two, new_record, copy_record, set_field, emit_record, Code, stop, plain, branch, again, each, Line, simple, test, turns, over, otherwise, close}
+use Rattle.tac_syntax.specs.Code.{load_int, load_text, load_null, move_value, get_field, get_at, get_key, apply_one, apply_two, new_record, copy_record, set_field, set_at, emit_record, Code, stop, plain, branch, again, each, Line, simple, test, turns, over, otherwise, close}
 
 -- ---- operations, operands and lists as numbers
 
@@ -125,6 +125,8 @@ cell_of (turns count) = cell 13 (count ∷ [])
 cell_of (over name list) = cell 14 (name ∷ list_number list ∷ [])
 cell_of otherwise = cell 15 []
 cell_of close = cell 16 []
+cell_of (simple (get_at to from at)) = cell 17 (to ∷ at ∷ rec_numbers from)
+cell_of (simple (set_at to at value)) = cell 18 (to ∷ at ∷ value ∷ [])
 
 abbrev pub lines_at : List ℕ → ℤ → List Line
 lines_at says value =
@@ -148,6 +150,8 @@ lines_at says value =
     ∷ over first (list_at second)
     ∷ otherwise
     ∷ close
+    ∷ simple (get_at first (rec_of (drop 2 says)) second)
+    ∷ simple (set_at first second third)
     ∷ []
 
 abbrev pub line_of : Cell → Line
@@ -171,6 +175,8 @@ line_of-cell (turns count) = refl
 line_of-cell (over name list) = ap (λ (k : LoopList). over name k) (list_at-number list)
 line_of-cell otherwise = refl
 line_of-cell close = refl
+line_of-cell (simple (get_at to from at)) = ap (λ (r : Rec). simple (get_at to r at)) (rec_of-numbers from)
+line_of-cell (simple (set_at to at value)) = refl
 
 abbrev pub coded_line : Coded Line
 coded_line = code_by Cell (coded× coded_ℕ (coded× (coded_list coded_ℕ) coded_ℤ)) cell_of line_of line_of-cell

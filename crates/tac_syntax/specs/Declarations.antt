@@ -9,6 +9,7 @@ use Rattle.tac_syntax.specs.declared.declarations.Decl.TheVariants.{Source, Op, 
 use Rattle.pact_record.specs.Keys.{key_limit}
 use Rattle.tac_syntax.specs.Grammar.{IsNumber}
 use Rattle.tac_syntax.specs.Names.{is_name, is_file_name}
+use Rattle.tac_syntax.specs.Versions.{field_limit}
 
 -- the word by which texts tell what a source or an operator does
 abbrev pub kind_word : OpKind → List ℕ
@@ -19,10 +20,6 @@ kind_word Match = codes "match"
 kind_word Cross = codes "cross"
 kind_word CoGroup = codes "cogroup"
 
--- a source has at most so many columns, a sink so many fields
-abbrev pub field_list_limit : ℕ
-field_list_limit = 64
-
 abbrev pub AreNumbers : List ℕ → Type 0
 AreNumbers list = AllByRecursion IsNumber list
 
@@ -31,14 +28,15 @@ pub record IsKeyList (keys : List ℕ) : Type 0 where
   pub few : length keys ≤ key_limit
   pub numbers : AreNumbers keys
 
-pub record AreColumns (columns : List Column) : Type 0 where
+-- at most so many
+pub record AreColumns (most : ℕ) (columns : List Column) : Type 0 where
   pub some : 1 ≤ length columns
-  pub few : length columns ≤ field_list_limit
+  pub few : length columns ≤ most
   pub numbers : AllByRecursion (λ c. IsNumber c.field) columns
 
-pub record AreSinkFields (fields : List ℕ) : Type 0 where
+pub record AreSinkFields (most : ℕ) (fields : List ℕ) : Type 0 where
   pub some : 1 ≤ length fields
-  pub few : length fields ≤ field_list_limit
+  pub few : length fields ≤ most
   pub numbers : AreNumbers fields
 
 -- A kind's second input and its key lists; what it doesn't have is empty.
@@ -50,10 +48,10 @@ HasInputs Cross right left_keys right_keys = IsTrue (is_name right) × (left_key
 HasInputs CoGroup right left_keys right_keys = IsTrue (is_name right) × IsKeyList left_keys × IsKeyList right_keys
 HasInputs kind right left_keys right_keys = ⊥
 
--- a declaration other than of a function
-abbrev pub IsSpelledDecl : Decl → Type 0
-IsSpelledDecl (Source name file columns) = IsTrue (is_name name) × IsTrue (is_file_name file) × AreColumns columns
-IsSpelledDecl (Op name kind function left right left_keys right_keys) =
+-- a declaration other than of a function, in a program of the version
+abbrev pub IsSpelledDecl : ℕ → Decl → Type 0
+IsSpelledDecl version (Source name file columns) = IsTrue (is_name name) × IsTrue (is_file_name file) × AreColumns (field_limit version) columns
+IsSpelledDecl version (Op name kind function left right left_keys right_keys) =
     IsTrue (is_name name) × IsTrue (is_name function) × IsTrue (is_name left) × HasInputs kind right left_keys right_keys
-IsSpelledDecl (Sink input fields) = IsTrue (is_name input) × AreSinkFields fields
-IsSpelledDecl decl = ⊥
+IsSpelledDecl version (Sink input fields) = IsTrue (is_name input) × AreSinkFields (field_limit version) fields
+IsSpelledDecl version decl = ⊥

@@ -9,5 +9,5 @@ use Rattle.tac_syntax.specs.Drafts.{DraftData}
 
 abbrev pub coded_draft : Coded DraftData
 coded_draft =
-    code_by (ℕ × (List Function × List Decl)) (coded× coded_ℕ (coded× (coded_list function_row.coded) (coded_list decl_row.coded)))
-    (λ d. (d.fields, (d.functions, d.decls))) (λ p. record { fields = p.0; functions = p.1.0; decls = p.1.1 }) (λ _. refl)
+    code_by (ℕ × (ℕ × (List Function × List Decl))) (coded× coded_ℕ (coded× coded_ℕ (coded× (coded_list function_row.coded) (coded_list decl_row.coded))))
+    (λ d. (d.version, (d.fields, (d.functions, d.decls)))) (λ p. record { version = p.0; fields = p.1.0; functions = p.1.1.0; decls = p.1.1.1 }) (λ _. refl)

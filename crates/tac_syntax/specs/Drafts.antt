@@ -5,27 +5,28 @@ use Rattle.tac_syntax.specs.declared.functions.Function.{Function}
 use Rattle.tac_syntax.specs.declared.declarations.Decl.{Decl}
 use Rattle.tac_syntax.specs.declared.declarations.Decl.TheVariants.{Function as FunctionDecl}
 use Rattle.tac_syntax.specs.Declarations.{IsSpelledDecl}
+use Rattle.tac_syntax.specs.FieldRegisters.{Takes, has_registers}
 use Rattle.tac_syntax.specs.Functions.{IsSpelledFunction}
+use Rattle.tac_syntax.specs.Versions.{IsVersion, field_limit}
 
--- version 1 of the language has at most so many fields
-abbrev pub field_limit : ℕ
-field_limit = 64
-
--- the number of fields, the functions in text order, and the declarations in theirs
+-- the version, the number of fields, the functions in text order, and the declarations in theirs
 pub record DraftData : Type 0 where
+  pub version : ℕ
   pub fields : ℕ
   pub functions : List Function
   pub decls : List Decl
 
 -- The functions from number n on are declared in their order, and every other declaration can be spelled.
-abbrev pub AreDeclared : ℕ → ℕ → List Decl → Type 0
-AreDeclared n count [] = n ≡ count
-AreDeclared n count (FunctionDecl number ∷ decls) = (number ≡ n) × AreDeclared (n + 1) count decls
-AreDeclared n count (decl ∷ decls) = IsSpelledDecl decl × AreDeclared n count decls
+abbrev pub AreDeclared : ℕ → ℕ → ℕ → List Decl → Type 0
+AreDeclared version n count [] = n ≡ count
+AreDeclared version n count (FunctionDecl number ∷ decls) = (number ≡ n) × AreDeclared version (n + 1) count decls
+AreDeclared version n count (decl ∷ decls) = IsSpelledDecl version decl × AreDeclared version n count decls
 
 -- some text spells it
 pub record IsSpelledDraft (d : DraftData) : Type 0 where
+  pub version : IsVersion d.version
   pub some_field : 1 ≤ d.fields
-  pub few_fields : d.fields ≤ field_limit
+  pub few_fields : d.fields ≤ field_limit d.version
   pub functions : AllByRecursion IsSpelledFunction d.functions
-  pub declared : AreDeclared 0 (length d.functions) d.decls
+  pub registers : AllByRecursion (λ f. Takes (has_registers d.version) f.body) d.functions
+  pub declared : AreDeclared d.version 0 (length d.functions) d.decls

@@ -4,7 +4,7 @@ use mir.Syntax.{w64}
 use Rattle.pact_record.specs.Limits.{text_limit}
 use Rattle.tac_syntax.specs.declared.statements.Rec.{Rec}
 use Rattle.tac_syntax.specs.declared.statements.Rec.TheVariants.{Reg, Loop, Input, Left, Right, Join, First}
-use Rattle.tac_syntax.specs.Code.{Simple, load_int, load_text, load_null, move_value, get_field, get_key, apply_one, apply_two, new_record, copy_record, set_field, emit_record, Code, stop, plain, branch, again, each, Line, simple, test, turns, over, otherwise, close}
+use Rattle.tac_syntax.specs.Code.{Simple, load_int, load_text, load_null, move_value, get_field, get_at, get_key, apply_one, apply_two, new_record, copy_record, set_field, set_at, emit_record, Code, stop, plain, branch, again, each, Line, simple, test, turns, over, otherwise, close}
 
 -- ---- the numbers that a text has
 
@@ -41,12 +41,14 @@ IsSpelledSimple (load_text to bytes) = IsNumber to × IsLiteral bytes
 IsSpelledSimple (load_null to) = IsNumber to
 IsSpelledSimple (move_value to from) = IsNumber to × IsNumber from
 IsSpelledSimple (get_field to from field) = IsNumber to × IsSpelledRecord from × IsNumber field
+IsSpelledSimple (get_at to from at) = IsNumber to × IsSpelledRecord from × IsNumber at
 IsSpelledSimple (get_key to at) = IsNumber to × IsNumber at
 IsSpelledSimple (apply_one to op a) = IsNumber to × IsNumber a
 IsSpelledSimple (apply_two to op a b) = IsNumber to × IsNumber a × IsNumber b
 IsSpelledSimple (new_record to) = IsNumber to
 IsSpelledSimple (copy_record to from) = IsNumber to × IsSpelledRecord from
 IsSpelledSimple (set_field to field value) = IsNumber to × IsNumber field × IsNumber value
+IsSpelledSimple (set_at to at value) = IsNumber to × IsNumber at × IsNumber value
 IsSpelledSimple (emit_record from) = IsNumber from
 
 -- a line, inside so many `each`: a loop's name is one more than these

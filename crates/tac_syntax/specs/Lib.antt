@@ -22,6 +22,8 @@ pub mod Contexts
 pub mod Forms
 pub mod EmitBounds
 pub mod WellFormed
+pub mod Versions
+pub mod FieldRegisters
 pub mod Declarations
 pub mod Drafts
 pub mod DraftCode

@@ -8,7 +8,7 @@ use Rattle.tac_syntax.specs.declared.statements.LoopList.{LoopList}
 use Rattle.tac_syntax.specs.declared.statements.LoopList.TheVariants.{Group, Left as LeftGroup, Right as RightGroup}
 use Rattle.tac_syntax.specs.declared.rules.Rule.{Rule}
 use Rattle.tac_syntax.specs.declared.rules.Rule.TheVariants.{Registers, Operands, Fields, KeyPositions, NestedIfs, NestedLoops, Statements, Repeats}
-use Rattle.tac_syntax.specs.Code.{Simple, load_int, load_text, load_null, move_value, get_field, get_key, apply_one, apply_two, new_record, copy_record, set_field, emit_record, Line, simple, test, turns, over}
+use Rattle.tac_syntax.specs.Code.{Simple, load_int, load_text, load_null, move_value, get_field, get_at, get_key, apply_one, apply_two, new_record, copy_record, set_field, set_at, emit_record, Line, simple, test, turns, over}
 use Rattle.tac_syntax.specs.Limits.{value_registers, record_registers, statement_limit, if_limit, loop_limit, turn_limit}
 use Rattle.tac_syntax.specs.Places.{Place}
 
@@ -30,12 +30,14 @@ no_register (load_text to bytes) = no_value_register to
 no_register (load_null to) = no_value_register to
 no_register (move_value to from) = no_value_register to || no_value_register from
 no_register (get_field to from field) = no_value_register to || no_register_read from
+no_register (get_at to from at) = no_value_register to || no_register_read from || no_value_register at
 no_register (get_key to at) = no_value_register to
 no_register (apply_one to op a) = no_value_register to || no_value_register a
 no_register (apply_two to op a b) = no_value_register to || no_value_register a || no_value_register b
 no_register (new_record to) = no_record_register to
 no_register (copy_record to from) = no_record_register to || no_register_read from
 no_register (set_field to field value) = no_record_register to || no_value_register value
+no_register (set_at to at value) = no_record_register to || no_value_register at || no_value_register value
 no_register (emit_record from) = no_record_register from
 
 -- a value register above 31 or a record register above 7
@@ -81,6 +83,7 @@ has_list p RightGroup = is_cogroup p.kind
 
 abbrev pub misses_operand : Place → Simple → Bool
 misses_operand p (get_field to from field) = not (has_record p from)
+misses_operand p (get_at to from at) = not (has_record p from)
 misses_operand p (get_key to at) = not (is_reduce p.kind || is_cogroup p.kind)
 misses_operand p (copy_record to from) = not (has_record p from)
 misses_operand p statement = false

@@ -2,8 +2,8 @@
 use Rattle.std.specs.Prelude.{ℕ, zero, suc, List, [], ◌∷◌}
 use Rattle.tac_syntax.specs.declared.statements.LoopList.{LoopList}
 use Rattle.tac_syntax.specs.declared.statements.Stmt.{Stmt}
-use Rattle.tac_syntax.specs.declared.statements.Stmt.TheVariants.{Int, Text, Null, Mov, Get, Key, One, Two, New, Copy, Set, Emit, If, Repeat, Each}
-use Rattle.tac_syntax.specs.Code.{Simple, load_int, load_text, load_null, move_value, get_field, get_key, apply_one, apply_two, new_record, copy_record, set_field, emit_record, Code, stop, plain, branch, again, each, Line, simple, test, turns, over}
+use Rattle.tac_syntax.specs.declared.statements.Stmt.TheVariants.{Int, Text, Null, Mov, Get, GetAt, Key, One, Two, New, Copy, Set, SetAt, Emit, If, Repeat, Each}
+use Rattle.tac_syntax.specs.Code.{Simple, load_int, load_text, load_null, move_value, get_field, get_at, get_key, apply_one, apply_two, new_record, copy_record, set_field, set_at, emit_record, Code, stop, plain, branch, again, each, Line, simple, test, turns, over}
 
 -- a statement with the bodies inside it
 pub data Statement : Type 0 where
@@ -25,12 +25,14 @@ statement_of (Text to value) = one_line (load_text to value)
 statement_of (Null to) = one_line (load_null to)
 statement_of (Mov to from) = one_line (move_value to from)
 statement_of (Get to from field) = one_line (get_field to from field)
+statement_of (GetAt to from at) = one_line (get_at to from at)
 statement_of (Key to at) = one_line (get_key to at)
 statement_of (One to op a) = one_line (apply_one to op a)
 statement_of (Two to op a b) = one_line (apply_two to op a b)
 statement_of (New to) = one_line (new_record to)
 statement_of (Copy to from) = one_line (copy_record to from)
 statement_of (Set to field value) = one_line (set_field to field value)
+statement_of (SetAt to at value) = one_line (set_at to at value)
 statement_of (Emit from) = one_line (emit_record from)
 statement_of (If on body other) = choice on body other
 statement_of (Repeat count body) = turning count body

@@ -1,10 +1,13 @@
 //! Programs as their text has them.
 
 ghost use Rattle.std.specs.Prelude.{◌≡◌, ◌≤◌, ◌++◌, ◌∷◌, [], length, OnOk, OnErr};
+ghost use Rattle.pact_record.specs.declared.records.TheConstants.{MAX_FIELDS};
+ghost use Rattle.tac_syntax.specs.FieldRegisters.{Takes, has_registers};
 ghost use Rattle.tac_syntax.specs.Functions.{IsSpelledFunction};
 ghost use Rattle.tac_syntax.specs.declared.declarations.Decl.TheVariants.{Function as FunctionDecl};
 ghost use Rattle.tac_syntax.specs.Declarations.{IsSpelledDecl};
-ghost use Rattle.tac_syntax.specs.Drafts.{field_limit, IsSpelledDraft};
+ghost use Rattle.tac_syntax.specs.Drafts.{IsSpelledDraft};
+ghost use Rattle.tac_syntax.specs.Versions.{IsVersion, field_limit};
 
 use crate::declarations::Decl;
 use crate::functions::Function;
@@ -16,6 +19,7 @@ use std::marker::Model;
 /// functions may not be valid.
 #[derive(Debug, Drop)]
 pub struct Draft {
+    version: u32,
     fields: u32,
     functions: Vec<Function>,
     decls: Vec<Decl>,
@@ -29,18 +33,20 @@ impl Model for Draft {
 
     ghost coded = { coded_draft };
 
-    ghost view = { λ d. record { fields = d.fields; functions = d.functions.items; decls = d.decls.items } };
+    ghost view = { λ d. record { version = d.version; fields = d.fields; functions = d.functions.items; decls = d.decls.items } };
 
-    ghost invariant = { λ d. IsSpelledDraft (record { fields = d.fields; functions = d.functions.items; decls = d.decls.items }) };
+    ghost invariant = { λ d. IsSpelledDraft (record { version = d.version; fields = d.fields; functions = d.functions.items; decls = d.decls.items }) };
 }
 
 impl Draft {
-    /// A program with so many fields and no declaration.
-    pub fn new(alloc: Global, fields: u32) -> Draft
-        requires { (1 ≤ fields) × (fields ≤ field_limit) }
-        ensures { result ≡ record { fields = fields; functions = []; decls = [] } }
+    /// A program of the version with so many fields and no declaration.
+    pub fn new(alloc: Global, version: u32, fields: u32) -> Draft
+        requires version { IsVersion version }
+        requires fields { (1 ≤ fields) × (fields ≤ field_limit version) }
+        ensures { result ≡ record { version = version; fields = fields; functions = []; decls = [] } }
     {
         Draft {
+            version,
             fields,
             functions: Vec::new(alloc),
             decls: Vec::new(alloc),
@@ -49,9 +55,9 @@ impl Draft {
 
     /// Puts a declaration behind the others that isn't one of a function.
     pub fn push(&mut self, decl: Decl) -> Result<(), OutOfMemory>
-        requires { IsSpelledDecl decl }
+        requires { IsSpelledDecl self.old.version decl }
         ensures ok { let d = self.old in
-            OnOk result (self.new ≡ record { fields = d.fields; functions = d.functions; decls = d.decls ++ decl ∷ [] }) }
+            OnOk result (self.new ≡ record { version = d.version; fields = d.fields; functions = d.functions; decls = d.decls ++ decl ∷ [] }) }
         ensures err { OnErr result (self.new ≡ self.old) }
     {
         self.decls.push(decl)?;
@@ -60,10 +66,11 @@ impl Draft {
 
     /// Puts a function behind the others, and its declaration behind the others.
     pub fn push_function(&mut self, function: Function) -> Result<(), OutOfMemory>
-        requires { IsSpelledFunction function }
+        requires spelled { IsSpelledFunction function }
+        requires registers { Takes (has_registers self.old.version) function.body }
         ensures ok { let d = self.old in
             let decl = FunctionDecl (length d.functions) in
-            OnOk result (self.new ≡ record { fields = d.fields; functions = d.functions ++ function ∷ []; decls = d.decls ++ decl ∷ [] }) }
+            OnOk result (self.new ≡ record { version = d.version; fields = d.fields; functions = d.functions ++ function ∷ []; decls = d.decls ++ decl ∷ [] }) }
         ensures err { OnErr result (self.new ≡ self.old) }
     {
         let number = self.functions.len();
@@ -74,8 +81,17 @@ impl Draft {
         Ok(())
     }
 
+    /// The version of the language, 1 or 2.
+    pub fn version(&self) -> u32
+        ensures version { result ≡ self.now.version }
+        ensures known { IsVersion result }
+    {
+        self.version
+    }
+
     pub fn fields(&self) -> u32
-        ensures { result ≡ self.now.fields }
+        ensures fields { result ≡ self.now.fields }
+        ensures few { result ≤ MAX_FIELDS }
     {
         self.fields
     }

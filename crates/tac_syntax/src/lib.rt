@@ -20,6 +20,7 @@ pub mod rules;
 pub mod statements;
 pub mod valid_lists;
 pub mod valids;
+pub mod versions;
 
 pub use contexts::{Context, Side};
 pub use declarations::{Decl, OpKind};
@@ -33,3 +34,4 @@ pub use statements::{
 };
 pub use valid_lists::ValidList;
 pub use valids::Valid;
+pub use versions::field_limit;

@@ -78,6 +78,12 @@ pub enum Stmt {
         from: Rec,
         field: u32,
     },
+    /// The value register becomes the field of the record that the other one numbers, Null where it numbers none.
+    GetAt {
+        to: u32,
+        from: Rec,
+        at: u32,
+    },
     /// The value register becomes the value at that position of the key.
     Key {
         to: u32,
@@ -109,6 +115,13 @@ pub enum Stmt {
     Set {
         to: u32,
         field: u32,
+        value: u32,
+    },
+    /// The field of the register's record that the first value register numbers becomes the second one's value. Where
+    /// it numbers none, nothing changes.
+    SetAt {
+        to: u32,
+        at: u32,
         value: u32,
     },
     /// A copy of the register's record goes to the output.
@@ -322,6 +335,11 @@ impl Stmt {
                 from: *from,
                 field: *field,
             },
+            Stmt::GetAt { to, from, at } => Stmt::GetAt {
+                to: *to,
+                from: *from,
+                at: *at,
+            },
             Stmt::Key { to, at } => Stmt::Key { to: *to, at: *at },
             Stmt::One { to, op, a } => Stmt::One {
                 to: *to,
@@ -342,6 +360,11 @@ impl Stmt {
             Stmt::Set { to, field, value } => Stmt::Set {
                 to: *to,
                 field: *field,
+                value: *value,
+            },
+            Stmt::SetAt { to, at, value } => Stmt::SetAt {
+                to: *to,
+                at: *at,
                 value: *value,
             },
             Stmt::Emit { from } => Stmt::Emit { from: *from },

@@ -54,11 +54,11 @@ impl Valid {
         self.fields
     }
 
-    /// The fields that some `set` of the function names.
+    /// The fields that some `set` of the function names, and all fields where one takes its field from a register.
     pub fn named(&self) -> Fields
-        ensures { (k : ℕ) → IsTrue (has_field result k) ↔ Names k self.now.function.body }
+        ensures { (k : ℕ) → IsTrue (has_field result k) ↔ Names self.now.fields k self.now.function.body }
     {
-        named_in(&self.function.body)
+        named_in(&self.function.body, self.fields)
     }
 
     pub fn copy(&self, alloc: Global) -> Result<Valid, OutOfMemory>

@@ -2,11 +2,13 @@
 -- those of what they make.
 use Rattle.std.proofs.Common.{◌≡◌, ◌≤◌, Bool, true, Some, List, refl, ap, ◌<◌, ◌+◌, inl, inr, ℕ, Option, [], ◌∷◌, ◌++◌, length, sym, subst, ◌∙◌, append_assoc, append-nil, arith}
 use Rattle.std.proofs.lemmas.Bool.{le-leb}
-use Rattle.tac_syntax.specs.Code.{Code, stop, plain, branch, again, each, joined, nesting, Simple, Line, simple, test, turns, over, otherwise, close}
+use Rattle.tac_syntax.specs.Code.{Code, stop, plain, branch, again, each, joined, nesting, Simple, load_int, load_text, load_null, move_value, get_field, get_at, get_key, apply_one, apply_two, new_record, copy_record, set_field, set_at, emit_record, Line, simple, test, turns, over, otherwise, close}
 use Rattle.tac_syntax.specs.Limits.{nesting_limit}
 use Rattle.tac_text.specs.declared.building.Block.{Block}
 use Rattle.tac_text.specs.Places.{Build, with_statement, built, IsBuilt, lists_in, MayInside, built_or, built_on, opening, before_block, FitsBody, FitsFirst, FitsBuild, BeginsBlock, Front}
-use Rattle.tac_syntax.specs.Grammar.{IsSpelled, IsSpelledLine}
+use Rattle.tac_syntax.specs.Grammar.{IsSpelled, IsSpelledLine, IsSpelledSimple}
+use Rattle.statement_lines.specs.StatementLines.{MayStandSimple}
+use Rattle.tac_syntax.specs.FieldRegisters.{Takes, TakesSimple}
 use Rattle.tac_syntax.proofs.Bodies.{nesting-joined}
 use Rattle.text_lines.specs.Runs.{Steps}
 use Rattle.text_lines.proofs.LineRuns.{Steps-append}
@@ -51,10 +53,39 @@ built-close (Else on first before) around body h = with_statement-fits around be
 built-close (Repeat count before) around body h = with_statement-fits around before (again count body stop) h
 built-close (Each name list before) around body h = with_statement-fits around before (each name list body stop) h
 
+-- ---- a statement may stand where it is spelled and takes what it may
+
+may_stand : (registers : Bool) (s : Simple) → IsSpelledSimple s → TakesSimple registers s → MayStandSimple registers s
+may_stand registers (get_at to from at) h t = (h, t)
+may_stand registers (set_at to at value) h t = (h, t)
+may_stand registers s h t = h
+
+spelled_simple : (registers : Bool) (s : Simple) → MayStandSimple registers s → IsSpelledSimple s
+spelled_simple registers (get_at to from at) h = h.0
+spelled_simple registers (set_at to at value) h = h.0
+spelled_simple registers s h = h
+
+takes_simple : (registers : Bool) (s : Simple) → MayStandSimple registers s → TakesSimple registers s
+takes_simple registers (get_at to from at) h = h.1
+takes_simple registers (set_at to at value) h = h.1
+takes_simple registers s h = tt
+
+pub takes_all : (c : Code) → Takes true c
+takes_all stop = tt
+takes_all (plain s next) = (of_simple s, takes_all next)
+  where
+    of_simple : (a : Simple) → TakesSimple true a
+    of_simple (get_at to from at) = refl
+    of_simple (set_at to at value) = refl
+    of_simple a = tt
+takes_all (branch on body other next) = (takes_all body, takes_all other, takes_all next)
+takes_all (again count body next) = (takes_all body, takes_all next)
+takes_all (each name list body next) = (takes_all body, takes_all next)
+
 -- ---- the lines of a body may follow each other
 
-abbrev StepsTo : Build → List Line → Build → Type 0
-StepsTo b lines t = Steps MayInside built_on b lines t
+abbrev StepsTo : (registers : Bool) → Build → List Line → Build → Type 0
+StepsTo registers b lines t = Steps (MayInside registers) built_on b lines t
 
 no_lines : (c : Code) → SpellsBody c [] → c ≡ stop
 no_lines stop h = refl
@@ -65,49 +96,49 @@ no_lines (again count body next) h = absurd (let e = h.4 in cc)
 no_lines (each name list body next) h = absurd (let e = h.4 in cc)
 
 -- a statement, and those behind it
-followed : (blocks : List Block) (body statement next : Code) (lines : List Line)
-    → StepsTo (build blocks (joined body statement)) lines (build blocks (joined (joined body statement) next))
-    → StepsTo (build blocks (joined body statement)) lines (build blocks (joined body (joined statement next)))
-followed blocks body statement next lines h =
-    subst (λ (c : Code). StepsTo (build blocks (joined body statement)) lines (build blocks c)) (joined-joined body statement next) h
+followed : (registers : Bool) (blocks : List Block) (body statement next : Code) (lines : List Line)
+    → StepsTo registers (build blocks (joined body statement)) lines (build blocks (joined (joined body statement) next))
+    → StepsTo registers (build blocks (joined body statement)) lines (build blocks (joined body (joined statement next)))
+followed registers blocks body statement next lines h =
+    subst (λ (c : Code). StepsTo registers (build blocks (joined body statement)) lines (build blocks c)) (joined-joined body statement next) h
 
-closed : (block : Block) (around : List Block) (body : Code) (rest : List Line) (t : Build) → nesting (ended block body) ≤ nesting_limit
-    → StepsTo (build around (joined (before_block block) (ended block body))) rest t → StepsTo (build (block ∷ around) body) (close ∷ rest) t
-closed block around body rest t h steps = ((tt, tt), subst (λ (x : Build). StepsTo x rest t) (sym (ap (built_or (build (block ∷ around) body)) (built-close block around body h))) steps)
+closed : (registers : Bool) (block : Block) (around : List Block) (body : Code) (rest : List Line) (t : Build) → nesting (ended block body) ≤ nesting_limit
+    → StepsTo registers (build around (joined (before_block block) (ended block body))) rest t → StepsTo registers (build (block ∷ around) body) (close ∷ rest) t
+closed registers block around body rest t h steps = ((tt, tt), subst (λ (x : Build). StepsTo registers x rest t) (sym (ap (built_or (build (block ∷ around) body)) (built-close block around body h))) steps)
 
-pub body_steps : (code : Code) (lines : List Line) (b : Build) → SpellsBody code lines → IsSpelled (lists_in b.blocks) code → length b.blocks + nesting code ≤ nesting_limit
-    → Steps MayInside built_on b lines (record { blocks = b.blocks; body = joined b.body code })
-body_steps stop lines b spelled fits deep = rw spelled (ap (build b.blocks) (sym (joined-stop b.body)))
-body_steps (plain s next) lines b (rest, e, spelled) fits deep =
-    let behind = body_steps next rest (build b.blocks (joined b.body (plain s stop))) spelled fits.1 deep in
-    rw e ((fits.0, tt), followed b.blocks b.body (plain s stop) next rest behind)
-body_steps (branch on body other next) lines b (first, second, rest, p, q, r, inl e) fits deep =
-    let one = body_steps body first (build (If on b.body ∷ b.blocks) stop) p fits.1 (omega (arith, deep)) in
-    let two = body_steps other second (build (Else on body b.body ∷ b.blocks) stop) q fits.2 (omega (arith, deep)) in
-    let behind = body_steps next rest (build b.blocks (joined b.body (branch on body other stop))) r fits.3 (omega (arith, deep)) in
-    let last = closed (Else on body b.body) b.blocks other rest _ (omega (arith, deep)) (followed b.blocks b.body (branch on body other stop) next rest behind) in
-    let parted = Steps-append MayInside built_on (build (Else on body b.body ∷ b.blocks) stop) (build (Else on body b.body ∷ b.blocks) other) _ second (close ∷ rest) two last in
-    let inside = Steps-append MayInside built_on (build (If on b.body ∷ b.blocks) stop) (build (If on b.body ∷ b.blocks) body) _ first (otherwise ∷ (second ++ close ∷ rest)) one ((refl, tt), parted) in
+pub body_steps : (registers : Bool) (code : Code) (lines : List Line) (b : Build) → SpellsBody code lines → IsSpelled (lists_in b.blocks) code → Takes registers code → length b.blocks + nesting code ≤ nesting_limit
+    → Steps (MayInside registers) built_on b lines (record { blocks = b.blocks; body = joined b.body code })
+body_steps registers stop lines b spelled fits takes deep = rw spelled (ap (build b.blocks) (sym (joined-stop b.body)))
+body_steps registers (plain s next) lines b (rest, e, spelled) fits takes deep =
+    let behind = body_steps registers next rest (build b.blocks (joined b.body (plain s stop))) spelled fits.1 takes.1 deep in
+    rw e ((may_stand registers s fits.0 takes.0, tt), followed registers b.blocks b.body (plain s stop) next rest behind)
+body_steps registers (branch on body other next) lines b (first, second, rest, p, q, r, inl e) fits takes deep =
+    let one = body_steps registers body first (build (If on b.body ∷ b.blocks) stop) p fits.1 takes.0 (omega (arith, deep)) in
+    let two = body_steps registers other second (build (Else on body b.body ∷ b.blocks) stop) q fits.2 takes.1 (omega (arith, deep)) in
+    let behind = body_steps registers next rest (build b.blocks (joined b.body (branch on body other stop))) r fits.3 takes.2 (omega (arith, deep)) in
+    let last = closed registers (Else on body b.body) b.blocks other rest _ (omega (arith, deep)) (followed registers b.blocks b.body (branch on body other stop) next rest behind) in
+    let parted = Steps-append (MayInside registers) built_on (build (Else on body b.body ∷ b.blocks) stop) (build (Else on body b.body ∷ b.blocks) other) _ second (close ∷ rest) two last in
+    let inside = Steps-append (MayInside registers) built_on (build (If on b.body ∷ b.blocks) stop) (build (If on b.body ∷ b.blocks) body) _ first (otherwise ∷ (second ++ close ∷ rest)) one ((refl, tt), parted) in
     rw e (((omega (arith, deep), fits.0), tt), inside)
-body_steps (branch on body other next) lines b (first, second, rest, p, q, r, inr (none, e)) fits deep =
+body_steps registers (branch on body other next) lines b (first, second, rest, p, q, r, inr (none, e)) fits takes deep =
     let empty : other ≡ stop = no_lines other (subst (SpellsBody other) none q) in
-    let one = body_steps body first (build (If on b.body ∷ b.blocks) stop) p fits.1 (omega (arith, deep)) in
-    let behind = body_steps next rest (build b.blocks (joined b.body (branch on body other stop))) r fits.3 (omega (arith, deep)) in
-    let all = followed b.blocks b.body (branch on body other stop) next rest behind in
-    let last = closed (If on b.body) b.blocks body rest (build b.blocks (joined b.body (branch on body other next))) (omega (arith, deep)) (subst (λ (c : Code). StepsTo (build b.blocks (joined b.body (branch on body c stop))) rest (build b.blocks (joined b.body (branch on body other next)))) empty all) in
-    let inside = Steps-append MayInside built_on (build (If on b.body ∷ b.blocks) stop) (build (If on b.body ∷ b.blocks) body) _ first (close ∷ rest) one last in
+    let one = body_steps registers body first (build (If on b.body ∷ b.blocks) stop) p fits.1 takes.0 (omega (arith, deep)) in
+    let behind = body_steps registers next rest (build b.blocks (joined b.body (branch on body other stop))) r fits.3 takes.2 (omega (arith, deep)) in
+    let all = followed registers b.blocks b.body (branch on body other stop) next rest behind in
+    let last = closed registers (If on b.body) b.blocks body rest (build b.blocks (joined b.body (branch on body other next))) (omega (arith, deep)) (subst (λ (c : Code). StepsTo registers (build b.blocks (joined b.body (branch on body c stop))) rest (build b.blocks (joined b.body (branch on body other next)))) empty all) in
+    let inside = Steps-append (MayInside registers) built_on (build (If on b.body ∷ b.blocks) stop) (build (If on b.body ∷ b.blocks) body) _ first (close ∷ rest) one last in
     rw e (((omega (arith, deep), fits.0), tt), inside)
-body_steps (again count body next) lines b (first, rest, p, r, e) fits deep =
-    let turn = body_steps body first (build (Repeat count b.body ∷ b.blocks) stop) p fits.1 (omega (arith, deep)) in
-    let behind = body_steps next rest (build b.blocks (joined b.body (again count body stop))) r fits.2 (omega (arith, deep)) in
-    let last = closed (Repeat count b.body) b.blocks body rest _ (omega (arith, deep)) (followed b.blocks b.body (again count body stop) next rest behind) in
-    let inside = Steps-append MayInside built_on (build (Repeat count b.body ∷ b.blocks) stop) (build (Repeat count b.body ∷ b.blocks) body) _ first (close ∷ rest) turn last in
+body_steps registers (again count body next) lines b (first, rest, p, r, e) fits takes deep =
+    let turn = body_steps registers body first (build (Repeat count b.body ∷ b.blocks) stop) p fits.1 takes.0 (omega (arith, deep)) in
+    let behind = body_steps registers next rest (build b.blocks (joined b.body (again count body stop))) r fits.2 takes.1 (omega (arith, deep)) in
+    let last = closed registers (Repeat count b.body) b.blocks body rest _ (omega (arith, deep)) (followed registers b.blocks b.body (again count body stop) next rest behind) in
+    let inside = Steps-append (MayInside registers) built_on (build (Repeat count b.body ∷ b.blocks) stop) (build (Repeat count b.body ∷ b.blocks) body) _ first (close ∷ rest) turn last in
     rw e (((omega (arith, deep), fits.0), tt), inside)
-body_steps (each name list body next) lines b (first, rest, p, r, e) fits deep =
-    let turn = body_steps body first (build (Each name list b.body ∷ b.blocks) stop) p fits.1 (omega (arith, deep)) in
-    let behind = body_steps next rest (build b.blocks (joined b.body (each name list body stop))) r fits.2 (omega (arith, deep)) in
-    let last = closed (Each name list b.body) b.blocks body rest _ (omega (arith, deep)) (followed b.blocks b.body (each name list body stop) next rest behind) in
-    let inside = Steps-append MayInside built_on (build (Each name list b.body ∷ b.blocks) stop) (build (Each name list b.body ∷ b.blocks) body) _ first (close ∷ rest) turn last in
+body_steps registers (each name list body next) lines b (first, rest, p, r, e) fits takes deep =
+    let turn = body_steps registers body first (build (Each name list b.body ∷ b.blocks) stop) p fits.1 takes.0 (omega (arith, deep)) in
+    let behind = body_steps registers next rest (build b.blocks (joined b.body (each name list body stop))) r fits.2 takes.1 (omega (arith, deep)) in
+    let last = closed registers (Each name list b.body) b.blocks body rest _ (omega (arith, deep)) (followed registers b.blocks b.body (each name list body stop) next rest behind) in
+    let inside = Steps-append (MayInside registers) built_on (build (Each name list b.body ∷ b.blocks) stop) (build (Each name list b.body ∷ b.blocks) body) _ first (close ∷ rest) turn last in
     rw e (((omega (arith, deep), fits.0), tt), inside)
 
 -- ---- lines that may follow each other are those of what they make
@@ -134,8 +165,15 @@ IsSpelled-joined lists (branch on body other a) b p q = (p.0, p.1, p.2, IsSpelle
 IsSpelled-joined lists (again count body a) b p q = (p.0, p.1, IsSpelled-joined lists a b p.2 q)
 IsSpelled-joined lists (each name list body a) b p q = (p.0, p.1, IsSpelled-joined lists a b p.2 q)
 
-FitsBody-joined : (blocks lists : ℕ) (a b : Code) → FitsBody blocks lists a → FitsBody blocks lists b → FitsBody blocks lists (joined a b)
-FitsBody-joined blocks lists a b p q = (IsSpelled-joined lists a b p.0 q.0, omega (arith, p.1, q.1, nesting-joined a b))
+Takes-joined : (registers : Bool) (a b : Code) → Takes registers a → Takes registers b → Takes registers (joined a b)
+Takes-joined registers stop b p q = q
+Takes-joined registers (plain s a) b p q = (p.0, Takes-joined registers a b p.1 q)
+Takes-joined registers (branch on body other a) b p q = (p.0, p.1, Takes-joined registers a b p.2 q)
+Takes-joined registers (again count body a) b p q = (p.0, Takes-joined registers a b p.1 q)
+Takes-joined registers (each name list body a) b p q = (p.0, Takes-joined registers a b p.1 q)
+
+FitsBody-joined : (registers : Bool) (blocks lists : ℕ) (a b : Code) → FitsBody registers blocks lists a → FitsBody registers blocks lists b → FitsBody registers blocks lists (joined a b)
+FitsBody-joined registers blocks lists a b p q = (IsSpelled-joined lists a b p.0 q.0, omega (arith, p.1, q.1, nesting-joined a b), Takes-joined registers a b p.2 q.2)
 
 -- a line behind those that were read
 behind : (outer inside lines more : List Line) → lines ≡ outer ++ inside → lines ++ more ≡ outer ++ (inside ++ more)
@@ -165,46 +203,46 @@ Front-ended block around body lines (fronts, inside, (outer, before, begun, p, q
     behind fronts inside lines (close ∷ []) f ∙ behind outer (before ++ begun) fronts (inside ++ close ∷ []) e ∙ ap (λ (x : List Line). outer ++ x) (append_assoc before begun (inside ++ close ∷ [])) in
     (outer, before ++ (begun ++ (inside ++ close ∷ [])), p, SpellsBody-joined (before_block block) (ended block body) before (begun ++ (inside ++ close ∷ [])) q (ended_spelled block body begun inside r sp), all)
 
-ended_fits : (block : Block) (around : List Block) (body : Code) → FitsBuild (build (block ∷ around) body) → FitsBody (length around) (lists_in around) (ended block body)
-ended_fits (If on before) around body ((outer, room, spelled, b, first), (fits, deep)) = ((spelled, fits, tt, tt), omega (arith, deep))
-ended_fits (Else on one before) around body ((outer, room, spelled, b, first), (fits, deep)) = ((spelled, first.0, fits, tt), omega (arith, deep, first.1))
-ended_fits (Repeat count before) around body ((outer, room, spelled, b, first), (fits, deep)) = ((spelled, fits, tt), omega (arith, deep))
-ended_fits (Each name list before) around body ((outer, room, spelled, b, first), (fits, deep)) = ((spelled, fits, tt), omega (arith, deep))
+ended_fits : (registers : Bool) (block : Block) (around : List Block) (body : Code) → FitsBuild registers (build (block ∷ around) body) → FitsBody registers (length around) (lists_in around) (ended block body)
+ended_fits registers (If on before) around body ((outer, room, spelled, b, first), (fits, deep, takes)) = ((spelled, fits, tt, tt), omega (arith, deep), (takes, tt, tt))
+ended_fits registers (Else on one before) around body ((outer, room, spelled, b, first), (fits, deep, takes)) = ((spelled, first.0, fits, tt), omega (arith, deep, first.1), (first.2, takes, tt))
+ended_fits registers (Repeat count before) around body ((outer, room, spelled, b, first), (fits, deep, takes)) = ((spelled, fits, tt), omega (arith, deep), (takes, tt))
+ended_fits registers (Each name list before) around body ((outer, room, spelled, b, first), (fits, deep, takes)) = ((spelled, fits, tt), omega (arith, deep), (takes, tt))
 
-ended_deep : (block : Block) (around : List Block) (body : Code) → FitsBuild (build (block ∷ around) body) → nesting (ended block body) ≤ nesting_limit
-ended_deep block around body fits = let h = ended_fits block around body fits in omega (arith, h.1)
+ended_deep : (registers : Bool) (block : Block) (around : List Block) (body : Code) → FitsBuild registers (build (block ∷ around) body) → nesting (ended block body) ≤ nesting_limit
+ended_deep registers block around body fits = let h = ended_fits registers block around body fits in omega (arith, h.1)
 
-FitsBuild-ended : (block : Block) (around : List Block) (body : Code) → FitsBuild (build (block ∷ around) body) → FitsBuild (build around (joined (before_block block) (ended block body)))
-FitsBuild-ended block around body fits =
-    (fits.0.0, FitsBody-joined (length around) (lists_in around) (before_block block) (ended block body) fits.0.3 (ended_fits block around body fits))
+FitsBuild-ended : (registers : Bool) (block : Block) (around : List Block) (body : Code) → FitsBuild registers (build (block ∷ around) body) → FitsBuild registers (build around (joined (before_block block) (ended block body)))
+FitsBuild-ended registers block around body fits =
+    (fits.0.0, FitsBody-joined registers (length around) (lists_in around) (before_block block) (ended block body) fits.0.3 (ended_fits registers block around body fits))
 
 -- ---- one line
 
 -- where a line that may follow leads: what was read still fits, and the lines with it are those of what they have come to
-record On (blocks : List Block) (body : Code) (l : Line) : Type 0 where
+record On (registers : Bool) (blocks : List Block) (body : Code) (l : Line) : Type 0 where
   next : Build
   taken : built (build blocks body) l ≡ Some next
-  fits : FitsBuild next
+  fits : FitsBuild registers next
   front : (lines : List Line) → Front (build blocks body) lines → Front next (lines ++ l ∷ [])
 
 statement_front : (blocks : List Block) (body : Code) (s : Simple) (lines : List Line) → Front (build blocks body) lines → Front (build blocks (joined body (plain s stop))) (lines ++ simple s ∷ [])
 statement_front blocks body s lines (outer, inside, p, q, e) =
     (outer, inside ++ simple s ∷ [], p, SpellsBody-joined body (plain s stop) inside (simple s ∷ []) q ([], refl, refl), behind outer inside lines (simple s ∷ []) e)
 
-statement_on : (blocks : List Block) (body : Code) (s : Simple) → FitsBuild (build blocks body) → MayInside (build blocks body) (simple s) → On blocks body (simple s)
-statement_on blocks body s fits may = record {
+statement_on : (registers : Bool) (blocks : List Block) (body : Code) (s : Simple) → FitsBuild registers (build blocks body) → MayInside registers (build blocks body) (simple s) → On registers blocks body (simple s)
+statement_on registers blocks body s fits may = record {
   next = build blocks (joined body (plain s stop));
   taken = refl;
-  fits = (fits.0, FitsBody-joined (length blocks) (lists_in blocks) body (plain s stop) fits.1 ((may.0, tt), omega (arith, fits.1.1)));
+  fits = (fits.0, FitsBody-joined registers (length blocks) (lists_in blocks) body (plain s stop) fits.1 ((spelled_simple registers s may.0, tt), omega (arith, fits.1.1), (takes_simple registers s may.0, tt)));
   front = λ lines f. statement_front blocks body s lines f;
 }
 
-opened_on : (block : Block) (around : List Block) (l : Line) → built (build around (before_block block)) l ≡ Some (build (block ∷ around) stop) → BeginsBlock block (l ∷ []) → FitsBuild (build around (before_block block))
-    → length around < nesting_limit → IsSpelledLine (lists_in around) (opening block) → FitsFirst around block → On around (before_block block) l
-opened_on block around l taken begins fits room spelled first = record {
+opened_on : (registers : Bool) (block : Block) (around : List Block) (l : Line) → built (build around (before_block block)) l ≡ Some (build (block ∷ around) stop) → BeginsBlock block (l ∷ []) → FitsBuild registers (build around (before_block block))
+    → length around < nesting_limit → IsSpelledLine (lists_in around) (opening block) → FitsFirst registers around block → On registers around (before_block block) l
+opened_on registers block around l taken begins fits room spelled first = record {
   next = build (block ∷ around) stop;
   taken = taken;
-  fits = ((fits.0, room, spelled, fits.1, first), (tt, omega (arith, room)));
+  fits = ((fits.0, room, spelled, fits.1, first), (tt, omega (arith, room), tt));
   front = λ lines f. Front-opened block around lines l begins f;
 }
 
@@ -217,57 +255,57 @@ part_front on before body around lines (fronts, inside, (outer, b, begun, p, q, 
     ∙ ap (λ (x : List Line). outer ++ x) (append_assoc b begun (inside ++ otherwise ∷ []) ∙ ap (λ (x : List Line). b ++ x) inner) in
     (lines ++ otherwise ∷ [], [], (outer, b, test on ∷ (inside ++ otherwise ∷ []), p, q, (inside, sp, refl), all), refl, sym (append-nil (lines ++ otherwise ∷ [])))
 
-part_on : (blocks : List Block) (body : Code) → FitsBuild (build blocks body) → MayInside (build blocks body) otherwise → On blocks body otherwise
-part_on (If on before ∷ around) body fits may = record {
+part_on : (registers : Bool) (blocks : List Block) (body : Code) → FitsBuild registers (build blocks body) → MayInside registers (build blocks body) otherwise → On registers blocks body otherwise
+part_on registers (If on before ∷ around) body fits may = record {
   next = build (Else on body before ∷ around) stop;
   taken = refl;
-  fits = ((fits.0.0, fits.0.1, fits.0.2, fits.0.3, (fits.1.0, omega (arith, fits.1.1))), (tt, omega (arith, fits.0.1)));
+  fits = ((fits.0.0, fits.0.1, fits.0.2, fits.0.3, (fits.1.0, omega (arith, fits.1.1), fits.1.2)), (tt, omega (arith, fits.0.1), tt));
   front = λ lines f. part_front on before body around lines f;
 }
-part_on blocks body fits may = absurd (let e = may.0 in cc)
+part_on registers blocks body fits may = absurd (let e = may.0 in cc)
 
-end_on : (blocks : List Block) (body : Code) → FitsBuild (build blocks body) → MayInside (build blocks body) close → On blocks body close
-end_on [] body fits may = absurd may.1
-end_on (block ∷ around) body fits may = record {
+end_on : (registers : Bool) (blocks : List Block) (body : Code) → FitsBuild registers (build blocks body) → MayInside registers (build blocks body) close → On registers blocks body close
+end_on registers [] body fits may = absurd may.1
+end_on registers (block ∷ around) body fits may = record {
   next = build around (joined (before_block block) (ended block body));
-  taken = built-close block around body (ended_deep block around body fits);
-  fits = FitsBuild-ended block around body fits;
+  taken = built-close block around body (ended_deep registers block around body fits);
+  fits = FitsBuild-ended registers block around body fits;
   front = λ lines f. Front-ended block around body lines f;
 }
 
-line_on : (blocks : List Block) (body : Code) (l : Line) → FitsBuild (build blocks body) → MayInside (build blocks body) l → On blocks body l
-line_on blocks body (simple s) fits may = statement_on blocks body s fits may
-line_on blocks body (test on) fits may = opened_on (If on body) blocks (test on) refl refl fits may.0.0 may.0.1 tt
-line_on blocks body (turns count) fits may = opened_on (Repeat count body) blocks (turns count) refl refl fits may.0.0 may.0.1 tt
-line_on blocks body (over name list) fits may = opened_on (Each name list body) blocks (over name list) refl refl fits may.0.0 may.0.1 tt
-line_on blocks body otherwise fits may = part_on blocks body fits may
-line_on blocks body close fits may = end_on blocks body fits may
+line_on : (registers : Bool) (blocks : List Block) (body : Code) (l : Line) → FitsBuild registers (build blocks body) → MayInside registers (build blocks body) l → On registers blocks body l
+line_on registers blocks body (simple s) fits may = statement_on registers blocks body s fits may
+line_on registers blocks body (test on) fits may = opened_on registers (If on body) blocks (test on) refl refl fits may.0.0 may.0.1 tt
+line_on registers blocks body (turns count) fits may = opened_on registers (Repeat count body) blocks (turns count) refl refl fits may.0.0 may.0.1 tt
+line_on registers blocks body (over name list) fits may = opened_on registers (Each name list body) blocks (over name list) refl refl fits may.0.0 may.0.1 tt
+line_on registers blocks body otherwise fits may = part_on registers blocks body fits may
+line_on registers blocks body close fits may = end_on registers blocks body fits may
 
-pub fits_step : (b : Build) (l : Line) → FitsBuild b → MayInside b l → FitsBuild (built_on b l)
-fits_step b l fits may = let on = line_on b.blocks b.body l fits may in subst FitsBuild (sym (ap (built_or b) on.taken)) on.fits
+pub fits_step : (registers : Bool) (b : Build) (l : Line) → FitsBuild registers b → MayInside registers b l → FitsBuild registers (built_on b l)
+fits_step registers b l fits may = let on = line_on registers b.blocks b.body l fits may in subst (FitsBuild registers) (sym (ap (built_or b) on.taken)) on.fits
 
 -- what a step on such a line comes to
-pub IsBuilt-inside : (b now : Build) (l : Line) (taken : Bool) → FitsBuild b → MayInside b l → IsBuilt (built b l) taken now → (taken ≡ true) × (now ≡ built_on b l)
-IsBuilt-inside b now l taken fits may h =
-    let on = line_on b.blocks b.body l fits may in
+pub IsBuilt-inside : (registers : Bool) (b now : Build) (l : Line) (taken : Bool) → FitsBuild registers b → MayInside registers b l → IsBuilt (built b l) taken now → (taken ≡ true) × (now ≡ built_on b l)
+IsBuilt-inside registers b now l taken fits may h =
+    let on = line_on registers b.blocks b.body l fits may in
     let due : IsBuilt (Some on.next) taken now = subst (λ (x : Option Build). IsBuilt x taken now) on.taken h in
     (due.0, due.1 ∙ sym (ap (built_or b) on.taken))
 
 -- ---- all lines
 
-pub front_step : (b : Build) (l : Line) (lines : List Line) → Front b lines → FitsBuild b → MayInside b l → Front (built_on b l) (lines ++ l ∷ []) × FitsBuild (built_on b l)
-front_step b l lines front fits may =
-    let on = line_on b.blocks b.body l fits may in
-    (subst (λ (x : Build). Front x (lines ++ l ∷ [])) (sym (ap (built_or b) on.taken)) (on.front lines front), fits_step b l fits may)
+pub front_step : (registers : Bool) (b : Build) (l : Line) (lines : List Line) → Front b lines → FitsBuild registers b → MayInside registers b l → Front (built_on b l) (lines ++ l ∷ []) × FitsBuild registers (built_on b l)
+front_step registers b l lines front fits may =
+    let on = line_on registers b.blocks b.body l fits may in
+    (subst (λ (x : Build). Front x (lines ++ l ∷ [])) (sym (ap (built_or b) on.taken)) (on.front lines front), fits_step registers b l fits may)
 
-pub front_whole : (blocks : List Block) (body : Code) (lines : List Line) → blocks ≡ [] → Front (build blocks body) lines → FitsBuild (build blocks body)
-    → SpellsBody body lines × IsSpelled 0 body × (nesting body ≤ nesting_limit)
-front_whole [] body lines e (outer, inside, p, q, f) fits = (subst (SpellsBody body) (sym (f ∙ ap (λ (x : List Line). x ++ inside) p)) q, fits.1.0, omega (arith, fits.1.1))
-front_whole (block ∷ around) body lines e front fits = absurd cc
+pub front_whole : (registers : Bool) (blocks : List Block) (body : Code) (lines : List Line) → blocks ≡ [] → Front (build blocks body) lines → FitsBuild registers (build blocks body)
+    → SpellsBody body lines × IsSpelled 0 body × (nesting body ≤ nesting_limit) × Takes registers body
+front_whole registers [] body lines e (outer, inside, p, q, f) fits = (subst (SpellsBody body) (sym (f ∙ ap (λ (x : List Line). x ++ inside) p)) q, fits.1.0, omega (arith, fits.1.1), fits.1.2)
+front_whole registers (block ∷ around) body lines e front fits = absurd cc
 
 -- so many `end` as there are open blocks
-pub ends : (blocks : List Block) (body : Code) → FitsBuild (build blocks body) → (more : List Line) × (c : Code) × Steps MayInside built_on (build blocks body) more (build [] c)
-ends [] body fits = ([], body, refl)
-ends (block ∷ around) body fits =
-    let rest = ends around (joined (before_block block) (ended block body)) (FitsBuild-ended block around body fits) in
-    (close ∷ rest.0, rest.1, closed block around body rest.0 (build [] rest.1) (ended_deep block around body fits) rest.2)
+pub ends : (registers : Bool) (blocks : List Block) (body : Code) → FitsBuild registers (build blocks body) → (more : List Line) × (c : Code) × Steps (MayInside registers) built_on (build blocks body) more (build [] c)
+ends registers [] body fits = ([], body, refl)
+ends registers (block ∷ around) body fits =
+    let rest = ends registers around (joined (before_block block) (ended block body)) (FitsBuild-ended registers block around body fits) in
+    (close ∷ rest.0, rest.1, closed registers block around body rest.0 (build [] rest.1) (ended_deep registers block around body fits) rest.2)

@@ -1,5 +1,5 @@
 -- What is written of a function is its text, whatever follows.
-use Rattle.std.proofs.Common.{◌≡◌, ◌<◌, ◌+◌, ℕ, List, [], ◌∷◌, ◌++◌, length, drop, get_or, ap, sym, ◌∙◌, append_assoc, ◌≤◌, inl, inr, map, refl, subst, arith, length-append}
+use Rattle.std.proofs.Common.{◌≡◌, ◌<◌, ◌+◌, ℕ, Bool, List, [], ◌∷◌, ◌++◌, length, drop, get_or, ap, sym, ◌∙◌, append_assoc, ◌≤◌, inl, inr, true, map, refl, subst, arith, length-append}
 use Rattle.std.proofs.lemmas.List.{at_drop_more, map-append}
 use Rattle.tac_syntax.specs.Code.{Code, stop, simple, test, turns, over, close, plain, branch, again, each, Line, otherwise, nesting}
 use Rattle.tac_syntax.specs.Coding.{is_stop}
@@ -8,6 +8,7 @@ use Rattle.tac_syntax.specs.Trees.{Statement, one_line, choice, turning, going_t
 use Rattle.tac_text.specs.Spelling.{at_depth, body_text, other_text, function_spelling}
 use Rattle.std.proofs.Math.Seq.{drop-append_seam}
 use Rattle.tac_syntax.specs.declared.functions.Function.{Function}
+use Rattle.tac_syntax.specs.FieldRegisters.{Takes}
 use Rattle.tac_syntax.specs.Functions.{IsSpelledFunction}
 use Rattle.tac_syntax.specs.Grammar.{IsSpelled, IsSpelledLine}
 use Rattle.tac_syntax.specs.Limits.{nesting_limit}
@@ -141,12 +142,13 @@ function_written f h =
       so = IsWritten-append (line_spelling 0 header) (body_text 1 f.body ++ at_depth 0 close) (canonical_line 0 header ∷ []) (body.are.written ++ last_line ∷ []) (header ∷ []) _ first inside;
     }
 
-pub FunctionAt-written : (f : Function) (written : List ℕ) → IsSpelledFunction f → nesting f.body ≤ nesting_limit → written ≡ function_spelling f → (rest : List ℕ) → FunctionAt f (written ++ rest) 0 (length written)
-FunctionAt-written f written h deep e rest =
+pub FunctionAt-written : (registers : Bool) (f : Function) (written : List ℕ) → IsSpelledFunction f → Takes registers f.body → nesting f.body ≤ nesting_limit → written ≡ function_spelling f → (rest : List ℕ)
+    → FunctionAt registers f (written ++ rest) 0 (length written)
+FunctionAt-written registers f written h takes deep e rest =
     let w = function_written f h in
     let lines = ap (λ (x : List ℕ). lines_of (x ++ rest)) e ∙ w.so.parts rest in
     let behind = ap (λ (x : List ℕ). (w.front ++ last_line ∷ []) ++ lines_of x) (sym (drop-append_seam written rest)) in
-    let text : FunctionText f (w.front ++ last_line ∷ []) = record { said = w.said; says = w.so.says; spelled = w.spelled; writable = (h, deep) } in
+    let text : FunctionText registers f (w.front ++ last_line ∷ []) = record { said = w.said; says = w.so.says; spelled = w.spelled; writable = (h, deep); takes = takes } in
     let ends = HasWords-canonical_line 0 (words_of_line close) (AreLineWords-fine (words_of_line close) (refl, tt)) in
     (w.front ++ last_line ∷ [], omega arith, omega (arith, length-append written rest), lines ∙ behind, text, (w.front, last_line, refl, ends))
 

@@ -1,5 +1,5 @@
 -- The lines that spell a body, and the text of a function: its header, the lines of its body, and `end`.
-use Rattle.std.specs.Prelude.{◌≡◌, ◌⊎◌, List, [], ◌∷◌, ◌++◌, ◌≤◌, ℕ, map, length, drop, IsTrue, codes, decimal}
+use Rattle.std.specs.Prelude.{Bool, ◌≡◌, ◌⊎◌, List, [], ◌∷◌, ◌++◌, ◌≤◌, ℕ, map, length, drop, IsTrue, codes, decimal}
 use Rattle.tac_syntax.specs.Code.{Code, stop, plain, branch, again, each, Line, simple, test, turns, over, otherwise, close, nesting}
 use Rattle.tac_syntax.specs.declared.functions.Kind.{Kind}
 use Rattle.tac_syntax.specs.declared.functions.Kind.TheVariants.{Map, Match, Cross, Reduce, CoGroup}
@@ -7,6 +7,7 @@ use Rattle.tac_syntax.specs.declared.functions.Function.{Function}
 use Rattle.tac_syntax.specs.Functions.{HasKeys, IsSpelledFunction}
 use Rattle.tac_syntax.specs.Limits.{nesting_limit}
 use Rattle.tac_syntax.specs.Names.{is_name}
+use Rattle.tac_syntax.specs.FieldRegisters.{Takes}
 use Rattle.text_lines.specs.declared.line_words.LineWord.{LineWord}
 use Rattle.text_lines.specs.declared.line_words.LineWord.TheVariants.{Plain as plain_word}
 use Rattle.text_lines.specs.TextLines.{HasWords, Say, lines_of}
@@ -68,21 +69,22 @@ SpellsFunction f said =
 abbrev pub IsWritable : Function → Type 0
 IsWritable f = IsSpelledFunction f × (nesting f.body ≤ nesting_limit)
 
--- These lines are the function's text. Lines without words may stand anywhere, behind the `end` too.
-pub record FunctionText (f : Function) (text : List (List ℕ)) : Type 0 where
+-- These lines are the function's text, where fields may be taken from registers or may not. Lines without words may stand anywhere, behind the `end` too.
+pub record FunctionText (registers : Bool) (f : Function) (text : List (List ℕ)) : Type 0 where
   pub said : List (List LineWord)
   pub says : Say text said
   pub spelled : SpellsFunction f said
   pub writable : IsWritable f
+  pub takes : Takes registers f.body
 
 abbrev pub EndsWithEnd : List (List ℕ) → Type 0
 EndsWithEnd text = (front : List (List ℕ)) × (last : List ℕ) × (text ≡ front ++ last ∷ []) × HasWords last (words_of_line close)
 
 -- In these bytes the function's text stands from one place up to another, the first behind the line of its `end`.
-abbrev pub FunctionAt : Function → List ℕ → ℕ → ℕ → Type 0
-FunctionAt f text at behind =
-    (front : List (List ℕ)) × (at ≤ behind) × (behind ≤ length text) × (lines_of (drop at text) ≡ front ++ lines_of (drop behind text)) × FunctionText f front × EndsWithEnd front
+abbrev pub FunctionAt : Bool → Function → List ℕ → ℕ → ℕ → Type 0
+FunctionAt registers f text at behind =
+    (front : List (List ℕ)) × (at ≤ behind) × (behind ≤ length text) × (lines_of (drop at text) ≡ front ++ lines_of (drop behind text)) × FunctionText registers f front × EndsWithEnd front
 
 -- the text of some function
-abbrev pub IsFunctionText : List (List ℕ) → Type 0
-IsFunctionText lines = (f : Function) × FunctionText f lines
+abbrev pub IsFunctionText : Bool → List (List ℕ) → Type 0
+IsFunctionText registers lines = (f : Function) × FunctionText registers f lines

@@ -59,9 +59,9 @@ GivesHeader r name kind keys = Gives (λ o. o ≡ begun name kind keys) r
 
 -- Whether these words were the function's own `end`: they are it where no block is open, and nothing changes. Else they are a line of the body,
 -- which was taken.
-abbrev pub TakesWords : Bool → List LineWord → OpenData → OpenData → Type 0
-TakesWords true words old now = (words ≡ words_of_line close) × (old.build.blocks ≡ []) × (now ≡ old)
-TakesWords false words old now = (l : Line) × (words ≡ words_of_line l) × MayInside old.build l × (now ≡ with_build old (built_on old.build l))
+abbrev pub TakesWords : (registers : Bool) → Bool → List LineWord → OpenData → OpenData → Type 0
+TakesWords registers true words old now = (words ≡ words_of_line close) × (old.build.blocks ≡ []) × (now ≡ old)
+TakesWords registers false words old now = (l : Line) × (words ≡ words_of_line l) × MayInside registers old.build l × (now ≡ with_build old (built_on old.build l))
 
 -- a fault leaves what was lent as it was
 abbrev pub IsUnchanged : {A : Type 0} → NotRead → A → A → Type 0
@@ -92,10 +92,10 @@ pub data FunctionState : Type 0 where
   reading : (begun : OpenData) → FunctionState
   whole : (f : Function) → FunctionState
 
-abbrev pub MayFollow : FunctionState → FunctionLine → Type 0
-MayFollow waiting (header name kind keys) = IsHeader name kind keys
-MayFollow (reading o) (inside l) = MayStand (place_of o.build) l
-MayFollow state l = ⊥
+abbrev pub MayFollow : Bool → FunctionState → FunctionLine → Type 0
+MayFollow registers waiting (header name kind keys) = IsHeader name kind keys
+MayFollow registers (reading o) (inside l) = MayStand (place_of registers o.build) l
+MayFollow registers state l = ⊥
 
 -- an `end` where no block is open ends the function
 abbrev pub after_inside : Line → List Block → OpenData → FunctionState
@@ -110,14 +110,14 @@ after (reading o) (header name kind keys) = reading o
 after (reading o) (inside l) = after_inside l o.build.blocks o
 after (whole f) l = whole f
 
-abbrev pub place_at : FunctionState → FunctionPlace
-place_at waiting = header_due
-place_at (reading o) = inside_body (place_of o.build)
-place_at (whole f) = function_ended
+abbrev pub place_at : Bool → FunctionState → FunctionPlace
+place_at registers waiting = header_due
+place_at registers (reading o) = inside_body (place_of registers o.build)
+place_at registers (whole f) = function_ended
 
 -- these lines of a text lead from one state to another
-abbrev pub Leads : FunctionState → List (List ℕ) → FunctionState → Type 0
-Leads s lines t = Runs words_of_function_line MayFollow after s lines t
+abbrev pub Leads : Bool → FunctionState → List (List ℕ) → FunctionState → Type 0
+Leads registers s lines t = Runs words_of_function_line (MayFollow registers) after s lines t
 
 -- ---- answers
 
@@ -131,14 +131,14 @@ abbrev pub IsOwnEnd : List LineWord → Option OpenData → Option OpenData → 
 IsOwnEnd words old now = (o : OpenData) × (old ≡ Some o) × (o.build.blocks ≡ []) × (words ≡ words_of_line close) × (now ≡ old)
 
 -- whether words of a line were the function's own `end`
-abbrev pub LeadsOn : Bool → List LineWord → Option OpenData → Option OpenData → Type 0
-LeadsOn true words old now = IsOwnEnd words old now
-LeadsOn false words old now = (l : FunctionLine) × (words ≡ words_of_function_line l) × MayFollow (state_of old) l × (state_of now ≡ after (state_of old) l)
+abbrev pub LeadsOn : (registers : Bool) → Bool → List LineWord → Option OpenData → Option OpenData → Type 0
+LeadsOn registers true words old now = IsOwnEnd words old now
+LeadsOn registers false words old now = (l : FunctionLine) × (words ≡ words_of_function_line l) × MayFollow registers (state_of old) l × (state_of now ≡ after (state_of old) l)
 
 -- whether a line was it
-abbrev pub LeadsLine : Bool → List ℕ → Option OpenData → Option OpenData → Type 0
-LeadsLine true line old now = (words : List LineWord) × HasWords line words × IsOwnEnd words old now
-LeadsLine false line old now = Leads (state_of old) (line ∷ []) (state_of now)
+abbrev pub LeadsLine : (registers : Bool) → Bool → List ℕ → Option OpenData → Option OpenData → Type 0
+LeadsLine registers true line old now = (words : List LineWord) × HasWords line words × IsOwnEnd words old now
+LeadsLine registers false line old now = Leads registers (state_of old) (line ∷ []) (state_of now)
 
 -- ---- the whole function
 
@@ -149,5 +149,5 @@ GivesFunction (Err (At line what)) f behind = ⊥
 GivesFunction (Err NoMemory) f behind = Unit {0}
 
 -- the first fault of the lines, and want of memory tells nothing
-abbrev pub IsFunctionFault : TextFault → List (List ℕ) → Type 0
-IsFunctionFault e lines = TellsFirst IsFunctionText function_fault function_missing e lines
+abbrev pub IsFunctionFault : Bool → TextFault → List (List ℕ) → Type 0
+IsFunctionFault registers e lines = TellsFirst (IsFunctionText registers) function_fault function_missing e lines

@@ -5,6 +5,7 @@ use Rattle.tac_syntax.specs.Limits.{nesting_limit}
 use Rattle.tac_text.specs.declared.building.Block.{Block}
 use Rattle.tac_text.specs.declared.building.Block.TheVariants.{If, Else, Repeat, Each}
 use Rattle.tac_syntax.specs.Grammar.{IsSpelled, IsSpelledLine}
+use Rattle.tac_syntax.specs.FieldRegisters.{Takes}
 use Rattle.tac_text.specs.FunctionLines.{SpellsBody}
 use Rattle.statement_lines.specs.StatementLines.{LinePlace, MayStand}
 
@@ -70,8 +71,9 @@ abbrev pub may_part : List Block → Bool
 may_part (If on before ∷ blocks) = true
 may_part blocks = false
 
-abbrev pub place_of : Build → LinePlace
-place_of b = record { blocks = length b.blocks; lists = lists_in b.blocks; may_part = may_part b.blocks }
+-- and whether fields may be taken from registers there
+abbrev pub place_of : Bool → Build → LinePlace
+place_of registers b = record { blocks = length b.blocks; lists = lists_in b.blocks; may_part = may_part b.blocks; registers = registers }
 
 -- An `end` where no block is open ends what the body belongs to, and is no line of the body.
 abbrev pub IsInside : Line → List Block → Type 0
@@ -79,8 +81,8 @@ IsInside close [] = ⊥
 IsInside l blocks = Unit {0}
 
 -- a line that the body may go on with
-abbrev pub MayInside : Build → Line → Type 0
-MayInside b l = MayStand (place_of b) l × IsInside l b.blocks
+abbrev pub MayInside : Bool → Build → Line → Type 0
+MayInside registers b l = MayStand (place_of registers b) l × IsInside l b.blocks
 
 abbrev pub built_or : Build → Option Build → Build
 built_or b None = b
@@ -107,23 +109,23 @@ before_block (Repeat count before) = before
 before_block (Each name list before) = before
 
 -- a body can be spelled inside so many blocks, so many of them `each`, and none of its blocks is too deep there
-abbrev pub FitsBody : (blocks lists : ℕ) → Code → Type 0
-FitsBody blocks lists body = IsSpelled lists body × (blocks + nesting body ≤ nesting_limit)
+abbrev pub FitsBody : Bool → (blocks lists : ℕ) → Code → Type 0
+FitsBody registers blocks lists body = IsSpelled lists body × (blocks + nesting body ≤ nesting_limit) × Takes registers body
 
 -- the first body of an `if` whose second is open
-abbrev pub FitsFirst : List Block → Block → Type 0
-FitsFirst around (Else on first before) = FitsBody (length around + 1) (lists_in around) first
-FitsFirst around block = Unit {0}
+abbrev pub FitsFirst : Bool → List Block → Block → Type 0
+FitsFirst registers around (Else on first before) = FitsBody registers (length around + 1) (lists_in around) first
+FitsFirst registers around block = Unit {0}
 
 -- each open block may stand where it does, and what was read before it and in it fits there
-abbrev pub FitsBlocks : List Block → Type 0
-FitsBlocks [] = Unit {0}
-FitsBlocks (block ∷ around) =
-    FitsBlocks around × (length around < nesting_limit) × IsSpelledLine (lists_in around) (opening block) × FitsBody (length around) (lists_in around) (before_block block) × FitsFirst around block
+abbrev pub FitsBlocks : Bool → List Block → Type 0
+FitsBlocks registers [] = Unit {0}
+FitsBlocks registers (block ∷ around) =
+    FitsBlocks registers around × (length around < nesting_limit) × IsSpelledLine (lists_in around) (opening block) × FitsBody registers (length around) (lists_in around) (before_block block) × FitsFirst registers around block
 
 -- so that what is built can always be ended
-abbrev pub FitsBuild : Build → Type 0
-FitsBuild b = FitsBlocks b.blocks × FitsBody (length b.blocks) (lists_in b.blocks) b.body
+abbrev pub FitsBuild : Bool → Build → Type 0
+FitsBuild registers b = FitsBlocks registers b.blocks × FitsBody registers (length b.blocks) (lists_in b.blocks) b.body
 
 -- The lines of a block that were read, without those of the body that is open: its first line, and for the second body of an `if` the lines of
 -- the first body and `else`.

@@ -93,15 +93,16 @@ impl Builder {
         }
     }
 
-    /// Where the next line stands.
-    pub fn place(&self) -> Place
+    /// Where the next line stands, and whether fields may be taken from registers there.
+    pub fn place(&self, registers: bool) -> Place
         requires { length self.now.blocks ≤ nesting_limit }
-        ensures { result ≡ place_of self.now }
+        ensures { result ≡ place_of registers self.now }
     {
         Place {
             blocks: self.blocks.len() as u32,
             lists: lists_in(&self.blocks),
             may_part: may_part(&self.blocks),
+            registers,
         }
     }
 

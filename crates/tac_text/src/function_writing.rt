@@ -1,9 +1,10 @@
 //! The canonical spelling of bodies and of functions.
 
-ghost use Rattle.std.specs.Prelude.{◌≡◌, ◌≤◌, ◌+◌, ◌++◌, OnOk, ℕ, IfOk, List, length, map};
+ghost use Rattle.std.specs.Prelude.{◌≡◌, ◌≤◌, ◌+◌, ◌++◌, OnOk, ℕ, IfOk, List, false, true, length, map};
 ghost use Rattle.tac_syntax.specs.Code.{nesting};
 ghost use Rattle.tac_syntax.specs.Trees.{only};
 ghost use Rattle.tac_text.specs.Spelling.{body_text, deepest, function_spelling};
+ghost use Rattle.tac_syntax.specs.FieldRegisters.{Takes};
 ghost use Rattle.tac_syntax.specs.Functions.{IsSpelledFunction};
 ghost use Rattle.tac_text.specs.FunctionLines.{FunctionAt, header_words};
 ghost use Rattle.text_lines.specs.CanonicalLines.{word_text};
@@ -74,8 +75,10 @@ fn header_words(alloc: Global, function: &Function) -> Result<Words, OutOfMemory
 pub fn write_function(alloc: Global, function: &Function) -> Result<Bytes, OutOfMemory>
     requires { IsSpelledFunction function.now }
     ensures spelled { IfOk result (λ text. text ≡ function_spelling function.now) }
-    // whatever follows it
-    ensures read_again { IfOk result (λ text. (rest : List ℕ) → FunctionAt function.now (text ++ rest) 0 (length text)) }
+    // with version 2, whatever follows it
+    ensures read_again { IfOk result (λ text. (rest : List ℕ) → FunctionAt true function.now (text ++ rest) 0 (length text)) }
+    // and with version 1, where no field is taken from a register
+    ensures read_in_first { IfOk result (λ text. Takes false function.now.body → (rest : List ℕ) → FunctionAt false function.now (text ++ rest) 0 (length text)) }
 {
     // it is at most 64, so depths can be counted
     let _nesting = function.body.depth();

@@ -1,7 +1,7 @@
 //! Functions as far as their lines were read.
 
 ghost use Rattle.std.specs.Bool.{OnFalse, OnTrue};
-ghost use Rattle.std.specs.Prelude.{◌≡◌, ◌<◌, ℕ, [], None, Some, IfErr, IfOk, OnOk, length, List};
+ghost use Rattle.std.specs.Prelude.{◌≡◌, ◌<◌, ℕ, [], None, Some, true, IfErr, IfOk, OnOk, length, List};
 ghost use Rattle.tac_syntax.specs.Code.{Line, close};
 ghost use Rattle.tac_syntax.specs.declared.functions.Kind.{Kind};
 ghost use Rattle.text_lines.specs.CanonicalLines.{AreLineWords};
@@ -35,6 +35,7 @@ pub struct OpenFunction {
 impl Model for OpenFunction {
     ghost use Rattle.tac_text.specs.FunctionStates.{coded_open, OpenData};
     ghost use Rattle.tac_text.specs.FunctionLines.{IsHeader};
+    ghost use Rattle.std.specs.Prelude.{true};
     ghost use Rattle.tac_text.specs.Places.{FitsBuild};
 
     ghost Value = { OpenData };
@@ -44,7 +45,7 @@ impl Model for OpenFunction {
     ghost view = { λ f. record { name = f.name; kind = f.kind; keys = f.keys; build = f.builder } };
 
     // so that its `end` can always follow
-    ghost invariant = { λ f. IsHeader f.name f.kind f.keys × FitsBuild f.builder };
+    ghost invariant = { λ f. IsHeader f.name f.kind f.keys × FitsBuild true f.builder };
 }
 
 fn begin(alloc: Global, words: &[LineWord]) -> Result<OpenFunction, NotRead>
@@ -90,7 +91,7 @@ fn is_end(line: &BodyLine) -> bool
 impl OpenFunction {
     // Takes a line that may follow.
     fn add(&mut self, alloc: Global, line: BodyLine) -> Result<(), OutOfMemory>
-        requires { (l : Line) × (said line ≡ Some l) × MayInside self.now.build l }
+        requires { (l : Line) × (said line ≡ Some l) × MayInside true self.now.build l }
         ensures { OnOk result ((l : Line) → said line ≡ Some l → self.new ≡ with_build self.old (built_on self.old.build l)) }
     {
         match self.builder.step(alloc, line) {
@@ -103,17 +104,22 @@ impl OpenFunction {
         }
     }
 
-    /// Takes the words of one line more, and tells whether they were the function's own `end`.
-    pub fn read_line(&mut self, alloc: Global, words: &[LineWord]) -> Result<bool, NotRead>
+    /// Takes the words of one line more, where fields may be taken from registers or may not, and tells whether they were the function's own `end`.
+    pub fn read_line(
+        &mut self,
+        alloc: Global,
+        registers: bool,
+        words: &[LineWord],
+    ) -> Result<bool, NotRead>
         requires some { 0 < length words.now }
         requires words { AreLineWords words.now }
-        ensures taken { IfOk result (λ ended. TakesWords ended words.now self.old self.new) }
-        ensures fault { IfErr result (λ e. IsFaultOf e (statement_fault (place_of self.old.build) words.now)) }
+        ensures taken { IfOk result (λ ended. TakesWords registers ended words.now self.old self.new) }
+        ensures fault { IfErr result (λ e. IsFaultOf e (statement_fault (place_of registers self.old.build) words.now)) }
         ensures unchanged { IfErr result (λ e. IsUnchanged e self.old self.new) }
-        ensures faultless_always { statement_fault (place_of self.old.build) words.now ≡ None → TellsNoFault result }
-        ensures fault_always { (what : ℕ) → statement_fault (place_of self.old.build) words.now ≡ Some what → TellsFault result what }
+        ensures faultless_always { statement_fault (place_of registers self.old.build) words.now ≡ None → TellsNoFault result }
+        ensures fault_always { (what : ℕ) → statement_fault (place_of registers self.old.build) words.now ≡ Some what → TellsFault result what }
     {
-        let line = read_statement(alloc, self.builder.place(), words)?;
+        let line = read_statement(alloc, self.builder.place(registers), words)?;
         if self.builder.is_outside() && is_end(&line) {
             return Ok(true);
         }

@@ -44,12 +44,18 @@ fn breaks_registers(stmt: &Stmt) -> bool
         Stmt::Null { to } => is_no_value(*to),
         Stmt::Mov { to, from } => is_no_value(*to) || is_no_value(*from),
         Stmt::Get { to, from, .. } => is_no_value(*to) || is_no_register_read(*from),
+        Stmt::GetAt { to, from, at } => {
+            is_no_value(*to) || is_no_register_read(*from) || is_no_value(*at)
+        }
         Stmt::Key { to, .. } => is_no_value(*to),
         Stmt::One { to, a, .. } => is_no_value(*to) || is_no_value(*a),
         Stmt::Two { to, a, b, .. } => is_no_value(*to) || is_no_value(*a) || is_no_value(*b),
         Stmt::New { to } => is_no_record(*to),
         Stmt::Copy { to, from } => is_no_record(*to) || is_no_register_read(*from),
         Stmt::Set { to, value, .. } => is_no_record(*to) || is_no_value(*value),
+        Stmt::SetAt { to, at, value } => {
+            is_no_record(*to) || is_no_value(*at) || is_no_value(*value)
+        }
         Stmt::Emit { from } => is_no_record(*from),
         Stmt::If { on, .. } => is_no_value(*on),
         Stmt::Repeat { .. } => false,
@@ -63,6 +69,7 @@ fn breaks_operands(place: Place, stmt: &Stmt) -> bool
 {
     match stmt {
         Stmt::Get { from, .. } => !has_record(place, *from),
+        Stmt::GetAt { from, .. } => !has_record(place, *from),
         Stmt::Key { .. } => !matches!(place.kind, Kind::Reduce | Kind::CoGroup),
         Stmt::Copy { from, .. } => !has_record(place, *from),
         Stmt::Each { name, list, .. } => !has_list(place, *list) || *name != place.lists + 1,

@@ -12,8 +12,10 @@ use Rattle.tac_syntax.specs.declared.statements.LoopList.{LoopList}
 use Rattle.tac_syntax.specs.declared.statements.LoopList.TheVariants.{Group, Left as LeftGroup, Right as RightGroup}
 use Rattle.tac_syntax.specs.Grammar.{IsNumber, IsLoopName, IsSpelledRecord, IsLiteral}
 use Rattle.pact_record.specs.declared.columns.Column.{Column}
-use Rattle.text_lines.specs.OperandWords.{column_text, record_word, list_word}
-use Rattle.text_lines.specs.Slots.{begins_with, column_fault, numbered_fault, register_fault, is_fixed_record, operand_fault, name_fault, is_list_word, Slot, fixed, register, operand, number, signed, text, loop, list, identifier, file_name, column, slot_fault, nothing_left, fault_then, first_fault}
+use Rattle.text_lines.specs.OperandWords.{IsSpelledField, column_text, field_text, record_word, list_word}
+use Rattle.text_lines.specs.declared.operands.FieldWord.{FieldWord}
+use Rattle.text_lines.specs.declared.operands.FieldWord.TheVariants.{Number, Register}
+use Rattle.text_lines.specs.Slots.{begins_with, column_fault, field_fault, numbered_fault, register_fault, is_fixed_record, operand_fault, name_fault, is_list_word, Slot, fixed, register, operand, number, which_field, signed, text, loop, list, identifier, file_name, column, slot_fault, nothing_left, fault_then, first_fault}
 use Rattle.text_lines.specs.Digits.{is_in_form, is_in_range, is_signed_word, told_unless}
 use Rattle.text_lines.proofs.Faultless.{by_cases, named, same_word, told_unless-none, or_else-none}
 use Rattle.text_lines.proofs.DigitWords.{are_digits-decimal, is_in_range-decimal, number_read, number_spelled, is_signed_word-signed_decimal}
@@ -63,6 +65,14 @@ operand_fault-record_word First h = refl
 pub column_fault-column_text : (field : ℕ) (text : Bool) → IsNumber field → column_fault (column_text (record { field = field; text = text })) ≡ None
 column_fault-column_text field true h = rw (number_fits field h) refl
 column_fault-column_text field false h = rw (number_fits field h) refl
+
+pub no_digit_at : (w : List ℕ) → AllDigits 10 w → begins_with (codes "@") w ≡ false
+no_digit_at [] h = refl
+no_digit_at (b ∷ bs) h = let e = digit_other b 64 bs h (inr (omega arith)) in rw e refl
+
+pub field_fault-field_text : (registers : Bool) (x : FieldWord) → IsSpelledField registers x → field_fault registers (field_text x) ≡ None
+field_fault-field_text registers (Number n) h = let other = no_digit_at (decimal n) (decimal_is_IsNumeral n (omega (arith, h))).0.1 in rw (other, number_fits n h) refl
+field_fault-field_text registers (Register n) h = rw (h.1, register_fault-letter 118 n refl h.0) refl
 
 pub is_list_word-list_word : (l : LoopList) → is_list_word (list_word l) ≡ true
 is_list_word-list_word Group = refl
@@ -139,6 +149,13 @@ pub column_spelled : (word : List ℕ) → column_fault word ≡ None → (c : C
 column_spelled word h = by_cases (begins_with (codes "text:") word) _ _ (λ begins told. column_behind (codes "text:") word 5 true refl begins told)
     (λ _ other. by_cases (begins_with (codes "int:") word) _ _ (λ begins told. column_behind (codes "int:") word 4 false refl begins told) (λ _ e. absurd cc) other) h
 
+pub field_spelled : (registers : Bool) (word : List ℕ) → field_fault registers word ≡ None → (x : FieldWord) × (word ≡ field_text x) × IsSpelledField registers x
+field_spelled registers word h = by_cases (begins_with (codes "@") word) _ _
+    (λ begins told. by_cases registers _ _
+    (λ may rest. let s = register_spelled 118 (drop 1 word) rest in (Register s.0, split_at (codes "@") word 1 begins ∙ ap (λ (w : List ℕ). 64 ∷ w) s.1, (s.3, may)))
+    (λ _ e. absurd cc) told)
+    (λ _ rest. let n = number_spelled 0 255 word (omega arith) (told_unless-none _ _ rest) in (Number n.0, n.1, n.3)) h
+
 -- ---- numbers with a sign
 
 below_minus_one : (n : ℕ) → negsuc 0 -ℤ pos n ≡ negsuc n
@@ -183,6 +200,7 @@ abbrev pub Value : Slot → Type 0
 Value (register letter) = ℕ
 Value operand = Rec
 Value (number low high) = ℕ
+Value (which_field registers) = FieldWord
 Value signed = ℤ
 Value text = List ℕ
 Value list = LoopList
@@ -196,6 +214,7 @@ word_of (fixed word) x = plain_word word
 word_of (register letter) n = plain_word (letter ∷ decimal n)
 word_of operand from = plain_word (record_word from)
 word_of (number low high) n = plain_word (decimal n)
+word_of (which_field registers) x = plain_word (field_text x)
 word_of signed z = plain_word (signed_decimal z)
 word_of text bytes = literal_word bytes
 word_of (loop name) x = plain_word (120 ∷ decimal name)
@@ -208,6 +227,7 @@ abbrev pub Fits : (slot : Slot) → Value slot → Type 0
 Fits (register letter) n = IsNumber n
 Fits operand from = IsSpelledRecord from
 Fits (number low high) n = (low ≤ n) × (n ≤ high)
+Fits (which_field registers) x = IsSpelledField registers x
 Fits signed z = FitsSigned w64 z
 Fits text bytes = IsLiteral bytes
 Fits (loop name) x = IsLoopName name
@@ -228,6 +248,7 @@ fits_slot (fixed word) x usual h = rw ((bytes_eq-Decides word word).1 refl) refl
 fits_slot (register letter) n usual h = register_fault-letter letter n (eq-eqb letter letter refl) h
 fits_slot operand from usual h = operand_fault-record_word from h
 fits_slot (number low high) n usual h = rw (is_in_range-decimal low high n h.0 h.1 (omega (arith, usual, h.1))) refl
+fits_slot (which_field registers) x usual h = field_fault-field_text registers x h
 fits_slot signed z usual h = rw (is_signed_word-signed_decimal z h) refl
 fits_slot text bytes usual h = refl
 fits_slot (loop name) x usual h = name_fault-loop_name name h
@@ -241,6 +262,7 @@ fills (fixed v) (plain_word w) usual good h = (tt, ap plain_word (same_word w v 
 fills (register letter) (plain_word w) usual good h = let s = register_spelled letter w h in (s.0, ap plain_word s.1, s.3)
 fills operand (plain_word w) usual good h = let s = operand_spelled w h in (s.0, ap plain_word s.1, s.2)
 fills (number low high) (plain_word w) usual good h = let s = number_spelled low high w usual (told_unless-none _ _ h) in (s.0, ap plain_word s.1, (s.2, s.3))
+fills (which_field registers) (plain_word w) usual good h = let s = field_spelled registers w h in (s.0, ap plain_word s.1, s.2)
 fills signed (plain_word w) usual good h = let s = signed_spelled w (told_unless-none _ _ h) in (s.0, ap plain_word s.1, s.2)
 fills text (literal_word w) usual good h = (w, refl, good)
 fills (loop name) (plain_word w) usual good h = let s = name_spelled name w h in (tt, ap plain_word s.1, s.0)
@@ -268,11 +290,16 @@ fine_column : (field : ℕ) (is_text : Bool) → IsNumber field → is_fine_word
 fine_column field true h = is_fine_word-append (codes "text:") (decimal field) refl (are_fine-word (decimal field) (fine_decimal field (omega (arith, h))))
 fine_column field false h = is_fine_word-append (codes "int:") (decimal field) refl (are_fine-word (decimal field) (fine_decimal field (omega (arith, h))))
 
+fine_field : (registers : Bool) (x : FieldWord) → IsSpelledField registers x → is_fine_word (field_text x) ≡ true
+fine_field registers (Number n) h = fine_decimal n (omega (arith, h))
+fine_field registers (Register n) h = is_fine_word-append (codes "@v") (decimal n) refl (are_fine-word (decimal n) (fine_decimal n (omega (arith, h.0))))
+
 pub fine_slot : (slot : Slot) (x : Value slot) → IsUsual slot → Fits slot x → IsFine (word_of slot x)
 fine_slot (fixed word) x usual h = usual
 fine_slot (register letter) n usual h = fine_numbered letter n usual (omega (arith, h))
 fine_slot operand from usual h = fine_record from h
 fine_slot (number low high) n usual h = fine_decimal n (omega (arith, usual, h.1))
+fine_slot (which_field registers) x usual h = fine_field registers x h
 fine_slot signed z usual h = fine_signed z h
 fine_slot text bytes usual h = h
 fine_slot (loop name) x usual h = fine_numbered 120 name refl (omega (arith, h.1))

@@ -1,7 +1,10 @@
 -- The words of operands.
-use Rattle.std.specs.Prelude.{ℕ, List, [], ◌∷◌, ◌++◌, Option, Some, None, if◌then◌else◌, codes, bytes_eq}
+use Rattle.std.specs.Prelude.{◌≡◌, ℕ, Bool, true, List, [], ◌∷◌, ◌++◌, Option, Some, None, if◌then◌else◌, codes, bytes_eq}
 use Rattle.std.specs.Fmt.{decimal}
 use Rattle.pact_record.specs.declared.columns.Column.{Column}
+use Rattle.tac_syntax.specs.Grammar.{IsNumber}
+use Rattle.text_lines.specs.declared.operands.FieldWord.{FieldWord}
+use Rattle.text_lines.specs.declared.operands.FieldWord.TheVariants.{Number, Register}
 use Rattle.tac_syntax.specs.declared.statements.Rec.{Rec}
 use Rattle.tac_syntax.specs.declared.statements.Rec.TheVariants.{Reg, Loop, Input, Left, Right, Join, First}
 use Rattle.tac_syntax.specs.declared.statements.LoopList.{LoopList}
@@ -34,6 +37,16 @@ abbrev pub list_word : LoopList → List ℕ
 list_word Group = codes "group"
 list_word LeftGroup = codes "left"
 list_word RightGroup = codes "right"
+
+-- a field is its number, or the register that has it behind `@`
+abbrev pub field_text : FieldWord → List ℕ
+field_text (Number n) = decimal n
+field_text (Register n) = codes "@" ++ value_register n
+
+-- registers tell fields only where they may
+abbrev pub IsSpelledField : Bool → FieldWord → Type 0
+IsSpelledField registers (Number n) = IsNumber n
+IsSpelledField registers (Register n) = IsNumber n × (registers ≡ true)
 
 -- a column is its field's number behind `text:` or `int:`
 abbrev pub column_text : Column → List ℕ

@@ -13,6 +13,7 @@ pub data Slot : Type 0 where
   register : (letter : ℕ) → Slot
   operand : Slot
   number : (low high : ℕ) → Slot
+  which_field : (registers : Bool) → Slot
   signed : Slot
   text : Slot
   loop : (name : ℕ) → Slot
@@ -57,9 +58,15 @@ column_fault word =
     if begins_with (codes "text:") word then told_unless (is_in_range 0 255 (drop 5 word)) 7
     else (if begins_with (codes "int:") word then told_unless (is_in_range 0 255 (drop 4 word)) 7 else Some 8)
 
+-- a field's number, or a value register behind `@` where fields may be taken from registers
+abbrev pub field_fault : Bool → List ℕ → Option ℕ
+field_fault registers word =
+    if begins_with (codes "@") word then (if registers then register_fault 118 (drop 1 word) else Some 7) else told_unless (is_in_range 0 255 word) 7
+
 -- what is told of a word of another kind
 abbrev pub other_fault : Slot → ℕ
 other_fault (number low high) = 7
+other_fault (which_field registers) = 7
 other_fault signed = 7
 other_fault identifier = 6
 other_fault file_name = 6
@@ -71,6 +78,7 @@ slot_fault (fixed w) (plain_word word) = told_unless (bytes_eq word w) 8
 slot_fault (register letter) (plain_word word) = register_fault letter word
 slot_fault operand (plain_word word) = operand_fault word
 slot_fault (number low high) (plain_word word) = told_unless (is_in_range low high word) 7
+slot_fault (which_field registers) (plain_word word) = field_fault registers word
 slot_fault signed (plain_word word) = told_unless (is_signed_word word) 7
 slot_fault (loop name) (plain_word word) = name_fault name word
 slot_fault list (plain_word word) = told_unless (is_list_word word) 8

@@ -8,14 +8,15 @@ ghost use Rattle.tac_syntax.specs.Names as names;
 ghost use Rattle.text_lines.specs.LineReading.{IsNoPlain, IsOther, ReadsEnd, ReadsNext, IsTold};
 ghost use Rattle.text_lines.specs.declared.faults.NotRead.TheVariants.{Fault};
 ghost use Rattle.text_lines.specs.LineGrammar.{literal_word, plain_word};
-ghost use Rattle.text_lines.specs.OperandWords.{column_text, list_word, loop_name, record_register, record_word, value_register};
-ghost use Rattle.text_lines.specs.Slots.{column, file_name, fixed, identifier, list, loop, number, operand, register, signed, text};
+ghost use Rattle.text_lines.specs.OperandWords.{IsSpelledField, column_text, field_text, list_word, loop_name, record_register, record_word, value_register};
+ghost use Rattle.text_lines.specs.Slots.{column, file_name, which_field, fixed, identifier, list, loop, number, operand, register, signed, text};
 ghost use mir.Syntax.{w64};
 
 use crate::faults::NotRead;
 use crate::line_words::LineWord;
 use crate::operands::{
-    column_in, list_in, name_in, number_in, operand_in, record_in, signed_in, value_in,
+    FieldWord, column_in, field_in, list_in, name_in, number_in, operand_in, record_in, signed_in,
+    value_in,
 };
 use pact_record::Column;
 use std::marker::Model;
@@ -133,6 +134,13 @@ impl<'a> Cursor<'a> {
         ensures told { IfErr result IsTold }
     {
         number_in(low, high, self.plain(7)?)
+    }
+
+    /// The field of a record.
+    pub fn field(&mut self, registers: bool) -> Result<FieldWord, NotRead>
+        ensures { ReadsNext (which_field registers) (IsSpelledField registers) (λ x. plain_word (field_text x)) result self.old self.new }
+    {
+        field_in(registers, self.plain(7)?)
     }
 
     /// A number with or without a sign.

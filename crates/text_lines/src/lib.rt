@@ -17,5 +17,5 @@ pub use cursors::Cursor;
 pub use faults::NotRead;
 pub use line_words::{LineWord, LineWords, is_word};
 pub use lines::{TextFault, first_line, line_at, trim_line};
-pub use operands::{is_in_form, is_in_range, record_in, value_in};
+pub use operands::{FieldWord, is_in_form, is_in_range, record_in, value_in};
 pub use word_reading::read_words;

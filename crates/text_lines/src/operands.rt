@@ -7,8 +7,8 @@ ghost use Rattle.text_lines.specs.Digits.{are_digits, is_in_form, is_in_range, i
 ghost use Rattle.std.specs.Fmt.{signed_decimal};
 ghost use Rattle.tac_syntax.specs.Grammar.{IsLoopName, IsNumber, IsSpelledRecord};
 ghost use Rattle.text_lines.specs.LineReading.{ReadsPlain, IsTold};
-ghost use Rattle.text_lines.specs.OperandWords.{column_text, fixed_record, list_word, loop_name, record_register, record_word, value_register};
-ghost use Rattle.text_lines.specs.Slots.{column_fault, is_list_word, name_fault, numbered_fault, operand_fault, register_fault};
+ghost use Rattle.text_lines.specs.OperandWords.{IsSpelledField, column_text, field_text, fixed_record, list_word, loop_name, record_register, record_word, value_register};
+ghost use Rattle.text_lines.specs.Slots.{column_fault, field_fault, is_list_word, name_fault, numbered_fault, operand_fault, register_fault};
 ghost use mir.Syntax.{w64};
 
 use crate::faults::NotRead;
@@ -175,6 +175,28 @@ pub fn operand_in(word: &[u8]) -> Result<Rec, NotRead>
         return Ok(Rec::Reg(numbered(b'r', 0, 255, word)?));
     }
     Ok(Rec::Loop(numbered(b'x', 1, 64, word)?))
+}
+
+/// How a statement tells the field of a record.
+#[derive(Clone, Copy, Debug, PartialEq, Eq)]
+pub enum FieldWord {
+    /// By its number.
+    Number(u32),
+    /// By the value register that has its number.
+    Register(u32),
+}
+
+/// The field of a record: its number, or a value register behind `@` where fields may be taken from registers.
+pub fn field_in(registers: bool, word: &[u8]) -> Result<FieldWord, NotRead>
+    ensures { ReadsPlain (field_fault registers word.now) (IsSpelledField registers) field_text result word.now }
+{
+    if let Some(register) = word.strip_prefix(b"@") {
+        if !registers {
+            return Err(NotRead::Fault { what: 7 });
+        }
+        return Ok(FieldWord::Register(value_in(register)?));
+    }
+    Ok(FieldWord::Number(number_in(0, 255, word)?))
 }
 
 /// A column of a source.

@@ -3,6 +3,15 @@
 use crate::run_tests::picked_alike;
 use std::test::Fail;
 
+const ASKED_CSV: &str = "north,2,ann
+south,2,ann
+south,3,ben
+west,4,ann
+west,9,ann
+north,,ann
+east,1,ann
+";
+
 const BASKET_CSV: &str = "tea,3,425
 milk,2,119
 bread,1,349
@@ -178,6 +187,7 @@ const M_CSV: &str = ",9
 const MEMBERS_CSV: &str = "1,Ann
 2,Bob
 3,Cleo
+,Eve
 ";
 
 const N_CSV: &str = ",5
@@ -203,6 +213,11 @@ const PRICES_CSV: &str = "1,tea,320
 3,tea,300
 3,bread,450
 3,milk,170
+";
+
+const QUARTERS_CSV: &str = "north,10,12,8,15
+south,7,,9,4
+west,20,18,22,19
 ";
 
 const S_CSV: &str = "1,5
@@ -284,6 +299,7 @@ const VISITS_CSV: &str = "1,10
 1,12
 3,7
 9,8
+,5
 ";
 
 const ANTI_JOIN_PACT: &str = "pact 1
@@ -292,7 +308,9 @@ source member members.csv int:0 text:1
 source visit visits.csv int:2 int:3
 function unknown cogroup 1
   v0 = int 0
-  v1 = int 1
+  v1 = key 0
+  v1 = isnull v1
+  v1 = not v1             # Null has a group, but no partner
   each x1 of right
     v0 = max v0 v1        # 1 where there is a visit
   end
@@ -501,6 +519,82 @@ map taxed tax item
 sink taxed 0 3 4 5
 ";
 
+const DISCOUNT_PACT: &str = "pact 2
+fields 128
+source sold sold.csv int:65 text:3 int:127
+source prices prices.csv int:64 text:66 int:2
+source percent sizes.csv int:100
+source shops shops.csv int:63 text:126
+function pair match
+  r0 = copy join
+  emit r0
+end
+function some map
+  v0 = get in 127
+  v1 = int 0
+  v2 = lt v1 v0
+  if v2
+    r0 = copy in
+    emit r0
+  end
+end
+function cut cross
+  v0 = get left 127
+  v1 = get left 2
+  v2 = mul v0 v1
+  v3 = int 100
+  v4 = get right 100
+  v5 = sub v3 v4
+  v6 = mul v2 v5
+  r0 = copy join
+  set r0 120 v6
+  emit r0
+end
+function total reduce 2
+  v0 = int 0
+  each x1 of group
+    v1 = get x1 120
+    v0 = addw v0 v1
+  end
+  v1 = int 100
+  v0 = div v0 v1
+  r0 = new
+  v2 = key 0
+  set r0 65 v2
+  v2 = key 1
+  set r0 100 v2
+  set r0 1 v0
+  emit r0
+end
+function placed cogroup 1
+  each x1 of left
+    each x2 of right
+      r0 = copy x1
+      v0 = get x2 126
+      set r0 126 v0
+      emit r0
+    end
+  end
+end
+function other map
+  v0 = get in 65
+  v1 = int 2
+  v2 = eq v0 v1
+  v3 = not v2
+  if v3
+    r0 = copy in
+    emit r0
+  end
+end
+match priced pair sold prices by 65 3 = 64 66
+map positive some priced
+cross reduced cut positive percent
+reduce taken total reduced by 65 100
+cogroup named placed taken shops by 65 = 63
+map open other named
+sink open 126 100 1
+";
+
 const DISTINCT_PACT: &str = "pact 1
 fields 3
 source sale sales.csv text:0 int:1 int:2
@@ -603,7 +697,9 @@ source visit visits.csv int:2 int:3
 function full cogroup 1
   v0 = int 0
   v1 = int 0
-  v2 = int 1
+  v2 = key 0
+  v2 = isnull v2
+  v2 = not v2             # Null has a group, but no partner
   each x1 of left
     v0 = max v0 v2        # 1 where there is a member
   end
@@ -623,7 +719,7 @@ function full cogroup 1
       end
     end
   else
-    # one of the two has no record
+    # one of the two has no record, or nobody is known
     each x1 of left
       r0 = copy x1
       emit r0
@@ -664,6 +760,18 @@ function greet map
 end
 map g greet people
 sink g 3 0 1
+";
+
+const INNER_JOIN_PACT: &str = "pact 2
+fields 4
+source member members.csv int:0 text:1
+source visit visits.csv int:2 int:3
+function pair match
+  r0 = copy join
+  emit r0
+end
+match seen pair member visit by 0 = 2
+sink seen 0 1 3
 ";
 
 const JOIN_PACT: &str = "pact 1
@@ -750,6 +858,18 @@ match g jn s t by 0 = 2
 sink g 1 3
 ";
 
+const NULL2_PACT: &str = "pact 2
+fields 6
+source s n.csv int:0 int:1
+source t n.csv int:2 int:3
+function jn match
+  r0 = copy join
+  emit r0
+end
+match g jn s t by 0 1 = 2 3
+sink g 0 1 2 3
+";
+
 const ODD_PACT: &str = "pact 1
 fields 4
 source s s1.csv int:0 int:1
@@ -781,7 +901,9 @@ source member members.csv int:0 text:1
 source visit visits.csv int:2 int:3
 function outer cogroup 1
   v0 = int 0
-  v1 = int 1
+  v1 = key 0
+  v1 = isnull v1
+  v1 = not v1             # Null has a group, but no partner
   each x1 of right
     v0 = max v0 v1        # 1 where there is a visit
   end
@@ -872,6 +994,31 @@ end
 reduce r sum s by 0
 map m one r
 sink m 0 2
+";
+
+const QUARTER_PACT: &str = "pact 2
+fields 9
+source sold quarters.csv text:0 int:1 int:2 int:3 int:4
+source asked asked.csv text:5 int:6 text:7
+function pick match
+  r0 = copy join
+  v0 = get right 6
+  v1 = get left @v0     # Null where no field has this number
+  set r0 8 v1
+  emit r0
+end
+function of_ann map
+  v0 = get in 7
+  v1 = text \"ann\"
+  v2 = eq v0 v1
+  if v2
+    r0 = copy in
+    emit r0
+  end
+end
+match picked pick sold asked by 0 = 5
+map mine of_ann picked
+sink mine 5 6 8
 ";
 
 const REVENUE_PACT: &str = "pact 1
@@ -972,7 +1119,9 @@ source member members.csv int:0 text:1
 source visit visits.csv int:2 int:3
 function known cogroup 1
   v0 = int 0
-  v1 = int 1
+  v1 = key 0
+  v1 = isnull v1
+  v1 = not v1             # Null has a group, but no partner
   each x1 of right
     v0 = max v0 v1        # 1 where there is a visit
   end
@@ -1137,6 +1286,19 @@ cogroup all both member guest by 0 = 2
 sink all 0 1
 ";
 
+const WIDE_PACT: &str = "pact 2
+fields 128
+source s s.csv int:0 int:127
+function wide map
+  r0 = copy in
+  v0 = get in 127
+  set r0 100 v0
+  emit r0
+end
+map m wide s
+sink m 0 100 127
+";
+
 #[test]
 fn programs_from_anti_join(rt: HostRuntime) -> Result<(), Fail> {
     let alloc = rt.alloc();
@@ -1161,46 +1323,62 @@ fn programs_from_count(rt: HostRuntime) -> Result<(), Fail> {
 fn programs_from_decimals(rt: HostRuntime) -> Result<(), Fail> {
     let alloc = rt.alloc();
     assert!(rt; picked_alike(alloc, DECIMALS_PACT, &[BASKET_CSV])?);
+    assert!(rt;
+        picked_alike(
+            alloc,
+            DISCOUNT_PACT,
+            &[SOLD_CSV, PRICES_CSV, SIZES_CSV, SHOPS_CSV]
+        )?
+    );
     assert!(rt; picked_alike(alloc, DISTINCT_PACT, &[SALES_CSV])?);
     assert!(rt; picked_alike(alloc, DRILL_PACT, &[DRILL_CSV])?);
-    assert!(rt; picked_alike(alloc, FILTER_PACT, &[S_CSV])?);
     Ok(())
 }
 
 #[test]
-fn programs_from_five(rt: HostRuntime) -> Result<(), Fail> {
+fn programs_from_filter(rt: HostRuntime) -> Result<(), Fail> {
     let alloc = rt.alloc();
+    assert!(rt; picked_alike(alloc, FILTER_PACT, &[S_CSV])?);
     assert!(rt; picked_alike(alloc, FIVE_PACT, &[S_CSV, T_CSV])?);
     assert!(rt; picked_alike(alloc, FLAG_PACT, &[S_CSV])?);
     assert!(rt; picked_alike(alloc, FULL_JOIN_PACT, &[MEMBERS_CSV, VISITS_CSV])?);
-    assert!(rt; picked_alike(alloc, GREET_PACT, &[NAMES_CSV])?);
     Ok(())
 }
 
 #[test]
-fn programs_from_join(rt: HostRuntime) -> Result<(), Fail> {
+fn programs_from_greet(rt: HostRuntime) -> Result<(), Fail> {
     let alloc = rt.alloc();
+    assert!(rt; picked_alike(alloc, GREET_PACT, &[NAMES_CSV])?);
+    assert!(rt; picked_alike(alloc, INNER_JOIN_PACT, &[MEMBERS_CSV, VISITS_CSV])?);
     assert!(rt; picked_alike(alloc, JOIN_PACT, &[S1_CSV, T_CSV])?);
     assert!(rt; picked_alike(alloc, JOIN3_PACT, &[S1_CSV, T_CSV, U_CSV])?);
-    assert!(rt; picked_alike(alloc, MINIMUM_PACT, &[SALES_CSV])?);
-    assert!(rt; picked_alike(alloc, NOTES_PACT, &[S_CSV])?);
     Ok(())
 }
 
 #[test]
-fn programs_from_null(rt: HostRuntime) -> Result<(), Fail> {
+fn programs_from_minimum(rt: HostRuntime) -> Result<(), Fail> {
     let alloc = rt.alloc();
+    assert!(rt; picked_alike(alloc, MINIMUM_PACT, &[SALES_CSV])?);
+    assert!(rt; picked_alike(alloc, NOTES_PACT, &[S_CSV])?);
     assert!(rt; picked_alike(alloc, NULL_PACT, &[N_CSV, M_CSV])?);
+    assert!(rt; picked_alike(alloc, NULL2_PACT, &[N_CSV, N_CSV])?);
+    Ok(())
+}
+
+#[test]
+fn programs_from_odd(rt: HostRuntime) -> Result<(), Fail> {
+    let alloc = rt.alloc();
     assert!(rt; picked_alike(alloc, ODD_PACT, &[S1_CSV])?);
     assert!(rt; picked_alike(alloc, OUTER_JOIN_PACT, &[MEMBERS_CSV, VISITS_CSV])?);
     assert!(rt; picked_alike(alloc, PIVOT_PACT, &[SALES_CSV])?);
+    assert!(rt; picked_alike(alloc, PUSH_PACT, &[H_CSV])?);
     Ok(())
 }
 
 #[test]
-fn programs_from_push(rt: HostRuntime) -> Result<(), Fail> {
+fn programs_from_quarter(rt: HostRuntime) -> Result<(), Fail> {
     let alloc = rt.alloc();
-    assert!(rt; picked_alike(alloc, PUSH_PACT, &[H_CSV])?);
+    assert!(rt; picked_alike(alloc, QUARTER_PACT, &[QUARTERS_CSV, ASKED_CSV])?);
     assert!(rt; picked_alike(alloc, REVENUE_PACT, &[SOLD_CSV, PRICES_CSV, SHOPS_CSV])?);
     assert!(rt; picked_alike(alloc, RUNNING_TOTAL_PACT, &[SALES_CSV])?);
     assert!(rt; picked_alike(alloc, SELF_JOIN_PACT, &[STAFF_CSV, STAFF_CSV])?);
@@ -1224,5 +1402,12 @@ fn programs_from_top(rt: HostRuntime) -> Result<(), Fail> {
     assert!(rt; picked_alike(alloc, TOTAL_PACT, &[S_CSV])?);
     assert!(rt; picked_alike(alloc, TWICE_PACT, &[D_CSV])?);
     assert!(rt; picked_alike(alloc, UNION_PACT, &[MEMBERS_CSV, GUESTS_CSV])?);
+    Ok(())
+}
+
+#[test]
+fn programs_from_wide(rt: HostRuntime) -> Result<(), Fail> {
+    let alloc = rt.alloc();
+    assert!(rt; picked_alike(alloc, WIDE_PACT, &[S_CSV])?);
     Ok(())
 }

@@ -3,6 +3,7 @@
 ghost use Rattle.std.specs.Prelude.{◌≡◌, ◌≤◌, ◌<◌, IfOk};
 ghost use Rattle.std.specs.List.{AllByRecursion};
 ghost use Rattle.pact_bag.specs.SourceRows.{AreSourceRows};
+ghost use Rattle.pact_record.specs.declared.records.TheConstants.{MAX_FIELDS};
 ghost use Rattle.pact_operators.specs.Inputs.{AreInputsOf};
 ghost use Rattle.pact_operators.specs.PlanOps.{is_source_kind};
 ghost use Rattle.pact_operators.specs.Programs.{AreNames, AreValidated, NamesDiffer};
@@ -60,7 +61,7 @@ fn rows_of(
     columns: &Columns,
     fields: u32,
 ) -> Result<Rows, Fail>
-    requires fields { fields ≤ 64 }
+    requires fields { fields ≤ MAX_FIELDS }
     requires columns { AllByRecursion (λ column. column.field < fields) columns.now }
     ensures { IfOk result (AreSourceRows fields columns.now) }
 {

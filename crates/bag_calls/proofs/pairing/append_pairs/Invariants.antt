@@ -7,5 +7,5 @@ use Rattle.bag_calls.proofs.pairing.append_pairs.Given as goal
 
 abbrev pub invariant-loop-right : goal.invariant-loop-right
 invariant-loop-right l =
-    (l.out ≡ l.initial.out ++ flat_map (matched (λ left right. Out l.f.fields l.f.function.body (of_pair left right)) l.left_keys l.right_keys l.left) (take l.right-index l.right-items))
+    (l.out ≡ l.initial.out ++ flat_map (matched l.nulls (λ left right. Out l.f.fields l.f.function.body (of_pair left right)) l.left_keys l.right_keys l.left) (take l.right-index l.right-items))
     × AreWide l.f.fields l.out

@@ -6,5 +6,5 @@ use Rattle.bag_calls.proofs.pairing.match_rows.Given as goal
 
 abbrev pub invariant-loop-left : goal.invariant-loop-left
 invariant-loop-left l =
-    (l.out ≡ crossed (matched (λ left right. Out l.f.fields l.f.function.body (of_pair left right)) l.left_keys l.right_keys) (take l.left-index l.left-items) l.rights)
+    (l.out ≡ crossed (matched l.nulls (λ left right. Out l.f.fields l.f.function.body (of_pair left right)) l.left_keys l.right_keys) (take l.left-index l.left-items) l.rights)
     × AreWide l.f.fields l.out

@@ -19,6 +19,7 @@ returns c =
       called = c.in_ok-called.ensures;
       left_keys = sym (ap left_keys_in found);
       right_keys = sym (ap right_keys_in found);
+      nulls = c.nulls_match.ensures;
       fields = c.fields.ensures.fields;
       worker = refl;
       workers = c.workers.ensures.workers;

@@ -9,7 +9,7 @@ use Rattle.plan_enumerate.proofs.choosing.cheapest_at.Goals as goal
 pub cheapest-requires-clause-of : goal.cheapest-requires-clause-of
 cheapest-requires-clause-of c = c.requires.of c.at.result.plan (plan_listed c.args.entries.now c.args.entry c.at.result c.at.ensures)
 
-pub returns : goal.returns
-returns c =
+pub returns-clause-least : goal.returns-clause-least
+returns-clause-least c =
     subst (λ (t : PlanTree). IsLeastBelow (layout_cost c.args.program.now c.args.counts.now c.args.workers t) (layout_count c.args.program.now.ops) c.cheapest.result.layout c.cheapest.result.cost)
-    (sym (plan_there c.args.entries.now c.args.entry c.at.result c.at.ensures)) c.cheapest.ensures
+    (sym (plan_there c.args.entries.now c.args.entry c.at.result c.at.ensures)) c.cheapest.ensures.least

@@ -8,3 +8,6 @@ cheapest_at-first-requires-clause-of c = λ t listed. c.requires.of t (subst (λ
 
 pub cheapest_at-next-requires-clause-of : goal.cheapest_at-next-requires-clause-of
 cheapest_at-next-requires-clause-of c = λ t listed. c.requires.of t (subst (λ (es : List Entry). IsListed t es) c.entries-entries.ensures.entries listed)
+
+pub cheapest_at-first-requires-clause-seen : goal.cheapest_at-first-requires-clause-seen
+cheapest_at-first-requires-clause-seen c = c.nothing-seen.ensures c.args.program.now

@@ -1,11 +1,15 @@
 use Rattle.std.proofs.Common.{◌≡◌, [], arith}
 use Rattle.std.proofs.lemmas.List.{nil_from_length}
 use Rattle.program_text.specs.ProgramStates.{state_of}
+use Rattle.program_text.proofs.ProgramReads.{version_of_run}
 use Rattle.program_text.proofs.ReadLoop.{reached_start, reached_on, told_fault, not_given, read_so}
 use Rattle.program_text.proofs.program_reading.read_program.Goals as goal
 
 pub loop-rest-init : goal.loop-rest-init
 loop-rest-init c = reached_start c.args.text.now
+
+pub read_line-requires : goal.read_line-requires
+read_line-requires c = version_of_run (state_of c.loop-rest.state) c.loop-rest.invariant.front c.loop-rest.invariant.run
 
 pub returns-in-Err-clause-fault : goal.returns-in-Err-clause-fault
 returns-in-Err-clause-fault c =

@@ -5,4 +5,4 @@ use Rattle.program_text.proofs.program_writing.write_program.Given as goal
 
 abbrev pub invariant-loop-decl : goal.invariant-loop-decl
 invariant-loop-decl l =
-    (l.out ++ flat_map (decl_spelling l.functions) (drop l.decl-index l.decl-items) ≡ program_spelling l.draft) × AllByRecursion (CanWrite l.functions) (drop l.decl-index l.decl-items)
+    (l.out ++ flat_map (decl_spelling l.functions) (drop l.decl-index l.decl-items) ≡ program_spelling l.draft) × AllByRecursion (CanWrite l.draft.version l.functions) (drop l.decl-index l.decl-items)

@@ -7,7 +7,7 @@ use Rattle.slow_eval.proofs.evaluating.over_two.Goals as goal
 pub returns-in-Match-clause-given : goal.returns-in-Match-clause-given
 returns-in-Match-clause-given c =
     let called = called_from c.args.program.now c.args.at 1 c.ops.result.now c.functions.result.now c.index-ops-at.result c.index-functions-op.result c.fields-kept.ensures.keeps c.ops.ensures.ops c.functions.ensures.functions c.requires.takes c.index-ops-at.is c.index-functions-op.is in
-    IfOk-weaker c.match_rows.result _ _ (λ out e inputs. gives_match c.args.program.now inputs c.args.at c.index-ops-at.result c.index-functions-op.result c.args.lefts.now c.args.rights.now out called c.in-Match.is e) c.match_rows.ensures.given
+    IfOk-weaker c.match_rows.result _ _ (λ out e inputs. gives_match c.args.program.now inputs c.nulls_match.result c.args.at c.index-ops-at.result c.index-functions-op.result c.args.lefts.now c.args.rights.now out c.nulls_match.ensures called c.in-Match.is e) c.match_rows.ensures.given
 
 pub returns-in-Match-clause-widths : goal.returns-in-Match-clause-widths
 returns-in-Match-clause-widths c =

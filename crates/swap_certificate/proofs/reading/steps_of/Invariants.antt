@@ -5,4 +5,4 @@ use Rattle.swap_certificate.specs.Shape.{MayBeStep, step_data}
 use Rattle.swap_certificate.proofs.reading.steps_of.Given as goal
 
 abbrev pub invariant-loop-item : goal.invariant-loop-item
-invariant-loop-item l = AllByRecursion MayBeStep l.steps × (map view (take l.item-index l.items) ≡ map step_data l.steps)
+invariant-loop-item l = AllByRecursion (MayBeStep l.limit) l.steps × (map view (take l.item-index l.items) ≡ map step_data l.steps)

@@ -28,7 +28,7 @@ pub returns-clause-sets : goal.returns-clause-sets
 returns-clause-sets c = found_is c
 
 pub returns-clause-touched : goal.returns-clause-touched
-returns-clause-touched c = answered_touched c.found.result c.args.f.now.function.body c.named.result c.found.ensures.touched c.named.ensures
+returns-clause-touched c = answered_touched c.found.result c.args.f.now.fields c.args.f.now.function.body c.named.result c.found.ensures.touched c.named.ensures
 
 pub returns-clause-left_keys : goal.returns-clause-left_keys
 returns-clause-left_keys c = answered_left_keys c.args.f.now (valid c) c.args.context.now c.requires (found_of c.found.result) (found_is c)

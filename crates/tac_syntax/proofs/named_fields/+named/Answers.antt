@@ -1,6 +1,5 @@
 use Rattle.std.proofs.Common.{rules, arith, ◌<◌, ◌+◌, ◌*◌, ◌⊎◌, ◌↔◌, IsTrue, drop, inl, inr, refl, ap, subst, sym}
 use Rattle.pact_record.specs.FieldSets.{has_field}
-use Rattle.pact_record.specs.declared.records.TheConstants.{MAX_FIELDS}
 use Rattle.tac_syntax.specs.declared.statements.Stmt.{Stmt}
 use Rattle.tac_syntax.specs.Bounded.{Names, NamesBelow}
 use Rattle.tac_syntax.specs.Code.{Code}
@@ -12,28 +11,28 @@ use Rattle.tac_syntax.proofs.named_fields.+named.Goals as goal
 
 pub named_by-with-requires : goal.named_by-with-requires
 named_by-with-requires t c =
-    let below = subst (λ (s : Stmt). NamesBelow MAX_FIELDS (only s)) c.in-Set.is c.requires in
-    below c.in-Set.field (inl refl)
+    let below = subst (λ (s : Stmt). NamesBelow c.args.fields (only s)) c.in-Set.is c.requires.below in
+    omega (arith, below c.in-Set.field (inl refl), c.requires.fields)
 
 pub named_by-named_in-requires : goal.named_by-named_in-requires
 named_by-named_in-requires t c =
-    let below = subst (λ (s : Stmt). NamesBelow MAX_FIELDS (only s)) c.in-If.is c.requires in
-    let inside : NamesBelow MAX_FIELDS c.in-If.body = λ k named. below k (inl named) in
-    search (rules, inside)
+    let below = subst (λ (s : Stmt). NamesBelow c.args.fields (only s)) c.in-If.is c.requires.below in
+    let inside : NamesBelow c.args.fields c.in-If.body = λ k named. below k (inl named) in
+    search (rules, inside, c.requires.fields)
 
 pub named_by-named_in-requires-in-If : goal.named_by-named_in-requires-in-If
 named_by-named_in-requires-in-If t c =
-    let below = subst (λ (s : Stmt). NamesBelow MAX_FIELDS (only s)) c.in-If.is c.requires in
-    let inside : NamesBelow MAX_FIELDS c.in-If.other = λ k named. below k (inr (inl named)) in
-    search (rules, inside)
+    let below = subst (λ (s : Stmt). NamesBelow c.args.fields (only s)) c.in-If.is c.requires.below in
+    let inside : NamesBelow c.args.fields c.in-If.other = λ k named. below k (inr (inl named)) in
+    search (rules, inside, c.requires.fields)
 
 pub named_by-named_in-requires-in-Repeat : goal.named_by-named_in-requires-in-Repeat
 named_by-named_in-requires-in-Repeat t c =
-    let inside : NamesBelow MAX_FIELDS c.in-Repeat.body = λ k named. elim c.in-Repeat.is [
-      | inl turns ↦ subst (λ (s : Stmt). NamesBelow MAX_FIELDS (only s)) turns.1 c.requires k (inl named)
-      | inr over ↦ subst (λ (s : Stmt). NamesBelow MAX_FIELDS (only s)) over.2 c.requires k (inl named)
+    let inside : NamesBelow c.args.fields c.in-Repeat.body = λ k named. elim c.in-Repeat.is [
+      | inl turns ↦ subst (λ (s : Stmt). NamesBelow c.args.fields (only s)) turns.1 c.requires.below k (inl named)
+      | inr over ↦ subst (λ (s : Stmt). NamesBelow c.args.fields (only s)) over.2 c.requires.below k (inl named)
     ] in
-    search (rules, inside)
+    search (rules, inside, c.requires.fields)
 
 pub named_in-named_by-requires : goal.named_in-named_by-requires
 named_in-named_by-requires t c =
@@ -45,10 +44,10 @@ named_in-named_by-requires t c =
     let smaller : 2 * tall (only stmt) < 2 * tall c.args.body.now + 1 =
     omega (arith, found, whole, tall-only-le stmts at stmt c.loop-stmt-test.true) in
     let rest = code_of-drop stmts at stmt c.loop-stmt-test.true c.stmt-item.is in
-    let below : NamesBelow MAX_FIELDS (only stmt) = λ k named.
-    let here = subst (Names k) (sym rest) ((Names-onto k (statement_of stmt) (code_of (drop (at + 1) stmts))).1 (inl named)) in
-    c.requires k (subst (Names k) c.stmts-stmt-items.ensures ((c.loop-stmt.invariant k).0 (inr here))) in
-    search (rules, smaller, below)
+    let below : NamesBelow c.args.fields (only stmt) = λ k named.
+    let here = subst (Names c.args.fields k) (sym rest) ((Names-onto c.args.fields k (statement_of stmt) (code_of (drop (at + 1) stmts))).1 (inl named)) in
+    c.requires.below k (subst (Names c.args.fields k) c.stmts-stmt-items.ensures ((c.loop-stmt.invariant k).0 (inr here))) in
+    search (rules, smaller, below, c.requires.fields)
 
 pub named_in-loop-stmt-preserved : goal.named_in-loop-stmt-preserved
 named_in-loop-stmt-preserved t c k =
@@ -57,5 +56,5 @@ named_in-loop-stmt-preserved t c k =
     let at = c.loop-stmt.stmt-index in
     let rest = code_of-drop stmts at stmt c.loop-stmt-test.true c.stmt-item.is in
     let old = c.loop-stmt.found in
-    let before = subst (λ (b : Code). (IsTrue (has_field old k) ⊎ Names k b) ↔ Names k (code_of stmts)) rest (c.loop-stmt.invariant k) in
-    found_more old c.named_by.result c.union-found.result k (statement_of stmt) (code_of (drop (at + 1) stmts)) (code_of stmts) before (c.named_by.ensures k) (c.union-found.ensures k)
+    let before = subst (λ (b : Code). (IsTrue (has_field old k) ⊎ Names c.args.fields k b) ↔ Names c.args.fields k (code_of stmts)) rest (c.loop-stmt.invariant k) in
+    found_more c.args.fields old c.named_by.result c.union-found.result k (statement_of stmt) (code_of (drop (at + 1) stmts)) (code_of stmts) before (c.named_by.ensures k) (c.union-found.ensures k)

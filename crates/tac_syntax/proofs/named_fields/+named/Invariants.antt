@@ -12,4 +12,4 @@ abbrev pub decreases-named_by : goal.decreases-named_by
 decreases-named_by l = 2 * tall (only l.stmt.now)
 
 abbrev pub invariant-named_in-loop-stmt : goal.invariant-named_in-loop-stmt
-invariant-named_in-loop-stmt l = (k : ℕ) → (IsTrue (has_field l.found k) ⊎ Names k (code_of (drop l.stmt-index l.stmt-items))) ↔ Names k (code_of l.stmt-items)
+invariant-named_in-loop-stmt l = (k : ℕ) → (IsTrue (has_field l.found k) ⊎ Names l.fn.fields k (code_of (drop l.stmt-index l.stmt-items))) ↔ Names l.fn.fields k (code_of l.stmt-items)

@@ -1,11 +1,19 @@
-use Rattle.std.proofs.Common.{sym, ◌∙◌}
+use Rattle.std.proofs.Common.{subst, sym, ◌∙◌}
 use Rattle.std.proofs.lemmas.Result.{on_ok_weaker}
 use Rattle.flow_model.specs.declared.notes.Note.TheVariants.{Batch}
+use Rattle.pact_operators.specs.Allowed.{Bag}
+use Rattle.flow_instance.specs.Keeping.{IsKept}
+use Rattle.flow_instance.proofs.KeptRecords.{all_chosen}
 use Rattle.flow_instance.proofs.TakenNotes.{takes_given, takes_right, took_pair}
 use Rattle.flow_instance.proofs.states.State.take_right.Goals as goal
 
 pub returns : goal.returns
-returns g c = on_ok_weaker c.keep.result (λ k. takes_right g.L.Local.rows g.L.Local.key_fields g.L.Local.is_sealed c.args.self.now c.args.rows c.keep.new.kept c.requires.ready (sym c.pairs.ensures ∙ c.if-pairs.false) k) c.keep.ensures
+returns g c =
+    let p = c.args.self.now.part in
+    on_ok_weaker c.keep.result
+    (λ k. takes_right g.L.Local.rows g.L.Local.key_fields g.L.Local.is_sealed c.args.self.now c.args.rows c.keep.new.kept c.requires.ready (sym c.pairs.ensures ∙ c.if-pairs.false)
+    (subst (λ (more : Bag). IsKept g.L.Local.rows g.L.Local.key_fields g.L.Local.is_sealed p.fields more c.args.self.now.right c.keep.new.kept) (all_chosen p.right_keys c.args.rows) k))
+    c.keep.ensures
 
 pub returns-then-pairs : goal.returns-then-pairs
 returns-then-pairs g c = on_ok_weaker c.give.result (λ h from.

@@ -1,0 +1,90 @@
+//! What was found of operators in the plans before.
+
+ghost use Rattle.std.specs.Prelude.{◌≡◌, ◌+◌, ◌%◌, ◌^◌, slice_get, slice_set};
+ghost use Rattle.pact_operators.specs.Programs.{ProgramData, is_operator_kind};
+ghost use Rattle.ship_strategy.specs.Seen.{AreTold, first_seen, is_row_with, row_with};
+
+use crate::tables::{OpFacts, Table};
+use pact_operators::OpKind;
+use pact_record::Fields;
+
+// In the order of a list of plans most operators stand in a context that some of the plans shortly before gave them, too.
+const REMEMBERED: usize = 4;
+
+/// What was found of the operators of the plans asked for last. Plans that exchanges lead to have an operator in far fewer contexts than places, and
+/// the analysis of a function may take long.
+#[derive(Clone, Copy, Debug)]
+pub struct Seen {
+    tables: [Table; REMEMBERED],
+    // how many were put, which tells the oldest one's place
+    turn: usize,
+}
+
+fn is_operator(kind: OpKind) -> bool
+    ensures { result ≡ is_operator_kind kind }
+{
+    match kind {
+        OpKind::Source => false,
+        _ => true,
+    }
+}
+
+fn is_row_with(x: &OpFacts, left: Fields, right: Fields) -> bool
+    ensures { result ≡ is_row_with left right x.now }
+{
+    is_operator(x.kind) && x.left == left && x.right == right
+}
+
+fn row_with(table: &Table, at: u32, left: Fields, right: Fields) -> Option<OpFacts>
+    ensures { result ≡ row_with left right (slice_get table.now.nodes at) }
+{
+    match table.nodes.get(at as usize) {
+        Some(x) => {
+            if is_row_with(x, left, right) {
+                return Some(*x);
+            }
+            None
+        }
+        None => None,
+    }
+}
+
+// The first of the tables' rows with that number, of an operator whose inputs had these attributes.
+fn first_seen(tables: &[Table], at: u32, left: Fields, right: Fields) -> Option<OpFacts>
+    ensures { result ≡ first_seen tables.now at left right }
+{
+    for table in tables {
+        if let Some(x) = row_with(table, at, left, right) {
+            return Some(x);
+        }
+    }
+    None
+}
+
+impl Seen {
+    /// Where no plan was asked for yet.
+    pub fn nothing() -> Seen
+        ensures { (p : ProgramData) → AreTold p result.tables }
+    {
+        Seen {
+            tables: [Table::blank(); REMEMBERED],
+            turn: 0,
+        }
+    }
+
+    // What was found of the operator of this number, where its inputs had these attributes.
+    pub(crate) fn row(&self, at: u32, left: Fields, right: Fields) -> Option<OpFacts>
+        ensures { result ≡ first_seen self.now.tables at left right }
+    {
+        first_seen(&self.tables, at, left, right)
+    }
+
+    // Puts a plan's table in the place of the oldest one.
+    pub(crate) fn keep(&mut self, table: &Table)
+        ensures tables { self.new.tables ≡ slice_set self.old.tables (self.old.turn % 4) table.now }
+        ensures turn { self.new.turn ≡ (self.old.turn + 1) % 2 ^ 64 }
+    {
+        self.tables[self.turn % REMEMBERED] = *table;
+        self.turn = self.turn.wrapping_add(1);
+    }
+}
