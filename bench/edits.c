@@ -332,6 +332,8 @@ static char *const *options_drawn(void)
         words[count++] = "--plans";
         words[count++] = numbers[below(5)];
     }
+    if (below(2) == 0)
+        words[count++] = "--combine";
     words[count] = NULL;
     return words;
 }

@@ -67,6 +67,12 @@ for name in a=b -; do
 done
 count draws 0 expected/shop.counts.dot /dev/null expected/shop.plan "--counts=$scratch/counts_of/a=b"
 
+# Of a run with partial groups it stands on a reduce's arrow how many came along it.
+{ cat "$scratch/shop.counts" && echo 'r partials 3'; } >"$scratch/partials.counts"
+sed '/"j" -> "r"/s/counted [0-9]*\\l/&\&#160;partials 3\\l/' expected/shop.counts.dot >"$scratch/partials.dot"
+count test "$(grep -c 'partials 3' "$scratch/partials.dot")" = 1
+count draws 0 "$scratch/partials.dot" /dev/null expected/shop.plan --counts "$scratch/partials.counts"
+
 # Each row has what sed does to the counts, and the line that is told.
 while IFS='|' read -r change told; do
     sed "$change" "$scratch/shop.counts" >"$scratch/counts"
@@ -79,6 +85,9 @@ s/^o out/x out/|the counts name x, which is not in the plan
 /^r/d|the counts lack r
 d|the counts lack r
 p|the counts name c twice
+$a o partials 3|the counts name partials of o, which is no reduce of the plan
+$a x partials 3|the counts name partials of x, which is no reduce of the plan
+$a r partials 3\nr partials 3|the counts name partials of r twice
 3s/ out.*//|line 3 of the counts is no line of counts
 $s/$/ /|line 5 of the counts is no line of counts
 END

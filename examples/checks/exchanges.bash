@@ -211,7 +211,7 @@ count past_side right 'C4 not-anchored' high both '0 = 2'
 count refused 'C4 key-group' "${one}function cnt reduce 1\n  v0 = int 0\n  v1 = int 1\n  each x1 of group\n    v0 = addw v0 v1\n  end\n  each x1 of group\n    r0 = copy x1\n    set r0 4 v0\n    emit r0\n  end\nend\nreduce r cnt s by 0\nmap m low r\nsink m 0 1 4\n" m map-reduce
 
 # ---- where rules have a place: all of the rules that are no C1 at an operator
-rules='map-map map-left map-left-up map-right map-right-up rotate rotate-up map-reduce map-reduce-up map-cogroup-left map-cogroup-left-up map-cogroup-right map-cogroup-right-up'
+rules='map-map map-left map-left-up map-right map-right-up rotate rotate-up map-reduce map-reduce-up map-cogroup-left map-cogroup-left-up map-cogroup-right map-cogroup-right-up reduce-match-left reduce-match-left-up reduce-match-right reduce-match-right-up'
 places() { # rules, declarations, operator
     local rule words=
     for rule in $rules; do

@@ -180,7 +180,7 @@ while IFS= read -r row; do
 done <<'END'
 out of memory|Memory ran out: `out of memory`.
 out of memory|docs/faults.md, "Status 1"
-usage: pact COMMAND ARGUMENTS|run PROGRAM [--workers N] [--plans N] [--batch N] [--depth N] [--local WAY] [--counts]
+usage: pact COMMAND ARGUMENTS|run PROGRAM [--workers N] [--plans N] [--batch N] [--depth N] [--local WAY] [--combine] [--counts]
 usage: pact COMMAND ARGUMENTS|--plans N: 1 to 1,000, by default 256
 usage: pact COMMAND ARGUMENTS|docs/faults.md, "Status 2"
 cannot read sub|sub is a folder
@@ -201,6 +201,8 @@ certificate refused: step 1: C4 conflict read-write 5|field 5: the upper operato
 certificate refused: step 1: C4 conflict write-read 5|field 5: the upper operator writes it, and the lower one reads it
 certificate refused: step 1: C4 side 2|field 2: an attribute of the input that is passed
 certificate refused: step 1: C4 not-anchored|the cogroup may emit records
+certificate refused: step 1: C4 match-key 1|field 1: a key of the match on the side of the move
+certificate refused: step 1: C4 not-unique|it is no reduce by its keys of the match that emits at most one record for each group and writes no key
 certificate refused: step 1: C4 key-group|the map would tear a group apart
 certificate refused: C5|docs/faults.md, "Certificate fault C5"
 certificate refused: C6|docs/faults.md, "Certificate fault C6"

@@ -154,7 +154,7 @@ count has_section 'Certificate: the shape'
 # The commands and options of status 2 are those of docs/language.md.
 while IFS= read -r line; do
     case $line in
-    --counts*) row="| \`--counts\` | none |" ;;
+    --combine* | --counts*) row="| \`${line%%:*}\` | none |" ;;
     --*)
         row="| \`${line%% *}\` | ${line#*: } |"
         row=${row/, by default / | }

@@ -42,6 +42,16 @@ sets sum.pact --local sort
 run sum.pact -c
 run sum.pact --count
 plan sum.pact --counts
+run sum.pact --combin
+run sum.pact --combine --combine
+run sum.pact --combine=true
+run --combine
+plan sum.pact --combine
+cert sum.pact --combine
+check sum.pact certificates/push.good.json --combine
+sets sum.pact --combine
+gen 0 1 --combine
+drill 0 1 --combine --counts
 cert sum.pact --counts
 check sum.pact certificates/push.good.json --workers 4
 sets sum.pact --plans 1
@@ -103,6 +113,8 @@ run sum.pact --workers 1 --plans 1 --batch 1 --depth=64
 run --depth 1 --batch=1024 sum.pact
 run sum.pact --local hash
 run --local=sort sum.pact
+run sum.pact --combine
+run --combine sum.pact --workers 2 --local sort
 run -- sum.pact
 END
 while IFS= read -r words; do

@@ -12,9 +12,9 @@ use crate::uses::{assigned_in, operands, target};
 use pact_record::Op2;
 use tac_syntax::{Body, Stmt};
 
-// What an accumulator holds of its operands. The operation of each takes them in any order.
+/// What an accumulator holds of its operands. The operation of each takes them in any order.
 #[derive(Clone, Copy)]
-enum Accumulation {
+pub enum Accumulation {
     Sum,
     Least,
     Greatest,

@@ -12,4 +12,5 @@ mod order;
 mod registers;
 mod uses;
 
+pub use accumulators::Accumulation;
 pub use order::order_test;

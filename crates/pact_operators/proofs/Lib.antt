@@ -39,3 +39,7 @@ pub mod SourceRows
 pub mod CallsForKeys
 pub mod PermutedPairs
 pub mod TablesOfNames
+pub mod OneMore
+pub mod InsertedPrograms
+pub mod NumbersInPlans
+pub mod InsertedNames

@@ -14,3 +14,4 @@ pub mod PlanReads
 pub mod WrittenOps
 pub mod SoundOps
 pub mod NameTables
+pub mod Insertions

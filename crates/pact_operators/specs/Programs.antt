@@ -19,7 +19,8 @@ use Rattle.tac_syntax.specs.Versions.{IsVersion, field_limit}
 use Rattle.plan_trees.specs.Plans.{PlanTree, leaf, over, both, root_of, nodes, has}
 use Rattle.pact_operators.specs.Resolved.{Inputs, no_input, one_input, two_inputs, function_names, inputs_of, node_names, ops_of, place_among, sink_fields, sink_inputs}
 
--- The version of the language, the number of fields, the functions and the sources and operators in text order, the plan as written, and the fields of the sink.
+-- The version of the language, the number of fields, the functions and the sources and operators in text order, the plan as written, and the fields of
+-- the sink. Where an operator was put in, it and its function come last, and the plan is the one that has it.
 pub record ProgramData : Type 0 where
   pub version : ℕ
   pub fields : ℕ

@@ -27,5 +27,5 @@ pub use checking::{NotProgram, check_program};
 pub use operators::Op;
 pub use plan_trees::{MAX_NODES, Parts, Physical, Plan, Shape, Ship};
 pub use program_rules::ProgramRule;
-pub use programs::Program;
+pub use programs::{Program, insert, replace};
 pub use tac_syntax::{Decl, Draft, Numbers, OpKind, ValidList, functions_of};

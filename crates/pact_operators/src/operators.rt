@@ -1,6 +1,10 @@
 //! The sources and operators of a program.
 
-use pact_record::{Columns, Keys, Word};
+ghost use Rattle.std.specs.Prelude.{◌≡◌, IfOk};
+
+use crate::resolving::copied_columns;
+use pact_record::{Columns, Keys, OutOfMemory, Word};
+use std::alloc::Global;
 use tac_syntax::OpKind;
 
 /// A source or an operator. A source has no function and no keys; an operator has no file and no columns. What a
@@ -15,4 +19,21 @@ pub struct Op {
     pub right_keys: Keys,
     pub file: Word,
     pub columns: Columns,
+}
+
+impl Op {
+    /// The same operator again. Want of memory is the only error.
+    pub fn copy(&self, alloc: Global) -> Result<Op, OutOfMemory>
+        ensures { IfOk result (λ op. op ≡ self.now) }
+    {
+        Ok(Op {
+            name: Word::from_bytes(alloc, self.name.bytes())?,
+            kind: self.kind,
+            function: self.function,
+            left_keys: self.left_keys,
+            right_keys: self.right_keys,
+            file: Word::from_bytes(alloc, self.file.bytes())?,
+            columns: copied_columns(alloc, &self.columns)?,
+        })
+    }
 }

@@ -1,18 +1,23 @@
 //! Programs whose names are resolved.
 
-ghost use Rattle.std.specs.Prelude.{◌≡◌, ◌≤◌, Some, length, slice_get};
+ghost use Rattle.std.specs.Prelude.{◌≡◌, ◌<◌, ◌≤◌, Some, IfOk, length, slice_get};
 ghost use Rattle.pact_record.specs.declared.records.TheConstants.{MAX_FIELDS};
+ghost use Rattle.plan_trees.specs.Inserted.{inserted, inserted_above};
+ghost use Rattle.plan_trees.specs.Plans.{PlanTree};
 ghost use Rattle.tac_syntax.specs.declared.declarations.OpKind.TheVariants.{Source};
+ghost use Rattle.pact_operators.specs.Insertions.{CanInsert, CanReplace, inserted_into, replaced_in};
 ghost use Rattle.pact_operators.specs.PlanOps.{function_in, kind_at};
-ghost use Rattle.pact_operators.specs.Programs.{IsProgram, nulls_match};
+ghost use Rattle.pact_operators.specs.Programs.{IsPlanOf, IsProgram, nulls_match};
 
 use crate::operators::Op;
-use plan_trees::Plan;
+use pact_record::OutOfMemory;
+use plan_trees::{Physical, Plan};
+use std::alloc::Global;
 use std::marker::Model;
 use tac_syntax::{Valid, ValidList};
 
 /// A program that keeps every rule. Its functions, and its sources and operators, are named by
-/// their places among them.
+/// their places among them. Those that were put in come last.
 #[derive(Debug, Drop)]
 pub struct Program {
     version: u32,
@@ -108,7 +113,7 @@ impl Program {
         &self.functions()[op.function as usize]
     }
 
-    /// The plan as written.
+    /// The plan as written, or the one in which operators were put in last.
     pub fn plan(&self) -> &Plan
         ensures plan { result.now ≡ self.now.plan }
         ensures keeps { IsProgram self.now }
@@ -124,4 +129,112 @@ impl Program {
     {
         &self.sink
     }
+
+    /// The same program again, for calls that take one. Want of memory is the only error.
+    pub fn copy(&self, alloc: Global) -> Result<Program, OutOfMemory>
+        ensures { IfOk result (λ p. p ≡ self.now) }
+    {
+        let functions = copied_functions(alloc, self.functions())?;
+        let ops = copied_ops(alloc, self.ops())?;
+        let sink = Vec::from_slice(alloc, self.sink())?;
+        Ok(Program::of(
+            self.version,
+            self.fields(),
+            functions,
+            ops,
+            *self.plan(),
+            sink,
+        ))
+    }
+
+    // The function and the operator come last, and the operator calls the function.
+    fn with_operator(self, op: Op, function: Valid, plan: Plan) -> Result<Program, OutOfMemory>
+        requires few { length self.functions < 64 }
+        requires program { IsProgram (inserted_into self op function plan) }
+        ensures { IfOk result (λ p. p ≡ inserted_into self op function plan) }
+    {
+        let mut functions = self.functions;
+        let mut ops = self.ops;
+        let mut last = op;
+        last.function = functions.len() as u32;
+        functions.push(function)?;
+        ops.push(last)?;
+        Ok(Program::of(self.version, self.fields, functions, ops, plan, self.sink))
+    }
+
+    // The function comes last, and the operator of the number calls it.
+    fn with_function(self, at: u32, function: Valid) -> Result<Program, OutOfMemory>
+        requires few { length self.functions < 64 }
+        requires there { at < length self.ops }
+        requires program { IsProgram (replaced_in self at function) }
+        ensures { IfOk result (λ p. p ≡ replaced_in self at function) }
+    {
+        let mut functions = self.functions;
+        let mut ops = self.ops;
+        ops[at as usize].function = functions.len() as u32;
+        functions.push(function)?;
+        Ok(Program::of(
+            self.version,
+            self.fields,
+            functions,
+            ops,
+            self.plan,
+            self.sink,
+        ))
+    }
+}
+
+fn copied_functions(alloc: Global, functions: &[Valid]) -> Result<ValidList, OutOfMemory>
+    ensures { IfOk result (λ copy. copy ≡ functions.now) }
+{
+    let mut copy = ValidList::new(alloc);
+    for function in functions {
+        copy.push(function.copy(alloc)?)?;
+    }
+    Ok(copy)
+}
+
+fn copied_ops(alloc: Global, ops: &[Op]) -> Result<Vec<Op>, OutOfMemory>
+    ensures { IfOk result (λ copy. copy.items ≡ ops.now) }
+{
+    let mut copy = Vec::new(alloc);
+    for op in ops {
+        copy.push(op.copy(alloc)?)?;
+    }
+    Ok(copy)
+}
+
+/// The program with the operator, which calls the function, on the edge from `below` to its consumer. It is fed
+/// Forward and ships as that edge did. Its number comes after all others, and the number of the function too. Want of
+/// memory is the only error, and the program is lost then: give a copy.
+pub fn insert(
+    program: Program,
+    physical: Physical,
+    below: u32,
+    op: Op,
+    function: Valid,
+) -> Result<(Program, Physical), OutOfMemory>
+    requires { CanInsert program physical.tree below op function }
+    ensures program { IfOk result (λ r. r.0 ≡ inserted_into program op function (inserted below (length program.ops) physical.tree)) }
+    ensures physical { IfOk result (λ r. r.1 ≡ inserted_above below (length program.ops) physical) }
+    ensures plan { IfOk result (λ r. IsPlanOf r.0.functions r.0.ops r.1.tree) }
+{
+    let new = program.ops().len() as u32;
+    let _valid = function.function();
+    let mut moved = physical;
+    moved.insert(below, new);
+    let grown = program.with_operator(op, function, *moved.plan())?;
+    Ok((grown, moved))
+}
+
+/// The program in which the operator calls the function, which comes last. Every plan of it stays one. Want of memory is
+/// the only error, and the program is lost then.
+pub fn replace(program: Program, at: u32, function: Valid) -> Result<Program, OutOfMemory>
+    requires { CanReplace program at function }
+    ensures value { IfOk result (λ p. p ≡ replaced_in program at function) }
+    ensures plans { IfOk result (λ p. (tree : PlanTree) → IsPlanOf program.functions program.ops tree → IsPlanOf p.functions p.ops tree) }
+{
+    let _ops = program.ops();
+    let _valid = function.function();
+    program.with_function(at, function)
 }

@@ -28,7 +28,7 @@ fn small_keys(numbers: &[u32]) -> Keys
     keys
 }
 
-fn copied_columns(alloc: Global, columns: &Columns) -> Result<Columns, OutOfMemory>
+pub(crate) fn copied_columns(alloc: Global, columns: &Columns) -> Result<Columns, OutOfMemory>
     ensures { IfOk result (λ copy. copy ≡ columns.now) }
 {
     let mut copy = Columns::new(alloc);

@@ -78,9 +78,9 @@ module _ (make : Loaded → Ready) {before now : Feeding} (name : List ℕ) wher
 -- ---- run
 
 -- a bag that the program as written allows, its lines, and the counts of the same evaluation where they are asked for
-pub is_answer : (l : Loaded) (workers plans : ℕ) (counts : Bool) (t : Texts) (bag : Bag) → IsProgram l.program → AllowsWritten l bag → AreLines l.program.sink bag t.out
-    → AreCounts l workers plans bag counts t.counts → IsAnswerOf l workers plans counts t
-is_answer l workers plans counts t bag program allowed lines counted =
+pub is_answer : (l : Loaded) (workers plans : ℕ) (counts combine : Bool) (t : Texts) (bag : Bag) → IsProgram l.program → AllowsWritten l bag → AreLines l.program.sink bag t.out
+    → AreCounts l workers plans combine bag counts t.counts → IsAnswerOf l workers plans counts combine t
+is_answer l workers plans counts combine t bag program allowed lines counted =
     record {
       bag = bag;
       allowed = allowed;
@@ -170,9 +170,9 @@ refused_so words before now (Decided status line) usage h = stop_refused words b
 
 -- ---- counts are asked for where they are told
 
-counted_texts : (y : Ready) (texts : Texts) (text : List ℕ) → AreTextsOf y texts → texts.counts ≡ Some text → (l : Loaded) × (workers : ℕ) × (plans : ℕ) × (y ≡ to_evaluate l workers plans true)
-counted_texts (to_evaluate l workers plans true) texts text are told = (l, workers, plans, refl)
-counted_texts (to_evaluate l workers plans false) texts text are told = let none : texts.counts ≡ None = are.counted in absurd cc
+counted_texts : (y : Ready) (texts : Texts) (text : List ℕ) → AreTextsOf y texts → texts.counts ≡ Some text → (l : Loaded) × (workers : ℕ) × (plans : ℕ) × (combine : Bool) × (y ≡ to_evaluate l workers plans true combine)
+counted_texts (to_evaluate l workers plans true combine) texts text are told = (l, workers, plans, combine, refl)
+counted_texts (to_evaluate l workers plans false combine) texts text are told = let none : texts.counts ≡ None = are.counted in absurd cc
 counted_texts (to_show l workers plans) texts text are told = let none = are.1 in absurd cc
 counted_texts (to_justify l workers plans) texts text are told = let none = are.1 in absurd cc
 counted_texts (to_analyse p) texts text are told = let none = are.1 in absurd cc
@@ -185,22 +185,22 @@ gave_made : {A : Type 0} (s : Stage A) (make : A → Ready) (p : List Reading) (
 gave_made s make p y h = let made = gave_then s (λ x. give (λ r. r ≡ make x)) p y h in (made.value, made.next.1)
 
 -- and for counts only where it asks for them
-asks : (files : Option (List NamedFile)) (c : Asked) (p : List Reading) (l : Loaded) (workers plans : ℕ) → (ready_for files c).Ends p (gives (to_evaluate l workers plans true))
+asks : (files : Option (List NamedFile)) (c : Asked) (p : List Reading) (l : Loaded) (workers plans : ℕ) (combine : Bool) → (ready_for files c).Ends p (gives (to_evaluate l workers plans true combine))
     → (name : List ℕ) × (options : Options) × (c ≡ to_run name options true)
-asks files (to_run name o counts) p l workers plans h = let e = (gave_made (loaded files name) (λ x. to_evaluate x o.workers o.plans counts) p _ h).1 in (name, o, let asked : counts ≡ true = cc in ap (to_run name o) asked)
-asks files (to_plan name w n) p l workers plans h = let e = (gave_made (loaded files name) (λ x. to_show x w n) p _ h).1 in absurd cc
-asks files (to_certify name w n) p l workers plans h = let e = (gave_made (loaded files name) (λ x. to_justify x w n) p _ h).1 in absurd cc
-asks files (to_tell_sets name) p l workers plans h = let e = (gave_made (program_file files name) to_analyse p _ h).1 in absurd cc
-asks files (to_check name other) p l workers plans h = let e = (gave_made (accepted files name other) to_accept p _ h).1 in absurd cc
-asks files (to_generate seed rows) p l workers plans h = let e = h.1 in absurd cc
-asks files (to_drill seed rows o) p l workers plans h = let e = h.1 in absurd cc
+asks files (to_run name o counts) p l workers plans combine h = let e = (gave_made (loaded files name) (λ x. to_evaluate x o.workers o.plans counts o.combine) p _ h).1 in (name, o, let asked : counts ≡ true = cc in ap (to_run name o) asked)
+asks files (to_plan name w n) p l workers plans combine h = let e = (gave_made (loaded files name) (λ x. to_show x w n) p _ h).1 in absurd cc
+asks files (to_certify name w n) p l workers plans combine h = let e = (gave_made (loaded files name) (λ x. to_justify x w n) p _ h).1 in absurd cc
+asks files (to_tell_sets name) p l workers plans combine h = let e = (gave_made (program_file files name) to_analyse p _ h).1 in absurd cc
+asks files (to_check name other) p l workers plans combine h = let e = (gave_made (accepted files name other) to_accept p _ h).1 in absurd cc
+asks files (to_generate seed rows) p l workers plans combine h = let e = h.1 in absurd cc
+asks files (to_drill seed rows o) p l workers plans combine h = let e = h.1 in absurd cc
 
 counts_for : (words : List (List ℕ)) (files : Option (List NamedFile)) (c : Asked) (p : List Reading) (texts : Texts) (text : List ℕ) → IsAsked words c → (texts_for files c).Ends p (gives texts) → texts.counts ≡ Some text
     → AskForCounts words
 counts_for words files c p texts text asked h told =
     let made = gave_then (ready_for files c) (λ r. give (AreTextsOf r)) p texts h in
     let made_so = counted_texts made.value texts text made.next.1 told in
-    let a = asks files c made.front made_so.0 made_so.1 made_so.2 (subst (λ (z : Ready). (ready_for files c).Ends made.front (gives z)) made_so.3 made.first) in
+    let a = asks files c made.front made_so.0 made_so.1 made_so.2 made_so.3 (subst (λ (z : Ready). (ready_for files c).Ends made.front (gives z)) made_so.4 made.first) in
     (a.0, a.1, subst (IsAsked words) a.2 asked)
 
 counts_in : (words : List (List ℕ)) (files : Option (List NamedFile)) (p : List Reading) (texts : Texts) (text : List ℕ) → (work words files).Ends p (gives texts) → texts.counts ≡ Some text → AskForCounts words

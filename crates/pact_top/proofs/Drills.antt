@@ -1,5 +1,5 @@
 -- A run of the drill's program is told by one summary, whatever plan was chosen and however it was run.
-use Rattle.std.proofs.Common.{◌≡◌, ◌<◌, ℕ, zero, suc, List, [], ◌∷◌, length, Option, Some, None, slice_get, sym, ap, subst, ◌∙◌, arith}
+use Rattle.std.proofs.Common.{◌≡◌, ◌<◌, ℕ, Bool, zero, suc, List, [], ◌∷◌, length, Option, Some, None, slice_get, sym, ap, subst, ◌∙◌, arith}
 use Rattle.std.specs.List.{AllByRecursion}
 use Rattle.std.specs.List.Sorted.{IsPermutation}
 use Rattle.std.proofs.lemmas.List.Sorted.{length_permutation}
@@ -49,8 +49,8 @@ one_summary rows sink bag other text told p its theirs =
     let same = sym (one_text sink bag other its.lines theirs.lines p its.spelled theirs.spelled) in
     theirs.told ∙ (λ i. summary_text rows (length_permutation bag other p i) (same i)) ∙ sym its.told
 
-pub is_drill_text : (seed rows workers plans : ℕ) (run : FinishedRun) (text : List ℕ) → IsRun (drilled seed rows) workers plans run → IsSummary rows run.program.sink run.outcome.rows text → IsDrillText seed rows text
-is_drill_text seed rows workers plans run text is told =
+pub is_drill_text : (seed rows workers plans : ℕ) (combine : Bool) (run : FinishedRun) (text : List ℕ) → IsRun (drilled seed rows) workers plans combine run → IsSummary rows run.program.sink run.outcome.rows text → IsDrillText seed rows text
+is_drill_text seed rows workers plans combine run text is told =
     let bag = run.outcome.rows in
     let summary = subst (λ (p : ProgramData). IsSummary rows p.sink bag text) is.program told in
     let only = only_bag drill_program is_a_program groups_free (generated seed rows ∷ []) drill_program.plan bag in

@@ -1,6 +1,7 @@
 -- A run of the chosen plan gives a bag that the plan as written allows, and its texts are those of the command.
 use Rattle.std.proofs.Common.{◌≡◌, ℕ, Bool, List, Some, IfOk, Result, Ok, Err, sym, subst}
 use Rattle.std.specs.Prelude.{slice_get}
+use Rattle.combine_rule.specs.CombinedPrograms.{planned}
 use Rattle.flow_core.specs.Worlds.{IsStanding, WorldData}
 use Rattle.flow_model.specs.Events.{no_history}
 use Rattle.flow_model.specs.Spots.{setting}
@@ -20,9 +21,11 @@ use Rattle.pact_record.specs.Widths.{AreWide}
 use Rattle.pact_top.specs.declared.choosing.Choice.{Choice}
 use Rattle.pact_top.specs.declared.choosing.FinishedRun.{FinishedRun}
 use Rattle.pact_top.specs.declared.loaded.Loaded.{Loaded}
+use Rattle.pact_top.specs.declared.tasks.RunOutcome.{RunOutcome}
 use Rattle.pact_top.specs.declared.texts.Texts.{Texts}
-use Rattle.pact_top.specs.CommandTexts.{AllowsWritten, AreToldCounts, IsAnswerOf, IsChoice, IsOutcome, IsRun}
+use Rattle.pact_top.specs.CommandTexts.{AreToldCounts, IsAnswerOf, IsChoice, IsOutcome, IsRun, laid}
 use Rattle.pact_top.specs.Lines.{AreLines}
+use Rattle.pact_top.specs.Runs.{IsRunOf}
 use Rattle.pact_top.proofs.ChosenTexts.{told-AreCounts}
 use Rattle.pact_top.proofs.CommandsRun.{is_answer}
 
@@ -42,36 +45,40 @@ start_counted p inputs physical w (Ok o) same is_program are_inputs of standing 
     (subst (λ (d : PhysicalData). IsStanding (setting p inputs d) w no_history) (sym same) standing))
 start_counted p inputs physical w (Err e) same is_program are_inputs of standing all = tt
 
-pub is_outcome : {E : Type 0} (p : ProgramData) (inputs : List Bag) (plan : PlanTree) (physical : PhysicalData) (result : Result Outcome E) → physical.tree ≡ plan → AreInputsOf p inputs
-    → LegalShip (facts_of p physical.tree) physical → KeepAnswers p p.plan plan → IfOk result (λ o. LegalShip (facts_of p physical.tree) physical → Counted (plan_ops p inputs) physical.tree o.rows o.counts)
-    → IfOk result (λ o. AreWide p.fields o.rows) → IfOk result (IsOutcome (record { program = p; inputs = inputs }) plan)
-is_outcome p inputs plan physical (Ok o) same are_inputs legal answers all wide =
-    let counted = subst (λ (t : PlanTree). Counted (plan_ops p inputs) t o.rows o.counts) same (all legal) in
+pub is_outcome : {E : Type 0} (l : Loaded) (workers : ℕ) (choice : Choice) (combine : Bool) (physical : PhysicalData) (result : Result RunOutcome E) → physical ≡ (laid l workers choice).physical
+    → physical.tree ≡ choice.plan → AreInputsOf l.program l.inputs → LegalShip (facts_of l.program physical.tree) physical → KeepAnswers l.program l.program.plan choice.plan
+    → IfOk result (λ r. IsRunOf (planned l.program physical) l.inputs combine r.outcome r.combined.items)
+    → IfOk result (λ r. LegalShip (facts_of l.program physical.tree) physical → Counted (plan_ops l.program l.inputs) physical.tree r.outcome.rows r.outcome.counts)
+    → IfOk result (λ r. AreWide l.program.fields r.outcome.rows) → IfOk result (λ r. IsOutcome l workers choice combine r.outcome r.combined.items)
+is_outcome l workers choice combine physical (Ok r) is_laid same are_inputs legal answers run all wide =
+    let counted = subst (λ (t : PlanTree). Counted (plan_ops l.program l.inputs) t r.outcome.rows r.outcome.counts) same (all legal) in
     record {
-      allowed = (answers inputs are_inputs o.rows).1 (evaluates_allowed (λ (n k : ℕ). slice_get o.counts n ≡ Some (count_of k)) (plan_ops p inputs) plan o.rows counted);
+      allowed = (answers l.inputs are_inputs r.outcome.rows).1 (evaluates_allowed (λ (n k : ℕ). slice_get r.outcome.counts n ≡ Some (count_of k)) (plan_ops l.program l.inputs) choice.plan r.outcome.rows counted);
       counted = counted;
       widths = wide;
+      run = subst (λ (d : PhysicalData). IsRunOf (planned l.program d) l.inputs combine r.outcome r.combined.items) is_laid run;
     }
-is_outcome p inputs plan physical (Err e) same are_inputs legal answers all wide = tt
+is_outcome l workers choice combine physical (Err e) is_laid same are_inputs legal answers run all wide = tt
 
-pub are_answers : {E : Type 0} (l : Loaded) (workers plans : ℕ) (asked : Bool) (result : Result Texts E) (choice : Choice) (o : Outcome) → IsProgram l.program → IsChoice l workers plans choice → AllowsWritten l o.rows
-    → Counted (plan_ops l.program l.inputs) choice.plan o.rows o.counts → IfOk result (λ t. AreLines l.program.sink o.rows t.out) → IfOk result (λ t. AreToldCounts l.program choice.plan o.counts asked t.counts)
-    → IfOk result (IsAnswerOf l workers plans asked)
-are_answers l workers plans asked (Ok t) choice o program chosen allowed counted lines told =
-    is_answer l workers plans asked t o.rows program allowed lines (told-AreCounts l workers plans choice o.rows o.counts asked t.counts chosen counted told)
-are_answers l workers plans asked (Err e) choice o program chosen allowed counted lines told = tt
+pub are_answers : {E : Type 0} (l : Loaded) (workers plans : ℕ) (asked combine : Bool) (result : Result Texts E) (choice : Choice) (o : Outcome) (of : List (ℕ × ℕ)) → IsProgram l.program → IsChoice l workers plans choice
+    → IsOutcome l workers choice combine o of → IfOk result (λ t. AreLines l.program.sink o.rows t.out)
+    → IfOk result (λ t. AreToldCounts l.program choice.plan o.counts of asked t.counts) → IfOk result (IsAnswerOf l workers plans asked combine)
+are_answers l workers plans asked combine (Ok t) choice o of program chosen is lines told =
+    is_answer l workers plans asked combine t o.rows program is.allowed lines (told-AreCounts l workers plans choice combine o of asked t.counts chosen is.counted is.run told)
+are_answers l workers plans asked combine (Err e) choice o of program chosen is lines told = tt
 
 -- the texts of a run of the chosen plan
-pub run_answers : {E : Type 0} (l : Loaded) (workers plans : ℕ) (asked : Bool) (run : FinishedRun) (result : Result Texts E) → IsRun l workers plans run → IsProgram run.program
-    → IfOk result (λ t. AreLines run.program.sink run.outcome.rows t.out) → IfOk result (λ t. AreToldCounts run.program run.choice.plan run.outcome.counts asked t.counts) → IfOk result (IsAnswerOf l workers plans asked)
-run_answers l workers plans asked run result is program lines told =
-    are_answers l workers plans asked result run.choice run.outcome (subst IsProgram is.program program) is.chosen.choice is.outcome.allowed is.outcome.counted
+pub run_answers : {E : Type 0} (l : Loaded) (workers plans : ℕ) (asked combine : Bool) (run : FinishedRun) (result : Result Texts E) → IsRun l workers plans combine run → IsProgram run.program
+    → IfOk result (λ t. AreLines run.program.sink run.outcome.rows t.out)
+    → IfOk result (λ t. AreToldCounts run.program run.choice.plan run.outcome.counts run.combined.items asked t.counts) → IfOk result (IsAnswerOf l workers plans asked combine)
+run_answers l workers plans asked combine run result is program lines told =
+    are_answers l workers plans asked combine result run.choice run.outcome run.combined.items (subst IsProgram is.program program) is.chosen.choice is.outcome
     (subst (λ (p : ProgramData). IfOk result (λ t. AreLines p.sink run.outcome.rows t.out)) is.program lines)
-    (subst (λ (p : ProgramData). IfOk result (λ t. AreToldCounts p run.choice.plan run.outcome.counts asked t.counts)) is.program told)
+    (subst (λ (p : ProgramData). IfOk result (λ t. AreToldCounts p run.choice.plan run.outcome.counts run.combined.items asked t.counts)) is.program told)
 
 -- what is known of the program that was run
-pub run-IsPlanOf : (l : Loaded) (workers plans : ℕ) (run : FinishedRun) → IsRun l workers plans run → IsPlanOf run.program.functions run.program.ops run.choice.plan
-run-IsPlanOf l workers plans run is = subst (λ (p : ProgramData). IsPlanOf p.functions p.ops run.choice.plan) (sym is.program) is.chosen.plan
+pub run-IsPlanOf : (l : Loaded) (workers plans : ℕ) (combine : Bool) (run : FinishedRun) → IsRun l workers plans combine run → IsPlanOf run.program.functions run.program.ops run.choice.plan
+run-IsPlanOf l workers plans combine run is = subst (λ (p : ProgramData). IsPlanOf p.functions p.ops run.choice.plan) (sym is.program) is.chosen.plan
 
-pub run-AreWide : (l : Loaded) (workers plans : ℕ) (run : FinishedRun) → IsRun l workers plans run → AreWide run.program.fields run.outcome.rows
-run-AreWide l workers plans run is = subst (λ (p : ProgramData). AreWide p.fields run.outcome.rows) (sym is.program) is.outcome.widths
+pub run-AreWide : (l : Loaded) (workers plans : ℕ) (combine : Bool) (run : FinishedRun) → IsRun l workers plans combine run → AreWide run.program.fields run.outcome.rows
+run-AreWide l workers plans combine run is = subst (λ (p : ProgramData). AreWide p.fields run.outcome.rows) (sym is.program) is.outcome.widths

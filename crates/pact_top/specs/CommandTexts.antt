@@ -6,6 +6,7 @@ use Rattle.csv_sink.specs.CsvText.{csv_text}
 use Rattle.drill_program.specs.Drill.{drill_program}
 use Rattle.drill_program.specs.Summary.{summary_text}
 use Rattle.pact_bag.specs.Rows.{cut}
+use Rattle.combine_rule.specs.CombinedPrograms.{Planned, planned}
 use Rattle.pact_bag.specs.declared.outcomes.Outcome.{Outcome}
 use Rattle.pact_gen.specs.Generated.{generated, listed}
 use Rattle.pact_record.specs.Widths.{AreWide}
@@ -23,7 +24,7 @@ use Rattle.ship_strategy.specs.Layouts.{layout_count, layout_of}
 use Rattle.plan_enumerate.specs.Choices.{IsChosen}
 use Rattle.plan_enumerate.specs.Listing.{IsAt, IsListing, plans_of}
 use Rattle.plan_enumerate.specs.Steps.{AreStepsTo}
-use Rattle.plan_printer.specs.CountsText.{counts_text}
+use Rattle.plan_printer.specs.CountsText.{counts_text, partials_text}
 use Rattle.plan_printer.specs.PlanText.{plan_text}
 use Rattle.plan_printer.specs.SetsText.{IsSetsText}
 use Rattle.plan_printer.specs.declared.plans.Shown.{Shown}
@@ -33,6 +34,7 @@ use Rattle.swap_certificate.specs.PlanLines.{line_of}
 use Rattle.swap_certificate.specs.Shape.{IsCertificateText, certificate_data}
 use Rattle.pact_top.specs.Lines.{AreLines}
 use Rattle.pact_top.specs.OrderFreePrograms.{AreGroupsFree}
+use Rattle.pact_top.specs.Runs.{IsRunOf}
 use Rattle.pact_top.specs.declared.choosing.Choice.{Choice}
 use Rattle.pact_top.specs.declared.choosing.FinishedRun.{FinishedRun}
 use Rattle.pact_top.specs.declared.loaded.Loaded.{Loaded}
@@ -46,7 +48,7 @@ pub record Accepted : Type 0 where
 
 -- what a command has read, from which its texts are made
 pub data Ready : Type 0 where
-  to_evaluate : (loaded : Loaded) → (workers plans : ℕ) → (counts : Bool) → Ready
+  to_evaluate : (loaded : Loaded) → (workers plans : ℕ) → (counts combine : Bool) → Ready
   to_show : (loaded : Loaded) → (workers plans : ℕ) → Ready
   to_justify : (loaded : Loaded) → (workers plans : ℕ) → Ready
   to_analyse : (program : ProgramData) → Ready
@@ -88,44 +90,52 @@ pub record IsDerived (l : Loaded) (workers plans : ℕ) (c : Choice) (steps : Li
 abbrev pub AllowsWritten : Loaded → Bag → Type 0
 AllowsWritten l bag = Allows (plan_ops l.program l.inputs) l.program.plan bag
 
--- what a run of a plan gives: such a bag, and the counts of one evaluation of the plan that gives it
-pub record IsOutcome (l : Loaded) (plan : PlanTree) (o : Outcome) : Type 0 where
+-- the program with the plan of a choice in its layout
+abbrev pub laid : Loaded → (workers : ℕ) → Choice → Planned
+laid l workers c = planned l.program (layout_of (facts_of l.program c.plan) l.program.ops c.plan c.chosen.layout workers)
+
+-- What a run of the chosen plan gives, with partial groups where that is asked for: such a bag, and the counts of one evaluation of the plan that gives it.
+pub record IsOutcome (l : Loaded) (workers : ℕ) (c : Choice) (combine : Bool) (o : Outcome) (combined : List (ℕ × ℕ)) : Type 0 where
   pub allowed : AllowsWritten l o.rows
-  pub counted : Counted (plan_ops l.program l.inputs) plan o.rows o.counts
+  pub counted : Counted (plan_ops l.program l.inputs) c.plan o.rows o.counts
   pub widths : AreWide l.program.fields o.rows
+  pub run : IsRunOf (laid l workers c) l.inputs combine o combined
 
 -- The plan that is chosen was run, and gave this.
-pub record IsRun (l : Loaded) (workers plans : ℕ) (run : FinishedRun) : Type 0 where
+pub record IsRun (l : Loaded) (workers plans : ℕ) (combine : Bool) (run : FinishedRun) : Type 0 where
   pub program : run.program ≡ l.program
   pub chosen : IsPlanChosen l workers plans run.choice
-  pub outcome : IsOutcome l run.choice.plan run.outcome
+  pub outcome : IsOutcome l workers run.choice combine run.outcome run.combined.items
 
--- counts of a plan as text, where they are asked for
-abbrev pub AreToldCounts : ProgramData → PlanTree → List ℕ → Bool → Option (List ℕ) → Type 0
-AreToldCounts p plan counts true told = told ≡ Some (counts_text p plan counts)
-AreToldCounts p plan counts false told = told ≡ None
+-- Counts of a plan as text, where they are asked for. Behind them stands how many records each operator gave that was put in to make partial groups.
+abbrev pub AreToldCounts : ProgramData → PlanTree → List ℕ → List (ℕ × ℕ) → Bool → Option (List ℕ) → Type 0
+AreToldCounts p plan counts of true told = told ≡ Some (counts_text p plan counts ++ partials_text p counts of)
+AreToldCounts p plan counts of false told = told ≡ None
 
--- The counts of an evaluation of the chosen plan that gives the bag, as text.
-pub record IsCountsText (l : Loaded) (workers plans : ℕ) (bag : Bag) (text : List ℕ) : Type 0 where
+-- The counts of an evaluation of the chosen plan that gives the bag, as text. A run left that bag and these counts, with partial groups where that is asked
+-- for; how many there were stands behind the counts.
+pub record IsCountsText (l : Loaded) (workers plans : ℕ) (combine : Bool) (bag : Bag) (text : List ℕ) : Type 0 where
   pub choice : Choice
   pub is_choice : IsChoice l workers plans choice
   pub counts : List ℕ
   pub counted : Counted (plan_ops l.program l.inputs) choice.plan bag counts
-  pub spelled : text ≡ counts_text l.program choice.plan counts
+  pub combined : List (ℕ × ℕ)
+  pub run : IsRunOf (laid l workers choice) l.inputs combine (record { rows = bag; counts = counts }) combined
+  pub spelled : text ≡ counts_text l.program choice.plan counts ++ partials_text l.program counts combined
 
 -- They are told where they are asked for, and then of the very bag that is written.
-abbrev pub AreCounts : Loaded → (workers plans : ℕ) → Bag → Bool → Option (List ℕ) → Type 0
-AreCounts l workers plans bag true (Some text) = IsCountsText l workers plans bag text
-AreCounts l workers plans bag true None = ⊥
-AreCounts l workers plans bag false told = told ≡ None
+abbrev pub AreCounts : Loaded → (workers plans : ℕ) → (combine : Bool) → Bag → Bool → Option (List ℕ) → Type 0
+AreCounts l workers plans combine bag true (Some text) = IsCountsText l workers plans combine bag text
+AreCounts l workers plans combine bag true None = ⊥
+AreCounts l workers plans combine bag false told = told ≡ None
 
 -- The sorted lines of a bag that the program as written allows. Where each function that a Reduce or a CoGroup calls passes the order
 -- test, each such bag is this one, up to order, and its lines are these.
-pub record IsAnswerOf (l : Loaded) (workers plans : ℕ) (counts : Bool) (t : Texts) : Type 0 where
+pub record IsAnswerOf (l : Loaded) (workers plans : ℕ) (counts combine : Bool) (t : Texts) : Type 0 where
   pub bag : Bag
   pub allowed : AllowsWritten l bag
   pub lines : AreLines l.program.sink bag t.out
-  pub counted : AreCounts l workers plans bag counts t.counts
+  pub counted : AreCounts l workers plans combine bag counts t.counts
   pub only_bag : AreGroupsFree l.program → (other : Bag) → AllowsWritten l other → IsPermutation bag other
   pub only_text : AreGroupsFree l.program → (other : Bag) (lines : List ℕ) → AllowsWritten l other → AreLines l.program.sink other lines → lines ≡ t.out
 
@@ -207,7 +217,7 @@ abbrev pub IsOutAlone : (List ℕ → Type 0) → Texts → Type 0
 IsOutAlone IsText t = IsText t.out × (t.counts ≡ None)
 
 abbrev pub AreTextsOf : Ready → Texts → Type 0
-AreTextsOf (to_evaluate l workers plans counts) t = IsAnswerOf l workers plans counts t
+AreTextsOf (to_evaluate l workers plans counts combine) t = IsAnswerOf l workers plans counts combine t
 AreTextsOf (to_show l workers plans) t = IsOutAlone (IsPlanText l workers plans) t
 AreTextsOf (to_justify l workers plans) t = IsOutAlone (IsCertificateLine l workers plans) t
 AreTextsOf (to_analyse p) t = IsOutAlone (IsSetsText p) t

@@ -10,7 +10,8 @@ use Rattle.pact_top.specs.Refusal.{AskForCounts, IsNamed}
 use Rattle.pact_top.specs.Statuses.{AreCut, AreWritten, CannotRead, IsStopped, IsStatusTold, WhereMissing, WhereReady, WhereStopped}
 
 -- Status 0: the texts that the work comes to were written whole. Of `run` that is the sorted rows of a bag that the program as written allows, which is
--- the only such bag where each function that a Reduce or a CoGroup calls passes the order test; with `--counts` this evaluation's counts too.
+-- the only such bag where each function that a Reduce or a CoGroup calls passes the order test; with `--counts` the counts too of an evaluation of the
+-- chosen plan that gives this bag, and with `--combine` behind them the line `partials` of each Reduce that is combined in it.
 abbrev pub Answered : List (List ℕ) → Feeding → Feeding → (old new told_old told_new : Option (List ℕ)) → ℕ → Type 0
 Answered words before now old new told_old told_new status = status ≡ 0 → AreWritten words before now old new told_old told_new
 

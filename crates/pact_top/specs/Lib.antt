@@ -9,3 +9,4 @@ pub mod Stages
 pub mod Statuses
 pub mod Transfer
 pub mod Work
+pub mod Runs

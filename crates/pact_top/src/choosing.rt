@@ -19,14 +19,14 @@ ghost use Rattle.pact_top.specs.CommandTexts.{AreToldCounts, IsAnswerOf, IsCerti
 
 use crate::lines::sorted_lines;
 use crate::loaded::{Loaded, is_source};
-use crate::tasks::{Task, run_task, run_task_on_threads};
+use crate::tasks::{RunOutcome, Task, run_either, run_either_on_threads};
 use crate::texts::Texts;
 use pact_bag::{Counts, Inputs, Outcome};
 use pact_operators::{Op, Plan, Program};
 use pact_record::{Bytes, OutOfMemory};
 use pact_words::Options;
 use plan_enumerate::{Chosen, Listed, choose, enumerate, steps_of};
-use plan_printer::{Shown, counts_text, plan_text};
+use plan_printer::{Shown, counts_text, plan_text, push_partials};
 use reorder_pair::ConditionList;
 use ship_strategy::layout;
 use std::alloc::Global;
@@ -49,6 +49,7 @@ pub struct FinishedRun {
     pub program: Program,
     pub choice: Choice,
     pub outcome: Outcome,
+    pub combined: Vec<(u32, u32)>,
 }
 
 // How many rows a source or operator has of its own, and the place of the next source. `source` is the place of this one, where it is a source.
@@ -152,16 +153,16 @@ fn run_plan(
     inputs: Inputs,
     choice: &Choice,
     options: Options,
-) -> Result<Outcome, OutOfMemory>
+) -> Result<RunOutcome, OutOfMemory>
     requires inputs { AreInputsOf program.now inputs }
     requires options { AreOptionsInRange options }
     requires plan { IsPlanOf program.now.functions program.now.ops choice.now.plan }
     requires layout { choice.now.chosen.layout < layout_count program.now.ops }
     requires answers { KeepAnswers program.now program.now.plan choice.now.plan }
-    ensures { IfOk result (IsOutcome (record { program = program.now; inputs = inputs }) choice.now.plan) }
+    ensures { IfOk result (λ r. IsOutcome (record { program = program.now; inputs = inputs }) options.workers choice.now options.combine r.outcome r.combined.items) }
 {
     let task = task_of(program, choice, options);
-    run_task(alloc, program, &task, inputs)
+    run_either(alloc, program, task, inputs, options.combine)
 }
 
 // The same of a run with a thread for each worker.
@@ -173,33 +174,35 @@ fn run_plan_on_threads<R: Threads + Wait + Sync, G: Gate>(
     choice: &Choice,
     options: Options,
     gate: &G,
-) -> Result<Outcome, OutOfMemory>
+) -> Result<RunOutcome, OutOfMemory>
     requires inputs { AreInputsOf program.now inputs }
     requires options { AreOptionsInRange options }
     requires plan { IsPlanOf program.now.functions program.now.ops choice.now.plan }
     requires layout { choice.now.chosen.layout < layout_count program.now.ops }
     requires answers { KeepAnswers program.now program.now.plan choice.now.plan }
-    ensures { IfOk result (IsOutcome (record { program = program.now; inputs = inputs }) choice.now.plan) }
+    ensures { IfOk result (λ r. IsOutcome (record { program = program.now; inputs = inputs }) options.workers choice.now options.combine r.outcome r.combined.items) }
 {
     let task = task_of(program, choice, options);
-    run_task_on_threads(rt, alloc, program, &task, inputs, gate)
+    run_either_on_threads(rt, alloc, program, task, inputs, options.combine, gate)
 }
 
-// The counts of a run of the chosen plan, where they are asked for.
+// The counts of a run of the chosen plan and how many partial groups there were, where they are asked for.
 fn told_counts(
     alloc: Global,
     program: &Program,
     choice: &Choice,
     counts: &Counts,
+    combined: &[(u32, u32)],
     asked: bool,
 ) -> Result<Option<Bytes>, OutOfMemory>
     requires plan { IsPlanOf program.now.functions program.now.ops choice.now.plan }
-    ensures { IfOk result (AreToldCounts program.now choice.now.plan counts.now asked) }
+    ensures { IfOk result (AreToldCounts program.now choice.now.plan counts.now combined.now asked) }
 {
     if !asked {
         return Ok(None);
     }
-    let text = counts_text(alloc, program, &choice.plan, counts)?;
+    let mut text = counts_text(alloc, program, &choice.plan, counts)?;
+    push_partials(alloc, &mut text, program, counts, combined)?;
     Ok(Some(text))
 }
 
@@ -211,15 +214,16 @@ pub fn run_chosen(
 ) -> Result<FinishedRun, OutOfMemory>
     requires inputs { AreInputsOf loaded.program loaded.inputs }
     requires options { AreOptionsInRange options }
-    ensures { IfOk result (IsRun loaded options.workers options.plans) }
+    ensures { IfOk result (IsRun loaded options.workers options.plans options.combine) }
 {
     let choice = choose_plan(alloc, &loaded, options.workers, options.plans)?;
     let Loaded { program, inputs } = loaded;
-    let outcome = run_plan(alloc, &program, inputs, &choice, options)?;
+    let RunOutcome { outcome, combined } = run_plan(alloc, &program, inputs, &choice, options)?;
     Ok(FinishedRun {
         program,
         choice,
         outcome,
+        combined,
     })
 }
 
@@ -233,15 +237,18 @@ pub fn run_chosen_on_threads<R: Threads + Wait + Sync, G: Gate>(
 ) -> Result<FinishedRun, OutOfMemory>
     requires inputs { AreInputsOf loaded.program loaded.inputs }
     requires options { AreOptionsInRange options }
-    ensures { IfOk result (IsRun loaded options.workers options.plans) }
+    ensures { IfOk result (IsRun loaded options.workers options.plans options.combine) }
 {
     let choice = choose_plan(alloc, &loaded, options.workers, options.plans)?;
     let Loaded { program, inputs } = loaded;
-    let outcome = run_plan_on_threads(rt, alloc, &program, inputs, &choice, options, gate)?;
+    let RunOutcome { outcome, combined } = run_plan_on_threads(
+        rt, alloc, &program, inputs, &choice, options, gate,
+    )?;
     Ok(FinishedRun {
         program,
         choice,
         outcome,
+        combined,
     })
 }
 
@@ -250,20 +257,21 @@ fn texts_of_run(alloc: Global, run: FinishedRun, counts: bool) -> Result<Texts, 
     requires plan { IsPlanOf run.program.functions run.program.ops run.choice.plan }
     requires widths { AreWide run.program.fields run.outcome.rows }
     ensures lines { IfOk result (λ texts. AreLines run.program.sink run.outcome.rows texts.out) }
-    ensures counts { IfOk result (λ texts. AreToldCounts run.program run.choice.plan run.outcome.counts counts texts.counts) }
+    ensures counts { IfOk result (λ texts. AreToldCounts run.program run.choice.plan run.outcome.counts run.combined.items counts texts.counts) }
     ensures program { IsProgram run.program }
 {
     let FinishedRun {
         program,
         choice,
         outcome,
+        combined,
     } = run;
     let Outcome {
         rows,
         counts: given,
     } = outcome;
     let out = sorted_lines(alloc, rows, program.sink())?;
-    let counts = told_counts(alloc, &program, &choice, &given, counts)?;
+    let counts = told_counts(alloc, &program, &choice, &given, &combined, counts)?;
     Ok(Texts { out, counts })
 }
 
@@ -276,7 +284,7 @@ pub fn run_texts(
 ) -> Result<Texts, OutOfMemory>
     requires inputs { AreInputsOf loaded.program loaded.inputs }
     requires options { AreOptionsInRange options }
-    ensures { IfOk result (IsAnswerOf loaded options.workers options.plans counts) }
+    ensures { IfOk result (IsAnswerOf loaded options.workers options.plans counts options.combine) }
 {
     let finished = run_chosen(alloc, loaded, options)?;
     texts_of_run(alloc, finished, counts)
@@ -293,7 +301,7 @@ pub fn run_texts_on_threads<R: Threads + Wait + Sync, G: Gate>(
 ) -> Result<Texts, OutOfMemory>
     requires inputs { AreInputsOf loaded.program loaded.inputs }
     requires options { AreOptionsInRange options }
-    ensures { IfOk result (IsAnswerOf loaded options.workers options.plans counts) }
+    ensures { IfOk result (IsAnswerOf loaded options.workers options.plans counts options.combine) }
 {
     let finished = run_chosen_on_threads(rt, alloc, loaded, options, gate)?;
     texts_of_run(alloc, finished, counts)

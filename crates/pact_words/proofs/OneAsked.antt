@@ -5,7 +5,8 @@ use Rattle.pact_words.specs.declared.commands.Kind.{Kind}
 use Rattle.pact_words.specs.declared.commands.Kind.TheVariants.{Run, Plan, Cert, Check, Sets, Gen, Drill}
 use Rattle.pact_words.specs.declared.commands.Options.{Options}
 use Rattle.pact_words.specs.Definitions.{app_for}
-use Rattle.pact_words.specs.FoundValues.{all_five, all_three, flag_of, local_of, number_of}
+use Rattle.pact_words.specs.declared.commands.LocalStrategy.{LocalStrategy}
+use Rattle.pact_words.specs.FoundValues.{all_six, all_three, flag_of, local_of, number_of}
 use Rattle.pact_words.specs.Words.{AreRefused, AreRefusedBy, Asked, IsAsked, NamesNoStrategy, asked_of, options, options_of, to_drill, to_run}
 
 pub one_of : {A : Type 0} (o : Option A) (a b : A) → o ≡ Some a → o ≡ Some b → a ≡ b
@@ -29,12 +30,12 @@ third_without f None b = refl
 third_without f (Some x) None = refl
 third_without f (Some x) (Some y) = refl
 
-five_without : {A B C D E F : Type 0} (f : A → B → C → D → E → F) (a : Option A) (b : Option B) (c : Option C) (d : Option D) → all_five f a b c d None ≡ None
-five_without f None b c d = refl
-five_without f (Some v) None c d = refl
-five_without f (Some v) (Some w) None d = refl
-five_without f (Some v) (Some w) (Some x) None = refl
-five_without f (Some v) (Some w) (Some x) (Some y) = refl
+fifth_without : {A B C D E F G : Type 0} (f : A → B → C → D → E → F → G) (a : Option A) (b : Option B) (c : Option C) (d : Option D) (g : Option F) → all_six f a b c d None g ≡ None
+fifth_without f None b c d g = refl
+fifth_without f (Some v) None c d g = refl
+fifth_without f (Some v) (Some w) None d g = refl
+fifth_without f (Some v) (Some w) (Some x) None g = refl
+fifth_without f (Some v) (Some w) (Some x) (Some y) g = refl
 
 no_options : (rows : List Row) → local_of (codes "local") rows ≡ None → options_of rows ≡ None
 no_options rows h =
@@ -42,7 +43,8 @@ no_options rows h =
     let plans = number_of (codes "plans") rows in
     let batch = number_of (codes "batch") rows in
     let depth = number_of (codes "depth") rows in
-    ap (all_five options workers plans batch depth) h ∙ five_without options workers plans batch depth
+    let combine = flag_of (codes "combine") rows in
+    ap (λ (local : Option LocalStrategy). all_six options workers plans batch depth local combine) h ∙ fifth_without options workers plans batch depth combine
 
 -- where `--local` names no strategy, nothing is asked for
 pub none_asked : (k : Kind) (rows : List Row) → NamesNoStrategy k rows → asked_of k rows ≡ None

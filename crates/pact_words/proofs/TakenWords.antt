@@ -8,24 +8,24 @@ use Rattle.pact_words.specs.declared.commands.Kind.{Kind}
 use Rattle.pact_words.specs.declared.commands.Kind.TheVariants.{Run, Plan, Cert, Check, Sets, Gen, Drill}
 use Rattle.pact_words.specs.declared.commands.Options.{Options}
 use Rattle.pact_words.specs.Definitions.{app_for}
-use Rattle.pact_words.specs.FoundValues.{all_five, all_three, all_two, local_of, number_of}
+use Rattle.pact_words.specs.FoundValues.{all_six, all_three, all_two, local_of, number_of}
 use Rattle.pact_words.specs.Limits.{row_limit, seed_limit}
 use Rattle.pact_words.specs.Words.{AreInRange, AreOperandsInRange, AreOptionsInRange, Asked, IsInRange, NamesNoStrategy, asked_of, options, options_of, to_certify, to_check, to_drill, to_generate, to_plan, to_run, to_tell_sets}
 use Rattle.pact_words.proofs.FittingRows.{AllKnown}
 use Rattle.pact_words.proofs.GivenValues.{Holds, IsSure, held}
 use Rattle.pact_words.proofs.OneAsked.{none_asked, not_both, one_of}
-use Rattle.pact_words.proofs.SaidValues.{HasNumber, HasText, has_flag, has_number, has_text}
+use Rattle.pact_words.proofs.SaidValues.{HasFlag, HasNumber, HasText, has_flag, has_number, has_text}
 
 -- ---- what each command has
 
 known : (k : Kind) → AllKnown (built (app_for k)).top.rules (built (app_for k)).top.rules
-known Run = ((refl, inl (refl, refl)), ((refl, inl (refl, refl)), ((refl, inl (refl, refl)), ((refl, inl (refl, refl)), ((refl, inl (refl, refl)), ((refl, inl (refl, refl)), ((refl, inr (inl (refl, (_, _, refl)))), ((refl, inr (inr refl)), tt))))))))
+known Run = ((refl, inl (refl, refl)), ((refl, inl (refl, refl)), ((refl, inl (refl, refl)), ((refl, inl (refl, refl)), ((refl, inl (refl, refl)), ((refl, inl (refl, refl)), ((refl, inr (inl (refl, (_, _, refl)))), ((refl, inr (inl (refl, (_, _, refl)))), ((refl, inr (inr refl)), tt)))))))))
 known Plan = ((refl, inl (refl, refl)), ((refl, inl (refl, refl)), ((refl, inl (refl, refl)), ((refl, inr (inr refl)), tt))))
 known Cert = ((refl, inl (refl, refl)), ((refl, inl (refl, refl)), ((refl, inl (refl, refl)), ((refl, inr (inr refl)), tt))))
 known Check = ((refl, inl (refl, refl)), ((refl, inl (refl, refl)), ((refl, inr (inr refl)), tt)))
 known Sets = ((refl, inl (refl, refl)), ((refl, inr (inr refl)), tt))
 known Gen = ((refl, inl (refl, refl)), ((refl, inl (refl, refl)), ((refl, inr (inr refl)), tt)))
-known Drill = ((refl, inl (refl, refl)), ((refl, inl (refl, refl)), ((refl, inl (refl, refl)), ((refl, inl (refl, refl)), ((refl, inl (refl, refl)), ((refl, inl (refl, refl)), ((refl, inl (refl, refl)), ((refl, inr (inr refl)), tt))))))))
+known Drill = ((refl, inl (refl, refl)), ((refl, inl (refl, refl)), ((refl, inl (refl, refl)), ((refl, inl (refl, refl)), ((refl, inl (refl, refl)), ((refl, inl (refl, refl)), ((refl, inl (refl, refl)), ((refl, inr (inl (refl, (_, _, refl)))), ((refl, inr (inr refl)), tt)))))))))
 
 -- each argument that is required or has a default has a value
 each_holds : (k : Kind) (words : List Text) → fault_of (app_for k) words ≡ [] → (id : Text) (a : Rule) → arg_by_id (built (app_for k)).top.rules id ≡ Some a
@@ -47,9 +47,9 @@ three_are : {A B C D : Type 0} (f : A → B → C → D) (a : Option A) (b : Opt
     → a ≡ Some x → b ≡ Some y → c ≡ Some z → all_three f a b c ≡ Some (f x y z)
 three_are f a b c x y z p q r = rw (p, q, r) refl
 
-five_are : {A B C D E F : Type 0} (f : A → B → C → D → E → F) (a : Option A) (b : Option B) (c : Option C) (d : Option D) (e : Option E) (v : A) (w : B) (x : C) (y : D) (z : E)
-    → a ≡ Some v → b ≡ Some w → c ≡ Some x → d ≡ Some y → e ≡ Some z → all_five f a b c d e ≡ Some (f v w x y z)
-five_are f a b c d e v w x y z p q r s t = rw (p, q, r, s, t) refl
+six_are : {A B C D E F G : Type 0} (f : A → B → C → D → E → F → G) (a : Option A) (b : Option B) (c : Option C) (d : Option D) (e : Option E) (g : Option F) (u : A) (v : B) (w : C) (x : D) (y : E) (z : F)
+    → a ≡ Some u → b ≡ Some v → c ≡ Some w → d ≡ Some x → e ≡ Some y → g ≡ Some z → all_six f a b c d e g ≡ Some (f u v w x y z)
+six_are f a b c d e g u v w x y z o p q r s t = rw (o, p, q, r, s, t) refl
 
 some_or_none : {A : Type 0} (B : Type 0) (o : Option A) → ((x : A) → o ≡ Some x → B) → B ⊎ (o ≡ None)
 some_or_none B (Some x) f = inl (f x refl)
@@ -71,19 +71,21 @@ has_limits rows workers plans w p h k = record {
 in_range : (rows : List Row) (h : HasLimits rows) → AreInRange h.workers.number h.plans.number
 in_range rows h = record { least_workers = h.workers.least_of; most_workers = h.workers.most_of; least_plans = h.plans.least_of; most_plans = h.plans.most_of }
 
--- the options that are numbers
+-- all options but `--local`
 pub record HasOptions (rows : List Row) : Type 0 where
   pub limits : HasLimits rows
   pub batch : HasNumber (codes "batch") rows 1 1024
   pub depth : HasNumber (codes "depth") rows 1 64
+  pub combine : HasFlag (codes "combine") rows
 
 has_options : (rows : List Row) (workers plans batch depth : Rule) → workers.parser ≡ Some (vp.Signed (pos 1) (pos 16)) → plans.parser ≡ Some (vp.Signed (pos 1) (pos 1000))
     → batch.parser ≡ Some (vp.Signed (pos 1) (pos 1024)) → depth.parser ≡ Some (vp.Signed (pos 1) (pos 64)) → Holds rows (codes "workers") workers
-    → Holds rows (codes "plans") plans → Holds rows (codes "batch") batch → Holds rows (codes "depth") depth → HasOptions rows
-has_options rows workers plans batch depth w p b d has_workers has_plans has_batch has_depth = record {
+    → Holds rows (codes "plans") plans → Holds rows (codes "batch") batch → Holds rows (codes "depth") depth → HasFlag (codes "combine") rows → HasOptions rows
+has_options rows workers plans batch depth w p b d has_workers has_plans has_batch has_depth combine = record {
   limits = has_limits rows workers plans w p has_workers has_plans;
   batch = has_number (codes "batch") rows batch 1 1024 (omega arith) b has_batch;
   depth = has_number (codes "depth") rows depth 1 64 (omega arith) d has_depth;
+  combine = combine;
 }
 
 pub record HasOperands (found : List Row) : Type 0 where
@@ -127,10 +129,11 @@ asks_chosen : (k : Kind) (words : List Text) (to : Options → Asked)
 asks_chosen k words to says ranged h =
     let rows = matches_of (app_for k) words in
     some_or_none (Asks k words) (local_of (codes "local") rows) (λ local is.
-    let chosen = options h.limits.workers.number h.limits.plans.number h.batch.number h.depth.number local in
+    let chosen = options h.limits.workers.number h.limits.plans.number h.batch.number h.depth.number local h.combine.flag in
     record {
       command = to chosen;
-      values = says chosen (five_are options _ _ _ _ _ h.limits.workers.number h.limits.plans.number h.batch.number h.depth.number local h.limits.workers.is h.limits.plans.is h.batch.is h.depth.is is);
+      values = says chosen (six_are options _ _ _ _ _ _ h.limits.workers.number h.limits.plans.number h.batch.number h.depth.number local h.combine.flag
+          h.limits.workers.is h.limits.plans.is h.batch.is h.depth.is is h.combine.is);
       in_range = ranged chosen (record {
         limits = in_range rows h.limits;
         least_batch = h.batch.least_of;
@@ -146,7 +149,7 @@ asks Run words e =
     let at = each_holds Run words e in
     let program = has_text (codes "program") rows _ (at (codes "program") _ refl (inl refl)) in
     let numbers = has_options rows _ _ _ _ refl refl refl refl (at (codes "workers") _ refl (inr (_, _, refl))) (at (codes "plans") _ refl (inr (_, _, refl)))
-    (at (codes "batch") _ refl (inr (_, _, refl))) (at (codes "depth") _ refl (inr (_, _, refl))) in
+    (at (codes "batch") _ refl (inr (_, _, refl))) (at (codes "depth") _ refl (inr (_, _, refl))) (has_flag (codes "combine") rows _ refl (at (codes "combine") _ refl (inr (_, _, refl)))) in
     let counts = has_flag (codes "counts") rows _ refl (at (codes "counts") _ refl (inr (_, _, refl))) in
     asks_chosen Run words (λ o. to_run program.text o counts.flag)
     (λ o is. three_are to_run _ _ _ program.text o counts.flag program.is is counts.is) (λ o h. h) numbers
@@ -187,7 +190,7 @@ asks Drill words e =
     let at = each_holds Drill words e in
     let operands = has_operands rows _ _ refl refl (at (codes "seed") _ refl (inl refl)) (at (codes "rows") _ refl (inl refl)) in
     let numbers = has_options rows _ _ _ _ refl refl refl refl (at (codes "workers") _ refl (inr (_, _, refl))) (at (codes "plans") _ refl (inr (_, _, refl)))
-    (at (codes "batch") _ refl (inr (_, _, refl))) (at (codes "depth") _ refl (inr (_, _, refl))) in
+    (at (codes "batch") _ refl (inr (_, _, refl))) (at (codes "depth") _ refl (inr (_, _, refl))) (has_flag (codes "combine") rows _ refl (at (codes "combine") _ refl (inr (_, _, refl)))) in
     asks_chosen Drill words (λ o. to_drill operands.seed.number operands.rows.number o)
     (λ o is. three_are to_drill _ _ _ operands.seed.number operands.rows.number o operands.seed.is operands.rows.is is)
     (λ o h. (operands_in_range rows operands, h)) numbers

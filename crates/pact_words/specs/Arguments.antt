@@ -66,6 +66,10 @@ depth_rule = number_rule (codes "depth") (pos 1) (pos 64) (codes "4")
 abbrev pub local_rule : Rule
 local_rule = word_rule (codes "local") (codes "hash")
 
+-- `--combine`
+abbrev pub combine_rule : Rule
+combine_rule = flag_rule (codes "combine")
+
 -- `--counts`
 abbrev pub counts_rule : Rule
 counts_rule = flag_rule (codes "counts")

@@ -3,7 +3,7 @@ use Rattle.std.specs.Prelude.{codes}
 use Rattle.clap.specs.Words.{App, Text, new_app, with_rule}
 use Rattle.pact_words.specs.declared.commands.Kind.{Kind}
 use Rattle.pact_words.specs.declared.commands.Kind.TheVariants.{Run, Plan, Cert, Check, Sets, Gen, Drill}
-use Rattle.pact_words.specs.Arguments.{batch_rule, certificate_rule, counts_rule, depth_rule, local_rule, plans_rule, program_rule, rows_rule, seed_rule, workers_rule}
+use Rattle.pact_words.specs.Arguments.{batch_rule, certificate_rule, combine_rule, counts_rule, depth_rule, local_rule, plans_rule, program_rule, rows_rule, seed_rule, workers_rule}
 
 -- a command of a program
 abbrev pub program_app : Text → App
@@ -23,7 +23,7 @@ with_pipes app = with_rule (with_rule app batch_rule) depth_rule
 
 -- with all that says how a plan is chosen and run
 abbrev pub with_options : App → App
-with_options app = with_rule (with_pipes (with_limits app)) local_rule
+with_options app = with_rule (with_rule (with_pipes (with_limits app)) local_rule) combine_rule
 
 -- a command that generates rows
 abbrev pub generating_app : Text → App

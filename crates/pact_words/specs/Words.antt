@@ -12,7 +12,7 @@ use Rattle.pact_words.specs.declared.commands.Kind.TheVariants.{Run, Plan, Cert,
 use Rattle.pact_words.specs.declared.commands.Refused.{Refused}
 use Rattle.pact_words.specs.declared.commands.Refused.TheVariants.{Usage, OutOfMemory}
 use Rattle.pact_words.specs.Definitions.{app_for}
-use Rattle.pact_words.specs.FoundValues.{all_five, all_three, all_two, flag_of, local_of, number_of}
+use Rattle.pact_words.specs.FoundValues.{all_six, all_three, all_two, flag_of, local_of, number_of}
 use Rattle.pact_words.specs.Limits.{row_limit, seed_limit}
 
 -- the texts that words point to
@@ -104,14 +104,14 @@ kind_in [] = None
 kind_in (word ∷ words) = kind_named word
 
 -- as one record
-abbrev pub options : (workers plans batch depth : ℕ) (local : LocalStrategy) → Options
-options workers plans batch depth local = record { workers = workers; plans = plans; batch = batch; depth = depth; local = local }
+abbrev pub options : (workers plans batch depth : ℕ) (local : LocalStrategy) (combine : Bool) → Options
+options workers plans batch depth local combine = record { workers = workers; plans = plans; batch = batch; depth = depth; local = local; combine = combine }
 
 -- those that clap found, where it found each
 abbrev pub options_of : List Row → Option Options
 options_of rows =
-    all_five options (number_of (codes "workers") rows) (number_of (codes "plans") rows) (number_of (codes "batch") rows) (number_of (codes "depth") rows)
-    (local_of (codes "local") rows)
+    all_six options (number_of (codes "workers") rows) (number_of (codes "plans") rows) (number_of (codes "batch") rows) (number_of (codes "depth") rows)
+    (local_of (codes "local") rows) (flag_of (codes "combine") rows)
 
 -- there is no word, or the first is no command
 abbrev pub AreUnnamed : List (List ℕ) → Type 0

@@ -22,13 +22,15 @@ pub struct Options {
     pub depth: u32,
     /// `--local`: how an instance finds the records of a key.
     pub local: LocalStrategy,
+    /// `--combine`: whether each worker reduces its own share of a group before it is shipped, where the function of a Reduce allows it.
+    pub combine: bool,
 }
 
 /// A command with its operands and options.
 ///
 /// Where the words don't tell, there are 4 workers (1 to 16), at most 256 plans (1 to 1,000), batches of 64 records (1 to 1,024) and pipes of
-/// 4 notes (1 to 64), and the records of a key are found by a hash table (`hash`, not `sort`). A seed is at most 2,147,483,646, and there are
-/// at most 1,000,000 rows.
+/// 4 notes (1 to 64), the records of a key are found by a hash table (`hash`, not `sort`), and nothing is combined. A seed is at most
+/// 2,147,483,646, and there are at most 1,000,000 rows.
 #[derive(Clone, Copy, Debug, PartialEq, Eq)]
 pub enum Command<'a> {
     /// `run PROGRAM`: the program in the file of that name is run, and its rows are written.

@@ -5,7 +5,7 @@ ghost use Rattle.clap.specs.Words.{app_of};
 ghost use Rattle.pact_words.specs.Definitions.{app_for, check_app, drill_app, generating_app, planning_app, run_app, sets_app, with_limits, with_options, with_pipes};
 
 use crate::arguments::{
-    batch, certificate, counts, depth, local, plans, program, rows, seed, workers,
+    batch, certificate, combine, counts, depth, local, plans, program, rows, seed, workers,
 };
 use crate::commands::Kind;
 use clap::Command;
@@ -70,7 +70,9 @@ fn drill<'a>(alloc: Global) -> Result<Command<'a>, AllocError>
 fn with_options<'a>(alloc: Global, command: Command<'a>) -> Result<Command<'a>, AllocError>
     ensures { IfOk result (λ c. app_of c ≡ with_options (app_of command.entry)) }
 {
-    with_pipes(alloc, with_limits(alloc, command)?)?.arg(local(alloc))
+    with_pipes(alloc, with_limits(alloc, command)?)?
+        .arg(local(alloc))?
+        .arg(combine(alloc))
 }
 
 fn with_limits<'a>(alloc: Global, command: Command<'a>) -> Result<Command<'a>, AllocError>

@@ -44,12 +44,14 @@ fn options(matches: &ArgMatches<'_>) -> Option<Options>
     let batch = number(matches, "batch")?;
     let depth = number(matches, "depth")?;
     let local = local(matches, "local")?;
+    let combine = flag(matches, "combine")?;
     Some(Options {
         workers,
         plans,
         batch,
         depth,
         local,
+        combine,
     })
 }
 

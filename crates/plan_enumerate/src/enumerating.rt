@@ -15,8 +15,8 @@ use crate::entries::{Entries, Entry};
 use crate::listings::Listed;
 use pact_operators::{MAX_NODES, Plan, Program};
 use pact_record::OutOfMemory;
-use reorder_group::{apply, legal_for};
 use reorder_pair::{Condition, Findings, Rule, kind_of};
+use reorder_unique::{apply, legal_for, other_is_unique};
 use std::alloc::Global;
 
 // Whether an operator may be the upper one of an exchange by the rule. This is asked first, since what is found at a place takes the plan apart.
@@ -46,7 +46,8 @@ fn legal_exchange(
     let Some((upper, lower)) = findings.found_at(program, plan, at, rule)? else {
         return Ok(None);
     };
-    Ok(legal_for(program, plan, at, rule, &upper, &lower).ok())
+    let unique = other_is_unique(program, findings, plan, at, rule)?;
+    Ok(legal_for(program, plan, at, rule, &upper, &lower, unique).ok())
 }
 
 // The entry of what a legal exchange of a listed plan gives. `from` is the number of the plan's entry.

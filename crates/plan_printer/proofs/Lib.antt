@@ -1,3 +1,4 @@
 pub mod RisingFields
 pub mod ListedFields
 pub mod LinesSoFar
+pub mod PartialsLines

@@ -1,5 +1,5 @@
 -- How many records each source and operator of a plan had in one evaluation, as text.
-use Rattle.std.specs.Prelude.{◌++◌, ◌+◌, ℕ, List, [], ◌∷◌, Option, Some, None, codes, decimal, get_or}
+use Rattle.std.specs.Prelude.{◌++◌, ◌+◌, ℕ, List, [], ◌∷◌, Option, Some, None, codes, decimal, get_or, slice_get}
 use Rattle.plan_trees.specs.Plans.{PlanTree, input_of}
 use Rattle.pact_operators.specs.declared.operators.Op.{Op}
 use Rattle.pact_operators.specs.Programs.{ProgramData}
@@ -27,3 +27,15 @@ counts_from plan counts at (op ∷ ops) = counts_line plan counts at op ++ count
 -- in text order
 abbrev pub counts_text : ProgramData → PlanTree → List ℕ → List ℕ
 counts_text p plan counts = counts_from plan counts 0 p.ops
+
+-- ---- partial groups
+
+-- the line of an operator before which partial groups were made: its name, and how many records the one that made them gave
+abbrev pub partials_line : List ℕ → (new : ℕ) → Option Op → List ℕ
+partials_line counts new None = []
+partials_line counts new (Some op) = op.name ++ (codes " partials " ++ (decimal (get_or counts new 0) ++ codes "\n"))
+
+-- those of such pairs: what makes partial groups, and the operator that merges them
+abbrev pub partials_text : ProgramData → List ℕ → List (ℕ × ℕ) → List ℕ
+partials_text p counts [] = []
+partials_text p counts (pair ∷ pairs) = partials_line counts pair.0 (slice_get p.ops pair.1) ++ partials_text p counts pairs

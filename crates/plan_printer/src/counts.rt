@@ -1,6 +1,6 @@
 //! How many records each source and operator of a plan had in one evaluation, as text.
 
-ghost use Rattle.std.specs.Prelude.{◌≡◌, ◌++◌, IfOk, OnOk, true};
+ghost use Rattle.std.specs.Prelude.{◌≡◌, ◌++◌, IfOk, OnOk, Some, slice_get, true};
 ghost use Rattle.plan_trees.specs.Plans.{has};
 ghost use Rattle.pact_operators.specs.Programs.{IsPlanOf};
 ghost use Rattle.plan_printer.specs.CountsText as texts;
@@ -85,4 +85,55 @@ pub fn counts_text(
         push_line(alloc, &mut text, plan, counts, n as u32, op)?;
     }
     Ok(text)
+}
+
+// Puts the line of an operator before which partial groups were made behind what is there.
+fn push_partials_line(
+    alloc: Global,
+    text: &mut Bytes,
+    counts: &Counts,
+    new: u32,
+    op: &Op,
+) -> Result<(), OutOfMemory>
+    ensures { OnOk result (text.new ≡ text.old ++ texts.partials_line counts.now new (Some op.now)) }
+{
+    text.extend_from_slice(op.name.bytes())?;
+    text.extend_from_slice(b" partials ")?;
+    push_number(alloc, text, rows_at(counts, new))?;
+    text.extend_from_slice(b"\n")
+}
+
+// The same of the operator of a number.
+fn push_partials_at(
+    alloc: Global,
+    text: &mut Bytes,
+    program: &Program,
+    counts: &Counts,
+    new: u32,
+    at: u32,
+) -> Result<(), OutOfMemory>
+    ensures { OnOk result (text.new ≡ text.old ++ texts.partials_line counts.now new (slice_get program.now.ops at)) }
+{
+    match program.ops().get(at as usize) {
+        Some(op) => push_partials_line(alloc, text, counts, new, op),
+        None => Ok(()),
+    }
+}
+
+/// Puts behind the counts a line for each pair of an operator that made partial groups and the one that merged them: the name of the
+/// latter, and how many records the former gave. Want of memory is the only error.
+pub fn push_partials(
+    alloc: Global,
+    text: &mut Bytes,
+    program: &Program,
+    counts: &Counts,
+    pairs: &[(u32, u32)],
+) -> Result<(), OutOfMemory>
+    ensures { OnOk result (text.new ≡ text.old ++ texts.partials_text program.now counts.now pairs.now) }
+{
+    for pair in pairs {
+        let (new, at) = *pair;
+        push_partials_at(alloc, text, program, counts, new, at)?;
+    }
+    Ok(())
 }

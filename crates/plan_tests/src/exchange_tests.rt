@@ -7,8 +7,8 @@ ghost use Rattle.reorder_pair.specs.Rules.{IsPairRule};
 
 use crate::programs::program;
 use pact_operators::{Plan, Program};
-use reorder_group::{apply, legal};
 use reorder_pair::{Rule, apply_pair, legal_pair};
+use reorder_unique::{apply, legal};
 use std::test::Fail;
 
 // The number of `h` is 4, and that of `g` 3.
@@ -26,8 +26,8 @@ match h jn g u by 3 = 4
 sink h 0 1 2 3 4 5
 ";
 
-// The plan after an exchange, where it is legal.
-fn exchanged(program: &Program, plan: &Plan, at: u32, rule: Rule) -> Option<Plan>
+/// The plan after an exchange, where it is legal.
+pub fn exchanged(program: &Program, plan: &Plan, at: u32, rule: Rule) -> Option<Plan>
     requires { IsPlanOf program.now.functions program.now.ops plan.now }
     ensures { IfSome result (IsPlanOf program.now.functions program.now.ops) }
 {

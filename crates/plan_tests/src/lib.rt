@@ -1,5 +1,5 @@
 //! Tests of functions, programs and their plans that no command shows, over what the libraries make public: how texts are written, what a call emits in which order, what a program has, what its
-//! plans put out, exchanges there and back, how plans were listed, what they cost, and how they run in parts.
+//! plans put out, exchanges there and back, what refuses a Reduce and a Match, how plans were listed, what they cost, and how they run in parts.
 //!
 //! A crate with tests is proved twice, with them and without, so the tests stand apart.
 #![tactic(auto)]
@@ -22,5 +22,7 @@ mod program_tests;
 mod program_text_tests;
 #[cfg(test)]
 mod programs;
+#[cfg(test)]
+mod unique_tests;
 #[cfg(test)]
 mod world_tests;

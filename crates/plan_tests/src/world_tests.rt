@@ -270,8 +270,8 @@ fn are_equal(found: &Counts, wanted: &Counts) -> bool {
     found.len() == wanted.len()
 }
 
-// Whether these are the same rows, in some order.
-fn are_same(found: Rows, wanted: Rows) -> Result<bool, Fail> {
+/// Whether these are the same rows, in some order.
+pub fn are_same(found: Rows, wanted: Rows) -> Result<bool, Fail> {
     let mut found = found.into_records();
     let mut wanted = wanted.into_records();
     found.sort()?;

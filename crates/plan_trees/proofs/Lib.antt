@@ -17,3 +17,6 @@ pub mod NeighbourTrees
 pub mod EachWorker
 pub mod NumbersBelow
 pub mod FlagsOfSenders
+pub mod InsertedTrees
+pub mod InsertedPlaces
+pub mod InsertedPhysicals

@@ -8,5 +8,6 @@ pub mod NodeRows
 pub mod Physicals
 pub mod Sending
 pub mod PhysicalCode
+pub mod Inserted
 pub mod Shapes
 pub mod Senders

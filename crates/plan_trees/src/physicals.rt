@@ -1,7 +1,9 @@
 //! Physical plans: a plan, how many workers run it, and how records go along each of its edges.
 
-ghost use Rattle.std.specs.Prelude.{◌≡◌, ◌≢◌, ◌≤◌, ◌↔◌, ℕ, true, Some, IsNone};
-ghost use Rattle.plan_trees.specs.Plans.{root_of, has};
+ghost use Rattle.std.specs.Prelude.{◌≡◌, ◌≢◌, ◌<◌, ◌≤◌, ◌↔◌, ℕ, true, Some, IsNone};
+ghost use Rattle.plan_trees.specs.Distinct.{IsAbsent};
+ghost use Rattle.plan_trees.specs.Inserted.{inserted_above};
+ghost use Rattle.plan_trees.specs.Plans.{node_limit, nodes, root_of, has};
 ghost use Rattle.plan_trees.specs.Physicals.{worker_limit, has_edge, ship_at, with_ship, forwarded, IsPhysical};
 ghost use Rattle.plan_trees.specs.Sending.{has_pipe};
 
@@ -108,5 +110,22 @@ impl Physical {
         ensures others { (k : ℕ) → k ≢ at → ship_at self.new k ≡ ship_at self.old k }
     {
         self.ships[at as usize] = ship;
+    }
+
+    /// Puts an operator of one input on the edge from a number to its consumer. It is fed Forward, and ships as
+    /// the edge did.
+    pub fn insert(&mut self, below: u32, new: u32)
+        requires has { has below self.old.tree ≡ true }
+        requires edge { below ≢ root_of self.old.tree }
+        requires new_below { new < node_limit }
+        requires absent { IsAbsent new (nodes self.old.tree) }
+        ensures value { self.new ≡ inserted_above below new self.old }
+        ensures physical { IsPhysical self.new }
+    {
+        let ship = self.ships[below as usize];
+        let above = Plan::over(new, &self.plan.subtree(below));
+        self.plan = self.plan.with_subtree(below, &above);
+        self.ships[new as usize] = ship;
+        self.ships[below as usize] = Ship::Forward;
     }
 }

@@ -1,4 +1,4 @@
--- A legal exchange keeps the answers of a plan, whatever its rule.
+-- A legal exchange keeps the answers of a plan, by each of the first thirteen rules.
 use Rattle.std.proofs.Common.{◌≡◌, inr, ℕ, true, List, slice_get}
 use Rattle.pact_record.specs.FieldSets.{has_field}
 use Rattle.tac_syntax.specs.declared.contexts.Side.TheVariants.{Left as on_left, Right as on_right}
@@ -13,10 +13,10 @@ use Rattle.pact_operators.specs.SoundOps.{AreOpsOf}
 use Rattle.reorder_pair.specs.declared.finding.Found.{Found}
 use Rattle.reorder_pair.specs.declared.rules.Role.TheVariants.{CoGrouping, Grouping, Mapping}
 use Rattle.reorder_pair.specs.declared.rules.Rule.{Rule}
-use Rattle.reorder_pair.specs.declared.rules.Rule.TheVariants.{MapMap, MapLeft, MapLeftUp, MapRight, MapRightUp, Rotate, RotateUp, MapReduce, MapReduceUp, MapCoGroupLeft, MapCoGroupLeftUp, MapCoGroupRight, MapCoGroupRightUp}
+use Rattle.reorder_pair.specs.declared.rules.Rule.TheVariants.{MapMap, MapLeft, MapLeftUp, MapRight, MapRightUp, Rotate, RotateUp, MapReduce, MapReduceUp, MapCoGroupLeft, MapCoGroupLeftUp, MapCoGroupRight, MapCoGroupRightUp, ReduceMatchLeft, ReduceMatchLeftUp, ReduceMatchRight, ReduceMatchRightUp}
 use Rattle.reorder_pair.specs.Conditions.{IsBoundTo, uses_of}
 use Rattle.reorder_pair.specs.Legal.{IsLegal, KeepAnswers}
-use Rattle.reorder_pair.specs.Rules.{exchanged_by, swapped}
+use Rattle.reorder_pair.specs.Rules.{IsMapOrPairRule, exchanged_by, swapped}
 use Rattle.reorder_pair.proofs.FoundOperators.{IsFoundIn, found_turned, used_in}
 use Rattle.reorder_pair.proofs.LegalExchanges.{both_found, no_conflict, no_conflict_up, pair_at_root, turned_same}
 use Rattle.reorder_pair.proofs.PermittedExchanges.{NoConflict}
@@ -79,45 +79,49 @@ module _ (p : ProgramData) (program : IsProgram p) (inputs : List Bag) (good : A
 
   -- ---- at the root
 
-  at_root : (rule : Rule) (t : PlanTree) (upper lower : Found) → IsLegalRoot p rule t upper lower → AreSidesApart v p.ops t → AllowSame O t (exchanged_by rule t)
-  at_root MapReduce (over f (over g t)) upper lower x apart =
+  at_root : (rule : Rule) → IsMapOrPairRule rule → (t : PlanTree) (upper lower : Found) → IsLegalRoot p rule t upper lower → AreSidesApart v p.ops t → AllowSame O t (exchanged_by rule t)
+  at_root MapReduce i (over f (over g t)) upper lower x apart =
       let permits = reduce_permitted f g t upper lower x.above x.below x.upper_in x.lower_in (no_conflict upper lower x.passes.0 x.passes.1.0 x.passes.1.1.0) x.passes.1.1.1.0 in
       reduce_same F v p.ops O good f g t permits
-  at_root MapReduceUp (over g (over f t)) upper lower x apart =
+  at_root MapReduceUp i (over g (over f t)) upper lower x apart =
       let permits = reduce_permitted f g t lower upper x.below x.above (found_turned p f (over f t) (over f (over g t)) lower x.lower_in) (found_turned p g (over g (over f t)) (over g t) upper x.upper_in)
       (no_conflict_up upper lower x.passes.0 x.passes.1.0 x.passes.1.1.0) x.passes.1.1.1.0 in
       turned_same O (over f (over g t)) (over g (over f t)) (reduce_same F v p.ops O good f g t permits)
-  at_root MapCoGroupLeft (over f (both g t u)) upper lower x apart =
+  at_root MapCoGroupLeft i (over f (both g t u)) upper lower x apart =
       let permits = cogroup_left_permitted f g t u upper lower x.above x.below x.upper_in x.lower_in (no_conflict upper lower x.passes.0 x.passes.1.0 x.passes.1.1.0)
       x.passes.1.1.1.0 x.passes.1.1.1.1.0 x.passes.1.1.1.1.1.0 in
       cogroup_left_same F v p.ops O good f g t u permits apart.0
-  at_root MapCoGroupLeftUp (both g (over f t) u) upper lower x apart =
+  at_root MapCoGroupLeftUp i (both g (over f t) u) upper lower x apart =
       let permits = cogroup_left_permitted f g t u lower upper x.below x.above (found_turned p f (over f t) (over f (both g t u)) lower x.lower_in) (found_turned p g (both g (over f t) u) (both g t u) upper x.upper_in)
       (no_conflict_up upper lower x.passes.0 x.passes.1.0 x.passes.1.1.0) x.passes.1.1.1.0 x.passes.1.1.1.1.0 x.passes.1.1.1.1.1.0 in
       turned_same O (over f (both g t u)) (both g (over f t) u) (cogroup_left_same F v p.ops O good f g t u permits (λ k a b. apart.0 k (inr a) b))
-  at_root MapCoGroupRight (over f (both g t u)) upper lower x apart =
+  at_root MapCoGroupRight i (over f (both g t u)) upper lower x apart =
       let permits = cogroup_right_permitted f g t u upper lower x.above x.below x.upper_in x.lower_in (no_conflict upper lower x.passes.0 x.passes.1.0 x.passes.1.1.0)
       x.passes.1.1.1.0 x.passes.1.1.1.1.0 x.passes.1.1.1.1.1.0 in
       cogroup_right_same F v p.ops O good f g t u permits apart.0
-  at_root MapCoGroupRightUp (both g t (over f u)) upper lower x apart =
+  at_root MapCoGroupRightUp i (both g t (over f u)) upper lower x apart =
       let permits = cogroup_right_permitted f g t u lower upper x.below x.above (found_turned p f (over f u) (over f (both g t u)) lower x.lower_in) (found_turned p g (both g t (over f u)) (both g t u) upper x.upper_in)
       (no_conflict_up upper lower x.passes.0 x.passes.1.0 x.passes.1.1.0) x.passes.1.1.1.0 x.passes.1.1.1.1.0 x.passes.1.1.1.1.1.0 in
       turned_same O (over f (both g t u)) (both g t (over f u)) (cogroup_right_same F v p.ops O good f g t u permits (λ k a b. apart.0 k a (inr b)))
-  at_root MapReduce t upper lower x apart = absurd x.shape
-  at_root MapReduceUp t upper lower x apart = absurd x.shape
-  at_root MapCoGroupLeft t upper lower x apart = absurd x.shape
-  at_root MapCoGroupLeftUp t upper lower x apart = absurd x.shape
-  at_root MapCoGroupRight t upper lower x apart = absurd x.shape
-  at_root MapCoGroupRightUp t upper lower x apart = absurd x.shape
-  at_root MapMap t upper lower x apart = pair_at_root p program inputs good MapMap tt t upper lower x apart
-  at_root MapLeft t upper lower x apart = pair_at_root p program inputs good MapLeft tt t upper lower x apart
-  at_root MapLeftUp t upper lower x apart = pair_at_root p program inputs good MapLeftUp tt t upper lower x apart
-  at_root MapRight t upper lower x apart = pair_at_root p program inputs good MapRight tt t upper lower x apart
-  at_root MapRightUp t upper lower x apart = pair_at_root p program inputs good MapRightUp tt t upper lower x apart
-  at_root Rotate t upper lower x apart = pair_at_root p program inputs good Rotate tt t upper lower x apart
-  at_root RotateUp t upper lower x apart = pair_at_root p program inputs good RotateUp tt t upper lower x apart
+  at_root ReduceMatchLeft i t upper lower x apart = absurd i
+  at_root ReduceMatchLeftUp i t upper lower x apart = absurd i
+  at_root ReduceMatchRight i t upper lower x apart = absurd i
+  at_root ReduceMatchRightUp i t upper lower x apart = absurd i
+  at_root MapReduce i t upper lower x apart = absurd x.shape
+  at_root MapReduceUp i t upper lower x apart = absurd x.shape
+  at_root MapCoGroupLeft i t upper lower x apart = absurd x.shape
+  at_root MapCoGroupLeftUp i t upper lower x apart = absurd x.shape
+  at_root MapCoGroupRight i t upper lower x apart = absurd x.shape
+  at_root MapCoGroupRightUp i t upper lower x apart = absurd x.shape
+  at_root MapMap i t upper lower x apart = pair_at_root p program inputs good MapMap tt t upper lower x apart
+  at_root MapLeft i t upper lower x apart = pair_at_root p program inputs good MapLeft tt t upper lower x apart
+  at_root MapLeftUp i t upper lower x apart = pair_at_root p program inputs good MapLeftUp tt t upper lower x apart
+  at_root MapRight i t upper lower x apart = pair_at_root p program inputs good MapRight tt t upper lower x apart
+  at_root MapRightUp i t upper lower x apart = pair_at_root p program inputs good MapRightUp tt t upper lower x apart
+  at_root Rotate i t upper lower x apart = pair_at_root p program inputs good Rotate tt t upper lower x apart
+  at_root RotateUp i t upper lower x apart = pair_at_root p program inputs good RotateUp tt t upper lower x apart
 
 -- at any place of a plan
-pub legal-KeepAnswers : (p : ProgramData) → IsProgram p → (plan : PlanTree) → IsPlanOf p.functions p.ops plan → (at : ℕ) (rule : Rule) → IsLegal p plan at rule → KeepAnswers p plan (swapped rule at plan)
-legal-KeepAnswers p program plan of_program at rule legal =
-    placed-KeepAnswers p program plan of_program at rule legal (λ inputs good t upper lower x apart. at_root p program inputs good rule t upper lower x apart)
+pub legal-KeepAnswers : (p : ProgramData) → IsProgram p → (plan : PlanTree) → IsPlanOf p.functions p.ops plan → (at : ℕ) (rule : Rule) → IsMapOrPairRule rule → IsLegal p plan at rule → KeepAnswers p plan (swapped rule at plan)
+legal-KeepAnswers p program plan of_program at rule i legal =
+    placed-KeepAnswers p program plan of_program at rule legal (λ inputs good t upper lower x apart. at_root p program inputs good rule i t upper lower x apart)

@@ -9,6 +9,5 @@ pub mod MapsPastCoGroups
 pub mod GroupLaws
 pub mod FoundGroups
 pub mod LegalExchanges
-pub mod PlansInReach
 pub mod JudgedGroups
 pub mod OneBag

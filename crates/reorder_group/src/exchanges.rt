@@ -1,9 +1,9 @@
-//! Exchanges of neighbouring operators of a plan, by every rule.
+//! Exchanges of neighbouring operators of a plan, by the first thirteen rules.
 
 ghost use Rattle.std.specs.Prelude.{◌≡◌, IfErr, IfOk, IsOk};
 ghost use Rattle.pact_operators.specs.Programs.{IsPlanOf};
 ghost use Rattle.reorder_pair.specs.Legal.{IsConditionOf, IsFoundAt, IsLegal, IsRefusal, KeepAnswers};
-ghost use Rattle.reorder_pair.specs.Rules.{swapped};
+ghost use Rattle.reorder_pair.specs.Rules.{IsMapOrPairRule, swapped};
 
 use crate::group_conditions::past_groups;
 use pact_operators::{Plan, Program};
@@ -14,6 +14,7 @@ use reorder_pair::{
 /// Whether the operator at a place of a plan and the one below it that the rule exchanges with it may change places.
 pub fn legal(program: &Program, plan: &Plan, at: u32, rule: Rule) -> Result<Condition, NotLegal>
     requires plan { IsPlanOf program.now.functions program.now.ops plan.now }
+    requires rule { IsMapOrPairRule rule }
     ensures legal { IfOk result (IsConditionOf program.now plan.now at rule) }
     ensures refused { IfErr result (IsRefusal program.now plan.now at rule) }
     ensures legal_always { IsLegal program.now plan.now at rule → IsOk result }
@@ -35,6 +36,7 @@ pub fn legal_for(
     lower: &Found,
 ) -> Result<Condition, NotLegal>
     requires plan { IsPlanOf program.now.functions program.now.ops plan.now }
+    requires rule { IsMapOrPairRule rule }
     requires found { IsFoundAt program.now plan.now at rule upper.now lower.now }
     ensures legal { IfOk result (IsConditionOf program.now plan.now at rule) }
     ensures refused { IfErr result (IsRefusal program.now plan.now at rule) }
@@ -63,6 +65,7 @@ pub fn legal_for(
 /// The plan in which the operator at the place and the one below it have changed places. The exchange is legal there.
 pub fn apply(program: &Program, plan: &Plan, at: u32, rule: Rule) -> Plan
     requires plan { IsPlanOf program.now.functions program.now.ops plan.now }
+    requires rule { IsMapOrPairRule rule }
     requires legal { IsLegal program.now plan.now at rule }
     ensures swapped { result ≡ swapped rule at plan.now }
     ensures answers { KeepAnswers program.now plan.now result }

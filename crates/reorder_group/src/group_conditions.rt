@@ -94,7 +94,11 @@ pub(crate) fn past_groups(
         | Rule::MapRight
         | Rule::MapRightUp
         | Rule::Rotate
-        | Rule::RotateUp => Ok(()),
+        | Rule::RotateUp
+        | Rule::ReduceMatchLeft
+        | Rule::ReduceMatchLeftUp
+        | Rule::ReduceMatchRight
+        | Rule::ReduceMatchRightUp => Ok(()),
         Rule::MapReduce => keeps_left_groups(program, upper, below),
         Rule::MapReduceUp => keeps_left_groups(program, lower, at),
         Rule::MapCoGroupLeft => {

@@ -1,7 +1,8 @@
-//! Exchanges of a Map past a Reduce or a side of a CoGroup, and with them all other rules.
+//! Exchanges of a Map past a Reduce or a side of a CoGroup, and with them those by the rules in which no group is made.
 //!
-//! `legal` and `apply` serve every rule: what all of them ask is decided by `reorder_pair`, which has the rules and what legal means, and what is
-//! asked past groups is decided here. `legal_for` decides over what was found of the two operators already.
+//! `legal` and `apply` serve the first thirteen rules, which are all but those by which a Reduce passes a Match: what all rules ask is decided by
+//! `reorder_pair`, which has the rules and what legal means, and what is asked past groups is decided here. `legal_for` decides over what was found of
+//! the two operators already.
 #![tactic(auto)]
 
 mod exchanges;

@@ -17,7 +17,7 @@ use Rattle.pact_operators.specs.SoundOps.{AreOpsOf, function_kind}
 use Rattle.reorder_pair.specs.declared.finding.Found.{Found}
 use Rattle.tac_syntax.specs.Valid.{WithFields}
 use Rattle.reorder_pair.specs.declared.rules.Role.{Role}
-use Rattle.reorder_pair.specs.declared.rules.Role.TheVariants.{Mapping, Pairing, Grouping, CoGrouping}
+use Rattle.reorder_pair.specs.declared.rules.Role.TheVariants.{Mapping, Pairing, Grouping, CoGrouping, Matching}
 use Rattle.reorder_pair.specs.declared.rules.Rule.{Rule}
 use Rattle.reorder_pair.specs.declared.rules.Rule.TheVariants.{MapMap, MapLeft, MapLeftUp, MapRight, MapRightUp, Rotate, RotateUp}
 use Rattle.reorder_pair.specs.Legal.{IsLegal, KeepAnswers}
@@ -48,6 +48,7 @@ anchored Mapping side q s e on = same_anchor q Map side s e tt
 anchored Pairing side q s (inl e) on = same_anchor q Match side s e tt
 anchored Pairing side q s (inr e) on = same_anchor q Cross side s e tt
 anchored Grouping side q s e on = same_anchor q Reduce side s e tt
+anchored Matching side q s e on = same_anchor q Match side s e tt
 anchored CoGrouping on_left q s e on = same_anchor q CoGroup on_left s e on
 anchored CoGrouping on_right q s e on = same_anchor q CoGroup on_right s e on
 

@@ -16,7 +16,7 @@ use Rattle.reorder_pair.specs.declared.finding.Found.{Found}
 use Rattle.reorder_pair.specs.declared.legality.Condition.{Condition}
 use Rattle.reorder_pair.specs.declared.legality.NotLegal.{NotLegal}
 use Rattle.reorder_pair.specs.declared.rules.Rule.{Rule}
-use Rattle.reorder_pair.specs.Conditions.{AllPass, Fails, FirstFails, Line, Passes, Uses, anchored, keeps_groups, lines, no_common, uses_of}
+use Rattle.reorder_pair.specs.Conditions.{AllPass, Fails, FirstFails, Line, Passes, Uses, anchored, keeps_groups, lines, no_common, told, uses_of}
 use Rattle.reorder_pair.specs.Legal.{IsConditionOf, IsFoundAt, IsLegal, IsRefusal, lines_at}
 use Rattle.reorder_pair.specs.Places.{IsFound, IsUnionOf}
 use Rattle.reorder_pair.specs.Rules.{exchanged_by}
@@ -100,6 +100,7 @@ passes_or_fails (no_common ours theirs refusal) why p f = p f.0 f.1.one f.1.othe
 passes_or_fails (anchored true) why p f = let e = f.0 in cc
 passes_or_fails (anchored false) why p f = cc
 passes_or_fails (keeps_groups mover keys) why p f = f.0 p
+passes_or_fails (told holds refusal) why p f = f.0 p
 
 pass_or_first : (rest : List Line) (why : NotLegal) → AllPass rest → FirstFails rest why → ⊥
 pass_or_first [] why p f = f

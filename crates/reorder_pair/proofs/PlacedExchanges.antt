@@ -18,7 +18,7 @@ use Rattle.pact_operators.proofs.SoundPrograms.{are_ops}
 use Rattle.reorder_pair.specs.declared.finding.Found.{Found}
 use Rattle.reorder_pair.specs.declared.rules.Role.{Role}
 use Rattle.reorder_pair.specs.declared.rules.Rule.{Rule}
-use Rattle.reorder_pair.specs.Conditions.{AllPass, group_lines, lines, side_lines, uses_of}
+use Rattle.reorder_pair.specs.Conditions.{AllPass, lines, own_lines, side_lines, uses_of}
 use Rattle.reorder_pair.specs.Legal.{IsLegal, KeepAnswers}
 use Rattle.reorder_pair.specs.Places.{IsPlace}
 use Rattle.reorder_pair.specs.Rules.{Plays, exchange_of, exchanged_by, swapped}
@@ -89,7 +89,7 @@ module _ (p : ProgramData) (program : IsProgram p) (plan : PlanTree) (of_program
   side_passes : AllPass (side_lines p shape tree after (uses_of legal.0) (uses_of legal.1))
   side_passes =
       let sides = side_lines p shape tree after (uses_of legal.0) (uses_of legal.1) in
-      AllPass-left sides (group_lines p rule (root_of tree) (root_of after) (uses_of legal.0) (uses_of legal.1)) legal.2.passes.1.1.1
+      AllPass-left sides (own_lines p rule tree after (uses_of legal.0) (uses_of legal.1)) legal.2.passes.1.1.1
 
   pub legal-IsPlanOf : IsPlanOf p.functions p.ops (swapped rule at plan)
   legal-IsPlanOf =

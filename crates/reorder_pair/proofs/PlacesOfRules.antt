@@ -8,7 +8,7 @@ use Rattle.plan_trees.proofs.SubtreesOfPlans.{root_of-subtree}
 use Rattle.pact_operators.specs.PlanOps.{kind_at}
 use Rattle.pact_operators.specs.Programs.{ProgramData}
 use Rattle.reorder_pair.specs.declared.rules.Role.{Role}
-use Rattle.reorder_pair.specs.declared.rules.Role.TheVariants.{Mapping, Pairing, Grouping, CoGrouping}
+use Rattle.reorder_pair.specs.declared.rules.Role.TheVariants.{Mapping, Pairing, Grouping, CoGrouping, Matching}
 use Rattle.reorder_pair.specs.declared.rules.Rule.{Rule}
 use Rattle.reorder_pair.specs.Places.{IsPlace}
 use Rattle.reorder_pair.specs.Rules.{Plays, exchange_of, exchanged_by}
@@ -29,6 +29,9 @@ plays-operator Grouping q e s = bad (sym e ∙ s) where
   bad h = cc
 plays-operator CoGrouping q e s = bad (sym e ∙ s) where
   bad : CoGroup ≡ Source → ⊥
+  bad h = cc
+plays-operator Matching q e s = bad (sym e ∙ s) where
+  bad : Match ≡ Source → ⊥
   bad h = cc
 
 module _ (p : ProgramData) (plan : PlanTree) (at : ℕ) (rule : Rule) (place : IsPlace p plan at rule) (before after : PlanTree) (before_is : before ≡ subtree_of at plan) (after_is : after ≡ exchanged_by rule (subtree_of at plan)) where

@@ -4,7 +4,7 @@ use Rattle.std.proofs.lemmas.Bool.{cases_lt}
 use Rattle.std.proofs.lemmas.Option.{slice_get-get_or}
 use Rattle.std.specs.Cmp.Lexicographic.{pointwise}
 use Rattle.reorder_pair.specs.declared.rules.Rule.{Rule}
-use Rattle.reorder_pair.specs.declared.rules.Rule.TheVariants.{MapMap, MapLeft, MapLeftUp, MapRight, MapRightUp, Rotate, RotateUp, MapReduce, MapReduceUp, MapCoGroupLeft, MapCoGroupLeftUp, MapCoGroupRight, MapCoGroupRightUp}
+use Rattle.reorder_pair.specs.declared.rules.Rule.TheVariants.{MapMap, MapLeft, MapLeftUp, MapRight, MapRightUp, Rotate, RotateUp, MapReduce, MapReduceUp, MapCoGroupLeft, MapCoGroupLeftUp, MapCoGroupRight, MapCoGroupRightUp, ReduceMatchLeft, ReduceMatchLeftUp, ReduceMatchRight, ReduceMatchRightUp}
 use Rattle.reorder_pair.specs.declared.rules.TheConstants.{RULES}
 use Rattle.reorder_pair.specs.Rules.{all_rules, word_of}
 
@@ -22,8 +22,12 @@ place_of MapCoGroupLeft = 9
 place_of MapCoGroupLeftUp = 10
 place_of MapCoGroupRight = 11
 place_of MapCoGroupRightUp = 12
+place_of ReduceMatchLeft = 13
+place_of ReduceMatchLeftUp = 14
+place_of ReduceMatchRight = 15
+place_of ReduceMatchRightUp = 16
 
-place_of-below : (rule : Rule) → place_of rule < 13
+place_of-below : (rule : Rule) → place_of rule < 17
 place_of-below MapMap = omega arith
 place_of-below MapLeft = omega arith
 place_of-below MapLeftUp = omega arith
@@ -37,6 +41,10 @@ place_of-below MapCoGroupLeft = omega arith
 place_of-below MapCoGroupLeftUp = omega arith
 place_of-below MapCoGroupRight = omega arith
 place_of-below MapCoGroupRightUp = omega arith
+place_of-below ReduceMatchLeft = omega arith
+place_of-below ReduceMatchLeftUp = omega arith
+place_of-below ReduceMatchRight = omega arith
+place_of-below ReduceMatchRightUp = omega arith
 
 at_place : (rule d : Rule) → get_or RULES (place_of rule) d ≡ rule
 at_place MapMap d = refl
@@ -52,6 +60,10 @@ at_place MapCoGroupLeft d = refl
 at_place MapCoGroupLeftUp d = refl
 at_place MapCoGroupRight d = refl
 at_place MapCoGroupRightUp d = refl
+at_place ReduceMatchLeft d = refl
+at_place ReduceMatchLeftUp d = refl
+at_place ReduceMatchRight d = refl
+at_place ReduceMatchRightUp d = refl
 
 pub all_rules-place_of : (rule : Rule) → slice_get all_rules (place_of rule) ≡ Some rule
 all_rules-place_of rule = slice_get-get_or all_rules (place_of rule) rule (place_of-below rule) ∙ ap Some (at_place rule rule)
@@ -78,7 +90,7 @@ others_next word n found d is other h rule below same = elim (cases_lt (place_of
       other (subst (λ (r : Rule). word_of r ≡ word) (sym (is ∙ subst (λ (m : ℕ). get_or RULES m d ≡ rule) e (at_place rule d))) same)
 ]
 
-pub others_all : (word : List ℕ) (n : ℕ) → 13 ≤ n → AreOthers word n → (rule : Rule) → word_of rule ≡ word → ⊥
+pub others_all : (word : List ℕ) (n : ℕ) → 17 ≤ n → AreOthers word n → (rule : Rule) → word_of rule ≡ word → ⊥
 others_all word n end h rule same = h rule (below n end) same where
-  below : (n : ℕ) → 13 ≤ n → place_of rule < n
+  below : (n : ℕ) → 17 ≤ n → place_of rule < n
   below n end = let lt = place_of-below rule in omega (arith, lt, end)

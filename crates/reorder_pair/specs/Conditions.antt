@@ -5,7 +5,7 @@ use Rattle.pact_record.specs.Keys.{is_listed}
 use Rattle.tac_syntax.specs.Contexts.{FieldSet, Has}
 use Rattle.tac_flow.specs.Results.{FoundSets, IsBoundToKeys}
 use Rattle.tac_flow.specs.Views.{found_of}
-use Rattle.plan_trees.specs.Plans.{PlanTree, root_of}
+use Rattle.plan_trees.specs.Plans.{PlanTree, both, root_of}
 use Rattle.plan_trees.specs.declared.shapes.Shape.{Shape}
 use Rattle.plan_trees.specs.declared.shapes.Shape.TheVariants.{OneOverOne, IntoLeft, OutOfLeft, IntoRight, OutOfRight, ToRight, ToLeft}
 use Rattle.pact_operators.specs.PlanOps.{left_keys_in, right_keys_in}
@@ -13,10 +13,11 @@ use Rattle.pact_operators.specs.Programs.{HasLeftAttribute, HasRightAttribute, P
 use Rattle.reorder_pair.specs.declared.finding.Found.{Found}
 use Rattle.reorder_pair.specs.declared.legality.Clash.TheVariants.{ReadWrite, WriteRead, WriteWrite}
 use Rattle.reorder_pair.specs.declared.legality.NotLegal.{NotLegal}
-use Rattle.reorder_pair.specs.declared.legality.NotLegal.TheVariants.{Conflict, Side, NotAnchored, KeyGroup}
+use Rattle.reorder_pair.specs.declared.legality.NotLegal.TheVariants.{Conflict, Side, NotAnchored, KeyGroup, MatchKey, NotUnique}
 use Rattle.reorder_pair.specs.declared.rules.Rule.{Rule}
-use Rattle.reorder_pair.specs.declared.rules.Rule.TheVariants.{MapReduce, MapReduceUp, MapCoGroupLeft, MapCoGroupLeftUp, MapCoGroupRight, MapCoGroupRightUp}
+use Rattle.reorder_pair.specs.declared.rules.Rule.TheVariants.{MapReduce, MapReduceUp, MapCoGroupLeft, MapCoGroupLeftUp, MapCoGroupRight, MapCoGroupRightUp, ReduceMatchLeft, ReduceMatchLeftUp, ReduceMatchRight, ReduceMatchRightUp}
 use Rattle.reorder_pair.specs.Rules.{exchange_of}
+use Rattle.reorder_pair.specs.Unique.{IsUniqueTree}
 
 -- what is found of an operator, apart from how sets are kept
 pub record Uses : Type 0 where
@@ -29,11 +30,12 @@ abbrev pub uses_of : Found → Uses
 uses_of s = record { sets = found_of s.sets; touched = has_field s.sets.touched; low = s.lo; high = s.hi }
 
 -- A condition: two sets share no field, and the refusal tells the least that they share; a CoGroup is anchored on the side of the
--- move; the Map that moves keeps the groups of these keys whole.
+-- move; the Map that moves keeps the groups of these keys whole; something else holds, with its refusal.
 pub data Line : Type 1 where
   no_common : (ours : FieldSet) → (theirs : ℕ → Type 0) → (refusal : ℕ → NotLegal) → Line
   anchored : (holds : Bool) → Line
   keeps_groups : (mover : Uses) → (keys : List ℕ) → Line
+  told : (holds : Type 0) → (refusal : NotLegal) → Line
 
 pub record IsLeastCommon (ours : FieldSet) (theirs : ℕ → Type 0) (k : ℕ) : Type 0 where
   pub one : Has ours k
@@ -47,11 +49,13 @@ abbrev pub Passes : Line → Type 0
 Passes (no_common ours theirs refusal) = (k : ℕ) → Has ours k → theirs k → ⊥
 Passes (anchored holds) = holds ≡ true
 Passes (keeps_groups mover keys) = IsBoundTo mover keys
+Passes (told holds refusal) = holds
 
 abbrev pub Fails : Line → NotLegal → Type 0
 Fails (no_common ours theirs refusal) why = (k : ℕ) × IsLeastCommon ours theirs k × (why ≡ refusal k)
 Fails (anchored holds) why = (holds ≡ false) × (why ≡ NotAnchored)
 Fails (keeps_groups mover keys) why = (IsBoundTo mover keys → ⊥) × (why ≡ KeyGroup)
+Fails (told holds refusal) why = (holds → ⊥) × (why ≡ refusal)
 
 -- all conditions hold
 abbrev pub AllPass : List Line → Type 0
@@ -96,6 +100,39 @@ group_lines p MapCoGroupRight n m upper lower = anchored lower.sets.anchor_right
 group_lines p MapCoGroupRightUp n m upper lower = anchored upper.sets.anchor_right ∷ keeps_groups lower (right_keys_in (slice_get p.ops n)) ∷ []
 group_lines p rule n m upper lower = []
 
+-- ---- a Reduce past a side of a Match
+
+abbrev pub left_input : PlanTree → PlanTree
+left_input (both n t u) = t
+left_input tree = tree
+
+abbrev pub right_input : PlanTree → PlanTree
+right_input (both n t u) = u
+right_input tree = tree
+
+-- The Match's keys on the side of the move are keys of the Reduce; its other side has each value of its keys there at most once; it gives one record for each pair.
+abbrev pub match_lines : ProgramData → (match_keys reduce_keys other_keys : List ℕ) → (other : PlanTree) → (pairing : Uses) → List Line
+match_lines p match_keys reduce_keys other_keys other pairing =
+    no_common (is_listed match_keys) (λ k. is_listed reduce_keys k ≡ false) (λ k. MatchKey k) ∷ told (IsUniqueTree p other_keys other) NotUnique
+    ∷ told ((pairing.low ≡ 1) × (pairing.high ≡ 1)) KeyGroup ∷ []
+
+-- the Match's tree, its number and the Reduce's; the move is to its left, and to its right
+abbrev pub match_left_lines : ProgramData → (tree : PlanTree) → (reduce : ℕ) → (pairing : Uses) → List Line
+match_left_lines p tree reduce pairing =
+    match_lines p (left_keys_in (slice_get p.ops (root_of tree))) (left_keys_in (slice_get p.ops reduce)) (right_keys_in (slice_get p.ops (root_of tree))) (right_input tree) pairing
+
+abbrev pub match_right_lines : ProgramData → (tree : PlanTree) → (reduce : ℕ) → (pairing : Uses) → List Line
+match_right_lines p tree reduce pairing =
+    match_lines p (right_keys_in (slice_get p.ops (root_of tree))) (left_keys_in (slice_get p.ops reduce)) (left_keys_in (slice_get p.ops (root_of tree))) (left_input tree) pairing
+
+-- those of the rule alone
+abbrev pub own_lines : ProgramData → Rule → PlanTree → PlanTree → Uses → Uses → List Line
+own_lines p ReduceMatchLeft before after upper lower = match_left_lines p after (root_of before) lower
+own_lines p ReduceMatchLeftUp before after upper lower = match_left_lines p before (root_of after) upper
+own_lines p ReduceMatchRight before after upper lower = match_right_lines p after (root_of before) lower
+own_lines p ReduceMatchRightUp before after upper lower = match_right_lines p before (root_of after) upper
+own_lines p rule before after upper lower = group_lines p rule (root_of before) (root_of after) upper lower
+
 -- those that all rules have, of an exchange at the root of a tree
 abbrev pub shared_lines : ProgramData → Rule → PlanTree → PlanTree → Uses → Uses → List Line
 shared_lines p rule before after upper lower = conflict_lines upper lower ++ side_lines p (exchange_of rule).shape before after upper lower
@@ -103,4 +140,4 @@ shared_lines p rule before after upper lower = conflict_lines upper lower ++ sid
 -- all of the rule
 abbrev pub lines : ProgramData → Rule → PlanTree → PlanTree → Uses → Uses → List Line
 lines p rule before after upper lower =
-    conflict_lines upper lower ++ side_lines p (exchange_of rule).shape before after upper lower ++ group_lines p rule (root_of before) (root_of after) upper lower
+    conflict_lines upper lower ++ side_lines p (exchange_of rule).shape before after upper lower ++ own_lines p rule before after upper lower

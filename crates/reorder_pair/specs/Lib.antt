@@ -1,5 +1,6 @@
 pub mod Rules
 pub mod Places
+pub mod Unique
 pub mod Conditions
 pub mod Legal
 pub mod Reach

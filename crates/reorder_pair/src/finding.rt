@@ -56,17 +56,26 @@ pub fn found_for(program: &Program, at: u32, context: &Context) -> Found
     }
 }
 
+// What the inputs of an operator may hold in the plan.
+pub(crate) fn context_in_plan(program: &Program, plan: &Plan, at: u32) -> Context
+    requires place { has at plan.now ≡ true }
+    ensures union { IsUnionOf program.now at plan.now plan.now result }
+    ensures fields { (kind_at program.now.ops at ≡ Source → ⊥) → IsContextOf program.now.fields result }
+{
+    let trees = Trees {
+        before: *plan,
+        after: *plan,
+    };
+    united_context(program, at, &trees)
+}
+
 /// What is found of an operator in the context that it has in the plan.
 pub fn found_in_plan(program: &Program, plan: &Plan, at: u32) -> Found
     requires operator { kind_at program.now.ops at ≡ Source → ⊥ }
     requires place { has at plan.now ≡ true }
     ensures { IsFound program.now at plan.now plan.now result }
 {
-    let trees = Trees {
-        before: *plan,
-        after: *plan,
-    };
-    let context = united_context(program, at, &trees);
+    let context = context_in_plan(program, plan, at);
     found_for(program, at, &context)
 }
 

@@ -1,13 +1,16 @@
 //! What is found of operators, kept for the contexts that they come to have.
 
-ghost use Rattle.std.specs.Prelude.{◌≡◌, ◌++◌, ◌∷◌, [], IfNone, IfOk, IfSome, OnErr, OnOk};
+ghost use Rattle.std.specs.Prelude.{◌≡◌, ◌++◌, ◌∷◌, [], true, IfNone, IfOk, IfSome, OnErr, OnOk};
+ghost use Rattle.tac_syntax.specs.declared.declarations.OpKind.TheVariants.{Source};
+ghost use Rattle.plan_trees.specs.Plans.{has};
+ghost use Rattle.pact_operators.specs.PlanOps.{kind_at};
 ghost use Rattle.pact_operators.specs.Programs.{ProgramData};
-ghost use Rattle.reorder_pair.specs.FindingTable.{AreFindings, IsKept, Keeps, KeepsBoth};
+ghost use Rattle.reorder_pair.specs.FindingTable.{AreFindings, IsKept, Keeps, KeepsBoth, KeepsInPlan};
 ghost use Rattle.reorder_pair.specs.Legal.{IsFoundAt};
-ghost use Rattle.reorder_pair.specs.Places.{IsFoundFor, IsOperatorIn, IsPlace};
+ghost use Rattle.reorder_pair.specs.Places.{IsFound, IsFoundFor, IsOperatorIn, IsPlace};
 
 use crate::exchanges::neighbours;
-use crate::finding::{Found, found_for};
+use crate::finding::{Found, context_in_plan, found_for};
 use crate::rules::Rule;
 use indexmap::IndexMap;
 use pact_operators::{Plan, Program};
@@ -98,6 +101,25 @@ impl Findings {
         let found = found_for(program, at, context);
         self.keep(&placed, &found)?;
         Ok(found)
+    }
+
+    /// What `found_in_plan` of this crate tells, by the table: the operator is analysed only where it isn't kept in the context that it has in the plan.
+    pub fn found_in_plan(
+        &mut self,
+        program: &Program,
+        plan: &Plan,
+        at: u32,
+    ) -> Result<Found, OutOfMemory>
+        requires operator { kind_at program.now.ops at ≡ Source → ⊥ }
+        requires place { has at plan.now ≡ true }
+        requires findings { AreFindings program.now self.old }
+        ensures found { IfOk result (IsFound program.now at plan.now plan.now) }
+        ensures kept { IfOk result (λ s. KeepsInPlan program.now plan.now at s self.old self.new) }
+        ensures unchanged { OnErr result (self.new ≡ self.old) }
+        ensures findings { OnOk result (AreFindings program.now self.new) }
+    {
+        let context = context_in_plan(program, plan, at);
+        self.found(program, at, &context)
     }
 
     /// What `found` of this crate tells of the two operators of an exchange, by the table: each is analysed only where it isn't kept in its context.

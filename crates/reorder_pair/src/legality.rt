@@ -32,7 +32,11 @@ pub enum NotLegal {
     Side { field: u32 },
     /// The CoGroup's records don't begin as records of the side of the move.
     NotAnchored,
-    /// The Map may tear groups apart.
+    /// The least key field of the Match on the side of the move by which the Reduce doesn't group.
+    MatchKey { field: u32 },
+    /// The Match's other side may have two records with the same key values.
+    NotUnique,
+    /// The Map may tear groups apart. Of a Reduce past a Match: the Match doesn't give exactly one record for each pair.
     KeyGroup,
 }
 
@@ -45,8 +49,8 @@ pub struct Condition {
     pub lower: Found,
 }
 
-// The least field of both sets.
-fn least_common(a: Fields, b: Fields) -> Option<u32>
+/// The least field of both sets.
+pub fn least_common(a: Fields, b: Fields) -> Option<u32>
     ensures some { IfSome result (IsLeastCommon (has_field a) (Has (has_field b))) }
     ensures none { IfNone result ((k : ℕ) → Has (has_field a) k → Has (has_field b) k → ⊥) }
 {

@@ -21,6 +21,10 @@ pub enum Rule {
     MapCoGroupLeftUp,
     MapCoGroupRight,
     MapCoGroupRightUp,
+    ReduceMatchLeft,
+    ReduceMatchLeftUp,
+    ReduceMatchRight,
+    ReduceMatchRightUp,
 }
 
 /// The part that an operator has in an exchange.
@@ -34,6 +38,8 @@ pub enum Role {
     Grouping,
     /// A CoGroup.
     CoGrouping,
+    /// A Match.
+    Matching,
 }
 
 /// What a rule exchanges.
@@ -45,7 +51,7 @@ pub struct Exchange {
 }
 
 // In the order of the variants.
-const RULES: [Rule; 13] = [
+const RULES: [Rule; 17] = [
     Rule::MapMap,
     Rule::MapLeft,
     Rule::MapLeftUp,
@@ -59,6 +65,10 @@ const RULES: [Rule; 13] = [
     Rule::MapCoGroupLeftUp,
     Rule::MapCoGroupRight,
     Rule::MapCoGroupRightUp,
+    Rule::ReduceMatchLeft,
+    Rule::ReduceMatchLeftUp,
+    Rule::ReduceMatchRight,
+    Rule::ReduceMatchRightUp,
 ];
 
 impl Role {
@@ -71,6 +81,7 @@ impl Role {
             Role::Pairing => kind == OpKind::Match || kind == OpKind::Cross,
             Role::Grouping => kind == OpKind::Reduce,
             Role::CoGrouping => kind == OpKind::CoGroup,
+            Role::Matching => kind == OpKind::Match,
         }
     }
 }
@@ -101,6 +112,10 @@ impl Rule {
             Rule::MapCoGroupLeftUp => "map-cogroup-left-up",
             Rule::MapCoGroupRight => "map-cogroup-right",
             Rule::MapCoGroupRightUp => "map-cogroup-right-up",
+            Rule::ReduceMatchLeft => "reduce-match-left",
+            Rule::ReduceMatchLeftUp => "reduce-match-left-up",
+            Rule::ReduceMatchRight => "reduce-match-right",
+            Rule::ReduceMatchRightUp => "reduce-match-right-up",
         }
     }
 
@@ -135,6 +150,10 @@ impl Rule {
             Rule::MapCoGroupLeftUp => (Role::CoGrouping, Role::Mapping, Shape::OutOfLeft),
             Rule::MapCoGroupRight => (Role::Mapping, Role::CoGrouping, Shape::IntoRight),
             Rule::MapCoGroupRightUp => (Role::CoGrouping, Role::Mapping, Shape::OutOfRight),
+            Rule::ReduceMatchLeft => (Role::Grouping, Role::Matching, Shape::IntoLeft),
+            Rule::ReduceMatchLeftUp => (Role::Matching, Role::Grouping, Shape::OutOfLeft),
+            Rule::ReduceMatchRight => (Role::Grouping, Role::Matching, Shape::IntoRight),
+            Rule::ReduceMatchRightUp => (Role::Matching, Role::Grouping, Shape::OutOfRight),
         };
         Exchange {
             upper,

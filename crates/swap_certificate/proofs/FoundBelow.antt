@@ -1,9 +1,9 @@
 -- The sets that are found of an operator of a program have fields of the program alone.
-use Rattle.std.proofs.Common.{◌≡◌, ◌≤◌, ◌↔◌, inl, inr, ℕ, Bool, true, false, refl, sym, subst, arith}
+use Rattle.std.proofs.Common.{◌≡◌, ◌↔◌, inl, inr, ℕ, Bool, true, false, refl, sym, subst, arith}
 use Rattle.std.proofs.lemmas.Bool.{false_from_ne_true}
 use Rattle.pact_record.specs.FieldSets.{has_field}
 use Rattle.tac_syntax.specs.declared.declarations.OpKind.TheVariants.{Source}
-use Rattle.tac_syntax.specs.Bounded.{Names, NamesBelow}
+use Rattle.tac_syntax.specs.Bounded.{NamesBelow}
 use Rattle.tac_syntax.specs.Code.{Code}
 use Rattle.tac_syntax.specs.Contexts.{Has, IsBelow, IsContextOf}
 use Rattle.tac_syntax.proofs.Naming.{NamesBelow-valid}

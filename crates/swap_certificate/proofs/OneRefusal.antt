@@ -5,7 +5,7 @@ use Rattle.pact_operators.specs.Programs.{ProgramData}
 use Rattle.reorder_pair.specs.declared.finding.Found.{Found}
 use Rattle.reorder_pair.specs.declared.legality.NotLegal.{NotLegal}
 use Rattle.reorder_pair.specs.declared.rules.Rule.{Rule}
-use Rattle.reorder_pair.specs.Conditions.{Fails, FirstFails, IsLeastCommon, Line, anchored, keeps_groups, no_common}
+use Rattle.reorder_pair.specs.Conditions.{Fails, FirstFails, IsLeastCommon, Line, anchored, keeps_groups, no_common, told}
 use Rattle.reorder_pair.specs.Legal.{IsRefusal, lines_at}
 use Rattle.reorder_pair.proofs.OneFinding.{found_one, passes_or_fails}
 use Rattle.tac_syntax.specs.Contexts.{FieldSet}
@@ -20,6 +20,7 @@ fails_one : (line : Line) (a b : NotLegal) → Fails line a → Fails line b →
 fails_one (no_common ours theirs refusal) a b h g = h.2 ∙ ap refusal (least_one ours theirs h.0 g.0 h.1 g.1) ∙ sym g.2
 fails_one (anchored holds) a b h g = h.1 ∙ sym g.1
 fails_one (keeps_groups mover keys) a b h g = h.1 ∙ sym g.1
+fails_one (told holds refusal) a b h g = h.1 ∙ sym g.1
 
 first_fails_one : (lines : List Line) (a b : NotLegal) → FirstFails lines a → FirstFails lines b → a ≡ b
 first_fails_one [] a b h g = absurd h

@@ -1,7 +1,7 @@
 -- A word is that of one rule.
 use Rattle.std.proofs.Common.{◌≡◌, ℕ, List, [], ◌∷◌, Option, Some, None, cond, bytes_eq, refl, sym, ap, ◌∙◌}
 use Rattle.reorder_pair.specs.declared.rules.Rule.{Rule}
-use Rattle.reorder_pair.specs.declared.rules.Rule.TheVariants.{MapMap, MapLeft, MapLeftUp, MapRight, MapRightUp, Rotate, RotateUp, MapReduce, MapReduceUp, MapCoGroupLeft, MapCoGroupLeftUp, MapCoGroupRight, MapCoGroupRightUp}
+use Rattle.reorder_pair.specs.declared.rules.Rule.TheVariants.{MapMap, MapLeft, MapLeftUp, MapRight, MapRightUp, Rotate, RotateUp, MapReduce, MapReduceUp, MapCoGroupLeft, MapCoGroupLeftUp, MapCoGroupRight, MapCoGroupRightUp, ReduceMatchLeft, ReduceMatchLeftUp, ReduceMatchRight, ReduceMatchRightUp}
 use Rattle.reorder_pair.specs.Rules.{all_rules, word_of}
 
 -- the first rule with a word
@@ -24,6 +24,10 @@ first_with-word_of MapCoGroupLeft = refl
 first_with-word_of MapCoGroupLeftUp = refl
 first_with-word_of MapCoGroupRight = refl
 first_with-word_of MapCoGroupRightUp = refl
+first_with-word_of ReduceMatchLeft = refl
+first_with-word_of ReduceMatchLeftUp = refl
+first_with-word_of ReduceMatchRight = refl
+first_with-word_of ReduceMatchRightUp = refl
 
 both_some : {A : Type 0} {x y : A} → Some x ≡ Some y → x ≡ y
 both_some e = cc

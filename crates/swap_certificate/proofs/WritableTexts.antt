@@ -13,7 +13,7 @@ use Rattle.plan_trees.specs.Preorders.{count_of}
 use Rattle.plan_trees.proofs.FewNodes.{few_nodes}
 use Rattle.pact_operators.specs.declared.operators.Op.{Op}
 use Rattle.reorder_pair.specs.declared.rules.Rule.{Rule}
-use Rattle.reorder_pair.specs.declared.rules.Rule.TheVariants.{MapMap, MapLeft, MapLeftUp, MapRight, MapRightUp, Rotate, RotateUp, MapReduce, MapReduceUp, MapCoGroupLeft, MapCoGroupLeftUp, MapCoGroupRight, MapCoGroupRightUp}
+use Rattle.reorder_pair.specs.declared.rules.Rule.TheVariants.{MapMap, MapLeft, MapLeftUp, MapRight, MapRightUp, Rotate, RotateUp, MapReduce, MapReduceUp, MapCoGroupLeft, MapCoGroupLeftUp, MapCoGroupRight, MapCoGroupRightUp, ReduceMatchLeft, ReduceMatchLeftUp, ReduceMatchRight, ReduceMatchRightUp}
 use Rattle.reorder_pair.specs.Rules.{word_of}
 use Rattle.pact_operators.specs.Programs.{AreNames}
 use Rattle.plan_printer.specs.PlanText.{operator_name}
@@ -50,6 +50,10 @@ word_of-short MapCoGroupLeft = omega arith
 word_of-short MapCoGroupLeftUp = omega arith
 word_of-short MapCoGroupRight = omega arith
 word_of-short MapCoGroupRightUp = omega arith
+word_of-short ReduceMatchLeft = omega arith
+word_of-short ReduceMatchLeftUp = omega arith
+word_of-short ReduceMatchRight = omega arith
+word_of-short ReduceMatchRightUp = omega arith
 
 word_of-ascii : (rule : Rule) → all_bytes is_ascii (word_of rule) ≡ true
 word_of-ascii MapMap = refl
@@ -65,6 +69,10 @@ word_of-ascii MapCoGroupLeft = refl
 word_of-ascii MapCoGroupLeftUp = refl
 word_of-ascii MapCoGroupRight = refl
 word_of-ascii MapCoGroupRightUp = refl
+word_of-ascii ReduceMatchLeft = refl
+word_of-ascii ReduceMatchLeftUp = refl
+word_of-ascii ReduceMatchRight = refl
+word_of-ascii ReduceMatchRightUp = refl
 
 pub word_of-IsShortText : (rule : Rule) → IsShortText word_limit (word_of rule)
 word_of-IsShortText rule = (text-IsUtf8 (word_of rule) (word_of-ascii rule), word_of-short rule)

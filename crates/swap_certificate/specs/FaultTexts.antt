@@ -4,7 +4,7 @@ use Rattle.reorder_pair.specs.declared.finding.Found.{Found}
 use Rattle.reorder_pair.specs.declared.legality.Clash.{Clash}
 use Rattle.reorder_pair.specs.declared.legality.Clash.TheVariants.{ReadWrite, WriteRead, WriteWrite}
 use Rattle.reorder_pair.specs.declared.legality.NotLegal.{NotLegal}
-use Rattle.reorder_pair.specs.declared.legality.NotLegal.TheVariants.{NoPlace, Conflict, Side, NotAnchored, KeyGroup}
+use Rattle.reorder_pair.specs.declared.legality.NotLegal.TheVariants.{NoPlace, Conflict, Side, NotAnchored, KeyGroup, MatchKey, NotUnique}
 use Rattle.plan_printer.specs.FoundText.{found_text}
 use Rattle.swap_certificate.specs.declared.certificates.CertFault.{CertFault}
 use Rattle.swap_certificate.specs.declared.certificates.CertFault.TheVariants.{C1, C2, C3, C4, C5, C6, Memory}
@@ -23,6 +23,8 @@ why_text (Conflict kind field) = codes "conflict " ++ (clash_word kind ++ (codes
 why_text (Side field) = codes "side " ++ decimal field
 why_text NotAnchored = codes "not-anchored"
 why_text KeyGroup = codes "key-group"
+why_text (MatchKey field) = codes "match-key " ++ decimal field
+why_text NotUnique = codes "not-unique"
 
 -- a line of what is stated or found
 abbrev pub told_line : List ℕ → List ℕ → List ℕ

@@ -39,6 +39,14 @@ fn side_text(alloc: Global, field: u32) -> Result<Bytes, OutOfMemory>
     Ok(text)
 }
 
+fn match_key_text(alloc: Global, field: u32) -> Result<Bytes, OutOfMemory>
+    ensures { IfOk result (λ text. text ≡ codes "match-key " ++ decimal field) }
+{
+    let mut text = Bytes::from_slice(alloc, b"match-key ")?;
+    push_number(alloc, &mut text, u64::from(field))?;
+    Ok(text)
+}
+
 fn why_text(alloc: Global, why: NotLegal) -> Result<Bytes, OutOfMemory>
     ensures { IfOk result (λ text. text ≡ texts.why_text why) }
 {
@@ -48,6 +56,8 @@ fn why_text(alloc: Global, why: NotLegal) -> Result<Bytes, OutOfMemory>
         NotLegal::Side { field } => side_text(alloc, field),
         NotLegal::NotAnchored => Bytes::from_slice(alloc, b"not-anchored"),
         NotLegal::KeyGroup => Bytes::from_slice(alloc, b"key-group"),
+        NotLegal::MatchKey { field } => match_key_text(alloc, field),
+        NotLegal::NotUnique => Bytes::from_slice(alloc, b"not-unique"),
     }
 }
 

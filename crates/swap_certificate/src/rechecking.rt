@@ -14,8 +14,8 @@ ghost use Rattle.swap_certificate.specs.declared.certificates.CertFault.TheVaria
 use crate::certificates::{CertFault, Certificate, Step};
 use crate::names::{operator_named, plan_line};
 use pact_operators::{Plan, Program};
-use reorder_group::{apply, legal_for};
 use reorder_pair::{Findings, Found, Rule};
+use reorder_unique::{apply, legal_for, other_is_unique};
 use std::alloc::Global;
 
 // Whether a step states what is found.
@@ -60,7 +60,10 @@ fn check_step(
             lower,
         });
     }
-    match legal_for(program, plan, at, rule, &upper, &lower) {
+    let Ok(unique) = other_is_unique(program, findings, plan, at, rule) else {
+        return Err(CertFault::Memory);
+    };
+    match legal_for(program, plan, at, rule, &upper, &lower, unique) {
         Ok(_) => Ok(apply(program, plan, at, rule)),
         Err(why) => Err(CertFault::C4 { step: number, why }),
     }

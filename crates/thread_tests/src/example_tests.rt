@@ -639,6 +639,35 @@ map m low r
 sink m 0 3
 ";
 
+const EXTREMES_PACT: &str = "pact 1
+fields 5
+source sale sales.csv text:0 int:1 int:2
+function span reduce 1
+  v0 = text \"\"            # greater than every number
+  each x1 of group
+    v2 = get x1 2
+    v1 = max v1 v2        # Null only where no row has an amount
+    v3 = isnull v2
+    if v3
+    else
+      v0 = min v0 v2
+    end
+  end
+  v3 = isnull v1
+  if v3
+    v0 = null
+  end
+  r0 = new
+  v4 = key 0
+  set r0 0 v4
+  set r0 3 v0
+  set r0 4 v1
+  emit r0
+end
+reduce spans span sale by 0
+sink spans 0 3 4
+";
+
 const FILTER_PACT: &str = "pact 1
 fields 4
 source s s.csv int:0 int:1
@@ -1286,6 +1315,44 @@ cogroup all both member guest by 0 = 2
 sink all 0 1
 ";
 
+const UNIQ_PACT: &str = "pact 1
+fields 5
+source s s.csv int:0 int:1
+source t t3.csv int:2 int:3
+function best reduce 1
+  v0 = null
+  each x1 of group
+    v1 = get x1 3
+    v0 = max v0 v1
+  end
+  r0 = new
+  v2 = key 0
+  set r0 2 v2
+  set r0 3 v0
+  emit r0
+end
+function jn match
+  r0 = copy join
+  emit r0
+end
+function cnt reduce 1
+  v0 = int 0
+  v1 = int 1
+  each x1 of group
+    v0 = addw v0 v1
+  end
+  each x1 of group
+    r0 = copy x1
+    set r0 4 v0
+    emit r0
+  end
+end
+reduce b best t by 2
+match g jn s b by 0 = 2
+reduce r cnt g by 0
+sink r 0 1 2 3 4
+";
+
 const WIDE_PACT: &str = "pact 2
 fields 128
 source s s.csv int:0 int:127
@@ -1336,78 +1403,80 @@ fn programs_from_decimals(rt: HostRuntime) -> Result<(), Fail> {
 }
 
 #[test]
-fn programs_from_filter(rt: HostRuntime) -> Result<(), Fail> {
+fn programs_from_extremes(rt: HostRuntime) -> Result<(), Fail> {
     let alloc = rt.alloc();
+    assert!(rt; picked_alike(alloc, EXTREMES_PACT, &[SALES_CSV])?);
     assert!(rt; picked_alike(alloc, FILTER_PACT, &[S_CSV])?);
     assert!(rt; picked_alike(alloc, FIVE_PACT, &[S_CSV, T_CSV])?);
     assert!(rt; picked_alike(alloc, FLAG_PACT, &[S_CSV])?);
-    assert!(rt; picked_alike(alloc, FULL_JOIN_PACT, &[MEMBERS_CSV, VISITS_CSV])?);
     Ok(())
 }
 
 #[test]
-fn programs_from_greet(rt: HostRuntime) -> Result<(), Fail> {
+fn programs_from_full_join(rt: HostRuntime) -> Result<(), Fail> {
     let alloc = rt.alloc();
+    assert!(rt; picked_alike(alloc, FULL_JOIN_PACT, &[MEMBERS_CSV, VISITS_CSV])?);
     assert!(rt; picked_alike(alloc, GREET_PACT, &[NAMES_CSV])?);
     assert!(rt; picked_alike(alloc, INNER_JOIN_PACT, &[MEMBERS_CSV, VISITS_CSV])?);
     assert!(rt; picked_alike(alloc, JOIN_PACT, &[S1_CSV, T_CSV])?);
-    assert!(rt; picked_alike(alloc, JOIN3_PACT, &[S1_CSV, T_CSV, U_CSV])?);
     Ok(())
 }
 
 #[test]
-fn programs_from_minimum(rt: HostRuntime) -> Result<(), Fail> {
+fn programs_from_join3(rt: HostRuntime) -> Result<(), Fail> {
     let alloc = rt.alloc();
+    assert!(rt; picked_alike(alloc, JOIN3_PACT, &[S1_CSV, T_CSV, U_CSV])?);
     assert!(rt; picked_alike(alloc, MINIMUM_PACT, &[SALES_CSV])?);
     assert!(rt; picked_alike(alloc, NOTES_PACT, &[S_CSV])?);
     assert!(rt; picked_alike(alloc, NULL_PACT, &[N_CSV, M_CSV])?);
-    assert!(rt; picked_alike(alloc, NULL2_PACT, &[N_CSV, N_CSV])?);
     Ok(())
 }
 
 #[test]
-fn programs_from_odd(rt: HostRuntime) -> Result<(), Fail> {
+fn programs_from_null2(rt: HostRuntime) -> Result<(), Fail> {
     let alloc = rt.alloc();
+    assert!(rt; picked_alike(alloc, NULL2_PACT, &[N_CSV, N_CSV])?);
     assert!(rt; picked_alike(alloc, ODD_PACT, &[S1_CSV])?);
     assert!(rt; picked_alike(alloc, OUTER_JOIN_PACT, &[MEMBERS_CSV, VISITS_CSV])?);
     assert!(rt; picked_alike(alloc, PIVOT_PACT, &[SALES_CSV])?);
-    assert!(rt; picked_alike(alloc, PUSH_PACT, &[H_CSV])?);
     Ok(())
 }
 
 #[test]
-fn programs_from_quarter(rt: HostRuntime) -> Result<(), Fail> {
+fn programs_from_push(rt: HostRuntime) -> Result<(), Fail> {
     let alloc = rt.alloc();
+    assert!(rt; picked_alike(alloc, PUSH_PACT, &[H_CSV])?);
     assert!(rt; picked_alike(alloc, QUARTER_PACT, &[QUARTERS_CSV, ASKED_CSV])?);
     assert!(rt; picked_alike(alloc, REVENUE_PACT, &[SOLD_CSV, PRICES_CSV, SHOPS_CSV])?);
     assert!(rt; picked_alike(alloc, RUNNING_TOTAL_PACT, &[SALES_CSV])?);
-    assert!(rt; picked_alike(alloc, SELF_JOIN_PACT, &[STAFF_CSV, STAFF_CSV])?);
     Ok(())
 }
 
 #[test]
-fn programs_from_semi_join(rt: HostRuntime) -> Result<(), Fail> {
+fn programs_from_self_join(rt: HostRuntime) -> Result<(), Fail> {
     let alloc = rt.alloc();
+    assert!(rt; picked_alike(alloc, SELF_JOIN_PACT, &[STAFF_CSV, STAFF_CSV])?);
     assert!(rt; picked_alike(alloc, SEMI_JOIN_PACT, &[MEMBERS_CSV, VISITS_CSV])?);
     assert!(rt; picked_alike(alloc, SHOP_PACT, &[CUSTOMERS_CSV, ORDERS_CSV])?);
     assert!(rt; picked_alike(alloc, SUM_PACT, &[S_CSV])?);
-    assert!(rt; picked_alike(alloc, SWAP_PACT, &[S_CSV])?);
     Ok(())
 }
 
 #[test]
-fn programs_from_top(rt: HostRuntime) -> Result<(), Fail> {
+fn programs_from_swap(rt: HostRuntime) -> Result<(), Fail> {
     let alloc = rt.alloc();
+    assert!(rt; picked_alike(alloc, SWAP_PACT, &[S_CSV])?);
     assert!(rt; picked_alike(alloc, TOP_PACT, &[SCORES_CSV])?);
     assert!(rt; picked_alike(alloc, TOTAL_PACT, &[S_CSV])?);
     assert!(rt; picked_alike(alloc, TWICE_PACT, &[D_CSV])?);
-    assert!(rt; picked_alike(alloc, UNION_PACT, &[MEMBERS_CSV, GUESTS_CSV])?);
     Ok(())
 }
 
 #[test]
-fn programs_from_wide(rt: HostRuntime) -> Result<(), Fail> {
+fn programs_from_union(rt: HostRuntime) -> Result<(), Fail> {
     let alloc = rt.alloc();
+    assert!(rt; picked_alike(alloc, UNION_PACT, &[MEMBERS_CSV, GUESTS_CSV])?);
+    assert!(rt; picked_alike(alloc, UNIQ_PACT, &[S_CSV, T3_CSV])?);
     assert!(rt; picked_alike(alloc, WIDE_PACT, &[S_CSV])?);
     Ok(())
 }

@@ -12,3 +12,7 @@ returns-clause-counted g c =
 pub returns-clause-widths : goal.returns-clause-widths
 returns-clause-widths g c =
     IfOk-weaker c.run_alone.result _ _ (λ o wide. wide (setting c.args.program.now c.args.inputs c.args.task.now.physical) no_history c.in_ok-world.ensures.standing) c.run_alone.ensures.widths
+
+pub returns-clause-spread : goal.returns-clause-spread
+returns-clause-spread g c =
+    IfOk-weaker c.run_alone.result _ _ (λ o spread. spread (setting c.args.program.now c.args.inputs c.args.task.now.physical) no_history c.in_ok-world.ensures.standing) c.run_alone.ensures.spread

@@ -19,19 +19,19 @@ returns-in-Ok-clause-legal c =
     record {
       same_rule = refl;
       place = refl;
-      legal = judged_legal a.program.now a.plan.now a.at a.rule c.root-below.result c.exchanged_tree.result c.root-below.ensures.root c.exchanged_tree.ensures a.upper.now a.lower.now c.requires.found
+      legal = judged_legal a.program.now a.plan.now a.at a.rule c.requires.rule c.root-below.result c.exchanged_tree.result c.root-below.ensures.root c.exchanged_tree.ensures a.upper.now a.lower.now c.requires.found
           c.in_default.ensures.passes c.in-Ok.ensures.passes;
     }
 
 pub returns-in-Ok-clause-answers : goal.returns-in-Ok-clause-answers
 returns-in-Ok-clause-answers c =
     let a = c.args in
-    legal-KeepAnswers a.program.now c.fields-fields.ensures.keeps a.plan.now c.requires.plan a.at a.rule (a.upper.now, a.lower.now, (returns-in-Ok-clause-legal c).legal)
+    legal-KeepAnswers a.program.now c.fields-fields.ensures.keeps a.plan.now c.requires.plan a.at a.rule c.requires.rule (a.upper.now, a.lower.now, (returns-in-Ok-clause-legal c).legal)
 
 pub returns-in-Err-past_groups-clause-refused : goal.returns-in-Err-past_groups-clause-refused
 returns-in-Err-past_groups-clause-refused c =
     let a = c.args in
-    judged_refused a.program.now a.plan.now a.at a.rule c.root-below.result c.exchanged_tree.result c.root-below.ensures.root c.exchanged_tree.ensures a.upper.now a.lower.now c.requires.found
+    judged_refused a.program.now a.plan.now a.at a.rule c.requires.rule c.root-below.result c.exchanged_tree.result c.root-below.ensures.root c.exchanged_tree.ensures a.upper.now a.lower.now c.requires.found
     c.in_default.ensures.passes c.in-Err-past_groups.why c.in-Err-past_groups.ensures.fails
 
 pub returns-in-Err-past_groups-clause-legal_always : goal.returns-in-Err-past_groups-clause-legal_always

@@ -1,0 +1,10 @@
+pub mod Pieces
+pub mod Slots
+pub mod Tests
+pub mod Partials
+pub mod Halves
+pub mod Combinable
+pub mod Splits
+pub mod Combined
+pub mod CombinedPrograms
+pub mod CombinedRuns

@@ -1,0 +1,2 @@
+pub mod UniqueRows
+pub mod OtherSides
