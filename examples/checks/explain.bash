@@ -202,7 +202,7 @@ certificate refused: step 1: C4 conflict write-read 5|field 5: the upper operato
 certificate refused: step 1: C4 side 2|field 2: an attribute of the input that is passed
 certificate refused: step 1: C4 not-anchored|the cogroup may emit records
 certificate refused: step 1: C4 match-key 1|field 1: a key of the match on the side of the move
-certificate refused: step 1: C4 not-unique|it is no reduce by its keys of the match that emits at most one record for each group and writes no key
+certificate refused: step 1: C4 not-unique|the other side of the match may hold two records with the same key
 certificate refused: step 1: C4 key-group|the map would tear a group apart
 certificate refused: C5|docs/faults.md, "Certificate fault C5"
 certificate refused: C6|docs/faults.md, "Certificate fault C6"
