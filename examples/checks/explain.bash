@@ -214,6 +214,7 @@ pact: the released program is of other sources, so one is built|docs/faults.md, 
 function f: V3 at statement 2|no .pact file of this folder has it
 function f: V7 at statement 1000|docs/faults.md, "V7"
 m17: P8|docs/faults.md, "P8"
+s.csv: P11|docs/faults.md, "P11"
 source s: row 1 column 1: why 4|docs/faults.md, "Row fault 4"
 none.pact:3: text fault 7|none.pact can't be read from this folder
 none.pact:3: text fault 7|A number is wanted, and the word is none or out of its range.
@@ -281,7 +282,7 @@ accepted
 function f: V9 at statement 0
 function F: V3 at statement 0
 function f: V3 at statement
-m: P11
+m: P12
 m: P9
 M: P5
 m.pact:5: text fault 13

@@ -145,7 +145,7 @@ has_section() {
 }
 for number in {1..12}; do count has_section "Text fault $number"; done
 for number in {1..8}; do count has_section "V$number"; done
-for number in {1..10}; do count has_section "P$number"; done
+for number in {1..11}; do count has_section "P$number"; done
 for number in {1..4}; do count has_section "Row fault $number"; done
 for number in {1..9} 127; do count has_section "Status $number"; done
 for number in {1..6}; do count has_section "Certificate fault C$number"; done
@@ -154,7 +154,7 @@ count has_section 'Certificate: the shape'
 # The commands and options of status 2 are those of docs/language.md.
 while IFS= read -r line; do
     case $line in
-    --combine* | --counts*) row="| \`${line%%:*}\` | none |" ;;
+    *': no value') row="| \`${line%%:*}\` | none |" ;;
     --*)
         row="| \`${line%% *}\` | ${line#*: } |"
         row=${row/, by default / | }

@@ -400,7 +400,8 @@ bench_passes() { # a script of ../bench, and its words
 }
 if command -v cc >/dev/null; then
     count bench_passes memory --alone 'run sum.pact --workers 2' 'check push.pact push.good.json' 'check push.pact push.c3.json' 'run shop.pact' \
-        'plan shop.pact' 'run twice.pact --workers 2' 'sets twice.pact' 'gen 1 1' 'run sum.pact --workers 2 --combine --counts'
+        'plan shop.pact' 'run twice.pact --workers 2' 'sets twice.pact' 'gen 1 1' 'run sum.pact --workers 2 --combine --counts' \
+        'iterate label.pact v 2 --stable --workers 2'
     edited=(
         {anti_join,average,bad_row,cogroup,cond,count,count_all,counted,cross,decimals,distinct,drill,faulty,filter,first,five,flag,full_join}.pact
         {greet,join,join3,minimum,missing,no_sink,notes,null,odd,outer_join,pivot,push,revenue,running_total,self_join,semi_join,shop,sum}.pact

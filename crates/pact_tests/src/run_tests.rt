@@ -150,15 +150,20 @@ fn faults_are_told(rt: HostRuntime) -> Result<(), Fail> {
 #[test]
 fn counts_are_told(rt: HostRuntime) -> Result<(), Fail> {
     let alloc = rt.alloc();
-    let counted = ["run", "p.pact", "--counts", "--workers", "2"];
+    let counted: &[&str] = &["run", "p.pact", "--counts", "--workers", "2"];
+    let rounds: &[&str] = &["iterate", "p.pact", "s", "1", "--stable", "--workers", "2"];
     let rows = "1,5\n1,5\n1,5\n1,5\n";
-    for (on_threads, fails, status, told) in [
-        (false, [0, 0, 0], 0, "s out 2\nm in 2 out 4\n"),
-        (false, [0, 0, 2], 4, "s oucannot write\n"),
-        (true, [0, 0, 0], 0, "s out 2\nm in 2 out 4\n"),
-        (true, [0, 0, 2], 4, "s oucannot write\n"),
+    for (on_threads, words, fails, status, told) in [
+        (false, counted, [0, 0, 0], 0, "s out 2\nm in 2 out 4\n"),
+        (false, counted, [0, 0, 2], 4, "s oucannot write\n"),
+        (true, counted, [0, 0, 0], 0, "s out 2\nm in 2 out 4\n"),
+        (true, counted, [0, 0, 2], 4, "s oucannot write\n"),
+        (false, rounds, [0, 0, 0], 0, "rounds 1\n"),
+        (false, rounds, [0, 0, 2], 4, "rouncannot write\n"),
+        (true, rounds, [0, 0, 0], 0, "rounds 1\n"),
+        (true, rounds, [0, 0, 2], 4, "rouncannot write\n"),
     ] {
-        let outcome = faulty(&rt, on_threads, alloc, &counted, fails)?;
+        let outcome = faulty(&rt, on_threads, alloc, words, fails)?;
         assert!(rt; outcome.is(status, rows, told), "{told}");
     }
     Ok(())

@@ -16,7 +16,7 @@ use Rattle.pact_top.specs.Runs.{IsRunOf}
 
 module _ (l : Loaded) (workers plans : ℕ) (choice : Choice) where
   pub told-AreCounts : (combine : Bool) (o : Outcome) (of : List (ℕ × ℕ)) (asked : Bool) (told : Option (List ℕ)) → IsChoice l workers plans choice
-      → Counted (plan_ops l.program l.inputs) choice.plan o.rows o.counts → IsRunOf (laid l workers choice) l.inputs combine o of → AreToldCounts l.program choice.plan o.counts of asked told
+      → Counted (plan_ops l.program l.inputs) choice.plan o.rows o.counts → IsRunOf (laid l workers choice.plan choice.chosen.layout) l.inputs combine o of → AreToldCounts l.program choice.plan o.counts of asked told
       → AreCounts l workers plans combine o.rows asked told
   told-AreCounts combine o of true (Some text) chosen counted run h =
       record { choice = choice; is_choice = chosen; counts = o.counts; counted = counted; combined = of; run = run; spelled = same_Some text _ h }

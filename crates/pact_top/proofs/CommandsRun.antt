@@ -1,5 +1,5 @@
 -- The commands, from the words to the texts.
-use Rattle.std.proofs.Common.{◌≡◌, inl, inr, ℕ, Bool, true, false, List, Option, Some, None, Result, Ok, Err, refl, sym, subst, arith, ap}
+use Rattle.std.proofs.Common.{◌≡◌, inl, inr, ℕ, Bool, true, false, List, Option, Some, None, Result, Ok, Err, refl, sym, subst, arith}
 use Rattle.pact_operators.specs.Allowed.{Bag}
 use Rattle.pact_operators.specs.Inputs.{AreInputsOf}
 use Rattle.pact_operators.specs.Programs.{AreNames, IsProgram, ProgramData}
@@ -7,19 +7,17 @@ use Rattle.pact_outside.specs.declared.files.NamedFile.{NamedFile}
 use Rattle.pact_outside.specs.Outside.{Feeding}
 use Rattle.plan_trees.specs.Plans.{PlanTree}
 use Rattle.swap_certificate.specs.declared.certificates.Certificate.{Certificate}
-use Rattle.plan_printer.specs.SetsText.{IsSetsText}
-use Rattle.pact_top.specs.CommandTexts.{Accepted, AllowsWritten, AreCounts, AreTextsOf, IsAcceptance, IsAnswerOf, IsOutAlone, Ready, to_accept, to_analyse, to_evaluate, to_justify, to_make, to_show, to_sum_up}
+use Rattle.pact_top.specs.CommandTexts.{Accepted, AllowsWritten, AreCounts, AreTextsOf, IsAcceptance, IsAnswerOf, IsOutAlone, Ready, to_accept, to_analyse, to_evaluate, to_justify, to_make, to_repeat, to_show, to_sum_up}
 use Rattle.pact_top.specs.Lines.{AreLines}
 use Rattle.pact_top.specs.declared.loaded.Loaded.{Loaded}
 use Rattle.pact_top.specs.declared.refusals.Refusal.{Refusal}
 use Rattle.pact_top.specs.declared.refusals.Refusal.TheVariants.{OutOfMemory, Usage, CannotRead, CannotWrite, Decided}
 use Rattle.pact_top.specs.declared.texts.Texts.{Texts}
-use Rattle.pact_top.specs.Refusal.{Answers, AskForCounts, Comes, ComesTo, Decides, IsAnswered, IsRefused, IsTold, IsUsageTold}
+use Rattle.pact_top.specs.Refusal.{Answers, AskForMore, Comes, ComesTo, Decides, IsAnswered, IsRefused, IsTold, IsUsageTold}
 use Rattle.pact_top.specs.Stages.{Reading, Stage, and_then, give, gives, stops}
 use Rattle.pact_top.specs.RefusalLines.{usage_line}
-use Rattle.pact_top.specs.Work.{accepted, at_once, certificate_file, command, loaded, program_file, ready_for, rechecked, sources, texts_for, work}
-use Rattle.pact_words.specs.declared.commands.Options.{Options}
-use Rattle.pact_words.specs.Words.{AreRefused, Asked, IsAsked, to_certify, to_check, to_drill, to_generate, to_plan, to_run, to_tell_sets}
+use Rattle.pact_top.specs.Work.{accepted, at_once, certificate_file, command, loaded, program_file, ready_for, rechecked, repeated, sources, texts_for, work}
+use Rattle.pact_words.specs.Words.{AreRefused, Asked, IsAsked, to_certify, to_check, to_drill, to_generate, to_iterate, to_plan, to_run, to_tell_sets}
 use Rattle.pact_top.proofs.AnswersOfStages.{comes_decided, comes_err, comes_then, decides_err, decides_then}
 use Rattle.pact_top.proofs.DecidedStages.{IsKnown, file-AreNames, work_known}
 use Rattle.pact_top.proofs.OnlyBag.{one_text, only_bag}
@@ -59,27 +57,27 @@ loaded_is files name l r h =
 pub is_loaded : {before now : Feeding} (name : List ℕ) (l : Loaded) → Comes (λ f. loaded f name) before now (Ok l) → IsLoaded l
 is_loaded {before} name l h = loaded_is before.files name l h.told.readings h.told.ends
 
--- ---- what is made of them: the commands `run`, `plan` and `cert`
+-- ---- what is made of what was read
 
 -- the order of work of such a command
-abbrev made : (Loaded → Ready) → List ℕ → Option (List NamedFile) → Stage Ready
-made make name files = and_then (loaded files name) (λ l. give (λ r. r ≡ make l))
+abbrev made : {X : Type 0} → (Option (List NamedFile) → Stage X) → (X → Ready) → Option (List NamedFile) → Stage Ready
+made stage make files = and_then (stage files) (λ x. give (λ r. r ≡ make x))
 
-module _ (make : Loaded → Ready) {before now : Feeding} (name : List ℕ) where
-  pub made_err : (r : Refusal) → Comes (λ f. loaded f name) before now (Err r) → Comes (λ f. and_then (made make name f) (λ y. give (AreTextsOf y))) before now (Err r)
-  made_err r h = comes_err {A = Ready} {s = made make name} (λ f y. give (AreTextsOf y)) r (comes_err {A = Loaded} {s = λ f. loaded f name} (λ f l. give (λ y. y ≡ make l)) r h)
+module _ {X : Type 0} (stage : Option (List NamedFile) → Stage X) (make : X → Ready) {before now : Feeding} where
+  pub made_err : (r : Refusal) → Comes stage before now (Err r) → Comes (λ f. and_then (made stage make f) (λ y. give (AreTextsOf y))) before now (Err r)
+  made_err r h = comes_err {A = Ready} {s = made stage make} (λ f y. give (AreTextsOf y)) r (comes_err {A = X} {s = stage} (λ f x. give (λ y. y ≡ make x)) r h)
 
-  pub made_texts : (l : Loaded) (texts : Texts) → Comes (λ f. loaded f name) before now (Ok l) → AreTextsOf (make l) texts → Comes (λ f. and_then (made make name f) (λ y. give (AreTextsOf y))) before now (Ok texts)
-  made_texts l texts h are =
-      comes_decided {A = Ready} {s = made make name} (λ y. give (AreTextsOf y)) (make l) (Ok texts)
-      (comes_decided {A = Loaded} {s = λ f. loaded f name} (λ x. give (λ y. y ≡ make x)) l (Ok (make l)) h (refl, refl))
+  pub made_texts : (x : X) (texts : Texts) → Comes stage before now (Ok x) → AreTextsOf (make x) texts → Comes (λ f. and_then (made stage make f) (λ y. give (AreTextsOf y))) before now (Ok texts)
+  made_texts x texts h are =
+      comes_decided {A = Ready} {s = made stage make} (λ y. give (AreTextsOf y)) (make x) (Ok texts)
+      (comes_decided {A = X} {s = stage} (λ z. give (λ y. y ≡ make z)) x (Ok (make x)) h (refl, refl))
       (refl, are)
 
 -- ---- run
 
 -- a bag that the program as written allows, its lines, and the counts of the same evaluation where they are asked for
 pub is_answer : (l : Loaded) (workers plans : ℕ) (counts combine : Bool) (t : Texts) (bag : Bag) → IsProgram l.program → AllowsWritten l bag → AreLines l.program.sink bag t.out
-    → AreCounts l workers plans combine bag counts t.counts → IsAnswerOf l workers plans counts combine t
+    → AreCounts l workers plans combine bag counts t.told → IsAnswerOf l workers plans counts combine t
 is_answer l workers plans counts combine t bag program allowed lines counted =
     record {
       bag = bag;
@@ -89,19 +87,6 @@ is_answer l workers plans counts combine t bag program allowed lines counted =
       only_bag = λ free other also. only_bag l.program program free l.inputs l.program.plan bag other allowed also;
       only_text = λ free other spelled also its. sym (one_text l.program.sink bag other t.out spelled (only_bag l.program program free l.inputs l.program.plan bag other allowed also) lines its);
     }
-
--- ---- sets
-
-pub sets_program : {before now : Feeding} (name : List ℕ) (r : Refusal) → Comes (λ f. program_file f name) before now (Err r) → Comes (λ f. texts_for f (to_tell_sets name)) before now (Err r)
-sets_program {before} {now} name r h =
-    comes_err {A = Ready} {s = λ f. ready_for f (to_tell_sets name)} (λ f y. give (AreTextsOf y)) r (comes_err (λ f p. give (λ y. y ≡ to_analyse p)) r h)
-
-pub sets_told : {before now : Feeding} (name : List ℕ) (p : ProgramData) (texts : Texts) → Comes (λ f. program_file f name) before now (Ok p) → IsOutAlone (IsSetsText p) texts
-    → Comes (λ f. texts_for f (to_tell_sets name)) before now (Ok texts)
-sets_told {before} {now} name p texts h told =
-    comes_decided {A = Ready} {s = λ f. ready_for f (to_tell_sets name)} (λ y. give (AreTextsOf y)) (to_analyse p) (Ok texts)
-    (comes_decided {s = λ f. program_file f name} (λ q. give (λ y. y ≡ to_analyse q)) p (Ok (to_analyse p)) h (refl, refl))
-    (refl, told)
 
 -- ---- check
 
@@ -168,50 +153,55 @@ refused_so words before now (CannotRead name) usage h = (h, (work_fails words be
 refused_so words before now CannotWrite usage h = absurd h
 refused_so words before now (Decided status line) usage h = stop_refused words before now status line usage h ((work_known words before.files).so status line h.readings h.ends)
 
--- ---- counts are asked for where they are told
+-- ---- more is told only where that is asked for
 
-counted_texts : (y : Ready) (texts : Texts) (text : List ℕ) → AreTextsOf y texts → texts.counts ≡ Some text → (l : Loaded) × (workers : ℕ) × (plans : ℕ) × (combine : Bool) × (y ≡ to_evaluate l workers plans true combine)
-counted_texts (to_evaluate l workers plans true combine) texts text are told = (l, workers, plans, combine, refl)
-counted_texts (to_evaluate l workers plans false combine) texts text are told = let none : texts.counts ≡ None = are.counted in absurd cc
-counted_texts (to_show l workers plans) texts text are told = let none = are.1 in absurd cc
-counted_texts (to_justify l workers plans) texts text are told = let none = are.1 in absurd cc
-counted_texts (to_analyse p) texts text are told = let none = are.1 in absurd cc
-counted_texts (to_accept a) texts text are told = let none = are.1 in absurd cc
-counted_texts (to_make seed rows) texts text are told = let none = are.1 in absurd cc
-counted_texts (to_sum_up seed rows) texts text are told = let none = are.1 in absurd cc
+-- what was read is for a command that tells more
+abbrev IsForMore : Ready → Type 0
+IsForMore (to_evaluate l workers plans counts combine) = counts ≡ true
+IsForMore (to_repeat r rounds stable) = stable ≡ true
+IsForMore y = ⊥
+
+told_for : (y : Ready) (texts : Texts) (text : List ℕ) → AreTextsOf y texts → texts.told ≡ Some text → IsForMore y
+told_for (to_evaluate l workers plans true combine) texts text are told = refl
+told_for (to_evaluate l workers plans false combine) texts text are told = let none : texts.told ≡ None = are.counted in absurd cc
+told_for (to_repeat r rounds true) texts text are told = refl
+told_for (to_repeat r rounds false) texts text are told = let none : texts.told ≡ None = are.told in absurd cc
+told_for (to_show l workers plans) texts text are told = let none = are.1 in absurd cc
+told_for (to_justify l workers plans) texts text are told = let none = are.1 in absurd cc
+told_for (to_analyse p) texts text are told = let none = are.1 in absurd cc
+told_for (to_accept a) texts text are told = let none = are.1 in absurd cc
+told_for (to_make seed rows) texts text are told = let none = are.1 in absurd cc
+told_for (to_sum_up seed rows) texts text are told = let none = are.1 in absurd cc
 
 -- what a command has read is what it makes of what it came to
 gave_made : {A : Type 0} (s : Stage A) (make : A → Ready) (p : List Reading) (y : Ready) → (and_then s (λ x. give (λ r. r ≡ make x))).Ends p (gives y) → (x : A) × (y ≡ make x)
 gave_made s make p y h = let made = gave_then s (λ x. give (λ r. r ≡ make x)) p y h in (made.value, made.next.1)
 
--- and for counts only where it asks for them
-asks : (files : Option (List NamedFile)) (c : Asked) (p : List Reading) (l : Loaded) (workers plans : ℕ) (combine : Bool) → (ready_for files c).Ends p (gives (to_evaluate l workers plans true combine))
-    → (name : List ℕ) × (options : Options) × (c ≡ to_run name options true)
-asks files (to_run name o counts) p l workers plans combine h = let e = (gave_made (loaded files name) (λ x. to_evaluate x o.workers o.plans counts o.combine) p _ h).1 in (name, o, let asked : counts ≡ true = cc in ap (to_run name o) asked)
-asks files (to_plan name w n) p l workers plans combine h = let e = (gave_made (loaded files name) (λ x. to_show x w n) p _ h).1 in absurd cc
-asks files (to_certify name w n) p l workers plans combine h = let e = (gave_made (loaded files name) (λ x. to_justify x w n) p _ h).1 in absurd cc
-asks files (to_tell_sets name) p l workers plans combine h = let e = (gave_made (program_file files name) to_analyse p _ h).1 in absurd cc
-asks files (to_check name other) p l workers plans combine h = let e = (gave_made (accepted files name other) to_accept p _ h).1 in absurd cc
-asks files (to_generate seed rows) p l workers plans combine h = let e = h.1 in absurd cc
-asks files (to_drill seed rows o) p l workers plans combine h = let e = h.1 in absurd cc
+-- and of such a command it is only where the words ask for more
+asks : (words : List (List ℕ)) (files : Option (List NamedFile)) (c : Asked) (p : List Reading) (y : Ready) → IsAsked words c → (ready_for files c).Ends p (gives y) → IsForMore y → AskForMore words
+asks words files (to_run name o counts) p y asked h more =
+    let e = subst IsForMore (gave_made (loaded files name) (λ x. to_evaluate x o.workers o.plans counts o.combine) p y h).1 more in
+    inl (name, o, subst (λ (b : Bool). IsAsked words (to_run name o b)) e asked)
+asks words files (to_iterate name source rounds o stable) p y asked h more =
+    let e = subst IsForMore (gave_made (repeated files name source) (λ x. to_repeat x rounds stable) p y h).1 more in
+    inr (name, source, rounds, o, subst (λ (b : Bool). IsAsked words (to_iterate name source rounds o b)) e asked)
+asks words files (to_plan name w n) p y asked h more = absurd (subst IsForMore (gave_made (loaded files name) (λ x. to_show x w n) p y h).1 more)
+asks words files (to_certify name w n) p y asked h more = absurd (subst IsForMore (gave_made (loaded files name) (λ x. to_justify x w n) p y h).1 more)
+asks words files (to_tell_sets name) p y asked h more = absurd (subst IsForMore (gave_made (program_file files name) to_analyse p y h).1 more)
+asks words files (to_check name other) p y asked h more = absurd (subst IsForMore (gave_made (accepted files name other) to_accept p y h).1 more)
+asks words files (to_generate seed rows) p y asked h more = absurd (subst IsForMore h.1 more)
+asks words files (to_drill seed rows o) p y asked h more = absurd (subst IsForMore h.1 more)
 
-counts_for : (words : List (List ℕ)) (files : Option (List NamedFile)) (c : Asked) (p : List Reading) (texts : Texts) (text : List ℕ) → IsAsked words c → (texts_for files c).Ends p (gives texts) → texts.counts ≡ Some text
-    → AskForCounts words
-counts_for words files c p texts text asked h told =
-    let made = gave_then (ready_for files c) (λ r. give (AreTextsOf r)) p texts h in
-    let made_so = counted_texts made.value texts text made.next.1 told in
-    let a = asks files c made.front made_so.0 made_so.1 made_so.2 made_so.3 (subst (λ (z : Ready). (ready_for files c).Ends made.front (gives z)) made_so.4 made.first) in
-    (a.0, a.1, subst (IsAsked words) a.2 asked)
-
-counts_in : (words : List (List ℕ)) (files : Option (List NamedFile)) (p : List Reading) (texts : Texts) (text : List ℕ) → (work words files).Ends p (gives texts) → texts.counts ≡ Some text → AskForCounts words
-counts_in words files p texts text h told =
-    let asked = gave_then (command words) (texts_for files) p texts h in
-    counts_for words files asked.value asked.later texts text asked.first.1 asked.next told
+told_in : (words : List (List ℕ)) (files : Option (List NamedFile)) (p : List Reading) (texts : Texts) (text : List ℕ) → (work words files).Ends p (gives texts) → texts.told ≡ Some text → AskForMore words
+told_in words files p texts text h told =
+    let command_made = gave_then (command words) (texts_for files) p texts h in
+    let made = gave_then (ready_for files command_made.value) (λ r. give (AreTextsOf r)) command_made.later texts command_made.next in
+    asks words files command_made.value made.front made.value command_made.first.1 made.first (told_for made.value texts text made.next.1 told)
 
 -- ---- answers
 
 told_so : (words : List (List ℕ)) (before now : Feeding) (x : Result Texts Refusal) → (AreRefused words → IsUsageTold words x) → Answers (work words before.files) before now x → IsTold words before now x
-told_so words before now (Ok texts) usage h = record { texts_are = h; counts = λ text. counts_in words before.files h.readings texts text h.ends }
+told_so words before now (Ok texts) usage h = record { texts_are = h; told = λ text. told_in words before.files h.readings texts text h.ends }
 told_so words before now (Err r) usage h = refused_so words before now r usage h
 
 -- what the work comes to is an answer

@@ -25,8 +25,8 @@ use Rattle.pact_top.specs.Refusal.{AreTold}
 use Rattle.pact_top.specs.Stages.{End, gives, stops, misses, fails, Reading, each}
 use Rattle.pact_top.specs.RefusalLines.{usage_line}
 use Rattle.pact_top.specs.CommandTexts.{AreTextsOf}
-use Rattle.pact_top.specs.Work.{FileEnds, accepted, certificate, certificate_file, certificate_limit, command, draft, file, loaded, program, program_file, program_limit, program_of, ready, ready_for, rechecked, rows, source_file, sources, texts_for, valid, valids, work}
-use Rattle.pact_words.specs.Words.{Asked, to_run, to_plan, to_certify, to_tell_sets, to_check, to_generate, to_drill, AreRefused}
+use Rattle.pact_top.specs.Work.{FileEnds, accepted, certificate, certificate_file, certificate_limit, command, draft, file, loaded, program, program_file, program_limit, program_of, ready, ready_for, rechecked, repeated, rows, source_file, source_named, sources, texts_for, valid, valids, work}
+use Rattle.pact_words.specs.Words.{Asked, to_run, to_plan, to_certify, to_tell_sets, to_check, to_generate, to_drill, to_iterate, AreRefused}
 use Rattle.pact_words.proofs.OneAsked.{never_both, not_both, one_asked, one_of}
 use Rattle.pact_operators.proofs.DifferentNames.{kept-NamesDiffer, spelled-AreNames}
 use Rattle.pact_operators.proofs.OneProgram.{one_program}
@@ -144,6 +144,14 @@ sources_decided : (files : Option (List NamedFile)) → AreTold files → (p : P
 sources_decided files told p =
     each_decided (source_file p.fields files) (λ s. decided_then _ (file_one files told s.file _) (file_decided files told s.file _) (λ bytes _. rows_decided p.fields s bytes)) (sources_of p.ops)
 
+-- ---- a source by its name
+
+source_named_decided : (p : ProgramData) (name : List ℕ) → IsDecided (source_named p name)
+source_named_decided p name = plain_decided _ _ (λ at s l h g. g.0 at h) (λ s t l m h g. h.1 ∙ sym g.1)
+
+source_named_one : (p : ProgramData) → NamesDiffer p.ops → (name : List ℕ) → GivesOne (source_named p name)
+source_named_one p names name = record { one = λ a b q r h g. names a b h.1.source g.1.source h.1.there g.1.there (h.1.named ∙ sym g.1.named) }
+
 -- ---- certificates
 
 certificate_decided : (text : List ℕ) → IsDecided (certificate text)
@@ -184,6 +192,12 @@ loaded_decided : (files : Option (List NamedFile)) → AreTold files → (name :
 loaded_decided files told name =
     decided_then _ (program_file_one files told name) (program_file_decided files told name) (λ p _. agree_then _ _ (sources_decided files told p) (λ a b _ _. give_agrees _ _))
 
+repeated_decided : (files : Option (List NamedFile)) → AreTold files → (name source : List ℕ) → IsDecided (repeated files name source)
+repeated_decided files told name source =
+    decided_then _ (program_file_one files told name) (program_file_decided files told name)
+    (λ p from. decided_then _ (source_named_one p (file-NamesDiffer files name p from.readings from.ends) source) (source_named_decided p source)
+    (λ at _. agree_then _ _ (sources_decided files told p) (λ a b _ _. give_agrees _ _)))
+
 ready_for_decided : (files : Option (List NamedFile)) → AreTold files → (asked : Asked) → IsDecided (ready_for files asked)
 ready_for_decided files told (to_run name options counts) = agree_then _ _ (loaded_decided files told name) (λ a b _ _. give_agrees _ _)
 ready_for_decided files told (to_plan name workers plans) = agree_then _ _ (loaded_decided files told name) (λ a b _ _. give_agrees _ _)
@@ -192,6 +206,7 @@ ready_for_decided files told (to_tell_sets name) = agree_then _ _ (program_file_
 ready_for_decided files told (to_check name other) = agree_then _ _ (accepted_decided files told name other) (λ a b _ _. give_agrees _ _)
 ready_for_decided files told (to_generate seed rows) = give_agrees _ _
 ready_for_decided files told (to_drill seed rows o) = give_agrees _ _
+ready_for_decided files told (to_iterate name source rounds o stable) = agree_then _ _ (repeated_decided files told name source) (λ a b _ _. give_agrees _ _)
 
 pub work_decided : (words : List (List ℕ)) (files : Option (List NamedFile)) → AreTold files → IsDecided (work words files)
 work_decided words files told = decided_then _ (command_one words) (command_decided words) (λ c _. agree_then _ _ (ready_for_decided files told c) (λ a b _ _. give_agrees _ _))
@@ -234,10 +249,19 @@ certificate_file_known words files name =
 rechecked_known : (words : List (List ℕ)) (p : ProgramData) (c : Certificate) → StopsSo (IsKnown words) (rechecked p c)
 rechecked_known words p c = record { so = λ s l r h. inr (between 9 s h.1.2 (omega arith) (omega arith)) }
 
+sources_known : (words : List (List ℕ)) (files : Option (List NamedFile)) (p : ProgramData) → StopsSo (IsKnown words) (sources p files)
+sources_known words files p = stops_each (IsKnown words) (source_file p.fields files) (source_known words files p.fields) (sources_of p.ops)
+
 loaded_known : (words : List (List ℕ)) (files : Option (List NamedFile)) (name : List ℕ) → StopsSo (IsKnown words) (loaded files name)
 loaded_known words files name =
     stops_then (IsKnown words) _ (program_file_known words files name)
-    (λ p. stops_then (IsKnown words) _ (stops_each (IsKnown words) (source_file p.fields files) (source_known words files p.fields) (sources_of p.ops)) (λ inputs. stops_give (IsKnown words) _))
+    (λ p. stops_then (IsKnown words) _ (sources_known words files p) (λ inputs. stops_give (IsKnown words) _))
+
+repeated_known : (words : List (List ℕ)) (files : Option (List NamedFile)) (name source : List ℕ) → StopsSo (IsKnown words) (repeated files name source)
+repeated_known words files name source =
+    stops_then (IsKnown words) _ (program_file_known words files name)
+    (λ p. stops_then (IsKnown words) _ (record { so = λ s l r h. inr (between 6 s h.1.1 (omega arith) (omega arith)) })
+    (λ at. stops_then (IsKnown words) _ (sources_known words files p) (λ inputs. stops_give (IsKnown words) _)))
 
 ready_for_known : (words : List (List ℕ)) (files : Option (List NamedFile)) (asked : Asked) → StopsSo (IsKnown words) (ready_for files asked)
 ready_for_known words files (to_run name options counts) = stops_then (IsKnown words) _ (loaded_known words files name) (λ l. stops_give (IsKnown words) _)
@@ -251,6 +275,7 @@ ready_for_known words files (to_check name other) =
     (λ a. stops_give (IsKnown words) _)
 ready_for_known words files (to_generate seed rows) = stops_give (IsKnown words) _
 ready_for_known words files (to_drill seed rows o) = stops_give (IsKnown words) _
+ready_for_known words files (to_iterate name source rounds o stable) = stops_then (IsKnown words) _ (repeated_known words files name source) (λ r. stops_give (IsKnown words) _)
 
 pub work_known : (words : List (List ℕ)) (files : Option (List NamedFile)) → StopsSo (IsKnown words) (work words files)
 work_known words files = stops_then (IsKnown words) _ (record { so = λ s l p h. inl h.1 }) (λ c. stops_then (IsKnown words) _ (ready_for_known words files c) (λ r. stops_give (IsKnown words) _))

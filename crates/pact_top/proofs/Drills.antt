@@ -15,7 +15,7 @@ use Rattle.drill_program.proofs.DrillFree.{total_free}
 use Rattle.drill_program.proofs.DrillProgram.{is_a_program}
 use Rattle.pact_top.specs.CommandTexts.{IsDrillText, IsRun, IsSummary, drilled}
 use Rattle.pact_top.specs.OrderFreePrograms.{AreGroupsFree, IsGrouping}
-use Rattle.pact_top.specs.declared.choosing.FinishedRun.{FinishedRun}
+use Rattle.pact_top.specs.declared.running.FinishedRun.{FinishedRun}
 use Rattle.pact_top.proofs.OnlyBag.{one_text, only_bag}
 
 -- ---- generated rows

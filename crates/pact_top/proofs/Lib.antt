@@ -18,3 +18,5 @@ pub mod RowCounts
 pub mod ChosenTexts
 pub mod RunPlans
 pub mod Drills
+pub mod IterationsRun
+pub mod SourcesByName

@@ -1,11 +1,14 @@
 -- A run of the chosen plan gives a bag that the plan as written allows, and its texts are those of the command.
-use Rattle.std.proofs.Common.{◌≡◌, ℕ, Bool, List, Some, IfOk, Result, Ok, Err, sym, subst}
+use Rattle.std.proofs.Common.{◌≡◌, ◌≤◌, ℕ, Bool, true, List, [], Some, IfOk, Result, Ok, Err, ap, sym, subst, ◌∙◌}
 use Rattle.std.specs.Prelude.{slice_get}
 use Rattle.combine_rule.specs.CombinedPrograms.{planned}
-use Rattle.flow_core.specs.Worlds.{IsStanding, WorldData}
+use Rattle.flow_core.specs.Worlds.{IsStanding, WorldData, depth_limit}
+use Rattle.flow_instance.specs.Limits.{batch_limit}
 use Rattle.flow_model.specs.Events.{no_history}
 use Rattle.flow_model.specs.Spots.{setting}
+use Rattle.flow_model.specs.Spread.{Spread}
 use Rattle.flow_model.specs.Worlds.{History}
+use Rattle.flow_run.specs.declared.options.Options.{Options}
 use Rattle.pact_operators.specs.Allowed.{Bag, Counted, count_of}
 use Rattle.pact_operators.specs.Inputs.{AreInputsOf}
 use Rattle.pact_operators.specs.PlanOps.{plan_ops}
@@ -19,13 +22,14 @@ use Rattle.ship_strategy.specs.Ships.{LegalShip}
 use Rattle.pact_bag.specs.declared.outcomes.Outcome.{Outcome}
 use Rattle.pact_record.specs.Widths.{AreWide}
 use Rattle.pact_top.specs.declared.choosing.Choice.{Choice}
-use Rattle.pact_top.specs.declared.choosing.FinishedRun.{FinishedRun}
+use Rattle.pact_top.specs.declared.running.FinishedRun.{FinishedRun}
 use Rattle.pact_top.specs.declared.loaded.Loaded.{Loaded}
 use Rattle.pact_top.specs.declared.tasks.RunOutcome.{RunOutcome}
+use Rattle.pact_top.specs.declared.tasks.Task.{Task}
 use Rattle.pact_top.specs.declared.texts.Texts.{Texts}
 use Rattle.pact_top.specs.CommandTexts.{AreToldCounts, IsAnswerOf, IsChoice, IsOutcome, IsRun, laid}
 use Rattle.pact_top.specs.Lines.{AreLines}
-use Rattle.pact_top.specs.Runs.{IsRunOf}
+use Rattle.pact_top.specs.Runs.{CanRun, HasRun, IsCombinedTask, IsPlainRun, IsRunLeft, IsRunOf}
 use Rattle.pact_top.proofs.ChosenTexts.{told-AreCounts}
 use Rattle.pact_top.proofs.CommandsRun.{is_answer}
 
@@ -45,36 +49,63 @@ start_counted p inputs physical w (Ok o) same is_program are_inputs of standing 
     (subst (λ (d : PhysicalData). IsStanding (setting p inputs d) w no_history) (sym same) standing))
 start_counted p inputs physical w (Err e) same is_program are_inputs of standing all = tt
 
-pub is_outcome : {E : Type 0} (l : Loaded) (workers : ℕ) (choice : Choice) (combine : Bool) (physical : PhysicalData) (result : Result RunOutcome E) → physical ≡ (laid l workers choice).physical
-    → physical.tree ≡ choice.plan → AreInputsOf l.program l.inputs → LegalShip (facts_of l.program physical.tree) physical → KeepAnswers l.program l.program.plan choice.plan
-    → IfOk result (λ r. IsRunOf (planned l.program physical) l.inputs combine r.outcome r.combined.items)
-    → IfOk result (λ r. LegalShip (facts_of l.program physical.tree) physical → Counted (plan_ops l.program l.inputs) physical.tree r.outcome.rows r.outcome.counts)
-    → IfOk result (λ r. AreWide l.program.fields r.outcome.rows) → IfOk result (λ r. IsOutcome l workers choice combine r.outcome r.combined.items)
-is_outcome l workers choice combine physical (Ok r) is_laid same are_inputs legal answers run all wide =
-    let counted = subst (λ (t : PlanTree). Counted (plan_ops l.program l.inputs) t r.outcome.rows r.outcome.counts) same (all legal) in
+-- what a run left, from what is known of it by parts
+pub has_run : {E : Type 0} (p : ProgramData) (task : Task) (inputs : List Bag) (result : Result Outcome E) → IfOk result (λ o. Spread (setting p inputs task.physical) o.rows o.counts)
+    → IfOk result (λ o. LegalShip (facts_of p task.physical.tree) task.physical → Counted (plan_ops p inputs) task.physical.tree o.rows o.counts) → IfOk result (λ o. AreWide p.fields o.rows)
+    → IfOk result (HasRun p task inputs)
+has_run p task inputs (Ok o) spread counted widths = record { spread = spread; counted = counted; widths = widths }
+has_run p task inputs (Err e) spread counted widths = tt
+
+pub plain_left : (p : ProgramData) (task : Task) (inputs : List Bag) (o : Outcome) (combined : List (ℕ × ℕ)) → HasRun p task inputs o → combined ≡ [] → IsPlainRun (planned p task.physical) inputs o combined
+plain_left p task inputs o combined h none = record { run = h.spread; none = none }
+
+-- the combined task can be run where the task can
+pub combined_can : (p q : ProgramData) (task other : Task) (of : List (ℕ × ℕ)) (inputs : List Bag) → CanRun p task inputs → IsCombinedTask p task q other of → CanRun q other inputs
+combined_can p q task other of inputs h g = record {
+  plan = g.plan;
+  inputs = g.inputs inputs h.inputs;
+  workers = ap (λ (o : Options). o.workers) g.options ∙ h.workers ∙ sym g.workers;
+  batch = subst (λ (o : Options). (1 ≤ o.batch) × (o.batch ≤ batch_limit)) (sym g.options) h.batch;
+  depth = subst (λ (o : Options). (1 ≤ o.depth) × (o.depth ≤ depth_limit)) (sym g.options) h.depth;
+}
+
+-- and what its run leaves is that of the task
+pub combined_left : (p q : ProgramData) (task other : Task) (r : RunOutcome) (inputs : List Bag) → AreInputsOf p inputs → IsCombinedTask p task q other r.combined.items → HasRun q other inputs r.outcome
+    → IsRunLeft p task inputs true r
+combined_left p q task other r inputs are h left = record {
+  run = record { end = planned q other.physical; combined = h.combined; run = left.spread };
+  counted = λ legal. h.counted inputs r.outcome.rows r.outcome.counts (record { of_inputs = are; legal = legal; run = left.spread });
+  widths = subst (λ (n : ℕ). AreWide n r.outcome.rows) h.fields left.widths;
+}
+
+pub is_outcome : {E : Type 0} (l : Loaded) (workers : ℕ) (plan : PlanTree) (layout : ℕ) (combine : Bool) (task : Task) (result : Result RunOutcome E) → task.physical ≡ (laid l workers plan layout).physical
+    → task.physical.tree ≡ plan → AreInputsOf l.program l.inputs → LegalShip (facts_of l.program task.physical.tree) task.physical → KeepAnswers l.program l.program.plan plan
+    → IfOk result (IsRunLeft l.program task l.inputs combine) → IfOk result (λ r. IsOutcome l workers plan layout combine r.outcome r.combined.items)
+is_outcome l workers plan layout combine task (Ok r) is_laid same are_inputs legal answers left =
+    let counted = subst (λ (t : PlanTree). Counted (plan_ops l.program l.inputs) t r.outcome.rows r.outcome.counts) same (left.counted legal) in
     record {
-      allowed = (answers l.inputs are_inputs r.outcome.rows).1 (evaluates_allowed (λ (n k : ℕ). slice_get r.outcome.counts n ≡ Some (count_of k)) (plan_ops l.program l.inputs) choice.plan r.outcome.rows counted);
+      allowed = (answers l.inputs are_inputs r.outcome.rows).1 (evaluates_allowed (λ (n k : ℕ). slice_get r.outcome.counts n ≡ Some (count_of k)) (plan_ops l.program l.inputs) plan r.outcome.rows counted);
       counted = counted;
-      widths = wide;
-      run = subst (λ (d : PhysicalData). IsRunOf (planned l.program d) l.inputs combine r.outcome r.combined.items) is_laid run;
+      widths = left.widths;
+      run = subst (λ (d : PhysicalData). IsRunOf (planned l.program d) l.inputs combine r.outcome r.combined.items) is_laid left.run;
     }
-is_outcome l workers choice combine physical (Err e) is_laid same are_inputs legal answers run all wide = tt
+is_outcome l workers plan layout combine task (Err e) is_laid same are_inputs legal answers left = tt
 
 pub are_answers : {E : Type 0} (l : Loaded) (workers plans : ℕ) (asked combine : Bool) (result : Result Texts E) (choice : Choice) (o : Outcome) (of : List (ℕ × ℕ)) → IsProgram l.program → IsChoice l workers plans choice
-    → IsOutcome l workers choice combine o of → IfOk result (λ t. AreLines l.program.sink o.rows t.out)
-    → IfOk result (λ t. AreToldCounts l.program choice.plan o.counts of asked t.counts) → IfOk result (IsAnswerOf l workers plans asked combine)
+    → IsOutcome l workers choice.plan choice.chosen.layout combine o of → IfOk result (λ t. AreLines l.program.sink o.rows t.out)
+    → IfOk result (λ t. AreToldCounts l.program choice.plan o.counts of asked t.told) → IfOk result (IsAnswerOf l workers plans asked combine)
 are_answers l workers plans asked combine (Ok t) choice o of program chosen is lines told =
-    is_answer l workers plans asked combine t o.rows program is.allowed lines (told-AreCounts l workers plans choice combine o of asked t.counts chosen is.counted is.run told)
+    is_answer l workers plans asked combine t o.rows program is.allowed lines (told-AreCounts l workers plans choice combine o of asked t.told chosen is.counted is.run told)
 are_answers l workers plans asked combine (Err e) choice o of program chosen is lines told = tt
 
 -- the texts of a run of the chosen plan
 pub run_answers : {E : Type 0} (l : Loaded) (workers plans : ℕ) (asked combine : Bool) (run : FinishedRun) (result : Result Texts E) → IsRun l workers plans combine run → IsProgram run.program
     → IfOk result (λ t. AreLines run.program.sink run.outcome.rows t.out)
-    → IfOk result (λ t. AreToldCounts run.program run.choice.plan run.outcome.counts run.combined.items asked t.counts) → IfOk result (IsAnswerOf l workers plans asked combine)
+    → IfOk result (λ t. AreToldCounts run.program run.choice.plan run.outcome.counts run.combined.items asked t.told) → IfOk result (IsAnswerOf l workers plans asked combine)
 run_answers l workers plans asked combine run result is program lines told =
     are_answers l workers plans asked combine result run.choice run.outcome run.combined.items (subst IsProgram is.program program) is.chosen.choice is.outcome
     (subst (λ (p : ProgramData). IfOk result (λ t. AreLines p.sink run.outcome.rows t.out)) is.program lines)
-    (subst (λ (p : ProgramData). IfOk result (λ t. AreToldCounts p run.choice.plan run.outcome.counts run.combined.items asked t.counts)) is.program told)
+    (subst (λ (p : ProgramData). IfOk result (λ t. AreToldCounts p run.choice.plan run.outcome.counts run.combined.items asked t.told)) is.program told)
 
 -- what is known of the program that was run
 pub run-IsPlanOf : (l : Loaded) (workers plans : ℕ) (combine : Bool) (run : FinishedRun) → IsRun l workers plans combine run → IsPlanOf run.program.functions run.program.ops run.choice.plan

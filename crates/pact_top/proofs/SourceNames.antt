@@ -13,12 +13,12 @@ use Rattle.pact_operators.specs.Programs.{ProgramData}
 use Rattle.pact_operators.specs.Resolved.{function_names, ops_of}
 use Rattle.pact_operators.proofs.SourceKinds.{source_kind}
 use Rattle.pact_outside.specs.declared.files.NamedFile.{NamedFile}
-use Rattle.pact_words.specs.Words.{Asked, IsAsked, to_certify, to_check, to_drill, to_generate, to_plan, to_run, to_tell_sets}
+use Rattle.pact_words.specs.Words.{Asked, IsAsked, to_certify, to_check, to_drill, to_generate, to_iterate, to_plan, to_run, to_tell_sets}
 use Rattle.tac_syntax.specs.declared.functions.Function.{Function as FunctionValue}
 use Rattle.tac_syntax.specs.Names.{is_file_name}
 use Rattle.pact_top.specs.Refusal.{IsNamed, Names}
-use Rattle.pact_top.specs.Stages.{each, gives, Reading}
-use Rattle.pact_top.specs.Work.{certificate_limit, file, loaded, program_file, program_limit, ready_for, source_file, source_limit, valid, work}
+use Rattle.pact_top.specs.Stages.{CanEnd, each, gives, Reading}
+use Rattle.pact_top.specs.Work.{certificate_limit, file, loaded, program_file, program_limit, ready_for, repeated, source_file, source_limit, sources, valid, work}
 use Rattle.pact_top.proofs.MadePrograms.{program_made}
 use Rattle.pact_top.proofs.StageLaws.{FailsSo, fails_plain, fails_then}
 
@@ -79,12 +79,21 @@ may_name : (asked : Asked) (sources : List Op) → AllByRecursion (λ s. IsTrue 
 may_name asked [] h = tt
 may_name asked (s ∷ sources) h = (inr h.0, may_name asked sources h.1)
 
+-- the sources of a file's program
+own_sources_fail : (asked : Asked) (files : Option (List NamedFile)) (name : List ℕ) (p : ProgramData) → CanEnd (program_file files name) (gives p) → FailsSo (NamedFor asked) (sources p files)
+own_sources_fail asked files name p given =
+    sources_fail (NamedFor asked) p.fields files (sources_of p.ops) (may_name asked (sources_of p.ops) (sources_named p.ops (file_sources_named files name p given.readings given.ends)))
+
 loaded_fails : (asked : Asked) (files : Option (List NamedFile)) (name : List ℕ) → NamedFor asked name → FailsSo (NamedFor asked) (loaded files name)
 loaded_fails asked files name named =
     fails_then (NamedFor asked) _ (program_file_fails (NamedFor asked) files name named)
-    (λ p given. fails_then (NamedFor asked) _
-    (sources_fail (NamedFor asked) p.fields files (sources_of p.ops) (may_name asked (sources_of p.ops) (sources_named p.ops (file_sources_named files name p given.readings given.ends))))
-    (λ inputs _. fails_plain (NamedFor asked) _ _))
+    (λ p given. fails_then (NamedFor asked) _ (own_sources_fail asked files name p given) (λ inputs _. fails_plain (NamedFor asked) _ _))
+
+repeated_fails : (asked : Asked) (files : Option (List NamedFile)) (name source : List ℕ) → NamedFor asked name → FailsSo (NamedFor asked) (repeated files name source)
+repeated_fails asked files name source named =
+    fails_then (NamedFor asked) _ (program_file_fails (NamedFor asked) files name named)
+    (λ p given. fails_then (NamedFor asked) _ (fails_plain (NamedFor asked) _ _)
+    (λ at _. fails_then (NamedFor asked) _ (own_sources_fail asked files name p given) (λ inputs _. fails_plain (NamedFor asked) _ _)))
 
 ready_for_fails : (files : Option (List NamedFile)) (asked : Asked) → FailsSo (NamedFor asked) (ready_for files asked)
 ready_for_fails files (to_run name options counts) = fails_then (NamedFor (to_run name options counts)) _ (loaded_fails (to_run name options counts) files name (inl refl)) (λ l _. fails_plain (NamedFor (to_run name options counts)) _ _)
@@ -101,6 +110,9 @@ ready_for_fails files (to_check name other) =
     (λ a _. fails_plain (NamedFor (to_check name other)) _ _)
 ready_for_fails files (to_generate seed rows) = fails_plain (NamedFor (to_generate seed rows)) _ _
 ready_for_fails files (to_drill seed rows o) = fails_plain (NamedFor (to_drill seed rows o)) _ _
+ready_for_fails files (to_iterate name source rounds o stable) =
+    let asked = to_iterate name source rounds o stable in
+    fails_then (NamedFor asked) _ (repeated_fails asked files name source (inl refl)) (λ r _. fails_plain (NamedFor asked) _ _)
 
 pub work_fails : (words : List (List ℕ)) (files : Option (List NamedFile)) → FailsSo (IsNamed words) (work words files)
 work_fails words files =

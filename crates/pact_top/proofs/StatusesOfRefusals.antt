@@ -1,5 +1,5 @@
 -- What a refusal says of the exit status.
-use Rattle.std.proofs.Common.{◌≡◌, ◌≤◌, ◌⊎◌, inl, inr, ℕ, List, Err, refl, ap, subst, sym, arith}
+use Rattle.std.proofs.Common.{◌≡◌, ◌≤◌, ◌⊎◌, inl, inr, ℕ, List, Option, Some, None, Err, refl, ap, subst, sym, arith}
 use Rattle.pact_outside.specs.Outside.{Feeding, Rose}
 use Rattle.pact_top.specs.declared.refusals.Refusal.{Refusal}
 use Rattle.pact_top.specs.declared.refusals.Refusal.TheVariants.{OutOfMemory, Usage, CannotRead, CannotWrite, Decided}
@@ -7,6 +7,7 @@ use Rattle.pact_top.specs.Refusal.{AreTold, ComesTo, HasFailed, IsNamed, IsRefus
 use Rattle.pact_top.specs.RefusalLines.{line_of, usage_line}
 use Rattle.pact_top.specs.Stages.{CanEnd, gives, stops, misses}
 use Rattle.pact_top.specs.CommandTexts.{Ready}
+use Rattle.pact_top.specs.Transfer.{GainsMore}
 use Rattle.pact_top.specs.Work.{ready, work}
 use Rattle.pact_top.specs.declared.texts.Texts.{Texts}
 use Rattle.pact_words.specs.Words.{AreRefused, AreRefusedBy, AreUnnamed}
@@ -96,3 +97,18 @@ usage_unnamed words Usage none h = refl
 usage_unnamed words (CannotRead name) none h = absurd h
 usage_unnamed words CannotWrite none h = absurd h
 usage_unnamed words (Decided status line) none h = absurd h
+
+-- ---- the other sink
+
+-- nothing is told there unless that is asked for
+pub told_quietly : (told old new : Option (List ℕ)) (IsAskedFor : Type 0) → ((text : List ℕ) → told ≡ Some text → IsAskedFor) → GainsMore old new told → ¬ IsAskedFor → new ≡ old
+told_quietly None old new IsAskedFor h gained none = gained
+told_quietly (Some text) old new IsAskedFor h gained none = absurd (none (h text refl))
+
+-- and a refusal is no answer
+pub never_answered : (words : List (List ℕ)) (before now : Feeding) (r : Refusal) → IsRefused words before now r → status_of r ≡ 0 → ⊥
+never_answered words before now OutOfMemory h e = omega (arith, e)
+never_answered words before now Usage h e = omega (arith, e)
+never_answered words before now (CannotRead name) h e = omega (arith, e)
+never_answered words before now CannotWrite h e = h
+never_answered words before now (Decided status line) h e = let least = h.0 in omega (arith, least, e)

@@ -22,7 +22,8 @@ use Rattle.reorder_pair.specs.ToldExchanges.{Lead}
 use Rattle.ship_strategy.specs.PlanFacts.{facts_of}
 use Rattle.ship_strategy.specs.Layouts.{layout_count, layout_of}
 use Rattle.plan_enumerate.specs.Choices.{IsChosen}
-use Rattle.plan_enumerate.specs.Listing.{IsAt, IsListing, plans_of}
+use Rattle.plan_enumerate.specs.declared.entries.Entry.{Entry}
+use Rattle.plan_enumerate.specs.Listing.{IsAt, IsListed, IsListing, plans_of}
 use Rattle.plan_enumerate.specs.Steps.{AreStepsTo}
 use Rattle.plan_printer.specs.CountsText.{counts_text, partials_text}
 use Rattle.plan_printer.specs.PlanText.{plan_text}
@@ -32,12 +33,15 @@ use Rattle.swap_certificate.specs.declared.certificates.Certificate.{Certificate
 use Rattle.swap_certificate.specs.Checks.{Checks, certificate_of}
 use Rattle.swap_certificate.specs.PlanLines.{line_of}
 use Rattle.swap_certificate.specs.Shape.{IsCertificateText, certificate_data}
+use Rattle.pact_top.specs.Iterations.{IsIterationText}
 use Rattle.pact_top.specs.Lines.{AreLines}
 use Rattle.pact_top.specs.OrderFreePrograms.{AreGroupsFree}
 use Rattle.pact_top.specs.Runs.{IsRunOf}
 use Rattle.pact_top.specs.declared.choosing.Choice.{Choice}
-use Rattle.pact_top.specs.declared.choosing.FinishedRun.{FinishedRun}
+use Rattle.pact_top.specs.declared.choosing.Picked.{Picked}
 use Rattle.pact_top.specs.declared.loaded.Loaded.{Loaded}
+use Rattle.pact_top.specs.declared.repeating.Repeated.{Repeated}
+use Rattle.pact_top.specs.declared.running.FinishedRun.{FinishedRun}
 use Rattle.pact_top.specs.declared.texts.Texts.{Texts}
 
 -- a program, a certificate, and the plan that this one leads to
@@ -55,6 +59,7 @@ pub data Ready : Type 0 where
   to_accept : (accepted : Accepted) → Ready
   to_make : (seed rows : ℕ) → Ready
   to_sum_up : (seed rows : ℕ) → Ready
+  to_repeat : (repeated : Repeated) → (rounds : ℕ) → (stable : Bool) → Ready
 
 -- ---- the choice
 
@@ -62,6 +67,20 @@ pub data Ready : Type 0 where
 abbrev pub row_counts : List Op → List Bag → List ℕ
 row_counts [] inputs = []
 row_counts (op ∷ ops) inputs = cond (is_source_kind op.kind) (length (get_or inputs 0 []) ∷ row_counts ops (drop 1 inputs)) (0 ∷ row_counts ops inputs)
+
+-- each listed plan is one of the program's, and allows the same bags as the plan as written
+pub record ArePlansOf (p : ProgramData) (entries : List Entry) : Type 0 where
+  pub plans : (t : PlanTree) → IsListed t entries → IsPlanOf p.functions p.ops t
+  pub answers : (t : PlanTree) → IsListed t entries → KeepAnswers p p.plan t
+
+-- One of the listed plans is chosen for these rows: the first that costs least, with one of its layouts for so many workers.
+pub record IsPicked (p : ProgramData) (inputs : List Bag) (workers : ℕ) (entries : List Entry) (c : Picked) : Type 0 where
+  pub chosen : IsChosen p (plans_of entries) (row_counts p.ops inputs) workers c.chosen
+  pub there : IsAt entries c.chosen.entry c.plan
+  pub plan : IsPlanOf p.functions p.ops c.plan
+  pub answers : KeepAnswers p p.plan c.plan
+  pub entry : c.chosen.entry < length entries
+  pub layout : c.chosen.layout < layout_count p.ops
 
 -- Of the plans that legal exchanges lead to, at most so many, one is chosen: the first that costs least, with one of its layouts for so many
 -- workers, on the numbers of rows that the sources have.
@@ -90,22 +109,22 @@ pub record IsDerived (l : Loaded) (workers plans : ℕ) (c : Choice) (steps : Li
 abbrev pub AllowsWritten : Loaded → Bag → Type 0
 AllowsWritten l bag = Allows (plan_ops l.program l.inputs) l.program.plan bag
 
--- the program with the plan of a choice in its layout
-abbrev pub laid : Loaded → (workers : ℕ) → Choice → Planned
-laid l workers c = planned l.program (layout_of (facts_of l.program c.plan) l.program.ops c.plan c.chosen.layout workers)
+-- the program with a plan in one of its layouts
+abbrev pub laid : Loaded → (workers : ℕ) → PlanTree → (layout : ℕ) → Planned
+laid l workers plan layout = planned l.program (layout_of (facts_of l.program plan) l.program.ops plan layout workers)
 
--- What a run of the chosen plan gives, with partial groups where that is asked for: such a bag, and the counts of one evaluation of the plan that gives it.
-pub record IsOutcome (l : Loaded) (workers : ℕ) (c : Choice) (combine : Bool) (o : Outcome) (combined : List (ℕ × ℕ)) : Type 0 where
+-- What a run of a plan in a layout gives, with partial groups where that is asked for: such a bag, and the counts of one evaluation of the plan that gives it.
+pub record IsOutcome (l : Loaded) (workers : ℕ) (plan : PlanTree) (layout : ℕ) (combine : Bool) (o : Outcome) (combined : List (ℕ × ℕ)) : Type 0 where
   pub allowed : AllowsWritten l o.rows
-  pub counted : Counted (plan_ops l.program l.inputs) c.plan o.rows o.counts
+  pub counted : Counted (plan_ops l.program l.inputs) plan o.rows o.counts
   pub widths : AreWide l.program.fields o.rows
-  pub run : IsRunOf (laid l workers c) l.inputs combine o combined
+  pub run : IsRunOf (laid l workers plan layout) l.inputs combine o combined
 
 -- The plan that is chosen was run, and gave this.
 pub record IsRun (l : Loaded) (workers plans : ℕ) (combine : Bool) (run : FinishedRun) : Type 0 where
   pub program : run.program ≡ l.program
   pub chosen : IsPlanChosen l workers plans run.choice
-  pub outcome : IsOutcome l workers run.choice combine run.outcome run.combined.items
+  pub outcome : IsOutcome l workers run.choice.plan run.choice.chosen.layout combine run.outcome run.combined.items
 
 -- Counts of a plan as text, where they are asked for. Behind them stands how many records each operator gave that was put in to make partial groups.
 abbrev pub AreToldCounts : ProgramData → PlanTree → List ℕ → List (ℕ × ℕ) → Bool → Option (List ℕ) → Type 0
@@ -120,7 +139,7 @@ pub record IsCountsText (l : Loaded) (workers plans : ℕ) (combine : Bool) (bag
   pub counts : List ℕ
   pub counted : Counted (plan_ops l.program l.inputs) choice.plan bag counts
   pub combined : List (ℕ × ℕ)
-  pub run : IsRunOf (laid l workers choice) l.inputs combine (record { rows = bag; counts = counts }) combined
+  pub run : IsRunOf (laid l workers choice.plan choice.chosen.layout) l.inputs combine (record { rows = bag; counts = counts }) combined
   pub spelled : text ≡ counts_text l.program choice.plan counts ++ partials_text l.program counts combined
 
 -- They are told where they are asked for, and then of the very bag that is written.
@@ -135,7 +154,7 @@ pub record IsAnswerOf (l : Loaded) (workers plans : ℕ) (counts combine : Bool)
   pub bag : Bag
   pub allowed : AllowsWritten l bag
   pub lines : AreLines l.program.sink bag t.out
-  pub counted : AreCounts l workers plans combine bag counts t.counts
+  pub counted : AreCounts l workers plans combine bag counts t.told
   pub only_bag : AreGroupsFree l.program → (other : Bag) → AllowsWritten l other → IsPermutation bag other
   pub only_text : AreGroupsFree l.program → (other : Bag) (lines : List ℕ) → AllowsWritten l other → AreLines l.program.sink other lines → lines ≡ t.out
 
@@ -212,9 +231,9 @@ pub record IsDrillText (seed rows : ℕ) (text : List ℕ) : Type 0 where
 
 -- ---- all commands
 
--- a text for the output, and no counts
+-- a text for the output, and nothing besides
 abbrev pub IsOutAlone : (List ℕ → Type 0) → Texts → Type 0
-IsOutAlone IsText t = IsText t.out × (t.counts ≡ None)
+IsOutAlone IsText t = IsText t.out × (t.told ≡ None)
 
 abbrev pub AreTextsOf : Ready → Texts → Type 0
 AreTextsOf (to_evaluate l workers plans counts combine) t = IsAnswerOf l workers plans counts combine t
@@ -224,3 +243,4 @@ AreTextsOf (to_analyse p) t = IsOutAlone (IsSetsText p) t
 AreTextsOf (to_accept a) t = IsOutAlone (IsAcceptance a) t
 AreTextsOf (to_make seed rows) t = IsOutAlone (IsGeneratedText seed rows) t
 AreTextsOf (to_sum_up seed rows) t = IsOutAlone (IsDrillText seed rows) t
+AreTextsOf (to_repeat r rounds stable) t = IsIterationText r rounds stable t

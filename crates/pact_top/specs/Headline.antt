@@ -1,28 +1,29 @@
 -- What the program promises of a call: the clauses of `pact_main`, and word for word those of `pact_alone`, by their names; what four more say is told
 -- in brackets. `pact_alone` runs a plan on one thread, waits for nobody and always returns. `pact_main` has a thread for each worker where the words ask
--- for a run or a drill with two workers or more: then it may wait, and its clauses hold if it returns. That it waits for nobody else is how it is
+-- for a run, a drill or an iteration with two workers or more: then it may wait, and its clauses hold if it returns. That it waits for nobody else is how it is
 -- built and no clause. Statuses.antt has what the clauses speak of. `before` and `now` are what the feed shows, `old` and `new` what a sink took, `first`
 -- and `last` its faults: the output's, and with `told_` those of the other sink.
 use Rattle.std.specs.Prelude.{◌≡◌, ◌≢◌, ◌≤◌, ◌⊎◌, ℕ, List, Option}
 use Rattle.pact_outside.specs.Outside.{Feeding, Rose}
 use Rattle.pact_words.specs.Words.{AreRefused, AreUnnamed}
-use Rattle.pact_top.specs.Refusal.{AskForCounts, IsNamed}
+use Rattle.pact_top.specs.Refusal.{AskForMore, IsNamed}
 use Rattle.pact_top.specs.Statuses.{AreCut, AreWritten, CannotRead, IsStopped, IsStatusTold, WhereMissing, WhereReady, WhereStopped}
 
 -- Status 0: the texts that the work comes to were written whole. Of `run` that is the sorted rows of a bag that the program as written allows, which is
 -- the only such bag where each function that a Reduce or a CoGroup calls passes the order test; with `--counts` the counts too of an evaluation of the
--- chosen plan that gives this bag, and with `--combine` behind them the line `partials` of each Reduce that is combined in it.
+-- chosen plan that gives this bag, and with `--combine` behind them the line `partials` of each Reduce that is combined in it. Of `iterate` it is the same
+-- of the bag to which the last round comes; with `--stable` the number of rounds is told besides, and both are the only ones under that condition.
 abbrev pub Answered : List (List ℕ) → Feeding → Feeding → (old new told_old told_new : Option (List ℕ)) → ℕ → Type 0
 Answered words before now old new told_old told_new status = status ≡ 0 → AreWritten words before now old new told_old told_new
 
--- Where no counts are asked for, the other sink is then as it was.
+-- Where neither counts nor the number of rounds are asked for, the other sink is then as it was.
 abbrev pub AnsweredQuietly : List (List ℕ) → (told_old told_new : Option (List ℕ)) → ℕ → Type 0
-AnsweredQuietly words told_old told_new status = status ≡ 0 → ¬ (AskForCounts words) → told_new ≡ told_old
+AnsweredQuietly words told_old told_new status = status ≡ 0 → ¬ (AskForMore words) → told_new ≡ told_old
 
 -- Where nothing stands against a text, it is written, unless memory is wanting or a fault rises.
 abbrev pub Complete : List (List ℕ) → Feeding → Feeding → (first last told_first told_last : ℕ) → ℕ → Type 0
 Complete words before now first last told_first told_last status =
-    WhereReady words before (¬ (Rose before.faults now.faults) → ¬ (Rose first last) → (AskForCounts words → ¬ (Rose told_first told_last)) → (status ≡ 0) ⊎ (status ≡ 1))
+    WhereReady words before (¬ (Rose before.faults now.faults) → ¬ (Rose first last) → (AskForMore words → ¬ (Rose told_first told_last)) → (status ≡ 0) ⊎ (status ≡ 1))
 
 -- Status 2: only where the words ask for no command.
 abbrev pub Usage : List (List ℕ) → ℕ → Type 0
@@ -49,14 +50,14 @@ UnreadName words now status = status ≡ 3 → IsNamed words now.opened
 abbrev pub MissingFile : List (List ℕ) → Feeding → ℕ → Type 0
 MissingFile words before status = WhereMissing words before ((status ≡ 1) ⊎ (status ≡ 3))
 
--- Status 4: the output failed behind a front of the text, or behind all of it the other sink behind a front of the counts.
+-- Status 4: the output failed behind a front of the text, or behind all of it the other sink behind a front of what is told there.
 abbrev pub Unwritten : List (List ℕ) → Feeding → Feeding → (old new told_old told_new : Option (List ℕ)) → (first last told_first told_last : ℕ) → ℕ → Type 0
 Unwritten words before now old new told_old told_new first last told_first told_last status =
     status ≡ 4 → AreCut words before now old new told_old told_new first last told_first told_last
 
 -- It comes only for one of these two faults.
 abbrev pub UnwrittenCause : List (List ℕ) → (first last told_first told_last : ℕ) → ℕ → Type 0
-UnwrittenCause words first last told_first told_last status = status ≡ 4 → Rose first last ⊎ (AskForCounts words × Rose told_first told_last)
+UnwrittenCause words first last told_first told_last status = status ≡ 4 → Rose first last ⊎ (AskForMore words × Rose told_first told_last)
 
 -- Statuses 5 to 9: only where the work stops with this status and a line, which is told.
 abbrev pub Refused : List (List ℕ) → Feeding → Feeding → Option (List ℕ) → Option (List ℕ) → ℕ → ℕ → ℕ → Type 0

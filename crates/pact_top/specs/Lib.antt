@@ -1,5 +1,6 @@
 pub mod CommandTexts
 pub mod Headline
+pub mod Iterations
 pub mod Lines
 pub mod OrderFreePrograms
 pub mod Readings

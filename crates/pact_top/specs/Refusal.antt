@@ -3,7 +3,7 @@ use Rattle.std.specs.Prelude.{◌≡◌, ◌≤◌, ◌⊎◌, ℕ, Bool, true, 
 use Rattle.pact_outside.specs.declared.files.NamedFile.{NamedFile}
 use Rattle.pact_outside.specs.Outside.{Feeding, Rose}
 use Rattle.pact_words.specs.declared.commands.Options.{Options}
-use Rattle.pact_words.specs.Words.{Asked, to_run, to_plan, to_certify, to_tell_sets, to_check, to_generate, to_drill, AreRefused, AreUnnamed, IsAsked}
+use Rattle.pact_words.specs.Words.{Asked, to_run, to_plan, to_certify, to_tell_sets, to_check, to_generate, to_drill, to_iterate, AreRefused, AreUnnamed, IsAsked}
 use Rattle.pact_operators.specs.declared.checking.NotProgram.{NotProgram}
 use Rattle.pact_operators.specs.declared.checking.NotProgram.TheVariants as nots
 use Rattle.text_lines.specs.declared.lines.TextFault.{TextFault}
@@ -132,15 +132,25 @@ Names (to_tell_sets program) name = name ≡ program
 Names (to_check program certificate) name = (name ≡ program) ⊎ (name ≡ certificate)
 Names (to_generate seed rows) name = ⊥
 Names (to_drill seed rows o) name = ⊥
+Names (to_iterate program source rounds options stable) name = name ≡ program
 
 -- the words ask for counts
 abbrev pub AskForCounts : List (List ℕ) → Type 0
 AskForCounts words = (program : List ℕ) × (options : Options) × IsAsked words (to_run program options true)
 
--- the words ask for a run with two workers or more, of a program or of a drill
+-- the words ask for the number of rounds
+abbrev pub AskForRounds : List (List ℕ) → Type 0
+AskForRounds words = (program : List ℕ) × (source : List ℕ) × (rounds : ℕ) × (options : Options) × IsAsked words (to_iterate program source rounds options true)
+
+-- the words ask for something on the other sink
+abbrev pub AskForMore : List (List ℕ) → Type 0
+AskForMore words = AskForCounts words ⊎ AskForRounds words
+
+-- the words ask for a run with two workers or more, of a program, of a drill or of an iteration
 abbrev pub AskForThreads : List (List ℕ) → Type 0
 AskForThreads words = (options : Options) × (2 ≤ options.workers)
-    × (((program : List ℕ) × (counts : Bool) × IsAsked words (to_run program options counts)) ⊎ ((seed : ℕ) × (rows : ℕ) × IsAsked words (to_drill seed rows options)))
+    × (((program : List ℕ) × (counts : Bool) × IsAsked words (to_run program options counts)) ⊎ ((seed : ℕ) × (rows : ℕ) × IsAsked words (to_drill seed rows options))
+    ⊎ ((program : List ℕ) × (source : List ℕ) × (rounds : ℕ) × (stable : Bool) × IsAsked words (to_iterate program source rounds options stable)))
 
 -- the words name this file, or a program may
 abbrev pub IsNamed : List (List ℕ) → List ℕ → Type 0
@@ -159,10 +169,10 @@ IsRefused words before now (CannotRead name) = HasFailed (work words before.file
 IsRefused words before now CannotWrite = ⊥
 IsRefused words before now (Decided status line) = (5 ≤ status) × (status ≤ 9) × ComesTo (work words before.files) before now (stops status line)
 
--- the texts that the work comes to, with counts among them only where they are asked for
+-- the texts that the work comes to, with one for the other sink only where that is asked for
 pub record AreAnswered (words : List (List ℕ)) (before now : Feeding) (texts : Texts) : Type 0 where
   pub texts_are : ComesTo (work words before.files) before now (gives texts)
-  pub counts : (text : List ℕ) → texts.counts ≡ Some text → AskForCounts words
+  pub told : (text : List ℕ) → texts.told ≡ Some text → AskForMore words
 
 -- there are texts, or there is a reason for none
 abbrev pub IsTold : List (List ℕ) → Feeding → Feeding → Result Texts Refusal → Type 0

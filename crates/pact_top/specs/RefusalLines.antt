@@ -32,6 +32,10 @@ told_name (b ∷ bytes) = b ∷ bytes
 abbrev pub program_line : List ℕ → ℕ → List ℕ
 program_line name code = told_name name ++ (codes ": P" ++ (decimal code ++ codes "\n"))
 
+-- no source of a program has this name
+abbrev pub unnamed_line : List ℕ → List ℕ
+unnamed_line name = name ++ codes ": P11\n"
+
 -- what stands behind the name of a source with a bad row
 abbrev pub row_text : ℕ → ℕ → ℕ → List ℕ
 row_text row column why = codes ": row " ++ (decimal row ++ (codes " column " ++ (decimal column ++ (codes ": why " ++ (decimal why ++ codes "\n")))))

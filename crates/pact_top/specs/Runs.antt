@@ -1,14 +1,46 @@
 -- Runs of a physical plan, as it is or with partial groups before records are shipped.
-use Rattle.std.specs.Prelude.{◌≡◌, ℕ, Bool, true, false, List, []}
+use Rattle.std.specs.Borrow.{Bor}
+use Rattle.std.specs.Prelude.{◌≡◌, ◌≤◌, ℕ, Bool, true, false, List, [], Result, IfOk}
 use Rattle.combine_rule.specs.CombinedPrograms.{IsCombinedPlan, Planned, planned}
 use Rattle.combine_rule.specs.CombinedRuns.{IsCountedFor}
+use Rattle.flow_core.specs.Worlds.{depth_limit}
+use Rattle.flow_instance.specs.Limits.{batch_limit}
 use Rattle.flow_model.specs.Spots.{setting}
 use Rattle.flow_model.specs.Spread.{Spread}
 use Rattle.pact_bag.specs.declared.outcomes.Outcome.{Outcome}
-use Rattle.pact_operators.specs.Allowed.{Bag}
+use Rattle.pact_operators.specs.Allowed.{Bag, Counted}
 use Rattle.pact_operators.specs.Inputs.{AreInputsOf}
+use Rattle.pact_operators.specs.PlanOps.{plan_ops}
 use Rattle.pact_operators.specs.Programs.{IsPlanOf, ProgramData}
+use Rattle.pact_record.specs.Widths.{AreWide}
+use Rattle.ship_strategy.specs.PlanFacts.{facts_of}
+use Rattle.ship_strategy.specs.Ships.{LegalShip}
+use Rattle.pact_top.specs.declared.tasks.RunOutcome.{RunOutcome}
 use Rattle.pact_top.specs.declared.tasks.Task.{Task}
+
+-- ---- a run
+
+-- the task's plan is one of the program, the rows are those of its sources, and the numbers lie in their ranges
+pub record CanRun (p : ProgramData) (task : Task) (rows : List Bag) : Type 0 where
+  pub plan : IsPlanOf p.functions p.ops task.physical.tree
+  pub inputs : AreInputsOf p rows
+  pub workers : task.options.workers ≡ task.physical.workers
+  pub batch : (1 ≤ task.options.batch) × (task.options.batch ≤ batch_limit)
+  pub depth : (1 ≤ task.options.depth) × (task.options.depth ≤ depth_limit)
+
+-- A run of the plan left these rows and counts. Where the plan ships legally they are a bag that it allows, and the counts of one evaluation that gives it.
+pub record HasRun (p : ProgramData) (task : Task) (inputs : List Bag) (o : Outcome) : Type 0 where
+  pub spread : Spread (setting p inputs task.physical) o.rows o.counts
+  pub counted : LegalShip (facts_of p task.physical.tree) task.physical → Counted (plan_ops p inputs) task.physical.tree o.rows o.counts
+  pub widths : AreWide p.fields o.rows
+
+-- what can be called for a run wherever there is one
+pub record IsRunner {E : Type 0} (Pre : Bor ProgramData → Bor Task → List Bag → Type 0) (Post : Bor ProgramData → Bor Task → List Bag → Result Outcome E → Type 0) : Type 0 where
+  pub pre : (p : Bor ProgramData) (task : Bor Task) (inputs : List Bag) → CanRun p.now task.now inputs → Pre p task inputs
+  pub post : (p : Bor ProgramData) (task : Bor Task) (inputs : List Bag) (result : Result Outcome E) → CanRun p.now task.now inputs → Post p task inputs result
+      → IfOk result (HasRun p.now task.now inputs)
+
+-- ---- with partial groups or without
 
 -- The second program with its task is the combined plan of the first: what a run of it leaves is counted for the plan of the first.
 pub record IsCombinedTask (p : ProgramData) (task : Task) (q : ProgramData) (other : Task) (of : List (ℕ × ℕ)) : Type 0 where
@@ -35,3 +67,10 @@ pub record IsCombinedRun (s : Planned) (inputs : List Bag) (o : Outcome) (of : L
 abbrev pub IsRunOf : Planned → List Bag → Bool → Outcome → List (ℕ × ℕ) → Type 0
 IsRunOf s inputs false o of = IsPlainRun s inputs o of
 IsRunOf s inputs true o of = IsCombinedRun s inputs o of
+
+-- What a run of the task left, with partial groups where that is asked for; where its plan ships legally, the counts are those of one evaluation that gives
+-- the rows.
+pub record IsRunLeft (p : ProgramData) (task : Task) (inputs : List Bag) (combine : Bool) (r : RunOutcome) : Type 0 where
+  pub run : IsRunOf (planned p task.physical) inputs combine r.outcome r.combined.items
+  pub counted : LegalShip (facts_of p task.physical.tree) task.physical → Counted (plan_ops p inputs) task.physical.tree r.outcome.rows r.outcome.counts
+  pub widths : AreWide p.fields r.outcome.rows

@@ -9,7 +9,7 @@ use Rattle.pact_operators.specs.PlanOps.{sources_of}
 use Rattle.pact_operators.specs.Programs.{IsProgramOf, ProgramData}
 use Rattle.pact_operators.specs.ProgramRules.{IsRefused, Keeps}
 use Rattle.pact_outside.specs.declared.files.NamedFile.{NamedFile}
-use Rattle.pact_words.specs.Words.{Asked, to_run, to_plan, to_certify, to_tell_sets, to_check, to_generate, to_drill, AreRefused, IsAsked}
+use Rattle.pact_words.specs.Words.{Asked, to_run, to_plan, to_certify, to_tell_sets, to_check, to_generate, to_drill, to_iterate, AreRefused, IsAsked}
 use Rattle.plan_trees.specs.Plans.{PlanTree}
 use Rattle.swap_certificate.specs.declared.certificates.CertFault.{CertFault}
 use Rattle.swap_certificate.specs.declared.certificates.Certificate.{Certificate}
@@ -21,11 +21,13 @@ use Rattle.tac_syntax.specs.declared.functions.Function.{Function}
 use Rattle.tac_syntax.specs.Valid.{IsRefusal, IsValid, WithFields}
 use Rattle.text_lines.specs.FirstFaults.{IsFirstFault}
 use Rattle.text_lines.specs.TextLines.{lines_of}
-use Rattle.pact_top.specs.CommandTexts.{Accepted, Ready, to_evaluate, to_show, to_justify, to_analyse, to_accept, to_make, to_sum_up, AreTextsOf}
+use Rattle.pact_top.specs.CommandTexts.{Accepted, Ready, to_evaluate, to_show, to_justify, to_analyse, to_accept, to_make, to_sum_up, to_repeat, AreTextsOf}
+use Rattle.pact_top.specs.Iterations.{IsSourceNamed, LacksSource}
 use Rattle.pact_top.specs.declared.loaded.Loaded.{Loaded}
+use Rattle.pact_top.specs.declared.repeating.Repeated.{Repeated}
 use Rattle.pact_top.specs.declared.texts.Texts.{Texts}
 use Rattle.pact_top.specs.Readings.{Holds, Lacks, only}
-use Rattle.pact_top.specs.RefusalLines.{function_line, long_line, program_line, source_line, text_line, usage_line}
+use Rattle.pact_top.specs.RefusalLines.{function_line, long_line, program_line, source_line, text_line, unnamed_line, usage_line}
 use Rattle.pact_top.specs.Stages.{End, gives, stops, misses, fails, Stage, and_then, plain, give, each}
 
 -- ---- words
@@ -103,6 +105,12 @@ source_file fields files source = and_then (file files source.file source_limit)
 abbrev pub sources : ProgramData → Option (List NamedFile) → Stage (List Bag)
 sources p files = each (source_file p.fields files) (sources_of p.ops)
 
+-- ---- a source by its name
+
+-- the number of the source of this name; where no source has it, that is told before a source's file is opened
+abbrev pub source_named : ProgramData → List ℕ → Stage ℕ
+source_named p name = plain (IsSourceNamed p.ops name) (λ status line. LacksSource p.ops name × (status ≡ 6) × (line ≡ unnamed_line name))
+
 -- ---- certificates
 
 -- a certificate file has at most so many bytes
@@ -129,6 +137,11 @@ abbrev pub accepted : Option (List NamedFile) → List ℕ → List ℕ → Stag
 accepted files name other =
     and_then (program_file files name) (λ p. and_then (certificate_file files other) (λ c. and_then (rechecked p c) (λ plan. give (λ all. all ≡ record { program = p; certificate = c; plan = plan }))))
 
+abbrev pub repeated : Option (List NamedFile) → List ℕ → List ℕ → Stage Repeated
+repeated files name source =
+    and_then (program_file files name) (λ p. and_then (source_named p source) (λ at.
+    and_then (sources p files) (λ inputs. give (λ all. all ≡ record { loaded = record { program = p; inputs = inputs }; at = at }))))
+
 -- what is made of no file
 abbrev pub at_once : Ready → Stage Texts
 at_once y = and_then (give (λ r. r ≡ y)) (λ r. give (AreTextsOf r))
@@ -142,6 +155,7 @@ ready_for files (to_tell_sets name) = and_then (program_file files name) (λ p. 
 ready_for files (to_check name other) = and_then (accepted files name other) (λ a. give (λ r. r ≡ to_accept a))
 ready_for files (to_generate seed rows) = give (λ r. r ≡ to_make seed rows)
 ready_for files (to_drill seed rows o) = give (λ r. r ≡ to_sum_up seed rows)
+ready_for files (to_iterate name source rounds o stable) = and_then (repeated files name source) (λ i. give (λ r. r ≡ to_repeat i rounds stable))
 
 abbrev pub texts_for : Option (List NamedFile) → Asked → Stage Texts
 texts_for files asked = and_then (ready_for files asked) (λ r. give (AreTextsOf r))

@@ -7,31 +7,33 @@ ghost use Rattle.plan_enumerate.specs.Listing.{entry_limit};
 ghost use Rattle.plan_trees.specs.Physicals.{worker_limit};
 ghost use Rattle.pact_top.specs.CommandTexts.{to_make, to_sum_up};
 ghost use Rattle.pact_top.specs.Refusal.{Comes, Decides, IsAnswered, RowRefused};
+ghost use Rattle.pact_top.specs.Runs.{IsRunner};
 ghost use Rattle.pact_top.specs.Work as work;
-ghost use Rattle.pact_words.specs.Words.{AreOptionsInRange, IsInRange, asked, texts_of, to_certify, to_check, to_plan, to_run, to_tell_sets};
+ghost use Rattle.pact_words.specs.Words.{AreOptionsInRange, IsInRange, asked, texts_of, to_certify, to_check, to_iterate, to_plan, to_run, to_tell_sets};
 
 use crate::certificates::{certificate_in, rechecked};
-use crate::choosing::{certificate_texts, plan_texts, run_texts, run_texts_on_threads};
-use crate::generating::{drill_text, drill_text_on_threads, generated_text};
+use crate::choosing::{certificate_texts, plan_texts};
+use crate::generating::{drill_text, generated_text};
 use crate::loaded::{Loaded, is_source, push_rows};
 use crate::loading::{CERTIFICATE_LIMIT, PROGRAM_LIMIT, SOURCE_LIMIT, read_file};
+use crate::named_sources::source_named;
 use crate::programs::program_of;
 use crate::refusal_lines::{bad_row, too_long};
 use crate::refusals::Refusal;
+use crate::repeating::{Repeated, iteration_texts};
+use crate::running::run_texts;
+use crate::tasks::Task;
 use crate::texts::Texts;
 use crate::transfer::Stop;
 use csv_source::{BadRow, read_source};
-use pact_bag::{Inputs, Rows};
+use pact_bag::{Inputs, Outcome, Rows};
 use pact_operators::{Op, Program};
 use pact_outside::Feed;
 use pact_record::{Bytes, MAX_FIELDS, OutOfMemory};
 use pact_words::{Command, Options, Refused, read_words};
 use plan_printer::sets_text;
 use std::alloc::Global;
-use std::sync::Wait;
-use std::thread::Threads;
 use swap_certificate::Certificate;
-use worker_gate::Gate;
 
 fn load_text<F: Feed>(
     alloc: Global,
@@ -118,36 +120,20 @@ pub fn load<F: Feed>(alloc: Global, feed: &mut F, name: &[u8]) -> Result<Loaded,
 }
 
 // `run PROGRAM`.
-fn run<F: Feed>(
+fn run_program<F: Feed, T: Fn(&Program, &Task, Inputs) -> Result<Outcome, OutOfMemory>>(
     alloc: Global,
     feed: &mut F,
     name: &[u8],
     options: Options,
     counts: bool,
+    run: &T,
 ) -> Result<Texts, Refusal>
-    requires { AreOptionsInRange options }
+    requires options { AreOptionsInRange options }
+    requires runs { IsRunner (T.pre run.now) (T.post run.now) }
     ensures { Comes (λ files. work.texts_for files (to_run name.now options counts)) (F.shows feed.old) (F.shows feed.new) result }
 {
     let loaded = load(alloc, feed, name)?;
-    let texts = run_texts(alloc, loaded, options, counts)?;
-    Ok(texts)
-}
-
-// `run PROGRAM` with a thread for each worker.
-fn run_on_threads<R: Threads + Wait + Sync, F: Feed, G: Gate>(
-    rt: &R,
-    alloc: Global,
-    feed: &mut F,
-    name: &[u8],
-    options: Options,
-    counts: bool,
-    gate: &G,
-) -> Result<Texts, Refusal>
-    requires { AreOptionsInRange options }
-    ensures { Comes (λ files. work.texts_for files (to_run name.now options counts)) (F.shows feed.old) (F.shows feed.new) result }
-{
-    let loaded = load(alloc, feed, name)?;
-    let texts = run_texts_on_threads(rt, alloc, loaded, options, counts, gate)?;
+    let texts = run_texts(alloc, loaded, options, counts, run)?;
     Ok(texts)
 }
 
@@ -216,6 +202,43 @@ fn check<F: Feed>(alloc: Global, feed: &mut F, name: &[u8], other: &[u8]) -> Res
     Ok(Texts::out_alone(text))
 }
 
+// A program, the source of that name, and the rows of its sources.
+fn load_repeated<F: Feed>(
+    alloc: Global,
+    feed: &mut F,
+    name: &[u8],
+    source: &[u8],
+) -> Result<Repeated, Refusal>
+    ensures { Comes (λ files. work.repeated files name.now source.now) (F.shows feed.old) (F.shows feed.new) result }
+{
+    let program = load_program(alloc, feed, name)?;
+    let at = source_named(alloc, &program, source)?;
+    let inputs = load_sources(alloc, feed, &program)?;
+    let loaded = Loaded { program, inputs };
+    Ok(Repeated { loaded, at })
+}
+
+// `iterate PROGRAM SOURCE ROUNDS`.
+fn iterate<F: Feed, T: Fn(&Program, &Task, Inputs) -> Result<Outcome, OutOfMemory>>(
+    alloc: Global,
+    feed: &mut F,
+    name: &[u8],
+    source: &[u8],
+    rounds: u32,
+    options: Options,
+    stable: bool,
+    run: &T,
+) -> Result<Texts, Refusal>
+    requires options { AreOptionsInRange options }
+    requires rounds { 1 ≤ rounds }
+    requires runs { IsRunner (T.pre run.now) (T.post run.now) }
+    ensures { Comes (λ files. work.texts_for files (to_iterate name.now source.now rounds options stable)) (F.shows feed.old) (F.shows feed.new) result }
+{
+    let repeated = load_repeated(alloc, feed, name, source)?;
+    let texts = iteration_texts(alloc, repeated, rounds, options, stable, run)?;
+    Ok(texts)
+}
+
 // `gen SEED ROWS`, which reads no file.
 fn generate(alloc: Global, seed: u32, rows: u32) -> Result<Texts, Refusal>
     requires { seed ≤ seed_limit }
@@ -226,35 +249,31 @@ fn generate(alloc: Global, seed: u32, rows: u32) -> Result<Texts, Refusal>
 }
 
 // `drill SEED ROWS`, which reads no file either.
-fn drill(alloc: Global, seed: u32, rows: u32, options: Options) -> Result<Texts, Refusal>
-    requires seed { seed ≤ seed_limit }
-    requires options { AreOptionsInRange options }
-    ensures { Decides (work.at_once (to_sum_up seed rows)) result }
-{
-    let text = drill_text(alloc, seed, rows, options)?;
-    Ok(Texts::out_alone(text))
-}
-
-// `drill SEED ROWS` with a thread for each worker.
-fn drill_on_threads<R: Threads + Wait + Sync, G: Gate>(
-    rt: &R,
+fn drill<T: Fn(&Program, &Task, Inputs) -> Result<Outcome, OutOfMemory>>(
     alloc: Global,
     seed: u32,
     rows: u32,
     options: Options,
-    gate: &G,
+    run: &T,
 ) -> Result<Texts, Refusal>
     requires seed { seed ≤ seed_limit }
     requires options { AreOptionsInRange options }
+    requires runs { IsRunner (T.pre run.now) (T.post run.now) }
     ensures { Decides (work.at_once (to_sum_up seed rows)) result }
 {
-    let text = drill_text_on_threads(rt, alloc, seed, rows, options, gate)?;
+    let text = drill_text(alloc, seed, rows, options, run)?;
     Ok(Texts::out_alone(text))
 }
 
 // The texts of a command.
-fn texts_for<F: Feed>(alloc: Global, command: Command, feed: &mut F) -> Result<Texts, Refusal>
-    requires { IsInRange (asked command) }
+fn texts_for<F: Feed, T: Fn(&Program, &Task, Inputs) -> Result<Outcome, OutOfMemory>>(
+    alloc: Global,
+    command: Command,
+    feed: &mut F,
+    run: &T,
+) -> Result<Texts, Refusal>
+    requires range { IsInRange (asked command) }
+    requires runs { IsRunner (T.pre run.now) (T.post run.now) }
     ensures { Comes (λ files. work.texts_for files (asked command.entry)) (F.shows feed.old) (F.shows feed.new) result }
 {
     match command {
@@ -262,7 +281,7 @@ fn texts_for<F: Feed>(alloc: Global, command: Command, feed: &mut F) -> Result<T
             program,
             options,
             counts,
-        } => run(alloc, feed, program.as_bytes(), options, counts),
+        } => run_program(alloc, feed, program.as_bytes(), options, counts, run),
         Command::Plan {
             program,
             workers,
@@ -283,59 +302,32 @@ fn texts_for<F: Feed>(alloc: Global, command: Command, feed: &mut F) -> Result<T
             seed,
             rows,
             options,
-        } => drill(alloc, seed, rows, options),
-    }
-}
-
-// The same, where a run has a thread for each worker.
-fn texts_on_threads<R: Threads + Wait + Sync, F: Feed, G: Gate>(
-    rt: &R,
-    alloc: Global,
-    command: Command,
-    feed: &mut F,
-    gate: &G,
-) -> Result<Texts, Refusal>
-    requires { IsInRange (asked command) }
-    ensures { Comes (λ files. work.texts_for files (asked command.entry)) (F.shows feed.old) (F.shows feed.new) result }
-{
-    match command {
-        Command::Run {
+        } => drill(alloc, seed, rows, options, run),
+        Command::Iterate {
             program,
+            source,
+            rounds,
             options,
-            counts,
-        } => run_on_threads(rt, alloc, feed, program.as_bytes(), options, counts, gate),
-        Command::Drill {
-            seed,
-            rows,
-            options,
-        } => drill_on_threads(rt, alloc, seed, rows, options, gate),
-        other => texts_for(alloc, other, feed),
+            stable,
+        } => {
+            let (name, source) = (program.as_bytes(), source.as_bytes());
+            iterate(alloc, feed, name, source, rounds, options, stable, run)
+        }
     }
 }
 
-/// The texts that the words ask for, or the first refusal that stands, one stage after the other.
-pub fn answer<F: Feed>(alloc: Global, words: &[&str], feed: &mut F) -> Result<Texts, Refusal>
-    ensures { IsAnswered (texts_of words.now) (feed.new ≡ feed.old) (F.shows feed.old) (F.shows feed.new) result }
-{
-    match read_words(alloc, words) {
-        Ok(command) => texts_for(alloc, command, feed),
-        Err(Refused::Usage) => Err(Refusal::Usage),
-        Err(Refused::OutOfMemory) => Err(Refusal::OutOfMemory),
-    }
-}
-
-/// The same, where a run has a thread for each worker.
-pub fn answer_on_threads<R: Threads + Wait + Sync, F: Feed, G: Gate>(
-    rt: &R,
+/// The texts that the words ask for, or the first refusal that stands, one stage after the other. `run` is called for each run of a plan.
+pub fn answer<F: Feed, T: Fn(&Program, &Task, Inputs) -> Result<Outcome, OutOfMemory>>(
     alloc: Global,
     words: &[&str],
     feed: &mut F,
-    gate: &G,
+    run: &T,
 ) -> Result<Texts, Refusal>
+    requires runs { IsRunner (T.pre run.now) (T.post run.now) }
     ensures { IsAnswered (texts_of words.now) (feed.new ≡ feed.old) (F.shows feed.old) (F.shows feed.new) result }
 {
     match read_words(alloc, words) {
-        Ok(command) => texts_on_threads(rt, alloc, command, feed, gate),
+        Ok(command) => texts_for(alloc, command, feed, run),
         Err(Refused::Usage) => Err(Refusal::Usage),
         Err(Refused::OutOfMemory) => Err(Refusal::OutOfMemory),
     }

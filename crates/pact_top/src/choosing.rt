@@ -3,37 +3,25 @@
 ghost use Rattle.std.specs.Prelude.{◌≡◌, ◌≤◌, ◌<◌, ◌+◌, ◌++◌, ◌∷◌, [], ℕ, true, cond, get_or, length, IfOk, OnOk};
 ghost use Rattle.pact_operators.specs.Inputs.{AreInputsOf};
 ghost use Rattle.pact_operators.specs.PlanOps.{is_source_kind};
-ghost use Rattle.pact_operators.specs.Programs.{AreNames, IsPlanOf, IsProgram};
-ghost use Rattle.pact_record.specs.Widths.{AreWide};
+ghost use Rattle.pact_operators.specs.Programs.{AreNames, IsPlanOf};
 ghost use Rattle.plan_trees.specs.Physicals.{worker_limit};
 ghost use Rattle.plan_enumerate.specs.Listing.{entry_limit};
-ghost use Rattle.pact_words.specs.Words.{AreOptionsInRange};
-ghost use Rattle.reorder_pair.specs.Legal.{KeepAnswers};
-ghost use Rattle.pact_top.specs.Lines.{AreLines};
 ghost use Rattle.pact_top.specs.CommandTexts as texts;
 ghost use Rattle.pact_top.specs.declared.loaded.Loaded.{Loaded as LoadedData};
-ghost use Rattle.ship_strategy.specs.Layouts.{layout_count, layout_of};
-ghost use Rattle.ship_strategy.specs.PlanFacts.{facts_of};
-ghost use Rattle.ship_strategy.specs.Ships.{LegalShip};
-ghost use Rattle.pact_top.specs.CommandTexts.{AreToldCounts, IsAnswerOf, IsCertificateLine, IsChoice, IsDerived, IsOutAlone, IsOutcome, IsPlanChosen, IsPlanText, IsRun};
+ghost use Rattle.ship_strategy.specs.Layouts.{layout_count};
+ghost use Rattle.pact_top.specs.CommandTexts.{ArePlansOf, IsCertificateLine, IsChoice, IsDerived, IsOutAlone, IsPicked, IsPlanChosen, IsPlanText};
 
-use crate::lines::sorted_lines;
 use crate::loaded::{Loaded, is_source};
-use crate::tasks::{RunOutcome, Task, run_either, run_either_on_threads};
 use crate::texts::Texts;
-use pact_bag::{Counts, Inputs, Outcome};
+use pact_bag::{Counts, Inputs};
 use pact_operators::{Op, Plan, Program};
-use pact_record::{Bytes, OutOfMemory};
-use pact_words::Options;
+use pact_record::OutOfMemory;
 use plan_enumerate::{Chosen, Listed, choose, enumerate, steps_of};
-use plan_printer::{Shown, counts_text, plan_text, push_partials};
+use plan_printer::{Shown, plan_text};
 use reorder_pair::ConditionList;
 use ship_strategy::layout;
 use std::alloc::Global;
-use std::sync::Wait;
-use std::thread::Threads;
 use swap_certificate::{certificate, certificate_line};
-use worker_gate::Gate;
 
 /// The plans that are listed, which of them is chosen with which layout, and the plan itself.
 #[derive(Drop)]
@@ -43,13 +31,11 @@ pub struct Choice {
     pub plan: Plan,
 }
 
-/// A run of a program by the plan that was chosen for it, and what it gave.
+/// The listed plan that is chosen for some rows, with which layout, and the plan itself.
 #[derive(Drop)]
-pub struct FinishedRun {
-    pub program: Program,
-    pub choice: Choice,
-    pub outcome: Outcome,
-    pub combined: Vec<(u32, u32)>,
+pub struct Picked {
+    pub chosen: Chosen,
+    pub plan: Plan,
 }
 
 // How many rows a source or operator has of its own, and the place of the next source. `source` is the place of this one, where it is a source.
@@ -90,6 +76,25 @@ fn row_counts(alloc: Global, program: &Program, inputs: &Inputs) -> Result<Count
     Ok(counts)
 }
 
+/// The first of the listed plans that costs least on these rows, with its layout.
+pub fn choose_listed(
+    alloc: Global,
+    program: &Program,
+    inputs: &Inputs,
+    listed: &Listed,
+    workers: u32,
+) -> Result<Picked, OutOfMemory>
+    requires inputs { AreInputsOf program.now inputs.now }
+    requires workers { (1 ≤ workers) × (workers ≤ worker_limit) }
+    requires plans { ArePlansOf program.now listed.now.entries }
+    ensures { IfOk result (IsPicked program.now inputs.now workers listed.now.entries) }
+{
+    let counts = row_counts(alloc, program, inputs)?;
+    let chosen = choose(program, listed, &counts, workers);
+    let plan = listed.entries().at(chosen.entry as usize).plan;
+    Ok(Picked { chosen, plan })
+}
+
 /// The first plan that costs least, with its layout, of at most so many listed ones.
 pub fn choose_plan(
     alloc: Global,
@@ -102,209 +107,14 @@ pub fn choose_plan(
     requires plans { (1 ≤ plans) × (plans ≤ entry_limit) }
     ensures { IfOk result (IsPlanChosen loaded.now workers plans) }
 {
-    let listed = enumerate(alloc, &loaded.program, plans)?;
-    let counts = row_counts(alloc, &loaded.program, &loaded.inputs)?;
-    let chosen = choose(&loaded.program, &listed, &counts, workers);
-    let plan = listed.entries().at(chosen.entry as usize).plan;
+    let Loaded { program, inputs } = loaded;
+    let listed = enumerate(alloc, program, plans)?;
+    let Picked { chosen, plan } = choose_listed(alloc, program, inputs, &listed, workers)?;
     Ok(Choice {
         listed,
         chosen,
         plan,
     })
-}
-
-// What is run of a choice: its plan in its layout, as the options say.
-fn task_of(program: &Program, choice: &Choice, options: Options) -> Task
-    requires options { AreOptionsInRange options }
-    requires plan { IsPlanOf program.now.functions program.now.ops choice.now.plan }
-    requires layout { choice.now.chosen.layout < layout_count program.now.ops }
-    ensures physical { result.physical ≡ layout_of (facts_of program.now choice.now.plan) program.now.ops choice.now.plan choice.now.chosen.layout options.workers }
-    ensures workers { result.options.workers ≡ options.workers }
-    ensures batch { result.options.batch ≡ options.batch }
-    ensures depth { result.options.depth ≡ options.depth }
-    ensures local { result.local ≡ options.local }
-    ensures tree { result.physical.tree ≡ choice.now.plan }
-    ensures legal { LegalShip (facts_of program.now result.physical.tree) result.physical }
-{
-    let physical = layout(program, &choice.plan, choice.chosen.layout, options.workers);
-    let Options {
-        workers,
-        batch,
-        depth,
-        local,
-        ..
-    } = options;
-    let options = flow_run::Options {
-        workers,
-        batch,
-        depth,
-    };
-    Task {
-        physical,
-        options,
-        local,
-    }
-}
-
-// What a run of the chosen plan in parts gives: a bag that the plan as written allows too.
-fn run_plan(
-    alloc: Global,
-    program: &Program,
-    inputs: Inputs,
-    choice: &Choice,
-    options: Options,
-) -> Result<RunOutcome, OutOfMemory>
-    requires inputs { AreInputsOf program.now inputs }
-    requires options { AreOptionsInRange options }
-    requires plan { IsPlanOf program.now.functions program.now.ops choice.now.plan }
-    requires layout { choice.now.chosen.layout < layout_count program.now.ops }
-    requires answers { KeepAnswers program.now program.now.plan choice.now.plan }
-    ensures { IfOk result (λ r. IsOutcome (record { program = program.now; inputs = inputs }) options.workers choice.now options.combine r.outcome r.combined.items) }
-{
-    let task = task_of(program, choice, options);
-    run_either(alloc, program, task, inputs, options.combine)
-}
-
-// The same of a run with a thread for each worker.
-fn run_plan_on_threads<R: Threads + Wait + Sync, G: Gate>(
-    rt: &R,
-    alloc: Global,
-    program: &Program,
-    inputs: Inputs,
-    choice: &Choice,
-    options: Options,
-    gate: &G,
-) -> Result<RunOutcome, OutOfMemory>
-    requires inputs { AreInputsOf program.now inputs }
-    requires options { AreOptionsInRange options }
-    requires plan { IsPlanOf program.now.functions program.now.ops choice.now.plan }
-    requires layout { choice.now.chosen.layout < layout_count program.now.ops }
-    requires answers { KeepAnswers program.now program.now.plan choice.now.plan }
-    ensures { IfOk result (λ r. IsOutcome (record { program = program.now; inputs = inputs }) options.workers choice.now options.combine r.outcome r.combined.items) }
-{
-    let task = task_of(program, choice, options);
-    run_either_on_threads(rt, alloc, program, task, inputs, options.combine, gate)
-}
-
-// The counts of a run of the chosen plan and how many partial groups there were, where they are asked for.
-fn told_counts(
-    alloc: Global,
-    program: &Program,
-    choice: &Choice,
-    counts: &Counts,
-    combined: &[(u32, u32)],
-    asked: bool,
-) -> Result<Option<Bytes>, OutOfMemory>
-    requires plan { IsPlanOf program.now.functions program.now.ops choice.now.plan }
-    ensures { IfOk result (AreToldCounts program.now choice.now.plan counts.now combined.now asked) }
-{
-    if !asked {
-        return Ok(None);
-    }
-    let mut text = counts_text(alloc, program, &choice.plan, counts)?;
-    push_partials(alloc, &mut text, program, counts, combined)?;
-    Ok(Some(text))
-}
-
-/// Chooses a plan and runs it. The rows of the sources go into the run.
-pub fn run_chosen(
-    alloc: Global,
-    loaded: Loaded,
-    options: Options,
-) -> Result<FinishedRun, OutOfMemory>
-    requires inputs { AreInputsOf loaded.program loaded.inputs }
-    requires options { AreOptionsInRange options }
-    ensures { IfOk result (IsRun loaded options.workers options.plans options.combine) }
-{
-    let choice = choose_plan(alloc, &loaded, options.workers, options.plans)?;
-    let Loaded { program, inputs } = loaded;
-    let RunOutcome { outcome, combined } = run_plan(alloc, &program, inputs, &choice, options)?;
-    Ok(FinishedRun {
-        program,
-        choice,
-        outcome,
-        combined,
-    })
-}
-
-/// The same with a thread for each worker.
-pub fn run_chosen_on_threads<R: Threads + Wait + Sync, G: Gate>(
-    rt: &R,
-    alloc: Global,
-    loaded: Loaded,
-    options: Options,
-    gate: &G,
-) -> Result<FinishedRun, OutOfMemory>
-    requires inputs { AreInputsOf loaded.program loaded.inputs }
-    requires options { AreOptionsInRange options }
-    ensures { IfOk result (IsRun loaded options.workers options.plans options.combine) }
-{
-    let choice = choose_plan(alloc, &loaded, options.workers, options.plans)?;
-    let Loaded { program, inputs } = loaded;
-    let RunOutcome { outcome, combined } = run_plan_on_threads(
-        rt, alloc, &program, inputs, &choice, options, gate,
-    )?;
-    Ok(FinishedRun {
-        program,
-        choice,
-        outcome,
-        combined,
-    })
-}
-
-// The sorted rows that a run of the chosen plan gave, and its counts where they are asked for.
-fn texts_of_run(alloc: Global, run: FinishedRun, counts: bool) -> Result<Texts, OutOfMemory>
-    requires plan { IsPlanOf run.program.functions run.program.ops run.choice.plan }
-    requires widths { AreWide run.program.fields run.outcome.rows }
-    ensures lines { IfOk result (λ texts. AreLines run.program.sink run.outcome.rows texts.out) }
-    ensures counts { IfOk result (λ texts. AreToldCounts run.program run.choice.plan run.outcome.counts run.combined.items counts texts.counts) }
-    ensures program { IsProgram run.program }
-{
-    let FinishedRun {
-        program,
-        choice,
-        outcome,
-        combined,
-    } = run;
-    let Outcome {
-        rows,
-        counts: given,
-    } = outcome;
-    let out = sorted_lines(alloc, rows, program.sink())?;
-    let counts = told_counts(alloc, &program, &choice, &given, &combined, counts)?;
-    Ok(Texts { out, counts })
-}
-
-/// The sorted rows of a run of the chosen plan, and its counts where they are asked for.
-pub fn run_texts(
-    alloc: Global,
-    loaded: Loaded,
-    options: Options,
-    counts: bool,
-) -> Result<Texts, OutOfMemory>
-    requires inputs { AreInputsOf loaded.program loaded.inputs }
-    requires options { AreOptionsInRange options }
-    ensures { IfOk result (IsAnswerOf loaded options.workers options.plans counts options.combine) }
-{
-    let finished = run_chosen(alloc, loaded, options)?;
-    texts_of_run(alloc, finished, counts)
-}
-
-/// The same of a run with a thread for each worker.
-pub fn run_texts_on_threads<R: Threads + Wait + Sync, G: Gate>(
-    rt: &R,
-    alloc: Global,
-    loaded: Loaded,
-    options: Options,
-    counts: bool,
-    gate: &G,
-) -> Result<Texts, OutOfMemory>
-    requires inputs { AreInputsOf loaded.program loaded.inputs }
-    requires options { AreOptionsInRange options }
-    ensures { IfOk result (IsAnswerOf loaded options.workers options.plans counts options.combine) }
-{
-    let finished = run_chosen_on_threads(rt, alloc, loaded, options, gate)?;
-    texts_of_run(alloc, finished, counts)
 }
 
 // The exchanges that lead to the chosen plan.

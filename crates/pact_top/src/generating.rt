@@ -5,20 +5,20 @@ ghost use Rattle.pact_gen.specs.Generated.{seed_limit};
 ghost use Rattle.pact_record.specs.Widths.{AreWide};
 ghost use Rattle.pact_words.specs.Words.{AreOptionsInRange};
 ghost use Rattle.pact_top.specs.CommandTexts.{IsDrillText, IsGeneratedText, IsSummary, drilled};
+ghost use Rattle.pact_top.specs.Runs.{IsRunner};
 
-use crate::choosing::{FinishedRun, run_chosen, run_chosen_on_threads};
 use crate::lines::sorted_lines;
 use crate::loaded::{Loaded, push_rows};
+use crate::running::{FinishedRun, run_chosen};
+use crate::tasks::Task;
 use csv_sink::write_rows;
 use drill_program::{drill_program, summary_text};
 use pact_bag::{Inputs, Outcome};
 use pact_gen::make_input;
+use pact_operators::Program;
 use pact_record::{Bytes, OutOfMemory};
 use pact_words::Options;
 use std::alloc::Global;
-use std::sync::Wait;
-use std::thread::Threads;
-use worker_gate::Gate;
 
 /// The generated rows as CSV text, in their own order.
 pub fn generated_text(alloc: Global, seed: u32, rows: u32) -> Result<Bytes, OutOfMemory>
@@ -58,35 +58,19 @@ fn summary(alloc: Global, rows: u32, run: FinishedRun) -> Result<Bytes, OutOfMem
 }
 
 /// Runs the program of a drill on so many generated rows, and tells of the run.
-pub fn drill_text(
+pub fn drill_text<F: Fn(&Program, &Task, Inputs) -> Result<Outcome, OutOfMemory>>(
     alloc: Global,
     seed: u32,
     rows: u32,
     options: Options,
+    run: &F,
 ) -> Result<Bytes, OutOfMemory>
     requires seed { seed ≤ seed_limit }
     requires options { AreOptionsInRange options }
+    requires runs { IsRunner (F.pre run.now) (F.post run.now) }
     ensures { IfOk result (IsDrillText seed rows) }
 {
     let loaded = load_drill(alloc, seed, rows)?;
-    let finished = run_chosen(alloc, loaded, options)?;
-    summary(alloc, rows, finished)
-}
-
-/// The same with a thread for each worker.
-pub fn drill_text_on_threads<R: Threads + Wait + Sync, G: Gate>(
-    rt: &R,
-    alloc: Global,
-    seed: u32,
-    rows: u32,
-    options: Options,
-    gate: &G,
-) -> Result<Bytes, OutOfMemory>
-    requires seed { seed ≤ seed_limit }
-    requires options { AreOptionsInRange options }
-    ensures { IfOk result (IsDrillText seed rows) }
-{
-    let loaded = load_drill(alloc, seed, rows)?;
-    let finished = run_chosen_on_threads(rt, alloc, loaded, options, gate)?;
+    let finished = run_chosen(alloc, loaded, options, run)?;
     summary(alloc, rows, finished)
 }

@@ -90,6 +90,14 @@ fn program_line(alloc: Global, name: &[u8], code: u32) -> Result<Bytes, OutOfMem
     Ok(line)
 }
 
+fn unnamed_line(alloc: Global, name: &[u8]) -> Result<Bytes, OutOfMemory>
+    ensures { IfOk result (λ line. line ≡ lines.unnamed_line name.now) }
+{
+    let mut line = Bytes::from_slice(alloc, name)?;
+    line.extend_from_slice(b": P11\n")?;
+    Ok(line)
+}
+
 // What stands behind the name of a source with a bad row.
 fn row_text(alloc: Global, row: u64, column: u32, why: u32) -> Result<Bytes, OutOfMemory>
     ensures { IfOk result (λ text. text ≡ lines.row_text row column why) }
@@ -152,6 +160,16 @@ pub fn bad_program(alloc: Global, name: &[u8], code: u32) -> Refusal
     ensures { Says 6 (lines.program_line name.now code) result }
 {
     match program_line(alloc, name, code) {
+        Ok(line) => Refusal::Decided { status: 6, line },
+        Err(OutOfMemory) => Refusal::OutOfMemory,
+    }
+}
+
+/// No source of the program has that name.
+pub fn unnamed_source(alloc: Global, name: &[u8]) -> Refusal
+    ensures { Says 6 (lines.unnamed_line name.now) result }
+{
+    match unnamed_line(alloc, name) {
         Ok(line) => Refusal::Decided { status: 6, line },
         Err(OutOfMemory) => Refusal::OutOfMemory,
     }

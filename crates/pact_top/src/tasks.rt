@@ -1,21 +1,15 @@
 //! What is run, and a run of it on the calling thread or on several, with either way to find the records of a key, and with partial groups or
 //! without.
+//!
+//! Who runs plans is handed a call that does it, and asks no more of it than `IsRunner`: so there is one function for both ways.
 
-ghost use Rattle.std.specs.Prelude.{◌≡◌, ◌≤◌, IfOk};
+ghost use Rattle.std.specs.Prelude.{◌≡◌, true, false, IfOk};
 ghost use Rattle.combine_rule.specs.CombinedPrograms.{planned};
-ghost use Rattle.flow_core.specs.Worlds.{HasBatchSize, IsStanding, StandsForSome, depth_limit};
-ghost use Rattle.flow_instance.specs.Limits.{batch_limit};
+ghost use Rattle.flow_core.specs.Worlds.{HasBatchSize, IsStanding, StandsForSome};
 ghost use Rattle.flow_model.specs.Events.{no_history};
 ghost use Rattle.flow_model.specs.Spots.{setting};
-ghost use Rattle.flow_model.specs.Spread.{Spread};
-ghost use Rattle.pact_operators.specs.Allowed.{Counted};
-ghost use Rattle.pact_operators.specs.Inputs.{AreInputsOf};
-ghost use Rattle.pact_operators.specs.PlanOps.{plan_ops};
 ghost use Rattle.pact_operators.specs.Programs.{IsPlanOf};
-ghost use Rattle.pact_record.specs.Widths.{AreWide};
-ghost use Rattle.ship_strategy.specs.PlanFacts.{facts_of};
-ghost use Rattle.ship_strategy.specs.Ships.{LegalShip};
-ghost use Rattle.pact_top.specs.Runs.{IsCombinedRun, IsCombinedTask, IsPlainRun, IsRunOf};
+ghost use Rattle.pact_top.specs.Runs.{CanRun, HasRun, IsCombinedTask, IsRunLeft, IsRunner};
 
 use combine_rule::{Combined, combine};
 use flow_core::{World, run_alone};
@@ -54,10 +48,7 @@ fn world_of<L: Local>(
     task: &Task,
     inputs: Inputs,
 ) -> Result<World<L>, OutOfMemory>
-    requires plan { IsPlanOf program.now.functions program.now.ops task.now.physical.tree }
-    requires inputs { AreInputsOf program.now inputs }
-    requires batch { (1 ≤ task.now.options.batch) × (task.now.options.batch ≤ batch_limit) }
-    requires depth { (1 ≤ task.now.options.depth) × (task.now.options.depth ≤ depth_limit) }
+    requires { CanRun program.now task.now inputs }
     ensures standing { IfOk result (λ w. IsStanding (setting program.now inputs task.now.physical) w no_history) }
     ensures stands { IfOk result StandsForSome }
     ensures physical { IfOk result (λ w. w.physical ≡ task.now.physical) }
@@ -86,13 +77,8 @@ fn run_with<L: Local>(
     task: &Task,
     inputs: Inputs,
 ) -> Result<Outcome, OutOfMemory>
-    requires plan { IsPlanOf program.now.functions program.now.ops task.now.physical.tree }
-    requires inputs { AreInputsOf program.now inputs }
-    requires batch { (1 ≤ task.now.options.batch) × (task.now.options.batch ≤ batch_limit) }
-    requires depth { (1 ≤ task.now.options.depth) × (task.now.options.depth ≤ depth_limit) }
-    ensures spread { IfOk result (λ o. Spread (setting program.now inputs task.now.physical) o.rows o.counts) }
-    ensures counted { IfOk result (λ o. LegalShip (facts_of program.now task.now.physical.tree) task.now.physical → Counted (plan_ops program.now inputs) task.now.physical.tree o.rows o.counts) }
-    ensures widths { IfOk result (λ o. AreWide program.now.fields o.rows) }
+    requires { CanRun program.now task.now inputs }
+    ensures { IfOk result (HasRun program.now task.now inputs) }
 {
     // a program tells that it is one
     let _fields = program.fields();
@@ -100,21 +86,16 @@ fn run_with<L: Local>(
     run_alone(world)
 }
 
-// The rows of a run on the calling thread, which steps the instances of all workers, and how many records each source and operator gave. It waits for
-// nobody. The rows of the sources go into it.
-fn run_task(
+/// The rows of a run on the calling thread, which steps the instances of all workers, and how many records each source and operator gave. It waits for
+/// nobody. The rows of the sources go into it.
+pub fn run_task(
     alloc: Global,
     program: &Program,
     task: &Task,
     inputs: Inputs,
 ) -> Result<Outcome, OutOfMemory>
-    requires plan { IsPlanOf program.now.functions program.now.ops task.now.physical.tree }
-    requires inputs { AreInputsOf program.now inputs }
-    requires batch { (1 ≤ task.now.options.batch) × (task.now.options.batch ≤ batch_limit) }
-    requires depth { (1 ≤ task.now.options.depth) × (task.now.options.depth ≤ depth_limit) }
-    ensures spread { IfOk result (λ o. Spread (setting program.now inputs task.now.physical) o.rows o.counts) }
-    ensures counted { IfOk result (λ o. LegalShip (facts_of program.now task.now.physical.tree) task.now.physical → Counted (plan_ops program.now inputs) task.now.physical.tree o.rows o.counts) }
-    ensures widths { IfOk result (λ o. AreWide program.now.fields o.rows) }
+    requires { CanRun program.now task.now inputs }
+    ensures { IfOk result (HasRun program.now task.now inputs) }
 {
     match task.local {
         LocalStrategy::Hash => run_with::<GroupTable>(alloc, program, task, inputs),
@@ -122,8 +103,8 @@ fn run_task(
     }
 }
 
-// The same of a run with a thread for each worker.
-fn run_task_on_threads<R: Threads + Wait + Sync, G: Gate>(
+/// The same of a run with a thread for each worker.
+pub fn run_task_on_threads<R: Threads + Wait + Sync, G: Gate>(
     rt: &R,
     alloc: Global,
     program: &Program,
@@ -131,14 +112,8 @@ fn run_task_on_threads<R: Threads + Wait + Sync, G: Gate>(
     inputs: Inputs,
     gate: &G,
 ) -> Result<Outcome, OutOfMemory>
-    requires plan { IsPlanOf program.now.functions program.now.ops task.now.physical.tree }
-    requires inputs { AreInputsOf program.now inputs }
-    requires workers { task.now.options.workers ≡ task.now.physical.workers }
-    requires batch { (1 ≤ task.now.options.batch) × (task.now.options.batch ≤ batch_limit) }
-    requires depth { (1 ≤ task.now.options.depth) × (task.now.options.depth ≤ depth_limit) }
-    ensures spread { IfOk result (λ o. Spread (setting program.now inputs task.now.physical) o.rows o.counts) }
-    ensures counted { IfOk result (λ o. LegalShip (facts_of program.now task.now.physical.tree) task.now.physical → Counted (plan_ops program.now inputs) task.now.physical.tree o.rows o.counts) }
-    ensures widths { IfOk result (λ o. AreWide program.now.fields o.rows) }
+    requires { CanRun program.now task.now inputs }
+    ensures { IfOk result (HasRun program.now task.now inputs) }
 {
     let Task {
         physical,
@@ -183,136 +158,55 @@ fn combine_task(
 }
 
 // A run without partial groups.
-fn run_plain(
+fn run_plain<F: Fn(&Program, &Task, Inputs) -> Result<Outcome, OutOfMemory>>(
     alloc: Global,
     program: &Program,
     task: Task,
     inputs: Inputs,
+    run: &F,
 ) -> Result<RunOutcome, OutOfMemory>
-    requires plan { IsPlanOf program.now.functions program.now.ops task.physical.tree }
-    requires inputs { AreInputsOf program.now inputs }
-    requires batch { (1 ≤ task.options.batch) × (task.options.batch ≤ batch_limit) }
-    requires depth { (1 ≤ task.options.depth) × (task.options.depth ≤ depth_limit) }
-    ensures run { IfOk result (λ r. IsPlainRun (planned program.now task.physical) inputs r.outcome r.combined.items) }
-    ensures counted { IfOk result (λ r. LegalShip (facts_of program.now task.physical.tree) task.physical → Counted (plan_ops program.now inputs) task.physical.tree r.outcome.rows r.outcome.counts) }
-    ensures widths { IfOk result (λ r. AreWide program.now.fields r.outcome.rows) }
+    requires can { CanRun program.now task inputs }
+    requires runs { IsRunner (F.pre run.now) (F.post run.now) }
+    ensures { IfOk result (IsRunLeft program.now task inputs false) }
 {
-    let outcome = run_task(alloc, program, &task, inputs)?;
-    let combined = Vec::new(alloc);
-    Ok(RunOutcome { outcome, combined })
-}
-
-// The same with a thread for each worker.
-fn run_plain_on_threads<R: Threads + Wait + Sync, G: Gate>(
-    rt: &R,
-    alloc: Global,
-    program: &Program,
-    task: Task,
-    inputs: Inputs,
-    gate: &G,
-) -> Result<RunOutcome, OutOfMemory>
-    requires plan { IsPlanOf program.now.functions program.now.ops task.physical.tree }
-    requires inputs { AreInputsOf program.now inputs }
-    requires workers { task.options.workers ≡ task.physical.workers }
-    requires batch { (1 ≤ task.options.batch) × (task.options.batch ≤ batch_limit) }
-    requires depth { (1 ≤ task.options.depth) × (task.options.depth ≤ depth_limit) }
-    ensures run { IfOk result (λ r. IsPlainRun (planned program.now task.physical) inputs r.outcome r.combined.items) }
-    ensures counted { IfOk result (λ r. LegalShip (facts_of program.now task.physical.tree) task.physical → Counted (plan_ops program.now inputs) task.physical.tree r.outcome.rows r.outcome.counts) }
-    ensures widths { IfOk result (λ r. AreWide program.now.fields r.outcome.rows) }
-{
-    let outcome = run_task_on_threads(rt, alloc, program, &task, inputs, gate)?;
+    let outcome = run(program, &task, inputs)?;
     let combined = Vec::new(alloc);
     Ok(RunOutcome { outcome, combined })
 }
 
 // A run of the combined plan.
-fn run_combined(
+fn run_combined<F: Fn(&Program, &Task, Inputs) -> Result<Outcome, OutOfMemory>>(
     alloc: Global,
     program: &Program,
     task: Task,
     inputs: Inputs,
+    run: &F,
 ) -> Result<RunOutcome, OutOfMemory>
-    requires plan { IsPlanOf program.now.functions program.now.ops task.physical.tree }
-    requires inputs { AreInputsOf program.now inputs }
-    requires batch { (1 ≤ task.options.batch) × (task.options.batch ≤ batch_limit) }
-    requires depth { (1 ≤ task.options.depth) × (task.options.depth ≤ depth_limit) }
-    ensures run { IfOk result (λ r. IsCombinedRun (planned program.now task.physical) inputs r.outcome r.combined.items) }
-    ensures counted { IfOk result (λ r. LegalShip (facts_of program.now task.physical.tree) task.physical → Counted (plan_ops program.now inputs) task.physical.tree r.outcome.rows r.outcome.counts) }
-    ensures widths { IfOk result (λ r. AreWide program.now.fields r.outcome.rows) }
+    requires can { CanRun program.now task inputs }
+    requires runs { IsRunner (F.pre run.now) (F.post run.now) }
+    ensures { IfOk result (IsRunLeft program.now task inputs true) }
 {
     let (program, task, combined) = combine_task(alloc, program, task)?;
-    let outcome = run_task(alloc, &program, &task, inputs)?;
+    let outcome = run(&program, &task, inputs)?;
     Ok(RunOutcome { outcome, combined })
 }
 
-// The same with a thread for each worker.
-fn run_combined_on_threads<R: Threads + Wait + Sync, G: Gate>(
-    rt: &R,
-    alloc: Global,
-    program: &Program,
-    task: Task,
-    inputs: Inputs,
-    gate: &G,
-) -> Result<RunOutcome, OutOfMemory>
-    requires plan { IsPlanOf program.now.functions program.now.ops task.physical.tree }
-    requires inputs { AreInputsOf program.now inputs }
-    requires workers { task.options.workers ≡ task.physical.workers }
-    requires batch { (1 ≤ task.options.batch) × (task.options.batch ≤ batch_limit) }
-    requires depth { (1 ≤ task.options.depth) × (task.options.depth ≤ depth_limit) }
-    ensures run { IfOk result (λ r. IsCombinedRun (planned program.now task.physical) inputs r.outcome r.combined.items) }
-    ensures counted { IfOk result (λ r. LegalShip (facts_of program.now task.physical.tree) task.physical → Counted (plan_ops program.now inputs) task.physical.tree r.outcome.rows r.outcome.counts) }
-    ensures widths { IfOk result (λ r. AreWide program.now.fields r.outcome.rows) }
-{
-    let (program, task, combined) = combine_task(alloc, program, task)?;
-    let outcome = run_task_on_threads(rt, alloc, &program, &task, inputs, gate)?;
-    Ok(RunOutcome { outcome, combined })
-}
-
-/// A run as `run_task`, with partial groups where that is asked for.
-pub fn run_either(
+/// A run of the task by what is called for it, with partial groups where that is asked for.
+pub fn run_either<F: Fn(&Program, &Task, Inputs) -> Result<Outcome, OutOfMemory>>(
     alloc: Global,
     program: &Program,
     task: Task,
     inputs: Inputs,
     combine: bool,
+    run: &F,
 ) -> Result<RunOutcome, OutOfMemory>
-    requires plan { IsPlanOf program.now.functions program.now.ops task.physical.tree }
-    requires inputs { AreInputsOf program.now inputs }
-    requires batch { (1 ≤ task.options.batch) × (task.options.batch ≤ batch_limit) }
-    requires depth { (1 ≤ task.options.depth) × (task.options.depth ≤ depth_limit) }
-    ensures run { IfOk result (λ r. IsRunOf (planned program.now task.physical) inputs combine r.outcome r.combined.items) }
-    ensures counted { IfOk result (λ r. LegalShip (facts_of program.now task.physical.tree) task.physical → Counted (plan_ops program.now inputs) task.physical.tree r.outcome.rows r.outcome.counts) }
-    ensures widths { IfOk result (λ r. AreWide program.now.fields r.outcome.rows) }
+    requires can { CanRun program.now task inputs }
+    requires runs { IsRunner (F.pre run.now) (F.post run.now) }
+    ensures { IfOk result (IsRunLeft program.now task inputs combine) }
 {
     if combine {
-        run_combined(alloc, program, task, inputs)
+        run_combined(alloc, program, task, inputs, run)
     } else {
-        run_plain(alloc, program, task, inputs)
-    }
-}
-
-/// The same with a thread for each worker.
-pub fn run_either_on_threads<R: Threads + Wait + Sync, G: Gate>(
-    rt: &R,
-    alloc: Global,
-    program: &Program,
-    task: Task,
-    inputs: Inputs,
-    combine: bool,
-    gate: &G,
-) -> Result<RunOutcome, OutOfMemory>
-    requires plan { IsPlanOf program.now.functions program.now.ops task.physical.tree }
-    requires inputs { AreInputsOf program.now inputs }
-    requires workers { task.options.workers ≡ task.physical.workers }
-    requires batch { (1 ≤ task.options.batch) × (task.options.batch ≤ batch_limit) }
-    requires depth { (1 ≤ task.options.depth) × (task.options.depth ≤ depth_limit) }
-    ensures run { IfOk result (λ r. IsRunOf (planned program.now task.physical) inputs combine r.outcome r.combined.items) }
-    ensures counted { IfOk result (λ r. LegalShip (facts_of program.now task.physical.tree) task.physical → Counted (plan_ops program.now inputs) task.physical.tree r.outcome.rows r.outcome.counts) }
-    ensures widths { IfOk result (λ r. AreWide program.now.fields r.outcome.rows) }
-{
-    if combine {
-        run_combined_on_threads(rt, alloc, program, task, inputs, gate)
-    } else {
-        run_plain_on_threads(rt, alloc, program, task, inputs, gate)
+        run_plain(alloc, program, task, inputs, run)
     }
 }

@@ -1,19 +1,23 @@
 //! The call that the program makes, and the same without threads.
 
-ghost use Rattle.std.specs.Prelude.{◌≡◌, ◌≢◌, ◌≤◌, false, IsTrue};
+ghost use Rattle.std.specs.Prelude.{◌≡◌, ◌≢◌, ◌≤◌, false, IfOk, IsTrue};
 ghost use Rattle.pact_outside.specs.Outside.{Rose};
 ghost use Rattle.pact_top.specs.Headline.{Answered, AnsweredQuietly, Complete, MissingFile, NoOther, NothingWritten, Refused, RefusedAlways, Told, UnreadName, UnreadOpened, Unwritten, UnwrittenCause, Usage, UsageAlways, UsageUnnamed};
 ghost use Rattle.pact_top.specs.Refusal.{AskForThreads, status_of, refusal_line};
-ghost use Rattle.pact_top.specs.Statuses.{TellsCounts, WritesTexts};
+ghost use Rattle.pact_top.specs.Runs.{CanRun, HasRun};
+ghost use Rattle.pact_top.specs.Statuses.{TellsMore, WritesTexts};
 ghost use Rattle.pact_top.specs.Transfer.{Tells};
 ghost use Rattle.pact_words.specs.Words.{AreRefused, texts_of};
 
-use crate::answering::{answer, answer_on_threads};
+use crate::answering::answer;
 use crate::refusals::{Refusal, tell};
+use crate::tasks::{Task, run_task, run_task_on_threads};
 use crate::texts::Texts;
 use crate::transfer::write_all;
+use pact_bag::{Inputs, Outcome};
+use pact_operators::Program;
 use pact_outside::{Failed, Feed, Sink};
-use pact_record::Bytes;
+use pact_record::{Bytes, OutOfMemory};
 use pact_words::{Command, read_words};
 use std::alloc::Global;
 use std::sync::Wait;
@@ -29,11 +33,11 @@ fn refuse<E: Sink>(err: &mut E, refusal: &Refusal) -> u8
     refusal.status()
 }
 
-// Tells the counts where there are any.
-fn write_counts<E: Sink>(err: &mut E, counts: &Option<Bytes>) -> u8
-    ensures { TellsCounts counts.now (E.taken err.old) (E.taken err.new) (E.faults err.old) (E.faults err.new) result }
+// Tells what is told besides, where there is something.
+fn write_more<E: Sink>(err: &mut E, more: &Option<Bytes>) -> u8
+    ensures { TellsMore more.now (E.taken err.old) (E.taken err.new) (E.faults err.old) (E.faults err.new) result }
 {
-    match counts {
+    match more {
         None => 0,
         Some(text) => match write_all(err, text.bytes()) {
             Ok(()) => 0,
@@ -42,12 +46,12 @@ fn write_counts<E: Sink>(err: &mut E, counts: &Option<Bytes>) -> u8
     }
 }
 
-// Writes the text, and then tells the counts.
+// Writes the text, and then tells what is told besides.
 fn write_texts<O: Sink, E: Sink>(out: &mut O, err: &mut E, texts: &Texts) -> u8
     ensures { WritesTexts texts.now (O.taken out.old) (O.taken out.new) (E.taken err.old) (E.taken err.new) (O.faults out.old) (O.faults out.new) (E.faults err.old) (E.faults err.new) result }
 {
     match write_all(out, texts.out.bytes()) {
-        Ok(()) => write_counts(err, &texts.counts),
+        Ok(()) => write_more(err, &texts.told),
         Err(Failed) => refuse(err, &Refusal::CannotWrite),
     }
 }
@@ -89,19 +93,24 @@ pub fn pact_alone<F: Feed, O: Sink, E: Sink>(
     ensures told { Told (F.shows feed.new) (E.taken err.old) (E.taken err.new) (E.faults err.old) (E.faults err.new) result }
     ensures no_other { NoOther result }
 {
-    match answer(alloc, words, feed) {
+    let run = |program: &Program, task: &Task, inputs: Inputs| -> Result<Outcome, OutOfMemory>
+        requires { CanRun program.now task.now inputs }
+        ensures { IfOk result (HasRun program.now task.now inputs) }
+    { run_task(alloc, program, task, inputs) };
+    match answer(alloc, words, feed, &run) {
         Ok(texts) => write_texts(out, err, &texts),
         Err(refusal) => refuse(err, &refusal),
     }
 }
 
-// Whether the words ask for a run or a drill with two workers or more. Where memory is wanting to read them, nothing is asked.
+// Whether the words ask for a run, a drill or an iteration with two workers or more. Where memory is wanting to read them, nothing is asked.
 fn asks_for_threads(alloc: Global, words: &[&str]) -> bool
     ensures { IsTrue result → AskForThreads (texts_of words.now) }
 {
     match read_words(alloc, words) {
         Ok(Command::Run { options, .. }) => options.workers >= 2,
         Ok(Command::Drill { options, .. }) => options.workers >= 2,
+        Ok(Command::Iterate { options, .. }) => options.workers >= 2,
         _ => false,
     }
 }
@@ -119,19 +128,26 @@ fn asks_for_threads(alloc: Global, words: &[&str]) -> bool
 /// and then the certificate's, and `accepted` is written where each step of it is found again.
 /// Of `gen SEED ROWS` and `drill SEED ROWS` no file is read: the one writes rows that the seed
 /// determines, the other runs a program of its own on them and writes a summary, which is the same
-/// for every option.
+/// for every option. Of `iterate PROGRAM SOURCE ROUNDS` the program runs so many rounds: from the second
+/// on the source of that name has the records of the round before, cut to its columns, in place of its
+/// file's rows. The plans are listed once, and one is chosen for the rows of each round; the sorted rows
+/// of the last one are written. With `--stable` rounds end behind the first that gives back, cut and in
+/// any order, the rows with which that round began, and how many there were is told on `err`.
 /// Nothing is written before all of the texts are made. What goes wrong is told on `err` in one
 /// line; of a certificate with other sets or another plan the lines behind it have both.
 /// `specs/Headline.antt` has the clauses, with what each says.
 ///
-/// A run or a drill with two workers or more has a thread for each, as far as the system gives them, and `gate` is called there before each event of the
-/// worker's instances. The workers wait for one another's notes, so the call may wait, and what is promised holds if it returns. With one worker, and
-/// for every other command, it is `pact_alone`, which waits for nobody; that is how it is built, and no clause tells it.
+/// A run, a drill or an iteration with two workers or more has a thread for each, as far as the system
+/// gives them, and `gate` is called there before each event of the worker's instances. The workers wait
+/// for one another's notes, so the call may wait, and what is promised holds if it returns. With one
+/// worker, and for every other command, it is `pact_alone`, which waits for nobody; that is how it is
+/// built, and no clause tells it.
 ///
 /// The statuses: 0 the text was written whole, 1 out of memory, 2 the words are no command, 3 a
-/// file can't be read, 4 `out` failed, or `err` in telling the counts, 5 the program's text is
-/// faulty, 6 a function or a declaration of it breaks a rule, 7 a row of a source is bad, 8 a file
-/// is longer than its limit, 9 the certificate is refused.
+/// file can't be read, 4 `out` failed, or `err` in telling counts or rounds, 5 the program's text is
+/// faulty, 6 a function or a declaration of it breaks a rule, or no source has the name that `iterate`
+/// was given, 7 a row of a source is bad, 8 a file is longer than its limit, 9 the certificate is
+/// refused.
 pub fn pact_main<R: Threads + Wait + Sync, F: Feed, O: Sink, E: Sink, G: Gate>(
     rt: &R,
     alloc: Global,
@@ -170,7 +186,11 @@ pub fn pact_main<R: Threads + Wait + Sync, F: Feed, O: Sink, E: Sink, G: Gate>(
     if !asks_for_threads(alloc, words) {
         return pact_alone(alloc, words, feed, out, err);
     }
-    match answer_on_threads(rt, alloc, words, feed, gate) {
+    let run = |program: &Program, task: &Task, inputs: Inputs| -> Result<Outcome, OutOfMemory>
+        requires { CanRun program.now task.now inputs }
+        ensures { IfOk result (HasRun program.now task.now inputs) }
+    { run_task_on_threads(rt, alloc, program, task, inputs, gate) };
+    match answer(alloc, words, feed, &run) {
         Ok(texts) => write_texts(out, err, &texts),
         Err(refusal) => refuse(err, &refusal),
     }

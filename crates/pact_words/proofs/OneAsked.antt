@@ -2,12 +2,11 @@
 use Rattle.std.proofs.Common.{◌≡◌, ◌∙◌, refl, ap, subst, inl, inr, ℕ, List, Option, Some, None, codes}
 use Rattle.clap.specs.Words.{Row, first_of, matches_of}
 use Rattle.pact_words.specs.declared.commands.Kind.{Kind}
-use Rattle.pact_words.specs.declared.commands.Kind.TheVariants.{Run, Plan, Cert, Check, Sets, Gen, Drill}
+use Rattle.pact_words.specs.declared.commands.Kind.TheVariants.{Run, Plan, Cert, Check, Sets, Gen, Drill, Iterate}
 use Rattle.pact_words.specs.declared.commands.Options.{Options}
 use Rattle.pact_words.specs.Definitions.{app_for}
-use Rattle.pact_words.specs.declared.commands.LocalStrategy.{LocalStrategy}
-use Rattle.pact_words.specs.FoundValues.{all_six, all_three, flag_of, local_of, number_of}
-use Rattle.pact_words.specs.Words.{AreRefused, AreRefusedBy, Asked, IsAsked, NamesNoStrategy, asked_of, options, options_of, to_drill, to_run}
+use Rattle.pact_words.specs.FoundValues.{all_five, all_three, all_two, flag_of, local_of, number_of}
+use Rattle.pact_words.specs.Words.{AreRefused, AreRefusedBy, Asked, IsAsked, NamesNoStrategy, asked_of, common_options, common_options_of, options_of, to_drill, to_iterate, to_run, with_combine}
 
 pub one_of : {A : Type 0} (o : Option A) (a b : A) → o ≡ Some a → o ≡ Some b → a ≡ b
 one_of o a b h g = cc
@@ -30,21 +29,31 @@ third_without f None b = refl
 third_without f (Some x) None = refl
 third_without f (Some x) (Some y) = refl
 
-fifth_without : {A B C D E F G : Type 0} (f : A → B → C → D → E → F → G) (a : Option A) (b : Option B) (c : Option C) (d : Option D) (g : Option F) → all_six f a b c d None g ≡ None
-fifth_without f None b c d g = refl
-fifth_without f (Some v) None c d g = refl
-fifth_without f (Some v) (Some w) None d g = refl
-fifth_without f (Some v) (Some w) (Some x) None g = refl
-fifth_without f (Some v) (Some w) (Some x) (Some y) g = refl
+fourth_without : {A B C D E F : Type 0} (f : A → B → C → D → E → F) (a : Option A) (b : Option B) (c : Option C) (e : Option E)
+    → all_five f a b c None e ≡ None
+fourth_without f None b c e = refl
+fourth_without f (Some x) None c e = refl
+fourth_without f (Some x) (Some y) None e = refl
+fourth_without f (Some x) (Some y) (Some z) e = refl
 
-no_options : (rows : List Row) → local_of (codes "local") rows ≡ None → options_of rows ≡ None
-no_options rows h =
+fifth_without : {A B C D E F : Type 0} (f : A → B → C → D → E → F) (a : Option A) (b : Option B) (c : Option C) (d : Option D)
+    → all_five f a b c d None ≡ None
+fifth_without f None b c d = refl
+fifth_without f (Some w) None c d = refl
+fifth_without f (Some w) (Some x) None d = refl
+fifth_without f (Some w) (Some x) (Some y) None = refl
+fifth_without f (Some w) (Some x) (Some y) (Some z) = refl
+
+no_common_options : (rows : List Row) → local_of (codes "local") rows ≡ None → common_options_of rows ≡ None
+no_common_options rows h =
     let workers = number_of (codes "workers") rows in
     let plans = number_of (codes "plans") rows in
     let batch = number_of (codes "batch") rows in
     let depth = number_of (codes "depth") rows in
-    let combine = flag_of (codes "combine") rows in
-    ap (λ (local : Option LocalStrategy). all_six options workers plans batch depth local combine) h ∙ fifth_without options workers plans batch depth combine
+    ap (all_five common_options workers plans batch depth) h ∙ fifth_without common_options workers plans batch depth
+
+no_options : (rows : List Row) → local_of (codes "local") rows ≡ None → options_of rows ≡ None
+no_options rows h = ap (λ (o : Option Options). all_two with_combine o (flag_of (codes "combine") rows)) (no_common_options rows h)
 
 -- where `--local` names no strategy, nothing is asked for
 pub none_asked : (k : Kind) (rows : List Row) → NamesNoStrategy k rows → asked_of k rows ≡ None
@@ -61,6 +70,13 @@ none_asked Drill rows h =
     let seed = number_of (codes "seed") rows in
     let row_count = number_of (codes "rows") rows in
     ap (all_three to_drill seed row_count) (no_options rows h) ∙ third_without to_drill seed row_count
+none_asked Iterate rows h =
+    let program = first_of (codes "program") rows in
+    let source = first_of (codes "source") rows in
+    let rounds = number_of (codes "rounds") rows in
+    let stable = flag_of (codes "stable") rows in
+    ap (λ (o : Option Options). all_five to_iterate program source rounds o stable) (no_common_options rows h)
+    ∙ fourth_without to_iterate program source rounds stable
 
 pub never_both : (words : List (List ℕ)) (a : Asked) → IsAsked words a → AreRefused words → ⊥
 never_both words a h refused =

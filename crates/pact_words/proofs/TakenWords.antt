@@ -1,16 +1,16 @@
 -- Words that clap takes ask for a command, with its numbers in their ranges, where `--local` names a strategy.
-use Rattle.std.proofs.Common.{◌≡◌, ◌⊎◌, ◌∙◌, inl, inr, refl, ap, subst, arith, ℕ, List, [], drop, pos, Option, Some, None, option_map, codes}
+use Rattle.std.proofs.Common.{◌≡◌, ◌⊎◌, ◌∙◌, inl, inr, refl, ap, subst, arith, ℕ, Bool, false, List, [], drop, pos, Option, Some, None, option_map, codes, rules}
 use Rattle.clap.specs.Walk.{Row, Rule, Text, arg_by_id, first_of}
 use Rattle.clap.specs.Simple.{built, matches_of}
 use Rattle.clap.specs.Faults.{fault_of}
 use Rattle.clap.specs.declared.builder.value_parser.ValueParser.TheVariants as vp
 use Rattle.pact_words.specs.declared.commands.Kind.{Kind}
-use Rattle.pact_words.specs.declared.commands.Kind.TheVariants.{Run, Plan, Cert, Check, Sets, Gen, Drill}
+use Rattle.pact_words.specs.declared.commands.Kind.TheVariants.{Run, Plan, Cert, Check, Sets, Gen, Drill, Iterate}
 use Rattle.pact_words.specs.declared.commands.Options.{Options}
 use Rattle.pact_words.specs.Definitions.{app_for}
-use Rattle.pact_words.specs.FoundValues.{all_six, all_three, all_two, local_of, number_of}
-use Rattle.pact_words.specs.Limits.{row_limit, seed_limit}
-use Rattle.pact_words.specs.Words.{AreInRange, AreOperandsInRange, AreOptionsInRange, Asked, IsInRange, NamesNoStrategy, asked_of, options, options_of, to_certify, to_check, to_drill, to_generate, to_plan, to_run, to_tell_sets}
+use Rattle.pact_words.specs.FoundValues.{all_five, all_three, all_two, local_of, number_of}
+use Rattle.pact_words.specs.Limits.{round_limit, row_limit, seed_limit}
+use Rattle.pact_words.specs.Words.{AreInRange, AreOperandsInRange, AreOptionsInRange, Asked, IsInRange, NamesNoStrategy, asked_of, common_options, common_options_of, options_of, to_certify, to_check, to_drill, to_generate, to_iterate, to_plan, to_run, to_tell_sets, with_combine}
 use Rattle.pact_words.proofs.FittingRows.{AllKnown}
 use Rattle.pact_words.proofs.GivenValues.{Holds, IsSure, held}
 use Rattle.pact_words.proofs.OneAsked.{none_asked, not_both, one_of}
@@ -19,17 +19,18 @@ use Rattle.pact_words.proofs.SaidValues.{HasFlag, HasNumber, HasText, has_flag, 
 -- ---- what each command has
 
 known : (k : Kind) → AllKnown (built (app_for k)).top.rules (built (app_for k)).top.rules
-known Run = ((refl, inl (refl, refl)), ((refl, inl (refl, refl)), ((refl, inl (refl, refl)), ((refl, inl (refl, refl)), ((refl, inl (refl, refl)), ((refl, inl (refl, refl)), ((refl, inr (inl (refl, (_, _, refl)))), ((refl, inr (inl (refl, (_, _, refl)))), ((refl, inr (inr refl)), tt)))))))))
-known Plan = ((refl, inl (refl, refl)), ((refl, inl (refl, refl)), ((refl, inl (refl, refl)), ((refl, inr (inr refl)), tt))))
-known Cert = ((refl, inl (refl, refl)), ((refl, inl (refl, refl)), ((refl, inl (refl, refl)), ((refl, inr (inr refl)), tt))))
-known Check = ((refl, inl (refl, refl)), ((refl, inl (refl, refl)), ((refl, inr (inr refl)), tt)))
-known Sets = ((refl, inl (refl, refl)), ((refl, inr (inr refl)), tt))
-known Gen = ((refl, inl (refl, refl)), ((refl, inl (refl, refl)), ((refl, inr (inr refl)), tt)))
-known Drill = ((refl, inl (refl, refl)), ((refl, inl (refl, refl)), ((refl, inl (refl, refl)), ((refl, inl (refl, refl)), ((refl, inl (refl, refl)), ((refl, inl (refl, refl)), ((refl, inl (refl, refl)), ((refl, inr (inl (refl, (_, _, refl)))), ((refl, inr (inr refl)), tt)))))))))
+known Run = search rules
+known Plan = search rules
+known Cert = search rules
+known Check = search rules
+known Sets = search rules
+known Gen = search rules
+known Drill = search rules
+known Iterate = search rules
 
 -- each argument that is required or has a default has a value
-each_holds : (k : Kind) (words : List Text) → fault_of (app_for k) words ≡ [] → (id : Text) (a : Rule) → arg_by_id (built (app_for k)).top.rules id ≡ Some a
-    → IsSure a → Holds (matches_of (app_for k) words) id a
+each_holds : (k : Kind) (words : List Text) → fault_of (app_for k) words ≡ [] → (id : Text) (a : Rule)
+    → arg_by_id (built (app_for k)).top.rules id ≡ Some a → IsSure a → Holds (matches_of (app_for k) words) id a
 each_holds Run words e = held (built (app_for Run)).top (known Run) refl refl (drop 1 words) _ _ e
 each_holds Plan words e = held (built (app_for Plan)).top (known Plan) refl refl (drop 1 words) _ _ e
 each_holds Cert words e = held (built (app_for Cert)).top (known Cert) refl refl (drop 1 words) _ _ e
@@ -37,6 +38,7 @@ each_holds Check words e = held (built (app_for Check)).top (known Check) refl r
 each_holds Sets words e = held (built (app_for Sets)).top (known Sets) refl refl (drop 1 words) _ _ e
 each_holds Gen words e = held (built (app_for Gen)).top (known Gen) refl refl (drop 1 words) _ _ e
 each_holds Drill words e = held (built (app_for Drill)).top (known Drill) refl refl (drop 1 words) _ _ e
+each_holds Iterate words e = held (built (app_for Iterate)).top (known Iterate) refl refl (drop 1 words) _ _ e
 
 -- ---- several values
 
@@ -47,9 +49,10 @@ three_are : {A B C D : Type 0} (f : A → B → C → D) (a : Option A) (b : Opt
     → a ≡ Some x → b ≡ Some y → c ≡ Some z → all_three f a b c ≡ Some (f x y z)
 three_are f a b c x y z p q r = rw (p, q, r) refl
 
-six_are : {A B C D E F G : Type 0} (f : A → B → C → D → E → F → G) (a : Option A) (b : Option B) (c : Option C) (d : Option D) (e : Option E) (g : Option F) (u : A) (v : B) (w : C) (x : D) (y : E) (z : F)
-    → a ≡ Some u → b ≡ Some v → c ≡ Some w → d ≡ Some x → e ≡ Some y → g ≡ Some z → all_six f a b c d e g ≡ Some (f u v w x y z)
-six_are f a b c d e g u v w x y z o p q r s t = rw (o, p, q, r, s, t) refl
+five_are : {A B C D E F : Type 0} (f : A → B → C → D → E → F) (a : Option A) (b : Option B) (c : Option C) (d : Option D) (e : Option E)
+    (v : A) (w : B) (x : C) (y : D) (z : E) → a ≡ Some v → b ≡ Some w → c ≡ Some x → d ≡ Some y → e ≡ Some z
+    → all_five f a b c d e ≡ Some (f v w x y z)
+five_are f a b c d e v w x y z p q r s t = rw (p, q, r, s, t) refl
 
 some_or_none : {A : Type 0} (B : Type 0) (o : Option A) → ((x : A) → o ≡ Some x → B) → B ⊎ (o ≡ None)
 some_or_none B (Some x) f = inl (f x refl)
@@ -61,39 +64,49 @@ pub record HasLimits (rows : List Row) : Type 0 where
   pub workers : HasNumber (codes "workers") rows 1 16
   pub plans : HasNumber (codes "plans") rows 1 1000
 
-has_limits : (rows : List Row) (workers plans : Rule) → workers.parser ≡ Some (vp.Signed (pos 1) (pos 16)) → plans.parser ≡ Some (vp.Signed (pos 1) (pos 1000)) → Holds rows (codes "workers") workers
-    → Holds rows (codes "plans") plans → HasLimits rows
+has_limits : (rows : List Row) (workers plans : Rule) → workers.parser ≡ Some (vp.Signed (pos 1) (pos 16))
+    → plans.parser ≡ Some (vp.Signed (pos 1) (pos 1000)) → Holds rows (codes "workers") workers → Holds rows (codes "plans") plans → HasLimits rows
 has_limits rows workers plans w p h k = record {
   workers = has_number (codes "workers") rows workers 1 16 (omega arith) w h;
   plans = has_number (codes "plans") rows plans 1 1000 (omega arith) p k;
 }
 
 in_range : (rows : List Row) (h : HasLimits rows) → AreInRange h.workers.number h.plans.number
-in_range rows h = record { least_workers = h.workers.least_of; most_workers = h.workers.most_of; least_plans = h.plans.least_of; most_plans = h.plans.most_of }
+in_range rows h =
+    record { least_workers = h.workers.least_of; most_workers = h.workers.most_of; least_plans = h.plans.least_of; most_plans = h.plans.most_of }
 
--- all options but `--local`
+-- the options that are numbers
 pub record HasOptions (rows : List Row) : Type 0 where
   pub limits : HasLimits rows
   pub batch : HasNumber (codes "batch") rows 1 1024
   pub depth : HasNumber (codes "depth") rows 1 64
-  pub combine : HasFlag (codes "combine") rows
 
-has_options : (rows : List Row) (workers plans batch depth : Rule) → workers.parser ≡ Some (vp.Signed (pos 1) (pos 16)) → plans.parser ≡ Some (vp.Signed (pos 1) (pos 1000))
-    → batch.parser ≡ Some (vp.Signed (pos 1) (pos 1024)) → depth.parser ≡ Some (vp.Signed (pos 1) (pos 64)) → Holds rows (codes "workers") workers
-    → Holds rows (codes "plans") plans → Holds rows (codes "batch") batch → Holds rows (codes "depth") depth → HasFlag (codes "combine") rows → HasOptions rows
-has_options rows workers plans batch depth w p b d has_workers has_plans has_batch has_depth combine = record {
+has_options : (rows : List Row) (workers plans batch depth : Rule) → workers.parser ≡ Some (vp.Signed (pos 1) (pos 16))
+    → plans.parser ≡ Some (vp.Signed (pos 1) (pos 1000)) → batch.parser ≡ Some (vp.Signed (pos 1) (pos 1024))
+    → depth.parser ≡ Some (vp.Signed (pos 1) (pos 64)) → Holds rows (codes "workers") workers → Holds rows (codes "plans") plans
+    → Holds rows (codes "batch") batch → Holds rows (codes "depth") depth → HasOptions rows
+has_options rows workers plans batch depth w p b d has_workers has_plans has_batch has_depth = record {
   limits = has_limits rows workers plans w p has_workers has_plans;
   batch = has_number (codes "batch") rows batch 1 1024 (omega arith) b has_batch;
   depth = has_number (codes "depth") rows depth 1 64 (omega arith) d has_depth;
-  combine = combine;
+}
+
+-- the ranges are the same, whether groups are combined or not
+combined_in_range : (o : Options) (combine : Bool) → AreOptionsInRange o → AreOptionsInRange (with_combine o combine)
+combined_in_range o combine h = record {
+  limits = h.limits;
+  least_batch = h.least_batch;
+  most_batch = h.most_batch;
+  least_depth = h.least_depth;
+  most_depth = h.most_depth;
 }
 
 pub record HasOperands (found : List Row) : Type 0 where
   pub seed : HasNumber (codes "seed") found 0 seed_limit
   pub rows : HasNumber (codes "rows") found 0 row_limit
 
-has_operands : (found : List Row) (seed rows : Rule) → seed.parser ≡ Some (vp.Signed (pos 0) (pos seed_limit)) → rows.parser ≡ Some (vp.Signed (pos 0) (pos row_limit))
-    → Holds found (codes "seed") seed → Holds found (codes "rows") rows → HasOperands found
+has_operands : (found : List Row) (seed rows : Rule) → seed.parser ≡ Some (vp.Signed (pos 0) (pos seed_limit))
+    → rows.parser ≡ Some (vp.Signed (pos 0) (pos row_limit)) → Holds found (codes "seed") seed → Holds found (codes "rows") rows → HasOperands found
 has_operands found seed rows s r has_seed has_rows = record {
   seed = has_number (codes "seed") found seed 0 seed_limit (omega arith) s has_seed;
   rows = has_number (codes "rows") found rows 0 row_limit (omega arith) r has_rows;
@@ -110,7 +123,8 @@ pub record Asks (k : Kind) (words : List Text) : Type 0 where
 
 -- a command that takes a program, workers and plans
 asks_limited : (k : Kind) (words : List Text) (to : List ℕ → ℕ → ℕ → Asked)
-    → ((rows : List Row) → asked_of k rows ≡ all_three to (first_of (codes "program") rows) (number_of (codes "workers") rows) (number_of (codes "plans") rows))
+    → ((rows : List Row)
+    → asked_of k rows ≡ all_three to (first_of (codes "program") rows) (number_of (codes "workers") rows) (number_of (codes "plans") rows))
     → ((program : List ℕ) (workers plans : ℕ) → AreInRange workers plans → IsInRange (to program workers plans))
     → HasText (codes "program") (matches_of (app_for k) words) → HasLimits (matches_of (app_for k) words) → Asks k words
 asks_limited k words to is ranged program limits =
@@ -121,38 +135,51 @@ asks_limited k words to is ranged program limits =
       in_range = ranged program.text limits.workers.number limits.plans.number (in_range rows limits);
     }
 
--- a command that takes all options, where `--local` names a strategy
+-- a command that runs plans, where `--local` names a strategy
 asks_chosen : (k : Kind) (words : List Text) (to : Options → Asked)
-    → ((o : Options) → options_of (matches_of (app_for k) words) ≡ Some o → asked_of k (matches_of (app_for k) words) ≡ Some (to o))
-    → ((o : Options) → AreOptionsInRange o → IsInRange (to o)) → HasOptions (matches_of (app_for k) words)
+    → ((o : Options) → common_options_of (matches_of (app_for k) words) ≡ Some o → asked_of k (matches_of (app_for k) words) ≡ Some (to o))
+    → ((o : Options) → AreOptionsInRange o → o.combine ≡ false → IsInRange (to o)) → HasOptions (matches_of (app_for k) words)
     → Asks k words ⊎ (local_of (codes "local") (matches_of (app_for k) words) ≡ None)
 asks_chosen k words to says ranged h =
     let rows = matches_of (app_for k) words in
     some_or_none (Asks k words) (local_of (codes "local") rows) (λ local is.
-    let chosen = options h.limits.workers.number h.limits.plans.number h.batch.number h.depth.number local h.combine.flag in
+    let chosen = common_options h.limits.workers.number h.limits.plans.number h.batch.number h.depth.number local in
     record {
       command = to chosen;
-      values = says chosen (six_are options _ _ _ _ _ _ h.limits.workers.number h.limits.plans.number h.batch.number h.depth.number local h.combine.flag
-          h.limits.workers.is h.limits.plans.is h.batch.is h.depth.is is h.combine.is);
+      values = says chosen (five_are common_options _ _ _ _ _ h.limits.workers.number h.limits.plans.number h.batch.number h.depth.number local
+          h.limits.workers.is h.limits.plans.is h.batch.is h.depth.is is);
       in_range = ranged chosen (record {
         limits = in_range rows h.limits;
         least_batch = h.batch.least_of;
         most_batch = h.batch.most_of;
         least_depth = h.depth.least_of;
         most_depth = h.depth.most_of;
-      });
+      }) refl;
     })
+
+-- one that says besides whether groups are combined
+asks_combining : (k : Kind) (words : List Text) (to : Options → Asked)
+    → ((o : Options) → options_of (matches_of (app_for k) words) ≡ Some o → asked_of k (matches_of (app_for k) words) ≡ Some (to o))
+    → ((o : Options) → AreOptionsInRange o → IsInRange (to o)) → HasOptions (matches_of (app_for k) words)
+    → HasFlag (codes "combine") (matches_of (app_for k) words)
+    → Asks k words ⊎ (local_of (codes "local") (matches_of (app_for k) words) ≡ None)
+asks_combining k words to says ranged h combine =
+    asks_chosen k words (λ o. to (with_combine o combine.flag))
+    (λ o is. says (with_combine o combine.flag) (two_are with_combine _ _ o combine.flag is combine.is))
+    (λ o range uncombined. ranged (with_combine o combine.flag) (combined_in_range o combine.flag range)) h
 
 pub asks : (k : Kind) (words : List Text) → fault_of (app_for k) words ≡ [] → Asks k words ⊎ NamesNoStrategy k (matches_of (app_for k) words)
 asks Run words e =
     let rows = matches_of (app_for Run) words in
     let at = each_holds Run words e in
     let program = has_text (codes "program") rows _ (at (codes "program") _ refl (inl refl)) in
-    let numbers = has_options rows _ _ _ _ refl refl refl refl (at (codes "workers") _ refl (inr (_, _, refl))) (at (codes "plans") _ refl (inr (_, _, refl)))
-    (at (codes "batch") _ refl (inr (_, _, refl))) (at (codes "depth") _ refl (inr (_, _, refl))) (has_flag (codes "combine") rows _ refl (at (codes "combine") _ refl (inr (_, _, refl)))) in
+    let numbers = has_options rows _ _ _ _ refl refl refl refl
+    (at (codes "workers") _ refl (inr (_, _, refl))) (at (codes "plans") _ refl (inr (_, _, refl)))
+    (at (codes "batch") _ refl (inr (_, _, refl))) (at (codes "depth") _ refl (inr (_, _, refl))) in
+    let combine = has_flag (codes "combine") rows _ refl (at (codes "combine") _ refl (inr (_, _, refl))) in
     let counts = has_flag (codes "counts") rows _ refl (at (codes "counts") _ refl (inr (_, _, refl))) in
-    asks_chosen Run words (λ o. to_run program.text o counts.flag)
-    (λ o is. three_are to_run _ _ _ program.text o counts.flag program.is is counts.is) (λ o h. h) numbers
+    asks_combining Run words (λ o. to_run program.text o counts.flag)
+    (λ o is. three_are to_run _ _ _ program.text o counts.flag program.is is counts.is) (λ o h. h) numbers combine
 asks Plan words e =
     let rows = matches_of (app_for Plan) words in
     let at = each_holds Plan words e in
@@ -170,7 +197,11 @@ asks Check words e =
     let at = each_holds Check words e in
     let program = has_text (codes "program") rows _ (at (codes "program") _ refl (inl refl)) in
     let certificate = has_text (codes "certificate") rows _ (at (codes "certificate") _ refl (inl refl)) in
-    inl (record { command = to_check program.text certificate.text; values = two_are to_check _ _ program.text certificate.text program.is certificate.is; in_range = tt })
+    inl (record {
+      command = to_check program.text certificate.text;
+      values = two_are to_check _ _ program.text certificate.text program.is certificate.is;
+      in_range = tt;
+    })
 asks Sets words e =
     let rows = matches_of (app_for Sets) words in
     let at = each_holds Sets words e in
@@ -189,11 +220,26 @@ asks Drill words e =
     let rows = matches_of (app_for Drill) words in
     let at = each_holds Drill words e in
     let operands = has_operands rows _ _ refl refl (at (codes "seed") _ refl (inl refl)) (at (codes "rows") _ refl (inl refl)) in
-    let numbers = has_options rows _ _ _ _ refl refl refl refl (at (codes "workers") _ refl (inr (_, _, refl))) (at (codes "plans") _ refl (inr (_, _, refl)))
-    (at (codes "batch") _ refl (inr (_, _, refl))) (at (codes "depth") _ refl (inr (_, _, refl))) (has_flag (codes "combine") rows _ refl (at (codes "combine") _ refl (inr (_, _, refl)))) in
-    asks_chosen Drill words (λ o. to_drill operands.seed.number operands.rows.number o)
+    let numbers = has_options rows _ _ _ _ refl refl refl refl
+    (at (codes "workers") _ refl (inr (_, _, refl))) (at (codes "plans") _ refl (inr (_, _, refl)))
+    (at (codes "batch") _ refl (inr (_, _, refl))) (at (codes "depth") _ refl (inr (_, _, refl))) in
+    let combine = has_flag (codes "combine") rows _ refl (at (codes "combine") _ refl (inr (_, _, refl))) in
+    asks_combining Drill words (λ o. to_drill operands.seed.number operands.rows.number o)
     (λ o is. three_are to_drill _ _ _ operands.seed.number operands.rows.number o operands.seed.is operands.rows.is is)
-    (λ o h. (operands_in_range rows operands, h)) numbers
+    (λ o h. (operands_in_range rows operands, h)) numbers combine
+asks Iterate words e =
+    let rows = matches_of (app_for Iterate) words in
+    let at = each_holds Iterate words e in
+    let program = has_text (codes "program") rows _ (at (codes "program") _ refl (inl refl)) in
+    let source = has_text (codes "source") rows _ (at (codes "source") _ refl (inl refl)) in
+    let rounds = has_number (codes "rounds") rows _ 1 round_limit (omega arith) refl (at (codes "rounds") _ refl (inl refl)) in
+    let numbers = has_options rows _ _ _ _ refl refl refl refl
+    (at (codes "workers") _ refl (inr (_, _, refl))) (at (codes "plans") _ refl (inr (_, _, refl)))
+    (at (codes "batch") _ refl (inr (_, _, refl))) (at (codes "depth") _ refl (inr (_, _, refl))) in
+    let stable = has_flag (codes "stable") rows _ refl (at (codes "stable") _ refl (inr (_, _, refl))) in
+    asks_chosen Iterate words (λ o. to_iterate program.text source.text rounds.number o stable.flag)
+    (λ o is. five_are to_iterate _ _ _ _ _ program.text source.text rounds.number o stable.flag program.is source.is rounds.is is stable.is)
+    (λ o h uncombined. record { least_rounds = rounds.least_of; most_rounds = rounds.most_of; options = h; uncombined = uncombined }) numbers
 
 -- where nothing is asked for, `--local` names no strategy
 pub taken_names_none : (k : Kind) (words : List Text) → fault_of (app_for k) words ≡ [] → asked_of k (matches_of (app_for k) words) ≡ None

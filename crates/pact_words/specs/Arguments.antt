@@ -3,7 +3,7 @@ use Rattle.std.specs.Prelude.{◌∷◌, [], ℤ, pos, true, Some, codes}
 use Rattle.clap.specs.Words.{Rule, Text, new_rule}
 use Rattle.clap.specs.declared.builder.action.ArgAction.TheVariants.{SetTrue}
 use Rattle.clap.specs.declared.builder.value_parser.ValueParser.TheVariants.{Signed}
-use Rattle.pact_words.specs.Limits.{row_limit, seed_limit}
+use Rattle.pact_words.specs.Limits.{round_limit, row_limit, seed_limit}
 
 -- ---- the kinds of argument
 
@@ -46,6 +46,14 @@ seed_rule = number_operand_rule (codes "seed") (pos 0) (pos seed_limit)
 abbrev pub rows_rule : Rule
 rows_rule = number_operand_rule (codes "rows") (pos 0) (pos row_limit)
 
+-- `SOURCE`
+abbrev pub source_rule : Rule
+source_rule = operand_rule (codes "source")
+
+-- `ROUNDS`
+abbrev pub rounds_rule : Rule
+rounds_rule = number_operand_rule (codes "rounds") (pos 1) (pos round_limit)
+
 -- `--workers`
 abbrev pub workers_rule : Rule
 workers_rule = number_rule (codes "workers") (pos 1) (pos 16) (codes "4")
@@ -73,3 +81,7 @@ combine_rule = flag_rule (codes "combine")
 -- `--counts`
 abbrev pub counts_rule : Rule
 counts_rule = flag_rule (codes "counts")
+
+-- `--stable`
+abbrev pub stable_rule : Rule
+stable_rule = flag_rule (codes "stable")

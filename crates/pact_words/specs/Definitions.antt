@@ -2,8 +2,8 @@
 use Rattle.std.specs.Prelude.{codes}
 use Rattle.clap.specs.Words.{App, Text, new_app, with_rule}
 use Rattle.pact_words.specs.declared.commands.Kind.{Kind}
-use Rattle.pact_words.specs.declared.commands.Kind.TheVariants.{Run, Plan, Cert, Check, Sets, Gen, Drill}
-use Rattle.pact_words.specs.Arguments.{batch_rule, certificate_rule, combine_rule, counts_rule, depth_rule, local_rule, plans_rule, program_rule, rows_rule, seed_rule, workers_rule}
+use Rattle.pact_words.specs.declared.commands.Kind.TheVariants.{Run, Plan, Cert, Check, Sets, Gen, Drill, Iterate}
+use Rattle.pact_words.specs.Arguments.{batch_rule, certificate_rule, combine_rule, counts_rule, depth_rule, local_rule, plans_rule, program_rule, rounds_rule, rows_rule, seed_rule, source_rule, stable_rule, workers_rule}
 
 -- a command of a program
 abbrev pub program_app : Text → App
@@ -21,9 +21,17 @@ planning_app name = with_limits (program_app name)
 abbrev pub with_pipes : App → App
 with_pipes app = with_rule (with_rule app batch_rule) depth_rule
 
--- with all that says how a plan is chosen and run
+-- with the options of each command that runs plans
+abbrev pub with_common_options : App → App
+with_common_options app = with_rule (with_pipes (with_limits app)) local_rule
+
+-- with these, and whether groups are combined
 abbrev pub with_options : App → App
-with_options app = with_rule (with_rule (with_pipes (with_limits app)) local_rule) combine_rule
+with_options app = with_rule (with_common_options app) combine_rule
+
+-- with the source that gets what a round gives, and the number of rounds
+abbrev pub with_rounds : App → App
+with_rounds app = with_rule (with_rule app source_rule) rounds_rule
 
 -- a command that generates rows
 abbrev pub generating_app : Text → App
@@ -45,6 +53,10 @@ sets_app = program_app (codes "sets")
 abbrev pub drill_app : App
 drill_app = with_options (generating_app (codes "drill"))
 
+-- `iterate PROGRAM SOURCE ROUNDS`
+abbrev pub iterate_app : App
+iterate_app = with_rule (with_common_options (with_rounds (program_app (codes "iterate")))) stable_rule
+
 abbrev pub app_for : Kind → App
 app_for Run = run_app
 app_for Plan = planning_app (codes "plan")
@@ -53,3 +65,4 @@ app_for Check = check_app
 app_for Sets = sets_app
 app_for Gen = generating_app (codes "gen")
 app_for Drill = drill_app
+app_for Iterate = iterate_app

@@ -52,7 +52,3 @@ all_four f a b c d = option_and_then (λ x. all_three (f x) b c d) a
 -- of five
 abbrev pub all_five : {A B C D E F : Type 0} → (A → B → C → D → E → F) → Option A → Option B → Option C → Option D → Option E → Option F
 all_five f a b c d e = option_and_then (λ x. all_four (f x) b c d e) a
-
--- of six
-abbrev pub all_six : {A B C D E F G : Type 0} → (A → B → C → D → E → F → G) → Option A → Option B → Option C → Option D → Option E → Option F → Option G
-all_six f a b c d e g = option_and_then (λ x. all_five (f x) b c d e g) a

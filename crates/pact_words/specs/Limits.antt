@@ -1,4 +1,4 @@
--- How large the operands are that say which rows are generated.
+-- How large operands are that are numbers.
 use Rattle.std.specs.Prelude.{ℕ}
 
 -- a seed is at most this
@@ -8,3 +8,7 @@ seed_limit = 2147483646
 -- and there are at most so many rows
 abbrev pub row_limit : ℕ
 row_limit = 1000000
+
+-- a program is run in at most so many rounds
+abbrev pub round_limit : ℕ
+round_limit = 1000

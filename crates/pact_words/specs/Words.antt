@@ -1,5 +1,5 @@
 -- What the words of the command line ask for.
-use Rattle.std.specs.Prelude.{◌≡◌, ◌≢◌, ◌⊎◌, ◌≤◌, ℕ, Bool, List, [], ◌∷◌, map, option_map, Option, Some, None, Result, Ok, Err, cond, codes}
+use Rattle.std.specs.Prelude.{◌≡◌, ◌≢◌, ◌⊎◌, ◌≤◌, ℕ, Bool, false, List, [], ◌∷◌, map, option_map, Option, Some, None, Result, Ok, Err, cond, codes}
 use Rattle.std.specs.Borrow.{Bor}
 use Rattle.std.specs.Str.{bytes_eq}
 use Rattle.clap.specs.Words.{Row, fault_of, first_of, matches_of}
@@ -8,12 +8,12 @@ use Rattle.pact_words.specs.declared.commands.Command.TheVariants as commands
 use Rattle.pact_words.specs.declared.commands.LocalStrategy.{LocalStrategy}
 use Rattle.pact_words.specs.declared.commands.Options.{Options}
 use Rattle.pact_words.specs.declared.commands.Kind.{Kind}
-use Rattle.pact_words.specs.declared.commands.Kind.TheVariants.{Run, Plan, Cert, Check, Sets, Gen, Drill}
+use Rattle.pact_words.specs.declared.commands.Kind.TheVariants.{Run, Plan, Cert, Check, Sets, Gen, Drill, Iterate}
 use Rattle.pact_words.specs.declared.commands.Refused.{Refused}
 use Rattle.pact_words.specs.declared.commands.Refused.TheVariants.{Usage, OutOfMemory}
 use Rattle.pact_words.specs.Definitions.{app_for}
-use Rattle.pact_words.specs.FoundValues.{all_six, all_three, all_two, flag_of, local_of, number_of}
-use Rattle.pact_words.specs.Limits.{row_limit, seed_limit}
+use Rattle.pact_words.specs.FoundValues.{all_five, all_three, all_two, flag_of, local_of, number_of}
+use Rattle.pact_words.specs.Limits.{round_limit, row_limit, seed_limit}
 
 -- the texts that words point to
 abbrev pub texts_of : List (Bor (List ℕ)) → List (List ℕ)
@@ -37,6 +37,8 @@ pub data Asked : Type 0 where
   to_generate : (seed rows : ℕ) → Asked
   -- `drill SEED ROWS`
   to_drill : (seed rows : ℕ) → (options : Options) → Asked
+  -- `iterate PROGRAM SOURCE ROUNDS`
+  to_iterate : (program source : List ℕ) → (rounds : ℕ) → (options : Options) → (stable : Bool) → Asked
 
 -- a command as data
 abbrev pub asked : Command → Asked
@@ -47,6 +49,7 @@ asked (commands.Check program certificate) = to_check program.now certificate.no
 asked (commands.Sets program) = to_tell_sets program.now
 asked (commands.Gen seed rows) = to_generate seed rows
 asked (commands.Drill seed rows options) = to_drill seed rows options
+asked (commands.Iterate program source rounds options stable) = to_iterate program.now source.now rounds options stable
 
 -- workers and plans
 pub record AreInRange (workers plans : ℕ) : Type 0 where
@@ -68,7 +71,14 @@ pub record AreOperandsInRange (seed rows : ℕ) : Type 0 where
   pub most_seed : seed ≤ seed_limit
   pub most_rows : rows ≤ row_limit
 
--- the numbers that are asked for lie in their ranges
+-- rounds, and options by which nothing is combined
+pub record AreRoundsInRange (rounds : ℕ) (o : Options) : Type 0 where
+  pub least_rounds : 1 ≤ rounds
+  pub most_rounds : rounds ≤ round_limit
+  pub options : AreOptionsInRange o
+  pub uncombined : o.combine ≡ false
+
+-- the numbers that are asked for lie in their ranges, and where rounds are run nothing is combined
 abbrev pub IsInRange : Asked → Type 0
 IsInRange (to_run program options counts) = AreOptionsInRange options
 IsInRange (to_plan program workers plans) = AreInRange workers plans
@@ -77,6 +87,7 @@ IsInRange (to_check program certificate) = Unit {0}
 IsInRange (to_tell_sets program) = Unit {0}
 IsInRange (to_generate seed rows) = AreOperandsInRange seed rows
 IsInRange (to_drill seed rows options) = AreOperandsInRange seed rows × AreOptionsInRange options
+IsInRange (to_iterate program source rounds options stable) = AreRoundsInRange rounds options
 
 -- ---- words
 
@@ -89,6 +100,7 @@ name_of Check = codes "check"
 name_of Sets = codes "sets"
 name_of Gen = codes "gen"
 name_of Drill = codes "drill"
+name_of Iterate = codes "iterate"
 
 -- a word's command is this one, or that of the others
 abbrev pub named : List ℕ → Kind → Option Kind → Option Kind
@@ -96,22 +108,33 @@ named word kind other = cond (bytes_eq word (name_of kind)) (Some kind) other
 
 -- the command of that name
 abbrev pub kind_named : List ℕ → Option Kind
-kind_named word = named word Run (named word Plan (named word Cert (named word Check (named word Sets (named word Gen (named word Drill None))))))
+kind_named word =
+    named word Run (named word Plan (named word Cert (named word Check
+    (named word Sets (named word Gen (named word Drill (named word Iterate None)))))))
 
 -- the command that the first word names
 abbrev pub kind_in : List (List ℕ) → Option Kind
 kind_in [] = None
 kind_in (word ∷ words) = kind_named word
 
--- as one record
-abbrev pub options : (workers plans batch depth : ℕ) (local : LocalStrategy) (combine : Bool) → Options
-options workers plans batch depth local combine = record { workers = workers; plans = plans; batch = batch; depth = depth; local = local; combine = combine }
+-- options as one record, by which nothing is combined
+abbrev pub common_options : (workers plans batch depth : ℕ) (local : LocalStrategy) → Options
+common_options workers plans batch depth local =
+    record { workers = workers; plans = plans; batch = batch; depth = depth; local = local; combine = false }
 
--- those that clap found, where it found each
+-- the same, and whether groups are combined
+abbrev pub with_combine : Options → Bool → Options
+with_combine options combine = record options { combine = combine }
+
+-- those of each command that runs plans, where clap found each
+abbrev pub common_options_of : List Row → Option Options
+common_options_of rows =
+    all_five common_options (number_of (codes "workers") rows) (number_of (codes "plans") rows) (number_of (codes "batch") rows)
+    (number_of (codes "depth") rows) (local_of (codes "local") rows)
+
+-- these, and whether groups are combined
 abbrev pub options_of : List Row → Option Options
-options_of rows =
-    all_six options (number_of (codes "workers") rows) (number_of (codes "plans") rows) (number_of (codes "batch") rows) (number_of (codes "depth") rows)
-    (local_of (codes "local") rows) (flag_of (codes "combine") rows)
+options_of rows = all_two with_combine (common_options_of rows) (flag_of (codes "combine") rows)
 
 -- there is no word, or the first is no command
 abbrev pub AreUnnamed : List (List ℕ) → Type 0
@@ -126,6 +149,9 @@ asked_of Check rows = all_two to_check (first_of (codes "program") rows) (first_
 asked_of Sets rows = option_map to_tell_sets (first_of (codes "program") rows)
 asked_of Gen rows = all_two to_generate (number_of (codes "seed") rows) (number_of (codes "rows") rows)
 asked_of Drill rows = all_three to_drill (number_of (codes "seed") rows) (number_of (codes "rows") rows) (options_of rows)
+asked_of Iterate rows =
+    all_five to_iterate (first_of (codes "program") rows) (first_of (codes "source") rows) (number_of (codes "rounds") rows) (common_options_of rows)
+    (flag_of (codes "stable") rows)
 
 -- The first word is a command, clap takes the words by that command's definition, and these are the values that it finds. To clap the first
 -- word is the name under which a program is called, and the others are its arguments.
@@ -139,6 +165,7 @@ pub record IsAsked (words : List (List ℕ)) (command : Asked) : Type 0 where
 abbrev pub NamesNoStrategy : Kind → List Row → Type 0
 NamesNoStrategy Run rows = local_of (codes "local") rows ≡ None
 NamesNoStrategy Drill rows = local_of (codes "local") rows ≡ None
+NamesNoStrategy Iterate rows = local_of (codes "local") rows ≡ None
 NamesNoStrategy _ rows = ⊥
 
 -- no command takes them, clap refuses them by the named one's definition, or `--local` names no strategy

@@ -2,7 +2,7 @@
 
 ghost use Rattle.std.specs.Prelude.{◌≡◌, false};
 ghost use Rattle.clap.specs.Words.{rule_of};
-ghost use Rattle.pact_words.specs.Arguments.{batch_rule, certificate_rule, combine_rule, counts_rule, depth_rule, flag_rule, local_rule, number_operand_rule, number_rule, operand_rule, plans_rule, program_rule, rows_rule, seed_rule, word_rule, workers_rule};
+ghost use Rattle.pact_words.specs.Arguments.{batch_rule, certificate_rule, combine_rule, counts_rule, depth_rule, flag_rule, local_rule, number_operand_rule, number_rule, operand_rule, plans_rule, program_rule, rounds_rule, rows_rule, seed_rule, source_rule, stable_rule, word_rule, workers_rule};
 
 use clap::builder::ValueParser;
 use clap::{Arg, ArgAction};
@@ -34,6 +34,20 @@ pub(crate) fn rows<'a>(alloc: Global) -> Arg<'a>
     ensures local { result.global ≡ false }
 {
     number_operand(alloc, "rows", 0, 1_000_000)
+}
+
+pub(crate) fn source<'a>(alloc: Global) -> Arg<'a>
+    ensures rule { rule_of result ≡ source_rule }
+    ensures local { result.global ≡ false }
+{
+    operand(alloc, "source")
+}
+
+pub(crate) fn rounds<'a>(alloc: Global) -> Arg<'a>
+    ensures rule { rule_of result ≡ rounds_rule }
+    ensures local { result.global ≡ false }
+{
+    number_operand(alloc, "rounds", 1, 1000)
 }
 
 pub(crate) fn workers<'a>(alloc: Global) -> Arg<'a>
@@ -83,6 +97,13 @@ pub(crate) fn counts<'a>(alloc: Global) -> Arg<'a>
     ensures local { result.global ≡ false }
 {
     flag(alloc, "counts")
+}
+
+pub(crate) fn stable<'a>(alloc: Global) -> Arg<'a>
+    ensures rule { rule_of result ≡ stable_rule }
+    ensures local { result.global ≡ false }
+{
+    flag(alloc, "stable")
 }
 
 // A word that has to be there.

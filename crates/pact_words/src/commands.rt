@@ -30,7 +30,7 @@ pub struct Options {
 ///
 /// Where the words don't tell, there are 4 workers (1 to 16), at most 256 plans (1 to 1,000), batches of 64 records (1 to 1,024) and pipes of
 /// 4 notes (1 to 64), the records of a key are found by a hash table (`hash`, not `sort`), and nothing is combined. A seed is at most
-/// 2,147,483,646, and there are at most 1,000,000 rows.
+/// 2,147,483,646, there are at most 1,000,000 rows, and 1 to 1,000 rounds.
 #[derive(Clone, Copy, Debug, PartialEq, Eq)]
 pub enum Command<'a> {
     /// `run PROGRAM`: the program in the file of that name is run, and its rows are written.
@@ -72,6 +72,16 @@ pub enum Command<'a> {
         rows: u32,
         options: Options,
     },
+    /// `iterate PROGRAM SOURCE ROUNDS`: that program is run round by round, from the second round on with the rows of the round before, cut to its columns,
+    /// in the place of those of the source of that name, and the last round's rows are written. SOURCE is any text, and nothing is combined.
+    Iterate {
+        program: &'a str,
+        source: &'a str,
+        rounds: u32,
+        options: Options,
+        /// `--stable`: whether rounds end as soon as one gives the source the rows that it had, in any order, and how many there were is told.
+        stable: bool,
+    },
 }
 
 /// Which command the first word names.
@@ -84,6 +94,7 @@ pub(crate) enum Kind {
     Sets,
     Gen,
     Drill,
+    Iterate,
 }
 
 /// Why words give no command.

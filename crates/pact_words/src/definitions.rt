@@ -2,10 +2,11 @@
 
 ghost use Rattle.std.specs.Prelude.{◌≡◌, IfOk};
 ghost use Rattle.clap.specs.Words.{app_of};
-ghost use Rattle.pact_words.specs.Definitions.{app_for, check_app, drill_app, generating_app, planning_app, run_app, sets_app, with_limits, with_options, with_pipes};
+ghost use Rattle.pact_words.specs.Definitions.{app_for, check_app, drill_app, generating_app, iterate_app, planning_app, run_app, sets_app, with_common_options, with_limits, with_options, with_pipes, with_rounds};
 
 use crate::arguments::{
-    batch, certificate, combine, counts, depth, local, plans, program, rows, seed, workers,
+    batch, certificate, combine, counts, depth, local, plans, program, rounds, rows, seed, source,
+    stable, workers,
 };
 use crate::commands::Kind;
 use clap::Command;
@@ -23,6 +24,7 @@ pub(crate) fn definition<'a>(alloc: Global, kind: Kind) -> Result<Command<'a>, A
         Kind::Sets => sets(alloc),
         Kind::Gen => generating(alloc, "gen"),
         Kind::Drill => drill(alloc),
+        Kind::Iterate => iterate(alloc),
     }
 }
 
@@ -66,13 +68,25 @@ fn drill<'a>(alloc: Global) -> Result<Command<'a>, AllocError>
     with_options(alloc, generating(alloc, "drill")?)
 }
 
-// With all that says how a plan is chosen and run.
+fn iterate<'a>(alloc: Global) -> Result<Command<'a>, AllocError>
+    ensures { IfOk result (λ c. app_of c ≡ iterate_app) }
+{
+    let command = Command::new(alloc, "iterate").arg(program(alloc))?;
+    with_common_options(alloc, with_rounds(alloc, command)?)?.arg(stable(alloc))
+}
+
+// With the options of each command that runs plans.
+fn with_common_options<'a>(alloc: Global, command: Command<'a>) -> Result<Command<'a>, AllocError>
+    ensures { IfOk result (λ c. app_of c ≡ with_common_options (app_of command.entry)) }
+{
+    with_pipes(alloc, with_limits(alloc, command)?)?.arg(local(alloc))
+}
+
+// With these, and whether groups are combined.
 fn with_options<'a>(alloc: Global, command: Command<'a>) -> Result<Command<'a>, AllocError>
     ensures { IfOk result (λ c. app_of c ≡ with_options (app_of command.entry)) }
 {
-    with_pipes(alloc, with_limits(alloc, command)?)?
-        .arg(local(alloc))?
-        .arg(combine(alloc))
+    with_common_options(alloc, command)?.arg(combine(alloc))
 }
 
 fn with_limits<'a>(alloc: Global, command: Command<'a>) -> Result<Command<'a>, AllocError>
@@ -85,4 +99,11 @@ fn with_pipes<'a>(alloc: Global, command: Command<'a>) -> Result<Command<'a>, Al
     ensures { IfOk result (λ c. app_of c ≡ with_pipes (app_of command.entry)) }
 {
     command.arg(batch(alloc))?.arg(depth(alloc))
+}
+
+// With the source that gets what a round gives, and the number of rounds.
+fn with_rounds<'a>(alloc: Global, command: Command<'a>) -> Result<Command<'a>, AllocError>
+    ensures { IfOk result (λ c. app_of c ≡ with_rounds (app_of command.entry)) }
+{
+    command.arg(source(alloc))?.arg(rounds(alloc))
 }

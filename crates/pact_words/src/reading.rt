@@ -42,6 +42,7 @@ fn kind_named(word: &str) -> Option<Kind>
         "sets" => Some(Kind::Sets),
         "gen" => Some(Kind::Gen),
         "drill" => Some(Kind::Drill),
+        "iterate" => Some(Kind::Iterate),
         _ => None,
     }
 }

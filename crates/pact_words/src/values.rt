@@ -3,7 +3,7 @@
 ghost use Rattle.std.specs.Prelude.{◌≡◌, option_map};
 ghost use Rattle.clap.specs.Words.{first_of, found_of, rows_of};
 ghost use Rattle.pact_words.specs.FoundValues.{flag_of, local_of, local_said, number_of};
-ghost use Rattle.pact_words.specs.Words.{asked, asked_of, options_of};
+ghost use Rattle.pact_words.specs.Words.{asked, asked_of, common_options_of, options_of};
 
 use crate::commands::{Command, Kind, LocalStrategy, Options};
 use clap::ArgMatches;
@@ -20,6 +20,7 @@ pub(crate) fn command_in<'a>(kind: Kind, matches: &ArgMatches<'a>) -> Option<Com
         Kind::Sets => sets(matches),
         Kind::Gen => generate(matches),
         Kind::Drill => drill(matches),
+        Kind::Iterate => iterate(matches),
     }
 }
 
@@ -36,23 +37,32 @@ fn run<'a>(matches: &ArgMatches<'a>) -> Option<Command<'a>>
     })
 }
 
-fn options(matches: &ArgMatches<'_>) -> Option<Options>
-    ensures { result ≡ options_of (rows_of (found_of matches.now)) }
+// The options of each command that runs plans.
+fn common_options(matches: &ArgMatches<'_>) -> Option<Options>
+    ensures { result ≡ common_options_of (rows_of (found_of matches.now)) }
 {
     let workers = number(matches, "workers")?;
     let plans = number(matches, "plans")?;
     let batch = number(matches, "batch")?;
     let depth = number(matches, "depth")?;
     let local = local(matches, "local")?;
-    let combine = flag(matches, "combine")?;
     Some(Options {
         workers,
         plans,
         batch,
         depth,
         local,
-        combine,
+        combine: false,
     })
+}
+
+// These, and whether groups are combined.
+fn options(matches: &ArgMatches<'_>) -> Option<Options>
+    ensures { result ≡ options_of (rows_of (found_of matches.now)) }
+{
+    let common = common_options(matches)?;
+    let combine = flag(matches, "combine")?;
+    Some(Options { combine, ..common })
 }
 
 fn plan<'a>(matches: &ArgMatches<'a>) -> Option<Command<'a>>
@@ -117,6 +127,23 @@ fn drill<'a>(matches: &ArgMatches<'a>) -> Option<Command<'a>>
         seed,
         rows,
         options,
+    })
+}
+
+fn iterate<'a>(matches: &ArgMatches<'a>) -> Option<Command<'a>>
+    ensures { option_map asked result ≡ asked_of Kind.Iterate (rows_of (found_of matches.now)) }
+{
+    let program = text(matches, "program")?;
+    let source = text(matches, "source")?;
+    let rounds = number(matches, "rounds")?;
+    let options = common_options(matches)?;
+    let stable = flag(matches, "stable")?;
+    Some(Command::Iterate {
+        program,
+        source,
+        rounds,
+        options,
+        stable,
     })
 }
 

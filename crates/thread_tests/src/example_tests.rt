@@ -75,6 +75,16 @@ const E_CSV: &str = "1,5
 1,-3
 ";
 
+const G_CSV: &str = "1,1
+2,2
+3,3
+4,4
+1,2
+2,1
+2,3
+3,2
+";
+
 const GUESTS_CSV: &str = "3,Cleo
 4,Dan
 ";
@@ -181,6 +191,9 @@ const H_CSV: &str = "0,0
 9,99
 ";
 
+const KNOWN_CSV: &str = "Bern,0
+";
+
 const M_CSV: &str = ",9
 ";
 
@@ -218,6 +231,26 @@ const PRICES_CSV: &str = "1,tea,320
 const QUARTERS_CSV: &str = "north,10,12,8,15
 south,7,,9,4
 west,20,18,22,19
+";
+
+const ROADS_CSV: &str = "Bern,Thun,31
+Thun,Bern,31
+Thun,Spiez,13
+Spiez,Thun,13
+Spiez,Brig,57
+Brig,Spiez,57
+Bern,Basel,99
+Basel,Bern,99
+Bern,Olten,66
+Olten,Bern,66
+Olten,Basel,45
+Basel,Olten,45
+Olten,Zürich,65
+Zürich,Olten,65
+Bern,Zürich,140
+Zürich,Bern,140
+Chur,Davos,60
+Davos,Chur,60
 ";
 
 const S_CSV: &str = "1,5
@@ -293,6 +326,12 @@ const T3_CSV: &str = "1,9
 ";
 
 const U_CSV: &str = "9,3
+";
+
+const V_CSV: &str = "1,1
+2,2
+3,3
+4,4
 ";
 
 const VISITS_CSV: &str = "1,10
@@ -595,6 +634,47 @@ map open other named
 sink open 126 100 1
 ";
 
+const DISTANCES_PACT: &str = "pact 1
+fields 5
+source known known.csv text:0 int:1
+source road roads.csv text:2 text:3 int:4
+function further cogroup 1
+  each x1 of left
+    r0 = new
+    v0 = get x1 0
+    v1 = get x1 1
+    set r0 0 v0
+    set r0 1 v1
+    emit r0               # what is known stays known
+    each x2 of right
+      r0 = new
+      v0 = get x2 3
+      v1 = get x1 1
+      v2 = get x2 4
+      v1 = add v1 v2
+      set r0 0 v0
+      set r0 1 v1
+      emit r0
+    end
+  end
+end
+function least reduce 1
+  v0 = int 9223372036854775807
+  each x1 of group
+    v1 = get x1 1
+    v0 = min v0 v1
+  end
+  r0 = new
+  v2 = key 0
+  set r0 0 v2
+  set r0 1 v0
+  emit r0
+end
+cogroup ways further known road by 0 = 2
+reduce nearest least ways by 0
+sink nearest 0 1
+";
+
 const DISTINCT_PACT: &str = "pact 1
 fields 3
 source sale sales.csv text:0 int:1 int:2
@@ -827,6 +907,35 @@ match g jn s t by 0 = 2
 source u u.csv int:4 int:5
 match h jn g u by 3 = 4
 sink h 0 1 2 3 4 5
+";
+
+const LABEL_PACT: &str = "pact 1
+fields 4
+source v v.csv int:0 int:1
+source e g.csv int:2 int:3
+function nb match
+  r0 = new
+  v0 = get right 3
+  set r0 0 v0
+  v0 = get left 1
+  set r0 1 v0
+  emit r0
+end
+function low reduce 1
+  v0 = int 9223372036854775807
+  each x1 of group
+    v1 = get x1 1
+    v0 = min v0 v1
+  end
+  r0 = new
+  v2 = key 0
+  set r0 0 v2
+  set r0 1 v0
+  emit r0
+end
+match n nb v e by 0 = 2
+reduce r low n by 0
+sink r 0 1
 ";
 
 const MINIMUM_PACT: &str = "pact 1
@@ -1397,86 +1506,94 @@ fn programs_from_decimals(rt: HostRuntime) -> Result<(), Fail> {
             &[SOLD_CSV, PRICES_CSV, SIZES_CSV, SHOPS_CSV]
         )?
     );
+    assert!(rt; picked_alike(alloc, DISTANCES_PACT, &[KNOWN_CSV, ROADS_CSV])?);
     assert!(rt; picked_alike(alloc, DISTINCT_PACT, &[SALES_CSV])?);
-    assert!(rt; picked_alike(alloc, DRILL_PACT, &[DRILL_CSV])?);
     Ok(())
 }
 
 #[test]
-fn programs_from_extremes(rt: HostRuntime) -> Result<(), Fail> {
+fn programs_from_drill(rt: HostRuntime) -> Result<(), Fail> {
     let alloc = rt.alloc();
+    assert!(rt; picked_alike(alloc, DRILL_PACT, &[DRILL_CSV])?);
     assert!(rt; picked_alike(alloc, EXTREMES_PACT, &[SALES_CSV])?);
     assert!(rt; picked_alike(alloc, FILTER_PACT, &[S_CSV])?);
     assert!(rt; picked_alike(alloc, FIVE_PACT, &[S_CSV, T_CSV])?);
-    assert!(rt; picked_alike(alloc, FLAG_PACT, &[S_CSV])?);
     Ok(())
 }
 
 #[test]
-fn programs_from_full_join(rt: HostRuntime) -> Result<(), Fail> {
+fn programs_from_flag(rt: HostRuntime) -> Result<(), Fail> {
     let alloc = rt.alloc();
+    assert!(rt; picked_alike(alloc, FLAG_PACT, &[S_CSV])?);
     assert!(rt; picked_alike(alloc, FULL_JOIN_PACT, &[MEMBERS_CSV, VISITS_CSV])?);
     assert!(rt; picked_alike(alloc, GREET_PACT, &[NAMES_CSV])?);
     assert!(rt; picked_alike(alloc, INNER_JOIN_PACT, &[MEMBERS_CSV, VISITS_CSV])?);
-    assert!(rt; picked_alike(alloc, JOIN_PACT, &[S1_CSV, T_CSV])?);
     Ok(())
 }
 
 #[test]
-fn programs_from_join3(rt: HostRuntime) -> Result<(), Fail> {
+fn programs_from_join(rt: HostRuntime) -> Result<(), Fail> {
     let alloc = rt.alloc();
+    assert!(rt; picked_alike(alloc, JOIN_PACT, &[S1_CSV, T_CSV])?);
     assert!(rt; picked_alike(alloc, JOIN3_PACT, &[S1_CSV, T_CSV, U_CSV])?);
+    assert!(rt; picked_alike(alloc, LABEL_PACT, &[V_CSV, G_CSV])?);
     assert!(rt; picked_alike(alloc, MINIMUM_PACT, &[SALES_CSV])?);
+    Ok(())
+}
+
+#[test]
+fn programs_from_notes(rt: HostRuntime) -> Result<(), Fail> {
+    let alloc = rt.alloc();
     assert!(rt; picked_alike(alloc, NOTES_PACT, &[S_CSV])?);
     assert!(rt; picked_alike(alloc, NULL_PACT, &[N_CSV, M_CSV])?);
-    Ok(())
-}
-
-#[test]
-fn programs_from_null2(rt: HostRuntime) -> Result<(), Fail> {
-    let alloc = rt.alloc();
     assert!(rt; picked_alike(alloc, NULL2_PACT, &[N_CSV, N_CSV])?);
     assert!(rt; picked_alike(alloc, ODD_PACT, &[S1_CSV])?);
+    Ok(())
+}
+
+#[test]
+fn programs_from_outer_join(rt: HostRuntime) -> Result<(), Fail> {
+    let alloc = rt.alloc();
     assert!(rt; picked_alike(alloc, OUTER_JOIN_PACT, &[MEMBERS_CSV, VISITS_CSV])?);
     assert!(rt; picked_alike(alloc, PIVOT_PACT, &[SALES_CSV])?);
-    Ok(())
-}
-
-#[test]
-fn programs_from_push(rt: HostRuntime) -> Result<(), Fail> {
-    let alloc = rt.alloc();
     assert!(rt; picked_alike(alloc, PUSH_PACT, &[H_CSV])?);
     assert!(rt; picked_alike(alloc, QUARTER_PACT, &[QUARTERS_CSV, ASKED_CSV])?);
+    Ok(())
+}
+
+#[test]
+fn programs_from_revenue(rt: HostRuntime) -> Result<(), Fail> {
+    let alloc = rt.alloc();
     assert!(rt; picked_alike(alloc, REVENUE_PACT, &[SOLD_CSV, PRICES_CSV, SHOPS_CSV])?);
     assert!(rt; picked_alike(alloc, RUNNING_TOTAL_PACT, &[SALES_CSV])?);
-    Ok(())
-}
-
-#[test]
-fn programs_from_self_join(rt: HostRuntime) -> Result<(), Fail> {
-    let alloc = rt.alloc();
     assert!(rt; picked_alike(alloc, SELF_JOIN_PACT, &[STAFF_CSV, STAFF_CSV])?);
     assert!(rt; picked_alike(alloc, SEMI_JOIN_PACT, &[MEMBERS_CSV, VISITS_CSV])?);
+    Ok(())
+}
+
+#[test]
+fn programs_from_shop(rt: HostRuntime) -> Result<(), Fail> {
+    let alloc = rt.alloc();
     assert!(rt; picked_alike(alloc, SHOP_PACT, &[CUSTOMERS_CSV, ORDERS_CSV])?);
     assert!(rt; picked_alike(alloc, SUM_PACT, &[S_CSV])?);
-    Ok(())
-}
-
-#[test]
-fn programs_from_swap(rt: HostRuntime) -> Result<(), Fail> {
-    let alloc = rt.alloc();
     assert!(rt; picked_alike(alloc, SWAP_PACT, &[S_CSV])?);
     assert!(rt; picked_alike(alloc, TOP_PACT, &[SCORES_CSV])?);
-    assert!(rt; picked_alike(alloc, TOTAL_PACT, &[S_CSV])?);
-    assert!(rt; picked_alike(alloc, TWICE_PACT, &[D_CSV])?);
     Ok(())
 }
 
 #[test]
-fn programs_from_union(rt: HostRuntime) -> Result<(), Fail> {
+fn programs_from_total(rt: HostRuntime) -> Result<(), Fail> {
     let alloc = rt.alloc();
+    assert!(rt; picked_alike(alloc, TOTAL_PACT, &[S_CSV])?);
+    assert!(rt; picked_alike(alloc, TWICE_PACT, &[D_CSV])?);
     assert!(rt; picked_alike(alloc, UNION_PACT, &[MEMBERS_CSV, GUESTS_CSV])?);
     assert!(rt; picked_alike(alloc, UNIQ_PACT, &[S_CSV, T3_CSV])?);
+    Ok(())
+}
+
+#[test]
+fn programs_from_wide(rt: HostRuntime) -> Result<(), Fail> {
+    let alloc = rt.alloc();
     assert!(rt; picked_alike(alloc, WIDE_PACT, &[S_CSV])?);
     Ok(())
 }

@@ -4,4 +4,4 @@ use Rattle.pact_top.proofs.CommandsRun.{made_alone}
 use Rattle.pact_top.proofs.answering.drill.Goals as goal
 
 pub returns : goal.returns
-returns c = made_alone (to_sum_up c.args.seed c.args.rows) c.out_alone.result (rw c.out_alone.ensures (c.in_ok-text.ensures, refl))
+returns g c = made_alone (to_sum_up c.args.seed c.args.rows) c.out_alone.result (rw c.out_alone.ensures (c.in_ok-text.ensures, refl))

@@ -1,5 +1,5 @@
 use Rattle.std.proofs.Common.{◌≡◌, sym, ap, ◌∙◌}
-use Rattle.pact_words.specs.Words.{asked, to_certify, to_check, to_drill, to_generate, to_plan, to_run, to_tell_sets}
+use Rattle.pact_words.specs.Words.{asked, to_certify, to_check, to_drill, to_generate, to_iterate, to_plan, to_run, to_tell_sets}
 use Rattle.pact_top.specs.CommandTexts.{to_make, to_sum_up}
 use Rattle.pact_top.specs.Work.{at_once}
 use Rattle.pact_top.proofs.AnswersOfStages.{comes_alone}
@@ -9,7 +9,7 @@ pub returns-in-Run : goal.returns-in-Run
 returns-in-Run g c =
     let same : to_run c.as_bytes.result.now c.in-Run.options c.in-Run.counts ≡ asked c.args.command =
     ap (λ name. to_run name c.in-Run.options c.in-Run.counts) c.as_bytes.ensures.value ∙ ap asked (sym c.in-Run.is) in
-    rw (← same) c.run.ensures
+    rw (← same) c.run_program.ensures
 
 pub returns-in-Plan : goal.returns-in-Plan
 returns-in-Plan g c =
@@ -43,3 +43,10 @@ pub returns-in-Drill : goal.returns-in-Drill
 returns-in-Drill g c =
     let same : to_drill c.in-Drill.seed c.in-Drill.rows c.in-Drill.options ≡ asked c.args.command = ap asked (sym c.in-Drill.is) in
     rw (← same) (comes_alone (at_once (to_sum_up c.in-Drill.seed c.in-Drill.rows)) (g.F.Feed.shows c.args.feed.now) c.drill.result c.drill.ensures)
+
+pub returns-in-Iterate : goal.returns-in-Iterate
+returns-in-Iterate g c =
+    let i = c.in-Iterate in
+    let same : to_iterate c.as_bytes-name.result.now c.as_bytes-source.result.now i.rounds i.options i.stable ≡ asked c.args.command =
+    (λ k. to_iterate (c.as_bytes-name.ensures.value k) (c.as_bytes-source.ensures.value k) i.rounds i.options i.stable) ∙ ap asked (sym i.is) in
+    rw (← same) c.iterate.ensures

@@ -1,7 +1,7 @@
 use Rattle.std.proofs.Common.{◌≡◌, ◌≤◌, ◌⊎◌, inl, inr}
 use Rattle.pact_top.specs.Refusal.{refusal_line, status_of}
 use Rattle.pact_words.specs.Words.{texts_of}
-use Rattle.pact_top.proofs.StatusesOfRefusals.{line_is, not_missing, not_stopped, stopped, unnamed_refused, unread_there, usage_told, usage_unnamed, where_ready, where_missing, where_stopped}
+use Rattle.pact_top.proofs.StatusesOfRefusals.{line_is, not_missing, not_stopped, stopped, told_quietly, unnamed_refused, unread_there, usage_told, usage_unnamed, where_ready, where_missing, where_stopped}
 use Rattle.pact_top.proofs.top.pact_alone.Goals as goal
 
 pub returns-in-Ok-clause-missing_file : goal.returns-in-Ok-clause-missing_file
@@ -16,14 +16,14 @@ returns-in-Ok-clause-complete g c = λ told ready stands unread unwritten untold
       | inl whole ↦ inl whole
       | inr cut ↦ elim (c.write_texts.ensures.cut cut) as (λ _. (c.write_texts.result ≡ 0) ⊎ (c.write_texts.result ≡ 1)) [
         | inl text ↦ absurd (unwritten text.rose)
-        | inr counts ↦ absurd (untold (c.in-Ok.ensures.told.counts counts.counts counts.are_told) counts.rose)
+        | inr more ↦ absurd (untold (c.in-Ok.ensures.told.told more.text more.is_told) more.rose)
       ]
     ]
 
 pub returns-in-Ok-clause-unwritten_cause : goal.returns-in-Ok-clause-unwritten_cause
 returns-in-Ok-clause-unwritten_cause g c = λ cut. elim (c.write_texts.ensures.cut cut) [
   | inl text ↦ inl text.rose
-  | inr counts ↦ inr (c.in-Ok.ensures.told.counts counts.counts counts.are_told, counts.rose)
+  | inr more ↦ inr (c.in-Ok.ensures.told.told more.text more.is_told, more.rose)
 ]
 
 pub returns-in-Err-clause-complete : goal.returns-in-Err-clause-complete
@@ -70,3 +70,6 @@ pub returns-in-Err-clause-usage_unnamed : goal.returns-in-Err-clause-usage_unnam
 returns-in-Err-clause-usage_unnamed g c =
     let words = texts_of c.args.words.now in
     rw c.refuse.ensures.status (λ none. usage_unnamed words c.in-Err.refusal none (c.in-Err.ensures.usage (unnamed_refused words none)))
+
+pub returns-in-Ok-clause-answered_quietly : goal.returns-in-Ok-clause-answered_quietly
+returns-in-Ok-clause-answered_quietly g c = λ done none. told_quietly c.in-Ok.texts.told _ _ _ c.in-Ok.ensures.told.told (c.write_texts.ensures.whole done).1 none

@@ -4,7 +4,7 @@ use Rattle.clap.specs.Words.{App, HasKind, IsAmong, Kinds, Text, app_of, fault_o
 use Rattle.clap.specs.declared.error.kind.ErrorKind.TheVariants.{OutOfMemory}
 use Rattle.clap.proofs.OnLiterals.{clap_on_literals}
 use Rattle.pact_words.specs.declared.commands.Kind.{Kind}
-use Rattle.pact_words.specs.declared.commands.Kind.TheVariants.{Run, Plan, Cert, Check, Sets, Gen, Drill}
+use Rattle.pact_words.specs.declared.commands.Kind.TheVariants.{Run, Plan, Cert, Check, Sets, Gen, Drill, Iterate}
 use Rattle.pact_words.specs.Definitions.{app_for}
 use Rattle.pact_words.specs.Words.{texts_of}
 use Rattle.pact_words.proofs.parsing.parse.Goals as goal
@@ -18,6 +18,7 @@ free Check = refl
 free Sets = refl
 free Gen = refl
 free Drill = refl
+free Iterate = refl
 
 simple : (k : Kind) → is_simple (app_for k) ≡ true
 unfolding clap_on_literals
@@ -28,6 +29,7 @@ simple Check = refl
 simple Sets = refl
 simple Gen = refl
 simple Drill = refl
+simple Iterate = refl
 
 pub returns-in-Ok-try_get_matches_from-clause-taken : goal.returns-in-Ok-try_get_matches_from-clause-taken
 returns-in-Ok-try_get_matches_from-clause-taken c =

@@ -1,0 +1,4 @@
+pub mod CutRows
+pub mod OneIteration
+pub mod RoundLaws
+pub mod SortedBags

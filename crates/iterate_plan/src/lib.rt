@@ -1,0 +1,10 @@
+//! Rounds of an iteration: what a round goes on with, and whether it gave back what it began with.
+//!
+//! `specs/Rounds` says which bags follow each other, and when an iteration ends.
+#![tactic(auto)]
+
+mod bags;
+mod cutting;
+
+pub use bags::same_bag;
+pub use cutting::cut;

@@ -1,0 +1,196 @@
+//! Programs that run round after round, each time over what they gave the time before.
+
+ghost use Rattle.std.specs.Prelude.{◌≡◌, ◌≤◌, length, IfOk};
+ghost use Rattle.iterate_plan.specs.Rounds.{AllowsOn, IsIterated};
+ghost use Rattle.pact_operators.specs.Inputs.{AreInputsOf};
+ghost use Rattle.pact_operators.specs.PlanOps.{source_place};
+ghost use Rattle.pact_record.specs.Widths.{AreWide};
+ghost use Rattle.plan_trees.specs.Plans.{node_limit};
+ghost use Rattle.pact_words.specs.Words.{AreOptionsInRange};
+ghost use Rattle.pact_top.specs.CommandTexts.{ArePlansOf};
+ghost use Rattle.pact_top.specs.Iterations as specs;
+ghost use Rattle.pact_top.specs.Iterations.{HasSource, IsCallOf, IsIterationText, columns_at};
+ghost use Rattle.pact_top.specs.Lines.{AreLines};
+ghost use Rattle.pact_top.specs.Runs.{IsRunner};
+
+use crate::choosing::{Picked, choose_listed};
+use crate::lines::sorted_lines;
+use crate::loaded::{Loaded, is_source};
+use crate::running::run_plan;
+use crate::tasks::Task;
+use crate::texts::Texts;
+use iterate_run::{Iterated, Round, iterate};
+use pact_bag::{Inputs, Outcome, Rows};
+use pact_operators::{Op, Program};
+use pact_record::{Bytes, OutOfMemory};
+use pact_words::Options;
+use plan_enumerate::{Listed, enumerate};
+use plan_printer::push_number;
+use std::alloc::Global;
+
+/// What an iteration goes on from: a program with the rows of its sources, and the number of the source whose rows each round replaces.
+#[derive(Drop)]
+pub struct Repeated {
+    pub loaded: Loaded,
+    pub at: usize,
+}
+
+// How long an iteration goes on.
+#[derive(Clone, Copy)]
+struct Extent {
+    rounds: u32,
+    stable: bool,
+}
+
+// A program with what is called for each of its rounds. What runs on threads is called: the bounds of an `impl` count for the calling thread alone.
+#[derive(Drop)]
+struct CalledRounds<'a, C: Fn(Global, &Inputs) -> Result<Rows, OutOfMemory>> {
+    program: &'a Program,
+    call: C,
+}
+
+impl<'a, C: Fn(Global, &Inputs) -> Result<Rows, OutOfMemory>> Round for CalledRounds<'a, C> {
+    ghost program = { λ r. r.program.now };
+
+    ghost ready = { λ r. IsCallOf r.program.now (C.pre r.call) (C.post r.call) };
+
+    fn round(&mut self, alloc: Global, inputs: &Inputs) -> Result<Rows, OutOfMemory> {
+        (self.call)(alloc, inputs)
+    }
+}
+
+// What a run of the plan gives that is chosen for these rows. They are copied, since the rows of a run go into it.
+fn one_round<F: Fn(&Program, &Task, Inputs) -> Result<Outcome, OutOfMemory>>(
+    alloc: Global,
+    program: &Program,
+    listed: &Listed,
+    options: Options,
+    inputs: &Inputs,
+    run: &F,
+) -> Result<Rows, OutOfMemory>
+    requires inputs { AreInputsOf program.now inputs.now }
+    requires options { AreOptionsInRange options }
+    requires plans { ArePlansOf program.now listed.now.entries }
+    requires runs { IsRunner (F.pre run.now) (F.post run.now) }
+    ensures { IfOk result (AllowsOn program.now inputs.now) }
+{
+    let Picked { chosen, plan } = choose_listed(alloc, program, inputs, listed, options.workers)?;
+    let copied = inputs.copy(alloc)?;
+    let left = run_plan(alloc, program, copied, &plan, chosen.layout, options, run)?;
+    Ok(left.outcome.rows)
+}
+
+// The place of a source among the sources.
+fn source_place(ops: &[Op], at: usize) -> u32
+    requires within { at ≤ length ops.now }
+    requires few { length ops.now ≤ node_limit }
+    ensures { result ≡ source_place ops.now at }
+{
+    let mut place = 0;
+    for op in &ops[..at] {
+        if is_source(op.kind) {
+            place += 1;
+        }
+    }
+    place
+}
+
+// The rounds of a program by the plans that are listed of it.
+fn run_rounds<F: Fn(&Program, &Task, Inputs) -> Result<Outcome, OutOfMemory>>(
+    alloc: Global,
+    program: &Program,
+    listed: &Listed,
+    inputs: Inputs,
+    at: usize,
+    options: Options,
+    extent: Extent,
+    run: &F,
+) -> Result<Iterated, OutOfMemory>
+    requires inputs { AreInputsOf program.now inputs }
+    requires source { HasSource program.now at }
+    requires options { AreOptionsInRange options }
+    requires plans { ArePlansOf program.now listed.now.entries }
+    requires rounds { 1 ≤ extent.rounds }
+    requires runs { IsRunner (F.pre run.now) (F.post run.now) }
+    ensures { IfOk result (λ i. IsIterated program.now inputs (source_place program.now.ops at) (columns_at program.now at) extent.rounds extent.stable i.rows i.rounds) }
+{
+    let ops = program.ops();
+    let place = source_place(ops, at);
+    let mut rounds = CalledRounds {
+        program,
+        call: |alloc: Global, inputs: &Inputs| -> Result<Rows, OutOfMemory>
+            requires inputs { AreInputsOf program.now inputs.now }
+            requires options { AreOptionsInRange options }
+            requires plans { ArePlansOf program.now listed.now.entries }
+            requires runs { IsRunner (F.pre run.now) (F.post run.now) }
+            ensures { IfOk result (AllowsOn program.entry.now inputs.now) }
+        { one_round(alloc, program, listed, options, inputs, run) },
+    };
+    let columns = &ops[at].columns;
+    iterate(
+        alloc,
+        &mut rounds,
+        inputs,
+        place,
+        columns,
+        extent.rounds,
+        extent.stable,
+    )
+}
+
+// Tells how many rounds there were, where an iteration may end early.
+fn told_rounds(alloc: Global, rounds: u32, stable: bool) -> Result<Option<Bytes>, OutOfMemory>
+    ensures { IfOk result (λ told. told ≡ specs.told_rounds stable rounds) }
+{
+    if !stable {
+        return Ok(None);
+    }
+    let mut line = Bytes::from_slice(alloc, b"rounds ")?;
+    push_number(alloc, &mut line, u64::from(rounds))?;
+    line.extend_from_slice(b"\n")?;
+    Ok(Some(line))
+}
+
+// The sorted rows of the last round, and how many rounds there were.
+fn texts_of_rounds(
+    alloc: Global,
+    program: &Program,
+    iterated: Iterated,
+    stable: bool,
+) -> Result<Texts, OutOfMemory>
+    requires widths { AreWide program.now.fields iterated.rows }
+    ensures lines { IfOk result (λ texts. AreLines program.now.sink iterated.rows texts.out) }
+    ensures told { IfOk result (λ texts. texts.told ≡ specs.told_rounds stable iterated.rounds) }
+{
+    let Iterated { rows, rounds } = iterated;
+    let out = sorted_lines(alloc, rows, program.sink())?;
+    let told = told_rounds(alloc, rounds, stable)?;
+    Ok(Texts { out, told })
+}
+
+/// The sorted rows of the last of so many rounds. With `stable` an iteration ends behind the first round that gives back the rows with which it began, and
+/// how many rounds there were is told. The plans of the program are listed once, and one is chosen for the rows of each round.
+pub fn iteration_texts<F: Fn(&Program, &Task, Inputs) -> Result<Outcome, OutOfMemory>>(
+    alloc: Global,
+    repeated: Repeated,
+    rounds: u32,
+    options: Options,
+    stable: bool,
+    run: &F,
+) -> Result<Texts, OutOfMemory>
+    requires inputs { AreInputsOf repeated.loaded.program repeated.loaded.inputs }
+    requires source { HasSource repeated.loaded.program repeated.at }
+    requires options { AreOptionsInRange options }
+    requires rounds { 1 ≤ rounds }
+    requires runs { IsRunner (F.pre run.now) (F.post run.now) }
+    ensures { IfOk result (IsIterationText repeated rounds stable) }
+{
+    let Repeated { loaded, at } = repeated;
+    let Loaded { program, inputs } = loaded;
+    // a program tells that it is one
+    let _fields = program.fields();
+    let listed = enumerate(alloc, &program, options.plans)?;
+    let extent = Extent { rounds, stable };
+    let iterated = run_rounds(alloc, &program, &listed, inputs, at, options, extent, run)?;
+    texts_of_rounds(alloc, &program, iterated, stable)
+}

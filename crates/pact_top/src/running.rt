@@ -1,0 +1,187 @@
+//! Runs of the plan that is chosen, and what is written of them.
+
+ghost use Rattle.std.specs.Prelude.{◌≡◌, ◌≤◌, ◌<◌, IfOk};
+ghost use Rattle.flow_core.specs.Worlds.{depth_limit};
+ghost use Rattle.flow_instance.specs.Limits.{batch_limit};
+ghost use Rattle.pact_operators.specs.Inputs.{AreInputsOf};
+ghost use Rattle.pact_operators.specs.Programs.{IsPlanOf, IsProgram};
+ghost use Rattle.pact_record.specs.Widths.{AreWide};
+ghost use Rattle.pact_words.specs.Words.{AreOptionsInRange};
+ghost use Rattle.reorder_pair.specs.Legal.{KeepAnswers};
+ghost use Rattle.pact_top.specs.Lines.{AreLines};
+ghost use Rattle.ship_strategy.specs.Layouts.{layout_count, layout_of};
+ghost use Rattle.ship_strategy.specs.PlanFacts.{facts_of};
+ghost use Rattle.ship_strategy.specs.Ships.{LegalShip};
+ghost use Rattle.pact_top.specs.CommandTexts.{AreToldCounts, IsAnswerOf, IsOutcome, IsRun};
+ghost use Rattle.pact_top.specs.Runs.{IsRunner};
+
+use crate::choosing::{Choice, choose_plan};
+use crate::lines::sorted_lines;
+use crate::loaded::Loaded;
+use crate::tasks::{RunOutcome, Task, run_either};
+use crate::texts::Texts;
+use pact_bag::{Counts, Inputs, Outcome};
+use pact_operators::{Plan, Program};
+use pact_record::{Bytes, OutOfMemory};
+use pact_words::Options;
+use plan_printer::{counts_text, push_partials};
+use ship_strategy::layout;
+use std::alloc::Global;
+
+/// A run of a program by the plan that was chosen for it, and what it gave.
+#[derive(Drop)]
+pub struct FinishedRun {
+    pub program: Program,
+    pub choice: Choice,
+    pub outcome: Outcome,
+    pub combined: Vec<(u32, u32)>,
+}
+
+// What is run: a plan in one of its layouts, as the options say.
+fn task_of(program: &Program, plan: &Plan, number: u32, options: Options) -> Task
+    requires options { AreOptionsInRange options }
+    requires plan { IsPlanOf program.now.functions program.now.ops plan.now }
+    requires layout { number < layout_count program.now.ops }
+    ensures physical { result.physical ≡ layout_of (facts_of program.now plan.now) program.now.ops plan.now number options.workers }
+    ensures workers { result.options.workers ≡ options.workers }
+    ensures batch { result.options.batch ≡ options.batch }
+    ensures depth { result.options.depth ≡ options.depth }
+    ensures few { (1 ≤ result.options.batch) × (result.options.batch ≤ batch_limit) }
+    ensures shallow { (1 ≤ result.options.depth) × (result.options.depth ≤ depth_limit) }
+    ensures local { result.local ≡ options.local }
+    ensures tree { result.physical.tree ≡ plan.now }
+    ensures legal { LegalShip (facts_of program.now result.physical.tree) result.physical }
+{
+    let physical = layout(program, plan, number, options.workers);
+    let Options {
+        workers,
+        batch,
+        depth,
+        local,
+        ..
+    } = options;
+    let options = flow_run::Options {
+        workers,
+        batch,
+        depth,
+    };
+    Task {
+        physical,
+        options,
+        local,
+    }
+}
+
+/// What a run of a plan in parts gives, in the layout of that number: a bag that the plan as written allows too.
+pub fn run_plan<F: Fn(&Program, &Task, Inputs) -> Result<Outcome, OutOfMemory>>(
+    alloc: Global,
+    program: &Program,
+    inputs: Inputs,
+    plan: &Plan,
+    number: u32,
+    options: Options,
+    run: &F,
+) -> Result<RunOutcome, OutOfMemory>
+    requires inputs { AreInputsOf program.now inputs }
+    requires options { AreOptionsInRange options }
+    requires plan { IsPlanOf program.now.functions program.now.ops plan.now }
+    requires layout { number < layout_count program.now.ops }
+    requires answers { KeepAnswers program.now program.now.plan plan.now }
+    requires runs { IsRunner (F.pre run.now) (F.post run.now) }
+    ensures { IfOk result (λ r. IsOutcome (record { program = program.now; inputs = inputs }) options.workers plan.now number options.combine r.outcome r.combined.items) }
+{
+    let task = task_of(program, plan, number, options);
+    run_either(alloc, program, task, inputs, options.combine, run)
+}
+
+// The counts of a run of the chosen plan and how many partial groups there were, where they are asked for.
+fn told_counts(
+    alloc: Global,
+    program: &Program,
+    choice: &Choice,
+    counts: &Counts,
+    combined: &[(u32, u32)],
+    asked: bool,
+) -> Result<Option<Bytes>, OutOfMemory>
+    requires plan { IsPlanOf program.now.functions program.now.ops choice.now.plan }
+    ensures { IfOk result (AreToldCounts program.now choice.now.plan counts.now combined.now asked) }
+{
+    if !asked {
+        return Ok(None);
+    }
+    let mut text = counts_text(alloc, program, &choice.plan, counts)?;
+    push_partials(alloc, &mut text, program, counts, combined)?;
+    Ok(Some(text))
+}
+
+/// Chooses a plan and runs it. The rows of the sources go into the run.
+pub fn run_chosen<F: Fn(&Program, &Task, Inputs) -> Result<Outcome, OutOfMemory>>(
+    alloc: Global,
+    loaded: Loaded,
+    options: Options,
+    run: &F,
+) -> Result<FinishedRun, OutOfMemory>
+    requires inputs { AreInputsOf loaded.program loaded.inputs }
+    requires options { AreOptionsInRange options }
+    requires runs { IsRunner (F.pre run.now) (F.post run.now) }
+    ensures { IfOk result (IsRun loaded options.workers options.plans options.combine) }
+{
+    let choice = choose_plan(alloc, &loaded, options.workers, options.plans)?;
+    let Loaded { program, inputs } = loaded;
+    let number = choice.chosen.layout;
+    let RunOutcome { outcome, combined } = run_plan(
+        alloc,
+        &program,
+        inputs,
+        &choice.plan,
+        number,
+        options,
+        run,
+    )?;
+    Ok(FinishedRun {
+        program,
+        choice,
+        outcome,
+        combined,
+    })
+}
+
+// The sorted rows that a run of the chosen plan gave, and its counts where they are asked for.
+fn texts_of_run(alloc: Global, run: FinishedRun, counts: bool) -> Result<Texts, OutOfMemory>
+    requires plan { IsPlanOf run.program.functions run.program.ops run.choice.plan }
+    requires widths { AreWide run.program.fields run.outcome.rows }
+    ensures lines { IfOk result (λ texts. AreLines run.program.sink run.outcome.rows texts.out) }
+    ensures counts { IfOk result (λ texts. AreToldCounts run.program run.choice.plan run.outcome.counts run.combined.items counts texts.told) }
+    ensures program { IsProgram run.program }
+{
+    let FinishedRun {
+        program,
+        choice,
+        outcome,
+        combined,
+    } = run;
+    let Outcome {
+        rows,
+        counts: given,
+    } = outcome;
+    let out = sorted_lines(alloc, rows, program.sink())?;
+    let told = told_counts(alloc, &program, &choice, &given, &combined, counts)?;
+    Ok(Texts { out, told })
+}
+
+/// The sorted rows of a run of the chosen plan, and its counts where they are asked for.
+pub fn run_texts<F: Fn(&Program, &Task, Inputs) -> Result<Outcome, OutOfMemory>>(
+    alloc: Global,
+    loaded: Loaded,
+    options: Options,
+    counts: bool,
+    run: &F,
+) -> Result<Texts, OutOfMemory>
+    requires inputs { AreInputsOf loaded.program loaded.inputs }
+    requires options { AreOptionsInRange options }
+    requires runs { IsRunner (F.pre run.now) (F.post run.now) }
+    ensures { IfOk result (IsAnswerOf loaded options.workers options.plans counts options.combine) }
+{
+    let finished = run_chosen(alloc, loaded, options, run)?;
+    texts_of_run(alloc, finished, counts)
+}
