@@ -73,6 +73,12 @@ sed '/"j" -> "r"/s/counted [0-9]*\\l/&\&#160;partials 3\\l/' expected/shop.count
 count test "$(grep -c 'partials 3' "$scratch/partials.dot")" = 1
 count draws 0 "$scratch/partials.dot" /dev/null expected/shop.plan --counts "$scratch/partials.counts"
 
+# Of a run with pruning it stands on an arrow what is kept of the records that are shipped along it.
+{ cat "$scratch/shop.counts" && printf 'o keeps {4,5}\nd keeps {}\nr partials 3\n'; } >"$scratch/keeps.counts"
+sed '/"o" -> "j"/s/counted [0-9]*\\l/&\&#160;keeps {4,5}\\l/; /"d" -> "j"/s/counted [0-9]*\\l/&\&#160;keeps {}\\l/' "$scratch/partials.dot" >"$scratch/keeps.dot"
+count test "$(grep -c 'keeps {' "$scratch/keeps.dot")" = 2
+count draws 0 "$scratch/keeps.dot" /dev/null expected/shop.plan --counts "$scratch/keeps.counts"
+
 # Each row has what sed does to the counts, and the line that is told.
 while IFS='|' read -r change told; do
     sed "$change" "$scratch/shop.counts" >"$scratch/counts"
@@ -88,6 +94,12 @@ p|the counts name c twice
 $a o partials 3|the counts name partials of o, which is no reduce of the plan
 $a x partials 3|the counts name partials of x, which is no reduce of the plan
 $a r partials 3\nr partials 3|the counts name partials of r twice
+$a c keeps {0,1}|the counts name what is kept of c, which the plan does not ship
+$a r keeps {1}|the counts name what is kept of r, which the plan does not ship
+$a x keeps {0}|the counts name what is kept of x, which the plan does not ship
+$a o keeps {4,5}\no keeps {4,5}|the counts name what is kept of o twice
+$a o keeps {4,}|line 6 of the counts is no line of counts
+$a o keeps 4|line 6 of the counts is no line of counts
 3s/ out.*//|line 3 of the counts is no line of counts
 $s/$/ /|line 5 of the counts is no line of counts
 END

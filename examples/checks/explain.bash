@@ -180,7 +180,7 @@ while IFS= read -r row; do
 done <<'END'
 out of memory|Memory ran out: `out of memory`.
 out of memory|docs/faults.md, "Status 1"
-usage: pact COMMAND ARGUMENTS|run PROGRAM [--workers N] [--plans N] [--batch N] [--depth N] [--local WAY] [--combine] [--counts]
+usage: pact COMMAND ARGUMENTS|run PROGRAM [--workers N] [--plans N] [--batch N] [--depth N] [--local WAY] [--prune] [--combine] [--counts]
 usage: pact COMMAND ARGUMENTS|--plans N: 1 to 1,000, by default 256
 usage: pact COMMAND ARGUMENTS|docs/faults.md, "Status 2"
 cannot read sub|sub is a folder

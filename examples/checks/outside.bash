@@ -399,7 +399,7 @@ bench_passes() { # a script of ../bench, and its words
     PROGRAM=$program KEPT=$scratch/kept bash "../bench/$1" "${@:2}" >"$scratch/told" 2>&1 || { cat "$scratch/told"; return 1; }
 }
 if command -v cc >/dev/null; then
-    count bench_passes memory --alone 'run sum.pact --workers 2' 'check push.pact push.good.json' 'check push.pact push.c3.json' 'run shop.pact' \
+    count bench_passes memory --alone 'run sum.pact --workers 2' 'check push.pact push.good.json' 'check push.pact push.c3.json' 'run shop.pact --prune' \
         'plan shop.pact' 'run twice.pact --workers 2' 'sets twice.pact' 'gen 1 1' 'run sum.pact --workers 2 --combine --counts' \
         'iterate label.pact v 2 --stable --workers 2'
     edited=(

@@ -2,26 +2,33 @@
 use Rattle.std.proofs.Common.{◌≡◌, ◌++◌, ℕ, Bool, true, false, List, Option, Some, None, Ok, codes, subst}
 use Rattle.std.proofs.lemmas.Option.{same_Some}
 use Rattle.serde_json.specs.Written.{compact_text}
-use Rattle.pact_bag.specs.declared.outcomes.Outcome.{Outcome}
-use Rattle.pact_operators.specs.Allowed.{Counted}
-use Rattle.pact_operators.specs.PlanOps.{plan_ops}
 use Rattle.reorder_pair.specs.declared.legality.Condition.{Condition}
 use Rattle.swap_certificate.specs.declared.certificates.Certificate.{Certificate}
 use Rattle.swap_certificate.specs.Checks.{Checks, certificate_of}
 use Rattle.swap_certificate.specs.Shape.{IsCertificateText, certificate_data}
-use Rattle.pact_top.specs.CommandTexts.{AreCounts, AreToldCounts, IsCertificateLine, IsChoice, IsDerived, laid}
+use Rattle.pact_top.specs.CommandTexts.{AreCounts, AreToldCounts, IsCertificateLine, IsChoice, IsDerived, IsOutcome}
 use Rattle.pact_top.specs.declared.choosing.Choice.{Choice}
 use Rattle.pact_top.specs.declared.loaded.Loaded.{Loaded}
-use Rattle.pact_top.specs.Runs.{IsRunOf}
+use Rattle.pact_top.specs.declared.pruned_runs.RunOutcome.{RunOutcome}
 
 module _ (l : Loaded) (workers plans : ℕ) (choice : Choice) where
-  pub told-AreCounts : (combine : Bool) (o : Outcome) (of : List (ℕ × ℕ)) (asked : Bool) (told : Option (List ℕ)) → IsChoice l workers plans choice
-      → Counted (plan_ops l.program l.inputs) choice.plan o.rows o.counts → IsRunOf (laid l workers choice.plan choice.chosen.layout) l.inputs combine o of → AreToldCounts l.program choice.plan o.counts of asked told
-      → AreCounts l workers plans combine o.rows asked told
-  told-AreCounts combine o of true (Some text) chosen counted run h =
-      record { choice = choice; is_choice = chosen; counts = o.counts; counted = counted; combined = of; run = run; spelled = same_Some text _ h }
-  told-AreCounts combine o of true None chosen counted run h = absurd (cc)
-  told-AreCounts combine o of false told chosen counted run h = h
+  pub told-AreCounts : (prune combine : Bool) (r : RunOutcome) (is : IsOutcome l workers choice.plan choice.chosen.layout prune combine r) (asked : Bool) (told : Option (List ℕ))
+      → IsChoice l workers plans choice → AreToldCounts l.program choice.plan r.outcome.counts r.kept.items r.combined.items asked told → AreCounts l workers plans prune combine is.bag asked told
+  told-AreCounts prune combine r is true (Some text) chosen h = record {
+    choice = choice;
+    is_choice = chosen;
+    counts = r.outcome.counts;
+    counted = is.counted;
+    left = r.outcome.rows;
+    rows = is.rows;
+    whole = is.whole;
+    kept = r.kept.items;
+    combined = r.combined.items;
+    run = is.run;
+    spelled = same_Some text _ h;
+  }
+  told-AreCounts prune combine r is true None chosen h = absurd (cc)
+  told-AreCounts prune combine r is false told chosen h = h
 
   pub certificate-line : (steps : List Condition) (c : Certificate) (out : List ℕ) → IsDerived l workers plans choice steps → c ≡ certificate_of l.program steps choice.plan
       → out ≡ compact_text (certificate_data c) ++ codes "\n" → IsCertificateText out c → Checks l.program c (Ok choice.plan) → IsCertificateLine l workers plans out

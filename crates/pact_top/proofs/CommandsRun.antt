@@ -76,9 +76,9 @@ module _ {X : Type 0} (stage : Option (List NamedFile) → Stage X) (make : X �
 -- ---- run
 
 -- a bag that the program as written allows, its lines, and the counts of the same evaluation where they are asked for
-pub is_answer : (l : Loaded) (workers plans : ℕ) (counts combine : Bool) (t : Texts) (bag : Bag) → IsProgram l.program → AllowsWritten l bag → AreLines l.program.sink bag t.out
-    → AreCounts l workers plans combine bag counts t.told → IsAnswerOf l workers plans counts combine t
-is_answer l workers plans counts combine t bag program allowed lines counted =
+pub is_answer : (l : Loaded) (workers plans : ℕ) (counts prune combine : Bool) (t : Texts) (bag : Bag) → IsProgram l.program → AllowsWritten l bag → AreLines l.program.sink bag t.out
+    → AreCounts l workers plans prune combine bag counts t.told → IsAnswerOf l workers plans counts prune combine t
+is_answer l workers plans counts prune combine t bag program allowed lines counted =
     record {
       bag = bag;
       allowed = allowed;
@@ -157,13 +157,13 @@ refused_so words before now (Decided status line) usage h = stop_refused words b
 
 -- what was read is for a command that tells more
 abbrev IsForMore : Ready → Type 0
-IsForMore (to_evaluate l workers plans counts combine) = counts ≡ true
+IsForMore (to_evaluate l workers plans counts prune combine) = counts ≡ true
 IsForMore (to_repeat r rounds stable) = stable ≡ true
 IsForMore y = ⊥
 
 told_for : (y : Ready) (texts : Texts) (text : List ℕ) → AreTextsOf y texts → texts.told ≡ Some text → IsForMore y
-told_for (to_evaluate l workers plans true combine) texts text are told = refl
-told_for (to_evaluate l workers plans false combine) texts text are told = let none : texts.told ≡ None = are.counted in absurd cc
+told_for (to_evaluate l workers plans true prune combine) texts text are told = refl
+told_for (to_evaluate l workers plans false prune combine) texts text are told = let none : texts.told ≡ None = are.counted in absurd cc
 told_for (to_repeat r rounds true) texts text are told = refl
 told_for (to_repeat r rounds false) texts text are told = let none : texts.told ≡ None = are.told in absurd cc
 told_for (to_show l workers plans) texts text are told = let none = are.1 in absurd cc
@@ -180,7 +180,7 @@ gave_made s make p y h = let made = gave_then s (λ x. give (λ r. r ≡ make x)
 -- and of such a command it is only where the words ask for more
 asks : (words : List (List ℕ)) (files : Option (List NamedFile)) (c : Asked) (p : List Reading) (y : Ready) → IsAsked words c → (ready_for files c).Ends p (gives y) → IsForMore y → AskForMore words
 asks words files (to_run name o counts) p y asked h more =
-    let e = subst IsForMore (gave_made (loaded files name) (λ x. to_evaluate x o.workers o.plans counts o.combine) p y h).1 more in
+    let e = subst IsForMore (gave_made (loaded files name) (λ x. to_evaluate x o.workers o.plans counts o.prune o.combine) p y h).1 more in
     inl (name, o, subst (λ (b : Bool). IsAsked words (to_run name o b)) e asked)
 asks words files (to_iterate name source rounds o stable) p y asked h more =
     let e = subst IsForMore (gave_made (repeated files name source) (λ x. to_repeat x rounds stable) p y h).1 more in

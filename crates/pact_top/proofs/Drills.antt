@@ -2,6 +2,7 @@
 use Rattle.std.proofs.Common.{◌≡◌, ◌<◌, ℕ, Bool, zero, suc, List, [], ◌∷◌, length, Option, Some, None, slice_get, sym, ap, subst, ◌∙◌, arith}
 use Rattle.std.specs.List.{AllByRecursion}
 use Rattle.std.specs.List.Sorted.{IsPermutation}
+use Rattle.std.proofs.lemmas.List.{length-map}
 use Rattle.std.proofs.lemmas.List.Sorted.{length_permutation}
 use Rattle.tac_syntax.specs.Valid.{WithFields}
 use Rattle.order_free.specs.OrderFree.{IsOrderFree}
@@ -9,6 +10,8 @@ use Rattle.pact_operators.specs.Allowed.{Bag}
 use Rattle.pact_operators.specs.PlanOps.{function_in, kind_in}
 use Rattle.pact_operators.specs.Programs.{ProgramData}
 use Rattle.pact_gen.specs.Generated.{behind_row, generated, listed}
+use Rattle.pact_bag.specs.Rows.{cut}
+use Rattle.prune_fields.specs.SameAnswers.{HaveSameRows}
 use Rattle.drill_program.specs.Drill.{drill_functions, drill_program}
 use Rattle.drill_program.specs.Summary.{summary_text}
 use Rattle.drill_program.proofs.DrillFree.{total_free}
@@ -17,6 +20,7 @@ use Rattle.pact_top.specs.CommandTexts.{IsDrillText, IsRun, IsSummary, drilled}
 use Rattle.pact_top.specs.OrderFreePrograms.{AreGroupsFree, IsGrouping}
 use Rattle.pact_top.specs.declared.running.FinishedRun.{FinishedRun}
 use Rattle.pact_top.proofs.OnlyBag.{one_text, only_bag}
+use Rattle.pact_top.proofs.RunPlans.{lines_beside}
 
 -- ---- generated rows
 
@@ -49,10 +53,17 @@ one_summary rows sink bag other text told p its theirs =
     let same = sym (one_text sink bag other its.lines theirs.lines p its.spelled theirs.spelled) in
     theirs.told ∙ (λ i. summary_text rows (length_permutation bag other p i) (same i)) ∙ sym its.told
 
-pub is_drill_text : (seed rows workers plans : ℕ) (combine : Bool) (run : FinishedRun) (text : List ℕ) → IsRun (drilled seed rows) workers plans combine run → IsSummary rows run.program.sink run.outcome.rows text → IsDrillText seed rows text
-is_drill_text seed rows workers plans combine run text is told =
-    let bag = run.outcome.rows in
-    let summary = subst (λ (p : ProgramData). IsSummary rows p.sink bag text) is.program told in
+-- the summary of rows is that of a bag that is the same, cut to the sink's fields
+summary_beside : (rows : ℕ) (sink : List ℕ) (bag left : Bag) (text : List ℕ) → HaveSameRows sink bag left → IsSummary rows sink left text → IsSummary rows sink bag text
+summary_beside rows sink bag left text same h =
+    let lengths : length left ≡ length bag = sym (length-map left (cut sink)) ∙ ap (λ (cuts : Bag). length cuts) (sym same) ∙ length-map bag (cut sink) in
+    record { lines = h.lines; spelled = lines_beside sink bag left h.lines same h.spelled; told = h.told ∙ ap (λ (n : ℕ). summary_text rows n h.lines) lengths }
+
+pub is_drill_text : (seed rows workers plans : ℕ) (prune combine : Bool) (run : FinishedRun) (text : List ℕ) → IsRun (drilled seed rows) workers plans prune combine run
+    → IsSummary rows run.program.sink run.outcome.rows text → IsDrillText seed rows text
+is_drill_text seed rows workers plans prune combine run text is told =
+    let bag = is.outcome.bag in
+    let summary = summary_beside rows drill_program.sink bag run.outcome.rows text is.outcome.rows (subst (λ (p : ProgramData). IsSummary rows p.sink run.outcome.rows text) is.program told) in
     let only = only_bag drill_program is_a_program groups_free (generated seed rows ∷ []) drill_program.plan bag in
     record {
       bag = bag;

@@ -20,3 +20,4 @@ pub mod RunPlans
 pub mod Drills
 pub mod IterationsRun
 pub mod SourcesByName
+mod KeptLines

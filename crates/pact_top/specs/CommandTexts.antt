@@ -7,7 +7,6 @@ use Rattle.drill_program.specs.Drill.{drill_program}
 use Rattle.drill_program.specs.Summary.{summary_text}
 use Rattle.pact_bag.specs.Rows.{cut}
 use Rattle.combine_rule.specs.CombinedPrograms.{Planned, planned}
-use Rattle.pact_bag.specs.declared.outcomes.Outcome.{Outcome}
 use Rattle.pact_gen.specs.Generated.{generated, listed}
 use Rattle.pact_record.specs.Widths.{AreWide}
 use Rattle.pact_operators.specs.declared.operators.Op.{Op}
@@ -25,7 +24,7 @@ use Rattle.plan_enumerate.specs.Choices.{IsChosen}
 use Rattle.plan_enumerate.specs.declared.entries.Entry.{Entry}
 use Rattle.plan_enumerate.specs.Listing.{IsAt, IsListed, IsListing, plans_of}
 use Rattle.plan_enumerate.specs.Steps.{AreStepsTo}
-use Rattle.plan_printer.specs.CountsText.{counts_text, partials_text}
+use Rattle.plan_printer.specs.CountsText.{counts_text, keeps_line_at, partials_text}
 use Rattle.plan_printer.specs.PlanText.{plan_text}
 use Rattle.plan_printer.specs.SetsText.{IsSetsText}
 use Rattle.plan_printer.specs.declared.plans.Shown.{Shown}
@@ -36,12 +35,15 @@ use Rattle.swap_certificate.specs.Shape.{IsCertificateText, certificate_data}
 use Rattle.pact_top.specs.Iterations.{IsIterationText}
 use Rattle.pact_top.specs.Lines.{AreLines}
 use Rattle.pact_top.specs.OrderFreePrograms.{AreGroupsFree}
-use Rattle.pact_top.specs.Runs.{IsRunOf}
+use Rattle.prune_fields.specs.declared.pruning.Kept.{Kept}
+use Rattle.prune_fields.specs.SameAnswers.{HaveSameRows}
+use Rattle.pact_top.specs.Runs.{IsRunWith}
 use Rattle.pact_top.specs.declared.choosing.Choice.{Choice}
 use Rattle.pact_top.specs.declared.choosing.Picked.{Picked}
 use Rattle.pact_top.specs.declared.loaded.Loaded.{Loaded}
 use Rattle.pact_top.specs.declared.repeating.Repeated.{Repeated}
 use Rattle.pact_top.specs.declared.running.FinishedRun.{FinishedRun}
+use Rattle.pact_top.specs.declared.pruned_runs.RunOutcome.{RunOutcome}
 use Rattle.pact_top.specs.declared.texts.Texts.{Texts}
 
 -- a program, a certificate, and the plan that this one leads to
@@ -52,7 +54,7 @@ pub record Accepted : Type 0 where
 
 -- what a command has read, from which its texts are made
 pub data Ready : Type 0 where
-  to_evaluate : (loaded : Loaded) → (workers plans : ℕ) → (counts combine : Bool) → Ready
+  to_evaluate : (loaded : Loaded) → (workers plans : ℕ) → (counts prune combine : Bool) → Ready
   to_show : (loaded : Loaded) → (workers plans : ℕ) → Ready
   to_justify : (loaded : Loaded) → (workers plans : ℕ) → Ready
   to_analyse : (program : ProgramData) → Ready
@@ -113,48 +115,67 @@ AllowsWritten l bag = Allows (plan_ops l.program l.inputs) l.program.plan bag
 abbrev pub laid : Loaded → (workers : ℕ) → PlanTree → (layout : ℕ) → Planned
 laid l workers plan layout = planned l.program (layout_of (facts_of l.program plan) l.program.ops plan layout workers)
 
--- What a run of a plan in a layout gives, with partial groups where that is asked for: such a bag, and the counts of one evaluation of the plan that gives it.
-pub record IsOutcome (l : Loaded) (workers : ℕ) (plan : PlanTree) (layout : ℕ) (combine : Bool) (o : Outcome) (combined : List (ℕ × ℕ)) : Type 0 where
-  pub allowed : AllowsWritten l o.rows
-  pub counted : Counted (plan_ops l.program l.inputs) plan o.rows o.counts
-  pub widths : AreWide l.program.fields o.rows
-  pub run : IsRunOf (laid l workers plan layout) l.inputs combine o combined
+-- What a run of a plan in a layout gives, with fields dropped and with partial groups where these are asked for. Cut to the sink's fields the rows are those
+-- of such a bag, and where nothing is dropped they are it; the counts are those of one evaluation of the plan that gives the bag.
+pub record IsOutcome (l : Loaded) (workers : ℕ) (plan : PlanTree) (layout : ℕ) (prune combine : Bool) (r : RunOutcome) : Type 0 where
+  pub bag : Bag
+  pub rows : HaveSameRows l.program.sink bag r.outcome.rows
+  pub whole : prune ≡ false → bag ≡ r.outcome.rows
+  pub allowed : AllowsWritten l bag
+  pub counted : Counted (plan_ops l.program l.inputs) plan bag r.outcome.counts
+  pub widths : AreWide l.program.fields r.outcome.rows
+  pub run : IsRunWith (laid l workers plan layout) l.inputs prune combine r.outcome r.kept.items r.combined.items
 
 -- The plan that is chosen was run, and gave this.
-pub record IsRun (l : Loaded) (workers plans : ℕ) (combine : Bool) (run : FinishedRun) : Type 0 where
+pub record IsRun (l : Loaded) (workers plans : ℕ) (prune combine : Bool) (run : FinishedRun) : Type 0 where
   pub program : run.program ≡ l.program
   pub chosen : IsPlanChosen l workers plans run.choice
-  pub outcome : IsOutcome l workers run.choice.plan run.choice.chosen.layout combine run.outcome run.combined.items
+  pub outcome : IsOutcome l workers run.choice.plan run.choice.chosen.layout prune combine (record { outcome = run.outcome; kept = run.kept; combined = run.combined })
 
--- Counts of a plan as text, where they are asked for. Behind them stands how many records each operator gave that was put in to make partial groups.
-abbrev pub AreToldCounts : ProgramData → PlanTree → List ℕ → List (ℕ × ℕ) → Bool → Option (List ℕ) → Type 0
-AreToldCounts p plan counts of true told = told ≡ Some (counts_text p plan counts ++ partials_text p counts of)
-AreToldCounts p plan counts of false told = told ≡ None
+-- the lines of what was kept, where fields were dropped
+abbrev pub keeps_text : ProgramData → List Kept → List ℕ
+keeps_text p [] = []
+keeps_text p (k ∷ kept) = keeps_line_at p k.at k.fields ++ keeps_text p kept
 
--- The counts of an evaluation of the chosen plan that gives the bag, as text. A run left that bag and these counts, with partial groups where that is asked
--- for; how many there were stands behind the counts.
-pub record IsCountsText (l : Loaded) (workers plans : ℕ) (combine : Bool) (bag : Bag) (text : List ℕ) : Type 0 where
+-- Counts of a plan as text. Behind them stands which fields were kept where others were dropped, and then how many records each operator gave that was put in
+-- to make partial groups.
+abbrev pub told_text : ProgramData → PlanTree → List ℕ → List Kept → List (ℕ × ℕ) → List ℕ
+told_text p plan counts kept of = (counts_text p plan counts ++ keeps_text p kept) ++ partials_text p counts of
+
+-- they are told where that is asked for
+abbrev pub AreToldCounts : ProgramData → PlanTree → List ℕ → List Kept → List (ℕ × ℕ) → Bool → Option (List ℕ) → Type 0
+AreToldCounts p plan counts kept of true told = told ≡ Some (told_text p plan counts kept of)
+AreToldCounts p plan counts kept of false told = told ≡ None
+
+-- The counts of an evaluation of the chosen plan that gives the bag, as text. A run left these counts, and rows that are the bag's, cut to the sink's fields;
+-- where nothing is dropped it left the bag. It is a run with fields dropped and with partial groups where these are asked for; what was kept, and how many
+-- partial groups there were, stands behind the counts.
+pub record IsCountsText (l : Loaded) (workers plans : ℕ) (prune combine : Bool) (bag : Bag) (text : List ℕ) : Type 0 where
   pub choice : Choice
   pub is_choice : IsChoice l workers plans choice
   pub counts : List ℕ
   pub counted : Counted (plan_ops l.program l.inputs) choice.plan bag counts
+  pub left : Bag
+  pub rows : HaveSameRows l.program.sink bag left
+  pub whole : prune ≡ false → bag ≡ left
+  pub kept : List Kept
   pub combined : List (ℕ × ℕ)
-  pub run : IsRunOf (laid l workers choice.plan choice.chosen.layout) l.inputs combine (record { rows = bag; counts = counts }) combined
-  pub spelled : text ≡ counts_text l.program choice.plan counts ++ partials_text l.program counts combined
+  pub run : IsRunWith (laid l workers choice.plan choice.chosen.layout) l.inputs prune combine (record { rows = left; counts = counts }) kept combined
+  pub spelled : text ≡ told_text l.program choice.plan counts kept combined
 
 -- They are told where they are asked for, and then of the very bag that is written.
-abbrev pub AreCounts : Loaded → (workers plans : ℕ) → (combine : Bool) → Bag → Bool → Option (List ℕ) → Type 0
-AreCounts l workers plans combine bag true (Some text) = IsCountsText l workers plans combine bag text
-AreCounts l workers plans combine bag true None = ⊥
-AreCounts l workers plans combine bag false told = told ≡ None
+abbrev pub AreCounts : Loaded → (workers plans : ℕ) → (prune combine : Bool) → Bag → Bool → Option (List ℕ) → Type 0
+AreCounts l workers plans prune combine bag true (Some text) = IsCountsText l workers plans prune combine bag text
+AreCounts l workers plans prune combine bag true None = ⊥
+AreCounts l workers plans prune combine bag false told = told ≡ None
 
 -- The sorted lines of a bag that the program as written allows. Where each function that a Reduce or a CoGroup calls passes the order
 -- test, each such bag is this one, up to order, and its lines are these.
-pub record IsAnswerOf (l : Loaded) (workers plans : ℕ) (counts combine : Bool) (t : Texts) : Type 0 where
+pub record IsAnswerOf (l : Loaded) (workers plans : ℕ) (counts prune combine : Bool) (t : Texts) : Type 0 where
   pub bag : Bag
   pub allowed : AllowsWritten l bag
   pub lines : AreLines l.program.sink bag t.out
-  pub counted : AreCounts l workers plans combine bag counts t.told
+  pub counted : AreCounts l workers plans prune combine bag counts t.told
   pub only_bag : AreGroupsFree l.program → (other : Bag) → AllowsWritten l other → IsPermutation bag other
   pub only_text : AreGroupsFree l.program → (other : Bag) (lines : List ℕ) → AllowsWritten l other → AreLines l.program.sink other lines → lines ≡ t.out
 
@@ -236,7 +257,7 @@ abbrev pub IsOutAlone : (List ℕ → Type 0) → Texts → Type 0
 IsOutAlone IsText t = IsText t.out × (t.told ≡ None)
 
 abbrev pub AreTextsOf : Ready → Texts → Type 0
-AreTextsOf (to_evaluate l workers plans counts combine) t = IsAnswerOf l workers plans counts combine t
+AreTextsOf (to_evaluate l workers plans counts prune combine) t = IsAnswerOf l workers plans counts prune combine t
 AreTextsOf (to_show l workers plans) t = IsOutAlone (IsPlanText l workers plans) t
 AreTextsOf (to_justify l workers plans) t = IsOutAlone (IsCertificateLine l workers plans) t
 AreTextsOf (to_analyse p) t = IsOutAlone (IsSetsText p) t

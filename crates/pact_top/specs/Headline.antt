@@ -1,8 +1,8 @@
 -- What the program promises of a call: the clauses of `pact_main`, and word for word those of `pact_alone`, by their names; what four more say is told
--- in brackets. `pact_alone` runs a plan on one thread, waits for nobody and always returns. `pact_main` has a thread for each worker where the words ask
--- for a run, a drill or an iteration with two workers or more: then it may wait, and its clauses hold if it returns. That it waits for nobody else is how it is
--- built and no clause. Statuses.antt has what the clauses speak of. `before` and `now` are what the feed shows, `old` and `new` what a sink took, `first`
--- and `last` its faults: the output's, and with `told_` those of the other sink.
+-- in brackets. `pact_alone` runs a plan on one thread, waits for nobody and always returns. `pact_main` has a thread for each worker where the words
+-- ask for a run, a drill or an iteration with two workers or more: then it may wait, and its clauses hold if it returns. That it waits for nobody else
+-- is how it is built and no clause. Statuses.antt has what the clauses speak of. `before` and `now` are what the feed shows, `old` and `new` what a
+-- sink took, `first` and `last` its faults: the output's, and with `told_` those of the other sink.
 use Rattle.std.specs.Prelude.{◌≡◌, ◌≢◌, ◌≤◌, ◌⊎◌, ℕ, List, Option}
 use Rattle.pact_outside.specs.Outside.{Feeding, Rose}
 use Rattle.pact_words.specs.Words.{AreRefused, AreUnnamed}
@@ -11,8 +11,9 @@ use Rattle.pact_top.specs.Statuses.{AreCut, AreWritten, CannotRead, IsStopped, I
 
 -- Status 0: the texts that the work comes to were written whole. Of `run` that is the sorted rows of a bag that the program as written allows, which is
 -- the only such bag where each function that a Reduce or a CoGroup calls passes the order test; with `--counts` the counts too of an evaluation of the
--- chosen plan that gives this bag, and with `--combine` behind them the line `partials` of each Reduce that is combined in it. Of `iterate` it is the same
--- of the bag to which the last round comes; with `--stable` the number of rounds is told besides, and both are the only ones under that condition.
+-- chosen plan that gives this bag, behind them with `--prune` the line `keeps` of each source and operator of whose records fields were dropped, and then
+-- with `--combine` the line `partials` of each Reduce that is combined. Of `iterate` it is the same of the bag to which the last round comes; with `--stable`
+-- the number of rounds is told besides, and both are the only ones under that condition.
 abbrev pub Answered : List (List ℕ) → Feeding → Feeding → (old new told_old told_new : Option (List ℕ)) → ℕ → Type 0
 Answered words before now old new told_old told_new status = status ≡ 0 → AreWritten words before now old new told_old told_new
 

@@ -148,7 +148,7 @@ at_once y = and_then (give (λ r. r ≡ y)) (λ r. give (AreTextsOf r))
 
 -- the order of work of each command; what is generated is read from no file
 abbrev pub ready_for : Option (List NamedFile) → Asked → Stage Ready
-ready_for files (to_run name o counts) = and_then (loaded files name) (λ l. give (λ r. r ≡ to_evaluate l o.workers o.plans counts o.combine))
+ready_for files (to_run name o counts) = and_then (loaded files name) (λ l. give (λ r. r ≡ to_evaluate l o.workers o.plans counts o.prune o.combine))
 ready_for files (to_plan name workers plans) = and_then (loaded files name) (λ l. give (λ r. r ≡ to_show l workers plans))
 ready_for files (to_certify name workers plans) = and_then (loaded files name) (λ l. give (λ r. r ≡ to_justify l workers plans))
 ready_for files (to_tell_sets name) = and_then (program_file files name) (λ p. give (λ r. r ≡ to_analyse p))

@@ -59,7 +59,8 @@ impl<'a, C: Fn(Global, &Inputs) -> Result<Rows, OutOfMemory>> Round for CalledRo
     }
 }
 
-// What a run of the plan gives that is chosen for these rows. They are copied, since the rows of a run go into it.
+// What a run of the plan gives that is chosen for these rows, without a field dropped: the next round may need it. They are copied, since the rows of a run go
+// into it.
 fn one_round<F: Fn(&Program, &Task, Inputs) -> Result<Outcome, OutOfMemory>>(
     alloc: Global,
     program: &Program,
@@ -76,7 +77,11 @@ fn one_round<F: Fn(&Program, &Task, Inputs) -> Result<Outcome, OutOfMemory>>(
 {
     let Picked { chosen, plan } = choose_listed(alloc, program, inputs, listed, options.workers)?;
     let copied = inputs.copy(alloc)?;
-    let left = run_plan(alloc, program, copied, &plan, chosen.layout, options, run)?;
+    let whole = Options {
+        prune: false,
+        ..options
+    };
+    let left = run_plan(alloc, program, copied, &plan, chosen.layout, whole, run)?;
     Ok(left.outcome.rows)
 }
 

@@ -1,6 +1,6 @@
 //! Runs of the plan that is chosen, and what is written of them.
 
-ghost use Rattle.std.specs.Prelude.{◌≡◌, ◌≤◌, ◌<◌, IfOk};
+ghost use Rattle.std.specs.Prelude.{◌≡◌, ◌≤◌, ◌<◌, ◌++◌, IfOk, OnOk};
 ghost use Rattle.flow_core.specs.Worlds.{depth_limit};
 ghost use Rattle.flow_instance.specs.Limits.{batch_limit};
 ghost use Rattle.pact_operators.specs.Inputs.{AreInputsOf};
@@ -12,19 +12,21 @@ ghost use Rattle.pact_top.specs.Lines.{AreLines};
 ghost use Rattle.ship_strategy.specs.Layouts.{layout_count, layout_of};
 ghost use Rattle.ship_strategy.specs.PlanFacts.{facts_of};
 ghost use Rattle.ship_strategy.specs.Ships.{LegalShip};
-ghost use Rattle.pact_top.specs.CommandTexts.{AreToldCounts, IsAnswerOf, IsOutcome, IsRun};
+ghost use Rattle.pact_top.specs.CommandTexts.{AreToldCounts, IsAnswerOf, IsOutcome, IsRun, keeps_text};
 ghost use Rattle.pact_top.specs.Runs.{IsRunner};
 
 use crate::choosing::{Choice, choose_plan};
 use crate::lines::sorted_lines;
 use crate::loaded::Loaded;
-use crate::tasks::{RunOutcome, Task, run_either};
+use crate::pruned_runs::{RunOutcome, run_task_as};
+use crate::tasks::Task;
 use crate::texts::Texts;
 use pact_bag::{Counts, Inputs, Outcome};
 use pact_operators::{Plan, Program};
 use pact_record::{Bytes, OutOfMemory};
 use pact_words::Options;
-use plan_printer::{counts_text, push_partials};
+use plan_printer::{counts_text, push_keeps, push_partials};
+use prune_fields::Kept;
 use ship_strategy::layout;
 use std::alloc::Global;
 
@@ -34,6 +36,7 @@ pub struct FinishedRun {
     pub program: Program,
     pub choice: Choice,
     pub outcome: Outcome,
+    pub kept: Vec<Kept>,
     pub combined: Vec<(u32, u32)>,
 }
 
@@ -72,7 +75,8 @@ fn task_of(program: &Program, plan: &Plan, number: u32, options: Options) -> Tas
     }
 }
 
-/// What a run of a plan in parts gives, in the layout of that number: a bag that the plan as written allows too.
+/// What a run of a plan in parts gives, in the layout of that number: records that are, cut to the sink's fields, those of a bag that the plan as written
+/// allows too.
 pub fn run_plan<F: Fn(&Program, &Task, Inputs) -> Result<Outcome, OutOfMemory>>(
     alloc: Global,
     program: &Program,
@@ -88,28 +92,53 @@ pub fn run_plan<F: Fn(&Program, &Task, Inputs) -> Result<Outcome, OutOfMemory>>(
     requires layout { number < layout_count program.now.ops }
     requires answers { KeepAnswers program.now program.now.plan plan.now }
     requires runs { IsRunner (F.pre run.now) (F.post run.now) }
-    ensures { IfOk result (λ r. IsOutcome (record { program = program.now; inputs = inputs }) options.workers plan.now number options.combine r.outcome r.combined.items) }
+    ensures { IfOk result (IsOutcome (record { program = program.now; inputs = inputs }) options.workers plan.now number options.prune options.combine) }
 {
     let task = task_of(program, plan, number, options);
-    run_either(alloc, program, task, inputs, options.combine, run)
+    run_task_as(
+        alloc,
+        program,
+        task,
+        inputs,
+        options.prune,
+        options.combine,
+        run,
+    )
 }
 
-// The counts of a run of the chosen plan and how many partial groups there were, where they are asked for.
+// Puts the lines of what was kept, where fields were dropped, behind the counts.
+fn push_kept(
+    alloc: Global,
+    text: &mut Bytes,
+    program: &Program,
+    kept: &[Kept],
+) -> Result<(), OutOfMemory>
+    ensures { OnOk result (text.new ≡ text.old ++ keeps_text program.now kept.now) }
+{
+    for one in kept {
+        push_keeps(alloc, text, program, one.at, one.fields)?;
+    }
+    Ok(())
+}
+
+// The counts of a run of the chosen plan, where they are asked for, with what was kept and how many partial groups there were.
 fn told_counts(
     alloc: Global,
     program: &Program,
     choice: &Choice,
     counts: &Counts,
+    kept: &[Kept],
     combined: &[(u32, u32)],
     asked: bool,
 ) -> Result<Option<Bytes>, OutOfMemory>
     requires plan { IsPlanOf program.now.functions program.now.ops choice.now.plan }
-    ensures { IfOk result (AreToldCounts program.now choice.now.plan counts.now combined.now asked) }
+    ensures { IfOk result (AreToldCounts program.now choice.now.plan counts.now kept.now combined.now asked) }
 {
     if !asked {
         return Ok(None);
     }
     let mut text = counts_text(alloc, program, &choice.plan, counts)?;
+    push_kept(alloc, &mut text, program, kept)?;
     push_partials(alloc, &mut text, program, counts, combined)?;
     Ok(Some(text))
 }
@@ -124,24 +153,21 @@ pub fn run_chosen<F: Fn(&Program, &Task, Inputs) -> Result<Outcome, OutOfMemory>
     requires inputs { AreInputsOf loaded.program loaded.inputs }
     requires options { AreOptionsInRange options }
     requires runs { IsRunner (F.pre run.now) (F.post run.now) }
-    ensures { IfOk result (IsRun loaded options.workers options.plans options.combine) }
+    ensures { IfOk result (IsRun loaded options.workers options.plans options.prune options.combine) }
 {
     let choice = choose_plan(alloc, &loaded, options.workers, options.plans)?;
     let Loaded { program, inputs } = loaded;
     let number = choice.chosen.layout;
-    let RunOutcome { outcome, combined } = run_plan(
-        alloc,
-        &program,
-        inputs,
-        &choice.plan,
-        number,
-        options,
-        run,
-    )?;
+    let RunOutcome {
+        outcome,
+        kept,
+        combined,
+    } = run_plan(alloc, &program, inputs, &choice.plan, number, options, run)?;
     Ok(FinishedRun {
         program,
         choice,
         outcome,
+        kept,
         combined,
     })
 }
@@ -151,13 +177,14 @@ fn texts_of_run(alloc: Global, run: FinishedRun, counts: bool) -> Result<Texts, 
     requires plan { IsPlanOf run.program.functions run.program.ops run.choice.plan }
     requires widths { AreWide run.program.fields run.outcome.rows }
     ensures lines { IfOk result (λ texts. AreLines run.program.sink run.outcome.rows texts.out) }
-    ensures counts { IfOk result (λ texts. AreToldCounts run.program run.choice.plan run.outcome.counts run.combined.items counts texts.told) }
+    ensures counts { IfOk result (λ texts. AreToldCounts run.program run.choice.plan run.outcome.counts run.kept.items run.combined.items counts texts.told) }
     ensures program { IsProgram run.program }
 {
     let FinishedRun {
         program,
         choice,
         outcome,
+        kept,
         combined,
     } = run;
     let Outcome {
@@ -165,7 +192,7 @@ fn texts_of_run(alloc: Global, run: FinishedRun, counts: bool) -> Result<Texts, 
         counts: given,
     } = outcome;
     let out = sorted_lines(alloc, rows, program.sink())?;
-    let told = told_counts(alloc, &program, &choice, &given, &combined, counts)?;
+    let told = told_counts(alloc, &program, &choice, &given, &kept, &combined, counts)?;
     Ok(Texts { out, told })
 }
 
@@ -180,7 +207,7 @@ pub fn run_texts<F: Fn(&Program, &Task, Inputs) -> Result<Outcome, OutOfMemory>>
     requires inputs { AreInputsOf loaded.program loaded.inputs }
     requires options { AreOptionsInRange options }
     requires runs { IsRunner (F.pre run.now) (F.post run.now) }
-    ensures { IfOk result (IsAnswerOf loaded options.workers options.plans counts options.combine) }
+    ensures { IfOk result (IsAnswerOf loaded options.workers options.plans counts options.prune options.combine) }
 {
     let finished = run_chosen(alloc, loaded, options, run)?;
     texts_of_run(alloc, finished, counts)

@@ -9,7 +9,7 @@ ghost use Rattle.flow_core.specs.Worlds.{HasBatchSize, IsStanding, StandsForSome
 ghost use Rattle.flow_model.specs.Events.{no_history};
 ghost use Rattle.flow_model.specs.Spots.{setting};
 ghost use Rattle.pact_operators.specs.Programs.{IsPlanOf};
-ghost use Rattle.pact_top.specs.Runs.{CanRun, HasRun, IsCombinedTask, IsRunLeft, IsRunner};
+ghost use Rattle.pact_top.specs.Runs.{CanRun, HasRun, IsCombinedTask, IsGroupedLeft, IsRunner};
 
 use combine_rule::{Combined, combine};
 use flow_core::{World, run_alone};
@@ -36,7 +36,7 @@ pub struct Task {
 
 /// What a run gave, and the pairs of an operator that made partial groups in it and the one that merged them.
 #[derive(Drop)]
-pub struct RunOutcome {
+pub struct GroupedRun {
     pub outcome: Outcome,
     pub combined: Vec<(u32, u32)>,
 }
@@ -164,14 +164,14 @@ fn run_plain<F: Fn(&Program, &Task, Inputs) -> Result<Outcome, OutOfMemory>>(
     task: Task,
     inputs: Inputs,
     run: &F,
-) -> Result<RunOutcome, OutOfMemory>
+) -> Result<GroupedRun, OutOfMemory>
     requires can { CanRun program.now task inputs }
     requires runs { IsRunner (F.pre run.now) (F.post run.now) }
-    ensures { IfOk result (IsRunLeft program.now task inputs false) }
+    ensures { IfOk result (IsGroupedLeft program.now task inputs false) }
 {
     let outcome = run(program, &task, inputs)?;
     let combined = Vec::new(alloc);
-    Ok(RunOutcome { outcome, combined })
+    Ok(GroupedRun { outcome, combined })
 }
 
 // A run of the combined plan.
@@ -181,28 +181,28 @@ fn run_combined<F: Fn(&Program, &Task, Inputs) -> Result<Outcome, OutOfMemory>>(
     task: Task,
     inputs: Inputs,
     run: &F,
-) -> Result<RunOutcome, OutOfMemory>
+) -> Result<GroupedRun, OutOfMemory>
     requires can { CanRun program.now task inputs }
     requires runs { IsRunner (F.pre run.now) (F.post run.now) }
-    ensures { IfOk result (IsRunLeft program.now task inputs true) }
+    ensures { IfOk result (IsGroupedLeft program.now task inputs true) }
 {
     let (program, task, combined) = combine_task(alloc, program, task)?;
     let outcome = run(&program, &task, inputs)?;
-    Ok(RunOutcome { outcome, combined })
+    Ok(GroupedRun { outcome, combined })
 }
 
 /// A run of the task by what is called for it, with partial groups where that is asked for.
-pub fn run_either<F: Fn(&Program, &Task, Inputs) -> Result<Outcome, OutOfMemory>>(
+pub fn run_grouped<F: Fn(&Program, &Task, Inputs) -> Result<Outcome, OutOfMemory>>(
     alloc: Global,
     program: &Program,
     task: Task,
     inputs: Inputs,
     combine: bool,
     run: &F,
-) -> Result<RunOutcome, OutOfMemory>
+) -> Result<GroupedRun, OutOfMemory>
     requires can { CanRun program.now task inputs }
     requires runs { IsRunner (F.pre run.now) (F.post run.now) }
-    ensures { IfOk result (IsRunLeft program.now task inputs combine) }
+    ensures { IfOk result (IsGroupedLeft program.now task inputs combine) }
 {
     if combine {
         run_combined(alloc, program, task, inputs, run)

@@ -120,9 +120,11 @@ fn asks_for_threads(alloc: Global, words: &[&str]) -> bool
 /// `words` are without the program's own name. Of `run PROGRAM`, the program's file and then those
 /// of its sources are opened and read, in text order, the plan that is expected to cost least is
 /// chosen and run in parts, and the sorted rows are written on `out`; with `--counts`, how many records
-/// each operator had is told on `err` behind that. With `--combine` the plan is run with partial
-/// groups, and with both a line `partials` behind the counts tells, for each Reduce that was combined,
-/// how many partial records went to it. Of `plan PROGRAM` the chosen plan is written, and
+/// each operator had is told on `err` behind that. With `--prune` fields that nothing above reads are
+/// dropped before records are shipped, and with counts a line `keeps` tells which were kept where. With
+/// `--combine` the plan, pruned or not, is run with partial groups, and with counts a line `partials`
+/// behind all others tells, for each Reduce that was combined, how many partial records went to it.
+/// Of `plan PROGRAM` the chosen plan is written, and
 /// of `cert PROGRAM` its certificate. Of `sets PROGRAM`, its file alone is read, and what the
 /// analysis finds of each operator is written. Of `check PROGRAM CERT`, the program's file is read
 /// and then the certificate's, and `accepted` is written where each step of it is found again.

@@ -5,8 +5,8 @@ use Rattle.pact_words.specs.declared.commands.Kind.{Kind}
 use Rattle.pact_words.specs.declared.commands.Kind.TheVariants.{Run, Plan, Cert, Check, Sets, Gen, Drill, Iterate}
 use Rattle.pact_words.specs.declared.commands.Options.{Options}
 use Rattle.pact_words.specs.Definitions.{app_for}
-use Rattle.pact_words.specs.FoundValues.{all_five, all_three, all_two, flag_of, local_of, number_of}
-use Rattle.pact_words.specs.Words.{AreRefused, AreRefusedBy, Asked, IsAsked, NamesNoStrategy, asked_of, common_options, common_options_of, options_of, to_drill, to_iterate, to_run, with_combine}
+use Rattle.pact_words.specs.FoundValues.{all_five, all_three, flag_of, local_of, number_of}
+use Rattle.pact_words.specs.Words.{AreRefused, AreRefusedBy, Asked, IsAsked, NamesNoStrategy, asked_of, common_options, common_options_of, options_of, to_drill, to_iterate, to_run, with_flags}
 
 pub one_of : {A : Type 0} (o : Option A) (a b : A) → o ≡ Some a → o ≡ Some b → a ≡ b
 one_of o a b h g = cc
@@ -53,7 +53,10 @@ no_common_options rows h =
     ap (all_five common_options workers plans batch depth) h ∙ fifth_without common_options workers plans batch depth
 
 no_options : (rows : List Row) → local_of (codes "local") rows ≡ None → options_of rows ≡ None
-no_options rows h = ap (λ (o : Option Options). all_two with_combine o (flag_of (codes "combine") rows)) (no_common_options rows h)
+no_options rows h =
+    let combine = flag_of (codes "combine") rows in
+    let prune = flag_of (codes "prune") rows in
+    ap (λ (o : Option Options). all_three with_flags o combine prune) (no_common_options rows h)
 
 -- where `--local` names no strategy, nothing is asked for
 pub none_asked : (k : Kind) (rows : List Row) → NamesNoStrategy k rows → asked_of k rows ≡ None

@@ -10,7 +10,7 @@ use Rattle.pact_words.specs.declared.commands.Options.{Options}
 use Rattle.pact_words.specs.Definitions.{app_for}
 use Rattle.pact_words.specs.FoundValues.{all_five, all_three, all_two, local_of, number_of}
 use Rattle.pact_words.specs.Limits.{round_limit, row_limit, seed_limit}
-use Rattle.pact_words.specs.Words.{AreInRange, AreOperandsInRange, AreOptionsInRange, Asked, IsInRange, NamesNoStrategy, asked_of, common_options, common_options_of, options_of, to_certify, to_check, to_drill, to_generate, to_iterate, to_plan, to_run, to_tell_sets, with_combine}
+use Rattle.pact_words.specs.Words.{AreInRange, AreOperandsInRange, AreOptionsInRange, Asked, IsInRange, NamesNoStrategy, asked_of, common_options, common_options_of, options_of, to_certify, to_check, to_drill, to_generate, to_iterate, to_plan, to_run, to_tell_sets, with_flags}
 use Rattle.pact_words.proofs.FittingRows.{AllKnown}
 use Rattle.pact_words.proofs.GivenValues.{Holds, IsSure, held}
 use Rattle.pact_words.proofs.OneAsked.{none_asked, not_both, one_of}
@@ -91,9 +91,9 @@ has_options rows workers plans batch depth w p b d has_workers has_plans has_bat
   depth = has_number (codes "depth") rows depth 1 64 (omega arith) d has_depth;
 }
 
--- the ranges are the same, whether groups are combined or not
-combined_in_range : (o : Options) (combine : Bool) → AreOptionsInRange o → AreOptionsInRange (with_combine o combine)
-combined_in_range o combine h = record {
+-- the ranges are the same, whatever the flags
+flagged_in_range : (o : Options) (combine prune : Bool) → AreOptionsInRange o → AreOptionsInRange (with_flags o combine prune)
+flagged_in_range o combine prune h = record {
   limits = h.limits;
   least_batch = h.least_batch;
   most_batch = h.most_batch;
@@ -138,7 +138,7 @@ asks_limited k words to is ranged program limits =
 -- a command that runs plans, where `--local` names a strategy
 asks_chosen : (k : Kind) (words : List Text) (to : Options → Asked)
     → ((o : Options) → common_options_of (matches_of (app_for k) words) ≡ Some o → asked_of k (matches_of (app_for k) words) ≡ Some (to o))
-    → ((o : Options) → AreOptionsInRange o → o.combine ≡ false → IsInRange (to o)) → HasOptions (matches_of (app_for k) words)
+    → ((o : Options) → AreOptionsInRange o → o.combine ≡ false → o.prune ≡ false → IsInRange (to o)) → HasOptions (matches_of (app_for k) words)
     → Asks k words ⊎ (local_of (codes "local") (matches_of (app_for k) words) ≡ None)
 asks_chosen k words to says ranged h =
     let rows = matches_of (app_for k) words in
@@ -154,19 +154,19 @@ asks_chosen k words to says ranged h =
         most_batch = h.batch.most_of;
         least_depth = h.depth.least_of;
         most_depth = h.depth.most_of;
-      }) refl;
+      }) refl refl;
     })
 
--- one that says besides whether groups are combined
-asks_combining : (k : Kind) (words : List Text) (to : Options → Asked)
+-- one that takes the flags besides
+asks_flagged : (k : Kind) (words : List Text) (to : Options → Asked)
     → ((o : Options) → options_of (matches_of (app_for k) words) ≡ Some o → asked_of k (matches_of (app_for k) words) ≡ Some (to o))
     → ((o : Options) → AreOptionsInRange o → IsInRange (to o)) → HasOptions (matches_of (app_for k) words)
-    → HasFlag (codes "combine") (matches_of (app_for k) words)
+    → HasFlag (codes "combine") (matches_of (app_for k) words) → HasFlag (codes "prune") (matches_of (app_for k) words)
     → Asks k words ⊎ (local_of (codes "local") (matches_of (app_for k) words) ≡ None)
-asks_combining k words to says ranged h combine =
-    asks_chosen k words (λ o. to (with_combine o combine.flag))
-    (λ o is. says (with_combine o combine.flag) (two_are with_combine _ _ o combine.flag is combine.is))
-    (λ o range uncombined. ranged (with_combine o combine.flag) (combined_in_range o combine.flag range)) h
+asks_flagged k words to says ranged h combine prune =
+    asks_chosen k words (λ o. to (with_flags o combine.flag prune.flag))
+    (λ o is. says (with_flags o combine.flag prune.flag) (three_are with_flags _ _ _ o combine.flag prune.flag is combine.is prune.is))
+    (λ o range _ _. ranged (with_flags o combine.flag prune.flag) (flagged_in_range o combine.flag prune.flag range)) h
 
 pub asks : (k : Kind) (words : List Text) → fault_of (app_for k) words ≡ [] → Asks k words ⊎ NamesNoStrategy k (matches_of (app_for k) words)
 asks Run words e =
@@ -177,9 +177,10 @@ asks Run words e =
     (at (codes "workers") _ refl (inr (_, _, refl))) (at (codes "plans") _ refl (inr (_, _, refl)))
     (at (codes "batch") _ refl (inr (_, _, refl))) (at (codes "depth") _ refl (inr (_, _, refl))) in
     let combine = has_flag (codes "combine") rows _ refl (at (codes "combine") _ refl (inr (_, _, refl))) in
+    let prune = has_flag (codes "prune") rows _ refl (at (codes "prune") _ refl (inr (_, _, refl))) in
     let counts = has_flag (codes "counts") rows _ refl (at (codes "counts") _ refl (inr (_, _, refl))) in
-    asks_combining Run words (λ o. to_run program.text o counts.flag)
-    (λ o is. three_are to_run _ _ _ program.text o counts.flag program.is is counts.is) (λ o h. h) numbers combine
+    asks_flagged Run words (λ o. to_run program.text o counts.flag)
+    (λ o is. three_are to_run _ _ _ program.text o counts.flag program.is is counts.is) (λ o h. h) numbers combine prune
 asks Plan words e =
     let rows = matches_of (app_for Plan) words in
     let at = each_holds Plan words e in
@@ -224,9 +225,10 @@ asks Drill words e =
     (at (codes "workers") _ refl (inr (_, _, refl))) (at (codes "plans") _ refl (inr (_, _, refl)))
     (at (codes "batch") _ refl (inr (_, _, refl))) (at (codes "depth") _ refl (inr (_, _, refl))) in
     let combine = has_flag (codes "combine") rows _ refl (at (codes "combine") _ refl (inr (_, _, refl))) in
-    asks_combining Drill words (λ o. to_drill operands.seed.number operands.rows.number o)
+    let prune = has_flag (codes "prune") rows _ refl (at (codes "prune") _ refl (inr (_, _, refl))) in
+    asks_flagged Drill words (λ o. to_drill operands.seed.number operands.rows.number o)
     (λ o is. three_are to_drill _ _ _ operands.seed.number operands.rows.number o operands.seed.is operands.rows.is is)
-    (λ o h. (operands_in_range rows operands, h)) numbers combine
+    (λ o h. (operands_in_range rows operands, h)) numbers combine prune
 asks Iterate words e =
     let rows = matches_of (app_for Iterate) words in
     let at = each_holds Iterate words e in
@@ -239,7 +241,13 @@ asks Iterate words e =
     let stable = has_flag (codes "stable") rows _ refl (at (codes "stable") _ refl (inr (_, _, refl))) in
     asks_chosen Iterate words (λ o. to_iterate program.text source.text rounds.number o stable.flag)
     (λ o is. five_are to_iterate _ _ _ _ _ program.text source.text rounds.number o stable.flag program.is source.is rounds.is is stable.is)
-    (λ o h uncombined. record { least_rounds = rounds.least_of; most_rounds = rounds.most_of; options = h; uncombined = uncombined }) numbers
+    (λ o h uncombined unpruned. record {
+      least_rounds = rounds.least_of;
+      most_rounds = rounds.most_of;
+      options = h;
+      uncombined = uncombined;
+      unpruned = unpruned;
+    }) numbers
 
 -- where nothing is asked for, `--local` names no strategy
 pub taken_names_none : (k : Kind) (words : List Text) → fault_of (app_for k) words ≡ [] → asked_of k (matches_of (app_for k) words) ≡ None

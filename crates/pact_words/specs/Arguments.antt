@@ -78,6 +78,10 @@ local_rule = word_rule (codes "local") (codes "hash")
 abbrev pub combine_rule : Rule
 combine_rule = flag_rule (codes "combine")
 
+-- `--prune`
+abbrev pub prune_rule : Rule
+prune_rule = flag_rule (codes "prune")
+
 -- `--counts`
 abbrev pub counts_rule : Rule
 counts_rule = flag_rule (codes "counts")

@@ -3,7 +3,7 @@ use Rattle.std.specs.Prelude.{codes}
 use Rattle.clap.specs.Words.{App, Text, new_app, with_rule}
 use Rattle.pact_words.specs.declared.commands.Kind.{Kind}
 use Rattle.pact_words.specs.declared.commands.Kind.TheVariants.{Run, Plan, Cert, Check, Sets, Gen, Drill, Iterate}
-use Rattle.pact_words.specs.Arguments.{batch_rule, certificate_rule, combine_rule, counts_rule, depth_rule, local_rule, plans_rule, program_rule, rounds_rule, rows_rule, seed_rule, source_rule, stable_rule, workers_rule}
+use Rattle.pact_words.specs.Arguments.{batch_rule, certificate_rule, combine_rule, counts_rule, depth_rule, local_rule, plans_rule, program_rule, prune_rule, rounds_rule, rows_rule, seed_rule, source_rule, stable_rule, workers_rule}
 
 -- a command of a program
 abbrev pub program_app : Text → App
@@ -25,9 +25,9 @@ with_pipes app = with_rule (with_rule app batch_rule) depth_rule
 abbrev pub with_common_options : App → App
 with_common_options app = with_rule (with_pipes (with_limits app)) local_rule
 
--- with these, and whether groups are combined
+-- with these, and whether groups are combined and fields dropped
 abbrev pub with_options : App → App
-with_options app = with_rule (with_common_options app) combine_rule
+with_options app = with_rule (with_rule (with_common_options app) combine_rule) prune_rule
 
 -- with the source that gets what a round gives, and the number of rounds
 abbrev pub with_rounds : App → App

@@ -71,14 +71,15 @@ pub record AreOperandsInRange (seed rows : ℕ) : Type 0 where
   pub most_seed : seed ≤ seed_limit
   pub most_rows : rows ≤ row_limit
 
--- rounds, and options by which nothing is combined
+-- rounds, and options by which nothing is combined or dropped
 pub record AreRoundsInRange (rounds : ℕ) (o : Options) : Type 0 where
   pub least_rounds : 1 ≤ rounds
   pub most_rounds : rounds ≤ round_limit
   pub options : AreOptionsInRange o
   pub uncombined : o.combine ≡ false
+  pub unpruned : o.prune ≡ false
 
--- the numbers that are asked for lie in their ranges, and where rounds are run nothing is combined
+-- the numbers that are asked for lie in their ranges, and where rounds are run nothing is combined or dropped
 abbrev pub IsInRange : Asked → Type 0
 IsInRange (to_run program options counts) = AreOptionsInRange options
 IsInRange (to_plan program workers plans) = AreInRange workers plans
@@ -117,14 +118,14 @@ abbrev pub kind_in : List (List ℕ) → Option Kind
 kind_in [] = None
 kind_in (word ∷ words) = kind_named word
 
--- options as one record, by which nothing is combined
+-- options as one record, by which nothing is combined or dropped
 abbrev pub common_options : (workers plans batch depth : ℕ) (local : LocalStrategy) → Options
 common_options workers plans batch depth local =
-    record { workers = workers; plans = plans; batch = batch; depth = depth; local = local; combine = false }
+    record { workers = workers; plans = plans; batch = batch; depth = depth; local = local; combine = false; prune = false }
 
--- the same, and whether groups are combined
-abbrev pub with_combine : Options → Bool → Options
-with_combine options combine = record options { combine = combine }
+-- the same, and whether groups are combined and fields dropped
+abbrev pub with_flags : Options → (combine prune : Bool) → Options
+with_flags options combine prune = record options { combine = combine; prune = prune }
 
 -- those of each command that runs plans, where clap found each
 abbrev pub common_options_of : List Row → Option Options
@@ -132,9 +133,9 @@ common_options_of rows =
     all_five common_options (number_of (codes "workers") rows) (number_of (codes "plans") rows) (number_of (codes "batch") rows)
     (number_of (codes "depth") rows) (local_of (codes "local") rows)
 
--- these, and whether groups are combined
+-- these, and whether groups are combined and fields dropped
 abbrev pub options_of : List Row → Option Options
-options_of rows = all_two with_combine (common_options_of rows) (flag_of (codes "combine") rows)
+options_of rows = all_three with_flags (common_options_of rows) (flag_of (codes "combine") rows) (flag_of (codes "prune") rows)
 
 -- there is no word, or the first is no command
 abbrev pub AreUnnamed : List (List ℕ) → Type 0

@@ -2,7 +2,7 @@
 
 ghost use Rattle.std.specs.Prelude.{◌≡◌, false};
 ghost use Rattle.clap.specs.Words.{rule_of};
-ghost use Rattle.pact_words.specs.Arguments.{batch_rule, certificate_rule, combine_rule, counts_rule, depth_rule, flag_rule, local_rule, number_operand_rule, number_rule, operand_rule, plans_rule, program_rule, rounds_rule, rows_rule, seed_rule, source_rule, stable_rule, word_rule, workers_rule};
+ghost use Rattle.pact_words.specs.Arguments.{batch_rule, certificate_rule, combine_rule, counts_rule, depth_rule, flag_rule, local_rule, number_operand_rule, number_rule, operand_rule, plans_rule, program_rule, prune_rule, rounds_rule, rows_rule, seed_rule, source_rule, stable_rule, word_rule, workers_rule};
 
 use clap::builder::ValueParser;
 use clap::{Arg, ArgAction};
@@ -90,6 +90,13 @@ pub(crate) fn combine<'a>(alloc: Global) -> Arg<'a>
     ensures local { result.global ≡ false }
 {
     flag(alloc, "combine")
+}
+
+pub(crate) fn prune<'a>(alloc: Global) -> Arg<'a>
+    ensures rule { rule_of result ≡ prune_rule }
+    ensures local { result.global ≡ false }
+{
+    flag(alloc, "prune")
 }
 
 pub(crate) fn counts<'a>(alloc: Global) -> Arg<'a>

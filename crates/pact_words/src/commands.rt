@@ -24,13 +24,15 @@ pub struct Options {
     pub local: LocalStrategy,
     /// `--combine`: whether each worker reduces its own share of a group before it is shipped, where the function of a Reduce allows it.
     pub combine: bool,
+    /// `--prune`: whether fields that nothing above reads are dropped before records are shipped.
+    pub prune: bool,
 }
 
 /// A command with its operands and options.
 ///
 /// Where the words don't tell, there are 4 workers (1 to 16), at most 256 plans (1 to 1,000), batches of 64 records (1 to 1,024) and pipes of
-/// 4 notes (1 to 64), the records of a key are found by a hash table (`hash`, not `sort`), and nothing is combined. A seed is at most
-/// 2,147,483,646, there are at most 1,000,000 rows, and 1 to 1,000 rounds.
+/// 4 notes (1 to 64), the records of a key are found by a hash table (`hash`, not `sort`), and nothing is combined or dropped. A seed
+/// is at most 2,147,483,646, there are at most 1,000,000 rows, and 1 to 1,000 rounds.
 #[derive(Clone, Copy, Debug, PartialEq, Eq)]
 pub enum Command<'a> {
     /// `run PROGRAM`: the program in the file of that name is run, and its rows are written.
@@ -73,7 +75,7 @@ pub enum Command<'a> {
         options: Options,
     },
     /// `iterate PROGRAM SOURCE ROUNDS`: that program is run round by round, from the second round on with the rows of the round before, cut to its columns,
-    /// in the place of those of the source of that name, and the last round's rows are written. SOURCE is any text, and nothing is combined.
+    /// in the place of those of the source of that name, and the last round's rows are written. SOURCE is any text, and nothing is combined or dropped.
     Iterate {
         program: &'a str,
         source: &'a str,

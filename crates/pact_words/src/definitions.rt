@@ -5,8 +5,8 @@ ghost use Rattle.clap.specs.Words.{app_of};
 ghost use Rattle.pact_words.specs.Definitions.{app_for, check_app, drill_app, generating_app, iterate_app, planning_app, run_app, sets_app, with_common_options, with_limits, with_options, with_pipes, with_rounds};
 
 use crate::arguments::{
-    batch, certificate, combine, counts, depth, local, plans, program, rounds, rows, seed, source,
-    stable, workers,
+    batch, certificate, combine, counts, depth, local, plans, program, prune, rounds, rows, seed,
+    source, stable, workers,
 };
 use crate::commands::Kind;
 use clap::Command;
@@ -82,11 +82,13 @@ fn with_common_options<'a>(alloc: Global, command: Command<'a>) -> Result<Comman
     with_pipes(alloc, with_limits(alloc, command)?)?.arg(local(alloc))
 }
 
-// With these, and whether groups are combined.
+// With these, and whether groups are combined and fields dropped.
 fn with_options<'a>(alloc: Global, command: Command<'a>) -> Result<Command<'a>, AllocError>
     ensures { IfOk result (λ c. app_of c ≡ with_options (app_of command.entry)) }
 {
-    with_common_options(alloc, command)?.arg(combine(alloc))
+    with_common_options(alloc, command)?
+        .arg(combine(alloc))?
+        .arg(prune(alloc))
 }
 
 fn with_limits<'a>(alloc: Global, command: Command<'a>) -> Result<Command<'a>, AllocError>

@@ -53,16 +53,22 @@ fn common_options(matches: &ArgMatches<'_>) -> Option<Options>
         depth,
         local,
         combine: false,
+        prune: false,
     })
 }
 
-// These, and whether groups are combined.
+// These, and whether groups are combined and fields dropped.
 fn options(matches: &ArgMatches<'_>) -> Option<Options>
     ensures { result ≡ options_of (rows_of (found_of matches.now)) }
 {
     let common = common_options(matches)?;
     let combine = flag(matches, "combine")?;
-    Some(Options { combine, ..common })
+    let prune = flag(matches, "prune")?;
+    Some(Options {
+        combine,
+        prune,
+        ..common
+    })
 }
 
 fn plan<'a>(matches: &ArgMatches<'a>) -> Option<Command<'a>>

@@ -3,6 +3,7 @@ use Rattle.std.specs.Prelude.{◌++◌, ◌+◌, ℕ, List, [], ◌∷◌, Optio
 use Rattle.plan_trees.specs.Plans.{PlanTree, input_of}
 use Rattle.pact_operators.specs.declared.operators.Op.{Op}
 use Rattle.pact_operators.specs.Programs.{ProgramData}
+use Rattle.plan_printer.specs.FoundText.{set_text}
 
 -- what an input gave
 abbrev pub given_text : List ℕ → Option ℕ → List ℕ
@@ -39,3 +40,14 @@ partials_line counts new (Some op) = op.name ++ (codes " partials " ++ (decimal 
 abbrev pub partials_text : ProgramData → List ℕ → List (ℕ × ℕ) → List ℕ
 partials_text p counts [] = []
 partials_text p counts (pair ∷ pairs) = partials_line counts pair.0 (slice_get p.ops pair.1) ++ partials_text p counts pairs
+
+-- ---- fields that are kept
+
+-- the line of a source or operator of whose records fields were dropped: its name, and the fields that were kept
+abbrev pub keeps_line : Option Op → (fields : ℕ) → List ℕ
+keeps_line None fields = []
+keeps_line (Some op) fields = op.name ++ ((codes " keeps " ++ set_text fields) ++ codes "\n")
+
+-- that of a number
+abbrev pub keeps_line_at : ProgramData → (at fields : ℕ) → List ℕ
+keeps_line_at p at fields = keeps_line (slice_get p.ops at) fields

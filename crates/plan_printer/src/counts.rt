@@ -5,11 +5,11 @@ ghost use Rattle.plan_trees.specs.Plans.{has};
 ghost use Rattle.pact_operators.specs.Programs.{IsPlanOf};
 ghost use Rattle.plan_printer.specs.CountsText as texts;
 
-use crate::findings::push_number;
+use crate::findings::{push_number, push_set};
 use cost_model::rows_at;
 use pact_bag::Counts;
 use pact_operators::{Op, Plan, Program};
-use pact_record::{Bytes, OutOfMemory};
+use pact_record::{Bytes, Fields, OutOfMemory};
 use std::alloc::Global;
 
 // Puts what an input gave behind what is there.
@@ -136,4 +136,34 @@ pub fn push_partials(
         push_partials_at(alloc, text, program, counts, new, at)?;
     }
     Ok(())
+}
+
+fn push_keeps_line(
+    alloc: Global,
+    text: &mut Bytes,
+    op: &Op,
+    fields: Fields,
+) -> Result<(), OutOfMemory>
+    ensures { OnOk result (text.new ≡ text.old ++ texts.keeps_line (Some op.now) fields) }
+{
+    text.extend_from_slice(op.name.bytes())?;
+    push_set(alloc, text, b" keeps ", fields)?;
+    text.extend_from_slice(b"\n")
+}
+
+/// Puts behind the counts the line of a source or operator of whose records fields were dropped: its name, and the fields that were
+/// kept. Want of memory is the only error.
+pub fn push_keeps(
+    alloc: Global,
+    text: &mut Bytes,
+    program: &Program,
+    at: u32,
+    fields: Fields,
+) -> Result<(), OutOfMemory>
+    ensures { OnOk result (text.new ≡ text.old ++ texts.keeps_line_at program.now at fields) }
+{
+    match program.ops().get(at as usize) {
+        Some(op) => push_keeps_line(alloc, text, op, fields),
+        None => Ok(()),
+    }
 }

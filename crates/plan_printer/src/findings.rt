@@ -41,7 +41,12 @@ fn fields_text(alloc: Global, set: Fields) -> Result<Bytes, OutOfMemory>
 }
 
 // Puts a set behind what it is the set of.
-fn push_set(alloc: Global, text: &mut Bytes, what: &[u8], set: Fields) -> Result<(), OutOfMemory>
+pub(crate) fn push_set(
+    alloc: Global,
+    text: &mut Bytes,
+    what: &[u8],
+    set: Fields,
+) -> Result<(), OutOfMemory>
     ensures { OnOk result (text.new ≡ text.old ++ (what.now ++ texts.set_text set)) }
 {
     text.extend_from_slice(what)?;

@@ -9,7 +9,7 @@ mod findings;
 mod operator_lines;
 pub mod plans;
 
-pub use counts::{counts_text, push_partials};
+pub use counts::{counts_text, push_keeps, push_partials};
 pub use findings::{anchor_word, found_text, push_number};
 pub use operator_lines::sets_text;
 pub use plans::{Shown, plan_text};

@@ -12,10 +12,10 @@ pub run_chosen-requires-clause-inputs : goal.run_chosen-requires-clause-inputs
 run_chosen-requires-clause-inputs g c = subst (λ (l : Loaded). AreInputsOf l.program l.inputs) (sym c.in_ok-loaded.ensures) (are_inputs c.args.seed c.args.rows)
 
 pub summary-requires : goal.summary-requires
-summary-requires g c = run-AreWide c.in_ok-loaded.loaded c.args.options.workers c.args.options.plans c.args.options.combine c.in_ok-finished.finished c.in_ok-finished.ensures
+summary-requires g c = run-AreWide c.in_ok-loaded.loaded c.args.options.workers c.args.options.plans c.args.options.prune c.args.options.combine c.in_ok-finished.finished c.in_ok-finished.ensures
 
 pub returns : goal.returns
 returns g c =
     let o = c.args.options in
-    let is = subst (λ (l : Loaded). IsRun l o.workers o.plans o.combine c.in_ok-finished.finished) c.in_ok-loaded.ensures c.in_ok-finished.ensures in
-    IfOk-weaker c.summary.result _ _ (λ text told. is_drill_text c.args.seed c.args.rows o.workers o.plans o.combine c.in_ok-finished.finished text is told) c.summary.ensures
+    let is = subst (λ (l : Loaded). IsRun l o.workers o.plans o.prune o.combine c.in_ok-finished.finished) c.in_ok-loaded.ensures c.in_ok-finished.ensures in
+    IfOk-weaker c.summary.result _ _ (λ text told. is_drill_text c.args.seed c.args.rows o.workers o.plans o.prune o.combine c.in_ok-finished.finished text is told) c.summary.ensures

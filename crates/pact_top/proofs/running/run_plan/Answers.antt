@@ -8,8 +8,8 @@ use Rattle.ship_strategy.proofs.LaidSteps.{laid_workers}
 use Rattle.pact_top.proofs.RunPlans.{is_outcome}
 use Rattle.pact_top.proofs.running.run_plan.Goals as goal
 
-pub run_either-requires-clause-can : goal.run_either-requires-clause-can
-run_either-requires-clause-can g c =
+pub run_task_as-requires-clause-can : goal.run_task_as-requires-clause-can
+run_task_as-requires-clause-can g c =
     let p = c.args.program.now in
     let plan = c.args.plan.now in
     let task = c.task_of-task in
@@ -24,5 +24,6 @@ run_either-requires-clause-can g c =
 
 pub returns : goal.returns
 returns g c =
-    is_outcome (record { program = c.args.program.now; inputs = c.args.inputs }) c.args.options.workers c.args.plan.now c.args.number c.args.options.combine c.task_of-task.result c.run_either.result
-    c.task_of-task.ensures.physical c.task_of-task.ensures.tree c.requires.inputs c.task_of-task.ensures.legal c.requires.answers c.run_either.ensures
+    let o = c.args.options in
+    is_outcome (record { program = c.args.program.now; inputs = c.args.inputs }) o.workers c.args.plan.now c.args.number o.prune o.combine c.task_of-task.result c.run_task_as.result
+    c.task_of-task.ensures.physical c.task_of-task.ensures.tree c.requires.inputs c.requires.answers c.run_task_as.ensures

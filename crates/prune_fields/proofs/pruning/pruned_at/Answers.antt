@@ -1,0 +1,38 @@
+use Rattle.std.proofs.Common.{◌∙◌, ◌+◌, List, refl, sym, ap, subst}
+use Rattle.std.proofs.lemmas.Bool.{both_ways}
+use Rattle.plan_trees.specs.Plans.{PlanTree}
+use Rattle.prune_fields.specs.declared.pruning.Kept.{Kept}
+use Rattle.prune_fields.specs.Needs.{need}
+use Rattle.prune_fields.specs.PrunedPlans.{IsPrunedBelow}
+use Rattle.prune_fields.proofs.PrunedSteps.{may_insert, no_room, not_cut, put_in}
+use Rattle.prune_fields.proofs.pruning.pruned_at.Goals as goal
+
+pub returns-then-not-is_cut : goal.returns-then-not-is_cut
+returns-then-not-is_cut c = let r = c.requires in not_cut r.program r.plan r.physical r.there r.so_far (sym c.if-not-is_cut.true ∙ c.is_cut.ensures)
+
+pub returns-then-not-has_room : goal.returns-then-not-has_room
+returns-then-not-has_room c =
+    let r = c.requires in
+    no_room r.program r.plan r.physical r.there r.so_far (sym c.if-not-is_cut.false ∙ c.is_cut.ensures)
+    (λ some. both_ways c.has_room.result c.if-not-has_room.true (c.has_room.ensures.1 some))
+
+pub keep_at-requires : goal.keep_at-requires
+keep_at-requires c =
+    let r = c.requires in
+    let cut = sym c.if-not-is_cut.false ∙ c.is_cut.ensures in
+    let some = c.has_room.ensures.0 c.if-not-has_room.false in
+    let needs = c.need-needed.ensures ∙ ap (λ (t : PlanTree). need c.args.program.now t c.args.at) c.plan.ensures in
+    may_insert r.program r.plan r.physical r.there r.so_far cut some c.need-needed.result needs
+
+pub returns : goal.returns
+returns c =
+    let r = c.requires in
+    let cut = sym c.if-not-is_cut.false ∙ c.is_cut.ensures in
+    let some = c.has_room.ensures.0 c.if-not-has_room.false in
+    let needs = c.need-needed.ensures ∙ ap (λ (t : PlanTree). need c.args.program.now t c.args.at) c.plan.ensures in
+    let k : Kept = record { at = c.args.at; fields = c.need-needed.result } in
+    let q = c.in_ok-program.program in
+    let y = c.in_ok-program.physical in
+    let of = c.in_ok-program.ensures in
+    subst (λ (l : List Kept). IsPrunedBelow c.args.program.now c.args.physical.now (c.args.at + 1) q y l) (sym c.in_ok-push.ensures.items)
+    (put_in r.program r.plan r.physical r.there r.so_far cut some c.need-needed.result needs q y k of.program of.physical refl refl)

@@ -1,0 +1,5 @@
+pub mod Needs
+pub mod KeepFunctions
+pub mod Insertions
+pub mod PrunedPlans
+pub mod SameAnswers

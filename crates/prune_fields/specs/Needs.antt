@@ -1,0 +1,37 @@
+-- Which fields of what each source and operator of a plan gives are needed: the sink's of what the root gives, and of every other what its consumer reads
+-- or hands on, among the attributes there.
+use Rattle.std.specs.Prelude.{◌==◌, ◌&&◌, ◌||◌, not, ℕ, if◌then◌else◌}
+use Rattle.pact_record.specs.Keys.{is_listed}
+use Rattle.tac_syntax.specs.Contexts.{FieldSet}
+use Rattle.tac_flow.specs.Results.{FoundSets}
+use Rattle.plan_trees.specs.Plans.{PlanTree, leaf, over, both, has, root_of}
+use Rattle.pact_operators.specs.Programs.{ProgramData}
+use Rattle.ship_strategy.specs.PlanFacts.{attribute, left_attribute, right_attribute, sets_at}
+
+-- what an operator wants of its inputs, where so much of what it gives is needed: what it reads, and what it hands on
+abbrev pub wanted : (reads writes above : FieldSet) → FieldSet
+wanted reads writes above k = reads k || (above k && not (writes k))
+
+-- those among the attributes of one input
+abbrev pub within : FieldSet → FieldSet → FieldSet
+within set attributes k = set k && attributes k
+
+-- what is found of a tree's root
+abbrev pub root_sets : ProgramData → PlanTree → FoundSets
+root_sets p t = sets_at p (root_of t) (left_attribute p t) (right_attribute p t)
+
+-- what a tree's root wants of its inputs
+abbrev pub wants_of : ProgramData → PlanTree → FieldSet → FieldSet
+wants_of p t above = wanted (root_sets p t).reads (root_sets p t).writes above
+
+-- by number, where so much of what the root gives is needed
+abbrev pub needs_from : ProgramData → FieldSet → PlanTree → ℕ → FieldSet
+needs_from p above (leaf n) at = above
+needs_from p above (over n t) at = if at == n then above else needs_from p (within (wants_of p (over n t) above) (attribute p t)) t at
+needs_from p above (both n t u) at =
+    if at == n then above
+    else (if has at t then needs_from p (within (wants_of p (both n t u) above) (attribute p t)) t at
+    else needs_from p (within (wants_of p (both n t u) above) (attribute p u)) u at)
+
+abbrev pub need : ProgramData → PlanTree → ℕ → FieldSet
+need p tree at = needs_from p (is_listed p.sink) tree at

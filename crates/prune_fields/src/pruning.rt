@@ -1,0 +1,160 @@
+//! The pruned program and physical plan.
+
+ghost use Rattle.std.specs.Prelude.{◌≡◌, ◌<◌, ◌+◌, ◌↔◌, ◌&&◌, List, IfOk, IsTrue, length, true};
+ghost use Rattle.pact_record.specs.FieldSets.{has_field};
+ghost use Rattle.plan_trees.specs.Physicals.{IsPhysical};
+ghost use Rattle.plan_trees.specs.Plans.{has};
+ghost use Rattle.pact_operators.specs.Allowed.{Bag};
+ghost use Rattle.pact_operators.specs.Inputs.{AreInputsOf};
+ghost use Rattle.pact_operators.specs.Programs.{IsPlanOf, IsProgram, function_limit, is_operator_kind, operator_limit, times_of_kind};
+ghost use Rattle.ship_strategy.specs.PlanFacts.{facts_of};
+ghost use Rattle.ship_strategy.specs.Ships.{LegalShip};
+ghost use Rattle.prune_fields.specs.Needs as needs;
+ghost use Rattle.prune_fields.specs.PrunedPlans as specs;
+ghost use Rattle.prune_fields.specs.PrunedPlans.{IsPruned, IsPrunedBelow};
+ghost use Rattle.prune_fields.specs.SameAnswers.{AnswersSame, RunsAnswer};
+
+use crate::keeping::keep_at;
+use crate::needs::need;
+use pact_operators::{Op, OpKind, Program, attrs};
+use pact_record::{Fields, OutOfMemory};
+use plan_trees::{Physical, Ship};
+use std::alloc::Global;
+
+// A Map is put in while there are fewer operators and functions than these.
+const MAX_OPERATORS: usize = 16;
+
+const MAX_FUNCTIONS: usize = 64;
+
+/// The number of a source or an operator whose records are cut, and the fields that are kept of them.
+#[derive(Clone, Copy, Debug)]
+pub struct Kept {
+    pub at: u32,
+    pub fields: Fields,
+}
+
+/// A program with a physical plan of it, in which fields that aren't needed are dropped before records are shipped. The
+/// list is in the order of numbers.
+#[derive(Debug, Drop)]
+pub struct Pruned {
+    pub program: Program,
+    pub physical: Physical,
+    pub kept: Vec<Kept>,
+}
+
+// How many of them are operators.
+fn operators(ops: &[Op]) -> usize
+    ensures { result ≡ times_of_kind is_operator_kind ops.now }
+{
+    let mut count = 0;
+    for op in ops {
+        if op.kind != OpKind::Source {
+            count += 1;
+        }
+    }
+    count
+}
+
+// Whether a Map may still be put in.
+fn has_room(program: &Program) -> bool
+    ensures { IsTrue result ↔ (times_of_kind is_operator_kind program.now.ops < operator_limit) × (length program.now.functions < function_limit) }
+{
+    operators(program.ops()) < MAX_OPERATORS && program.functions().len() < MAX_FUNCTIONS
+}
+
+// Whether the records of the number are shipped with fields that aren't needed.
+fn is_cut(program: &Program, physical: &Physical, at: u32, needed: Fields) -> bool
+    requires program { IsProgram program.now }
+    requires there { has at physical.now.tree ≡ true }
+    requires needed { has_field needed ≡ needs.need program.now physical.now.tree at }
+    ensures { result ≡ specs.is_cut program.now physical.now at }
+{
+    let Some(ship) = physical.ship(at) else {
+        return false;
+    };
+    if let Ship::Forward = ship {
+        return false;
+    }
+    let attributes = attrs(program, physical.plan(), at);
+    !attributes.is_subset(needed)
+}
+
+// With a Map on the edge of the number, where one is to stand there.
+fn pruned_at(
+    alloc: Global,
+    program: &Program,
+    physical: &Physical,
+    so_far: Pruned,
+    at: u32,
+) -> Result<Pruned, OutOfMemory>
+    requires program { IsProgram program.now }
+    requires physical { IsPhysical physical.now }
+    requires there { at < length program.now.ops }
+    requires plan { IsPlanOf program.now.functions program.now.ops physical.now.tree }
+    requires so_far { IsPrunedBelow program.now physical.now at so_far.program so_far.physical so_far.kept.items }
+    ensures { IfOk result (λ c. IsPrunedBelow program.now physical.now (at + 1) c.program c.physical c.kept.items) }
+{
+    let needed = need(program, physical.plan(), at);
+    if !is_cut(program, physical, at, needed) {
+        return Ok(so_far);
+    }
+    if !has_room(&so_far.program) {
+        return Ok(so_far);
+    }
+    let Pruned {
+        program,
+        physical,
+        kept,
+    } = so_far;
+    let mut kept = kept;
+    kept.push(Kept { at, fields: needed })?;
+    let (program, physical) = keep_at(alloc, program, physical, at, needed)?;
+    Ok(Pruned {
+        program,
+        physical,
+        kept,
+    })
+}
+
+// With all of them.
+fn all_pruned(alloc: Global, program: &Program, physical: &Physical) -> Result<Pruned, OutOfMemory>
+    requires program { IsProgram program.now }
+    requires physical { IsPhysical physical.now }
+    requires plan { IsPlanOf program.now.functions program.now.ops physical.now.tree }
+    ensures { IfOk result (λ c. IsPruned program.now physical.now c.program c.physical c.kept.items) }
+{
+    let mut pruned = Pruned {
+        program: program.copy(alloc)?,
+        physical: *physical,
+        kept: Vec::new(alloc),
+    };
+    for at in 0..program.ops().len() as u32 {
+        pruned = pruned_at(alloc, program, physical, pruned, at)?;
+    }
+    Ok(pruned)
+}
+
+/// The pruned plan: in the order of numbers, each source and operator gets a Map on its edge that keeps what is needed of
+/// its records, while there are fewer than 16 operators and fewer than 64 functions. The root gets none, nor does one that
+/// ships Forward, nor one all of whose attributes are needed. Both plans give the same records, cut to the sink's fields,
+/// with the same counts at the program's operators. Want of memory is the only error.
+pub fn prune(alloc: Global, program: &Program, physical: &Physical) -> Result<Pruned, OutOfMemory>
+    requires plan { IsPlanOf program.now.functions program.now.ops physical.now.tree }
+    requires legal { LegalShip (facts_of program.now physical.now.tree) physical.now }
+    ensures pruned { IfOk result (λ c. IsPruned program.now physical.now c.program c.physical c.kept.items) }
+    ensures plan { IfOk result (λ c. IsPlanOf c.program.functions c.program.ops c.physical.tree) }
+    ensures legal { IfOk result (λ c. LegalShip (facts_of c.program c.physical.tree) c.physical) }
+    ensures version { IfOk result (λ c. c.program.version ≡ program.now.version) }
+    ensures fields { IfOk result (λ c. c.program.fields ≡ program.now.fields) }
+    ensures sink { IfOk result (λ c. c.program.sink ≡ program.now.sink) }
+    ensures workers { IfOk result (λ c. c.physical.workers ≡ physical.now.workers) }
+    ensures inputs { IfOk result (λ c. (inputs : List Bag) → AreInputsOf program.now inputs → AreInputsOf c.program inputs) }
+    ensures same { IfOk result (λ c. AnswersSame program.now physical.now c.program c.physical) }
+    ensures runs { IfOk result (λ c. RunsAnswer program.now physical.now c.program c.physical) }
+{
+    // Its clause says that the program keeps every rule.
+    let _fields = program.fields();
+    // Its clause says that the physical plan is one.
+    let _workers = physical.workers();
+    all_pruned(alloc, program, physical)
+}
