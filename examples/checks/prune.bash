@@ -248,7 +248,7 @@ s keeps {0}\n|0 1 2|r0 = new; v0 = key 0; set r0 0 v0; emit r0
 END
 count needs 's keeps {0,1}\n' 1 '0 3' 'v0 = int 0; each x1 of group; v1 = get x1 1; v0 = addw v0 v1; end; r0 = new; v2 = key 0; set r0 0 v2; set r0 3 v0; emit r0'
 count needs 's keeps {0,1}\n' 1 0 'each x1 of group; v1 = get x1 1; v0 = max v0 v1; end; if v0; r0 = new; v2 = key 0; set r0 0 v2; emit r0; end'
-# A field by register may be any field: a `get` needs the whole record, and so does a `set`, but in a record that is made anew.
+# A field by register may be any field of its record: a `get` needs the whole of it, and so does a `set`, but in a record that is made anew.
 while IFS='|' read -r lines sink statements; do
     count needs "$lines" 2 "$sink" "v1 = int 1; each x1 of group; $statements; end"
 done <<'END'
@@ -259,6 +259,24 @@ s keeps {0}\n|0|v0 = get x1 @v1; r0 = copy x1; emit r0
 |0|r0 = copy x1; set r0 @v1 v1; emit r0
 s keeps {0}\n|0 1 2|r0 = new; set r0 @v1 v1; emit r0
 s keeps {0,2}\n|0 1|v0 = get x1 2; r0 = new; set r0 @v1 v0; emit r0
+END
+# Of a pair that is one side's record alone, and of a record that is made anew what was put into it.
+needs_of_pairs() { # lines, fields of the sink, statements
+    printf 'pact 2\nfields 8\nsource s s.csv int:0 int:1 int:2\nsource t t.csv int:3 int:4 int:5\nfunction f match\nv1 = int 1\n%s\nend\nmatch j f s t by 0 = 3\nsink j %s\n' \
+        "${3//; /$'\n'}" "$2" >"$pruned/m.pact"
+    prunes "$1" m.pact --plans 1 && is_as_reckoned m.pact 4 --plans 1
+}
+while IFS='|' read -r lines sink statements; do
+    count needs_of_pairs "$lines" "$sink" "$statements"
+done <<'END'
+t keeps {3}\n|6|v0 = get left @v1; r0 = copy right; set r0 6 v0; emit r0
+t keeps {3,4}\n|4 6|v0 = get left @v1; r0 = copy right; set r0 6 v0; emit r0
+s keeps {0}\n|6|v0 = get right @v1; r0 = copy left; set r0 6 v0; emit r0
+|6|v0 = get join @v1; r0 = copy left; set r0 6 v0; emit r0
+t keeps {3}\n|0|r0 = copy left; set r0 @v1 v1; emit r0
+s keeps {0}\n|4|r0 = copy right; set r0 @v1 v1; emit r0
+s keeps {0}\nt keeps {3}\n|6|r0 = new; v0 = get r0 @v1; set r0 6 v0; emit r0
+s keeps {0,1}\nt keeps {3}\n|7|v2 = get left 1; r0 = new; set r0 6 v2; v0 = get r0 @v1; set r0 7 v0; emit r0
 END
 
 # ---- Which edges
@@ -322,7 +340,7 @@ function pair match
   r0 = copy join
   emit r0
 end
-function lft match
+function left_kept match
   r0 = copy left
   emit r0
 end
@@ -398,8 +416,8 @@ s keeps {3,4}\n|1|source s t.csv int:3 int:4 int:5; source t s.csv int:0 int:1 i
 t keeps {3,4}\ns keeps {0,1}\n|4|T; S; match j pair s t by 0 = 3; sink j 1 4
 |4|S; T; match j pair s t by 0 = 3; sink j 1 2 4 5
 t keeps {3,4}\n|4|S; T; match j pair s t by 0 1 = 3 4; sink j 2
-s keeps {0,1}\nt keeps {3}\n|4|S; T; match j lft s t by 0 = 3; sink j 1
-s keeps {0}\nt keeps {3}\n|4|S; T; match j lft s t by 0 = 3; sink j 4
+s keeps {0,1}\nt keeps {3}\n|4|S; T; match j left_kept s t by 0 = 3; sink j 1
+s keeps {0}\nt keeps {3}\n|4|S; T; match j left_kept s t by 0 = 3; sink j 4
 s keeps {0,1}\nt keeps {3,5}\n|4|S; T; match j asked s t by 0 = 3; sink j 1
 s keeps {0,1}\nt keeps {3,4}\n|4|S; T; match j pair s t by 0 = 3; reduce r both j by 0 1; sink r 4
 s keeps {0,1}\nt keeps {3,4}\nj keeps {1,4}\n|4|S; T; match j pair s t by 0 = 3; reduce r keep j by 1; sink r 4

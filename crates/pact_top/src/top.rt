@@ -117,24 +117,24 @@ fn asks_for_threads(alloc: Global, words: &[&str]) -> bool
 
 /// Does what the command line's words ask for, and answers the exit status.
 ///
-/// `words` are without the program's own name. Of `run PROGRAM`, the program's file and then those
-/// of its sources are opened and read, in text order, the plan that is expected to cost least is
-/// chosen and run in parts, and the sorted rows are written on `out`; with `--counts`, how many records
-/// each operator had is told on `err` behind that. With `--prune` fields that nothing above reads are
+/// `words` are without the program's own name. Of `run PROGRAM`, the program's file and then those of
+/// its sources are opened and read, in text order, the plan that is expected to cost least is chosen
+/// and run in parts, and the sorted rows are written on `out`; with `--counts`, how many records each
+/// operator had is told on `err` behind that. With `--prune` fields that nothing above reads are
 /// dropped before records are shipped, and with counts a line `keeps` tells which were kept where. With
 /// `--combine` the plan, pruned or not, is run with partial groups, and with counts a line `partials`
-/// behind all others tells, for each Reduce that was combined, how many partial records went to it.
-/// Of `plan PROGRAM` the chosen plan is written, and
-/// of `cert PROGRAM` its certificate. Of `sets PROGRAM`, its file alone is read, and what the
-/// analysis finds of each operator is written. Of `check PROGRAM CERT`, the program's file is read
-/// and then the certificate's, and `accepted` is written where each step of it is found again.
-/// Of `gen SEED ROWS` and `drill SEED ROWS` no file is read: the one writes rows that the seed
-/// determines, the other runs a program of its own on them and writes a summary, which is the same
-/// for every option. Of `iterate PROGRAM SOURCE ROUNDS` the program runs so many rounds: from the second
-/// on the source of that name has the records of the round before, cut to its columns, in place of its
-/// file's rows. The plans are listed once, and one is chosen for the rows of each round; the sorted rows
-/// of the last one are written. With `--stable` rounds end behind the first that gives back, cut and in
-/// any order, the rows with which that round began, and how many there were is told on `err`.
+/// behind all others tells, for each Reduce that was combined, how many partial records went to it. Of
+/// `plan PROGRAM` the chosen plan is written, and of `cert PROGRAM` its certificate. Of `sets PROGRAM`,
+/// its file alone is read, and what the analysis finds of each operator is written. Of `check PROGRAM
+/// CERT`, the program's file is read and then the certificate's, and `accepted` is written where each
+/// step of it is found again. Of `gen SEED ROWS` and `drill SEED ROWS` no file is read: the one writes
+/// rows that the seed determines, the other runs a program of its own on them and writes a summary,
+/// which is the same for every option. Of `iterate PROGRAM SOURCE ROUNDS` the program runs so many
+/// rounds: from the second on the source of that name has the records of the round before, cut to its
+/// columns, in place of its file's rows. The plans are listed once, and one is chosen for the rows of
+/// each round; the sorted rows of the last one are written. With `--stable` rounds end behind the first
+/// that gives back, cut and in any order, the rows with which that round began, and how many there were
+/// is told on `err`.
 /// Nothing is written before all of the texts are made. What goes wrong is told on `err` in one
 /// line; of a certificate with other sets or another plan the lines behind it have both.
 /// `specs/Headline.antt` has the clauses, with what each says.

@@ -70,14 +70,38 @@ module _ (x : PhysicalData) (at : ℕ) where
       by true e = (refl, same_Some (get_or x.ships at Forward) ship e)
       by false e = absurd cc
 
-  cut_by : (p : ProgramData) (ship : Ship) → ship_at x at ≡ Some ship → is_cut p x at ≡ (not (is_forward ship) && has_spare p x.tree at)
-  cut_by p ship e = let r = an_edge ship e in λ i. (r.0 i) && (not (is_forward (r.1 i)) && has_spare p x.tree at)
+  -- it isn't the root, and doesn't ship Forward
+  abbrev pub shipped : Bool
+  shipped = has_edge at x.tree && not (is_forward (get_or x.ships at Forward))
 
-  pub cut_shipped : (p : ProgramData) (ship : Ship) (spare : Bool) → ship_at x at ≡ Some ship → ship ≢ Forward → spare ≡ has_spare p x.tree at
-      → spare ≡ is_cut p x at
-  cut_shipped p ship spare e other s = s ∙ sym (cut_by p ship e ∙ by ship other)
+  pub shipped_by : (ship : Ship) → ship_at x at ≡ Some ship → ship ≢ Forward → true ≡ shipped
+  shipped_by ship e other = let r = an_edge ship e in sym ((λ i. (r.0 i) && not (is_forward (r.1 i))) ∙ by ship other)
     where
-      by : (ship : Ship) → ship ≢ Forward → (not (is_forward ship) && has_spare p x.tree at) ≡ has_spare p x.tree at
+      by : (ship : Ship) → ship ≢ Forward → (true && not (is_forward ship)) ≡ true
       by Forward other = absurd (other refl)
       by (Partition keys) other = refl
       by Broadcast other = refl
+
+  in_turn : (a b c : Bool) → ((a && b) && c) ≡ (a && (b && c))
+  in_turn true b c = refl
+  in_turn false b c = refl
+
+  and_false : (a : Bool) → false ≡ (a && false)
+  and_false true = refl
+  and_false false = refl
+
+  module _ (p : ProgramData) where
+    abbrev spare : Bool
+    spare = has_spare p x.tree at
+
+    cut_is : (shipped && spare) ≡ is_cut p x at
+    cut_is = in_turn (has_edge at x.tree) (not (is_forward (get_or x.ships at Forward))) spare
+
+    pub not_shipped : false ≡ shipped → false ≡ is_cut p x at
+    not_shipped e = (λ i. (e i) && spare) ∙ cut_is
+
+    pub none_spare : false ≡ spare → false ≡ is_cut p x at
+    none_spare e = and_false shipped ∙ (λ i. shipped && (e i)) ∙ cut_is
+
+    pub both_cut : true ≡ shipped → true ≡ spare → true ≡ is_cut p x at
+    both_cut e f = (λ i. (e i) && (f i)) ∙ cut_is

@@ -1,7 +1,7 @@
 -- One number more is pruned.
 use Rattle.std.proofs.Common.{◌≡◌, ◌∙◌, ◌<◌, ◌≤◌, ◌+◌, inl, inr, ℕ, true, false, List, [], ◌∷◌, ◌++◌, length, refl, sym, ap, subst, arith}
 use Rattle.std.specs.List.{AllZip}
-use Rattle.std.proofs.lemmas.Bool.{cases_lt}
+use Rattle.std.proofs.lemmas.Bool.{cases_Bool, cases_lt}
 use Rattle.pact_record.specs.FieldSets.{has_field}
 use Rattle.plan_trees.specs.Inserted.{inserted_above}
 use Rattle.plan_trees.specs.Physicals.{IsPhysical, PhysicalData}
@@ -63,8 +63,11 @@ module _ {p : ProgramData} {x : PhysicalData} {at : ℕ} {q : ProgramData} {y : 
   functions_are : length q.functions ≡ length p.functions + length ns
   functions_are = ap (λ (r : ProgramData). length r.functions) h.program ∙ functions_length p x.tree Needs ns
 
-  pub no_room : true ≡ is_cut p x at → (HasRoom q → ⊥) → IsPrunedBelow p x (at + 1) q y kept
-  no_room e none = same_cut p x at q y kept (cut_full p x at (sym e) full) h
+  pub no_room : (HasRoom q → ⊥) → IsPrunedBelow p x (at + 1) q y kept
+  no_room none = elim (cases_Bool (is_cut p x at)) as (λ _. IsPrunedBelow p x (at + 1) q y kept) [
+    | inl cut ↦ same_cut p x at q y kept (cut_full p x at cut full) h
+    | inr other ↦ not_cut (sym other)
+  ]
     where
       full : room p ≤ length ns
       full = elim (cases_lt (times_of_kind is_operator_kind q.ops) operator_limit) as (λ _. room p ≤ length ns) [

@@ -1,8 +1,9 @@
 //! The pruned program and physical plan.
 
-ghost use Rattle.std.specs.Prelude.{◌≡◌, ◌<◌, ◌+◌, ◌↔◌, ◌&&◌, List, IfOk, IsTrue, length, true};
+ghost use Rattle.std.specs.Prelude.{◌≡◌, ◌<◌, ◌+◌, ◌↔◌, ◌&&◌, not, List, IfOk, IsTrue, get_or, length, true};
 ghost use Rattle.pact_record.specs.FieldSets.{has_field};
-ghost use Rattle.plan_trees.specs.Physicals.{IsPhysical};
+ghost use Rattle.plan_trees.specs.declared.physicals.Ship.TheVariants.{Forward};
+ghost use Rattle.plan_trees.specs.Physicals.{IsPhysical, has_edge};
 ghost use Rattle.plan_trees.specs.Plans.{has};
 ghost use Rattle.pact_operators.specs.Allowed.{Bag};
 ghost use Rattle.pact_operators.specs.Inputs.{AreInputsOf};
@@ -11,7 +12,7 @@ ghost use Rattle.ship_strategy.specs.PlanFacts.{facts_of};
 ghost use Rattle.ship_strategy.specs.Ships.{LegalShip};
 ghost use Rattle.prune_fields.specs.Needs as needs;
 ghost use Rattle.prune_fields.specs.PrunedPlans as specs;
-ghost use Rattle.prune_fields.specs.PrunedPlans.{IsPruned, IsPrunedBelow};
+ghost use Rattle.prune_fields.specs.PrunedPlans.{IsPruned, IsPrunedBelow, is_forward};
 ghost use Rattle.prune_fields.specs.SameAnswers.{AnswersSame, RunsAnswer};
 
 use crate::keeping::keep_at;
@@ -62,12 +63,10 @@ fn has_room(program: &Program) -> bool
     operators(program.ops()) < MAX_OPERATORS && program.functions().len() < MAX_FUNCTIONS
 }
 
-// Whether the records of the number are shipped with fields that aren't needed.
-fn is_cut(program: &Program, physical: &Physical, at: u32, needed: Fields) -> bool
-    requires program { IsProgram program.now }
-    requires there { has at physical.now.tree ≡ true }
-    requires needed { has_field needed ≡ needs.need program.now physical.now.tree at }
-    ensures { result ≡ specs.is_cut program.now physical.now at }
+// Whether the records of the number are shipped: it isn't the root, and doesn't ship Forward.
+fn is_shipped(physical: &Physical, at: u32) -> bool
+    requires { has at physical.now.tree ≡ true }
+    ensures { result ≡ (has_edge at physical.now.tree && not (is_forward (get_or physical.now.ships at Forward))) }
 {
     let Some(ship) = physical.ship(at) else {
         return false;
@@ -75,6 +74,16 @@ fn is_cut(program: &Program, physical: &Physical, at: u32, needed: Fields) -> bo
     if let Ship::Forward = ship {
         return false;
     }
+    true
+}
+
+// Whether not all its attributes are needed.
+fn has_spare(program: &Program, physical: &Physical, at: u32, needed: Fields) -> bool
+    requires program { IsProgram program.now }
+    requires there { has at physical.now.tree ≡ true }
+    requires needed { has_field needed ≡ needs.need program.now physical.now.tree at }
+    ensures { result ≡ specs.has_spare program.now physical.now.tree at }
+{
     let attributes = attrs(program, physical.plan(), at);
     !attributes.is_subset(needed)
 }
@@ -94,11 +103,15 @@ fn pruned_at(
     requires so_far { IsPrunedBelow program.now physical.now at so_far.program so_far.physical so_far.kept.items }
     ensures { IfOk result (λ c. IsPrunedBelow program.now physical.now (at + 1) c.program c.physical c.kept.items) }
 {
-    let needed = need(program, physical.plan(), at);
-    if !is_cut(program, physical, at, needed) {
+    if !is_shipped(physical, at) {
         return Ok(so_far);
     }
     if !has_room(&so_far.program) {
+        return Ok(so_far);
+    }
+    // Only behind these: it analyses each operator above.
+    let needed = need(program, physical.plan(), at);
+    if !has_spare(program, physical, at, needed) {
         return Ok(so_far);
     }
     let Pruned {

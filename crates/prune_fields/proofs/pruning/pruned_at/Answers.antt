@@ -4,22 +4,34 @@ use Rattle.plan_trees.specs.Plans.{PlanTree}
 use Rattle.prune_fields.specs.declared.pruning.Kept.{Kept}
 use Rattle.prune_fields.specs.Needs.{need}
 use Rattle.prune_fields.specs.PrunedPlans.{IsPrunedBelow}
+use Rattle.prune_fields.proofs.CutsFound.{both_cut, none_spare, not_shipped}
 use Rattle.prune_fields.proofs.PrunedSteps.{may_insert, no_room, not_cut, put_in}
 use Rattle.prune_fields.proofs.pruning.pruned_at.Goals as goal
 
-pub returns-then-not-is_cut : goal.returns-then-not-is_cut
-returns-then-not-is_cut c = let r = c.requires in not_cut r.program r.plan r.physical r.there r.so_far (sym c.if-not-is_cut.true ∙ c.is_cut.ensures)
+pub returns-then-not-is_shipped : goal.returns-then-not-is_shipped
+returns-then-not-is_shipped c =
+    let r = c.requires in
+    not_cut r.program r.plan r.physical r.there r.so_far
+    (not_shipped c.args.physical.now c.args.at c.args.program.now (sym c.if-not-is_shipped.true ∙ c.is_shipped.ensures))
 
 pub returns-then-not-has_room : goal.returns-then-not-has_room
 returns-then-not-has_room c =
     let r = c.requires in
-    no_room r.program r.plan r.physical r.there r.so_far (sym c.if-not-is_cut.false ∙ c.is_cut.ensures)
+    no_room r.program r.plan r.physical r.there r.so_far
     (λ some. both_ways c.has_room.result c.if-not-has_room.true (c.has_room.ensures.1 some))
+
+pub returns-then-not-has_spare : goal.returns-then-not-has_spare
+returns-then-not-has_spare c =
+    let r = c.requires in
+    not_cut r.program r.plan r.physical r.there r.so_far
+    (none_spare c.args.physical.now c.args.at c.args.program.now (sym c.if-not-has_spare.true ∙ c.has_spare.ensures))
 
 pub keep_at-requires : goal.keep_at-requires
 keep_at-requires c =
     let r = c.requires in
-    let cut = sym c.if-not-is_cut.false ∙ c.is_cut.ensures in
+    let cut =
+    both_cut c.args.physical.now c.args.at c.args.program.now (sym c.if-not-is_shipped.false ∙ c.is_shipped.ensures)
+    (sym c.if-not-has_spare.false ∙ c.has_spare.ensures) in
     let some = c.has_room.ensures.0 c.if-not-has_room.false in
     let needs = c.need-needed.ensures ∙ ap (λ (t : PlanTree). need c.args.program.now t c.args.at) c.plan.ensures in
     may_insert r.program r.plan r.physical r.there r.so_far cut some c.need-needed.result needs
@@ -27,7 +39,9 @@ keep_at-requires c =
 pub returns : goal.returns
 returns c =
     let r = c.requires in
-    let cut = sym c.if-not-is_cut.false ∙ c.is_cut.ensures in
+    let cut =
+    both_cut c.args.physical.now c.args.at c.args.program.now (sym c.if-not-is_shipped.false ∙ c.is_shipped.ensures)
+    (sym c.if-not-has_spare.false ∙ c.has_spare.ensures) in
     let some = c.has_room.ensures.0 c.if-not-has_room.false in
     let needs = c.need-needed.ensures ∙ ap (λ (t : PlanTree). need c.args.program.now t c.args.at) c.plan.ensures in
     let k : Kept = record { at = c.args.at; fields = c.need-needed.result } in

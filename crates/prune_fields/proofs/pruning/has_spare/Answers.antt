@@ -1,9 +1,9 @@
-use Rattle.std.proofs.Common.{◌↔◌, ◌∙◌, ℕ, IsTrue, sym, subst}
+use Rattle.std.proofs.Common.{◌↔◌, ℕ, IsTrue, subst}
 use Rattle.pact_record.specs.FieldSets.{has_field}
 use Rattle.plan_trees.specs.Plans.{PlanTree, subtree_of}
 use Rattle.pact_operators.specs.Programs.{HasAttribute}
-use Rattle.prune_fields.proofs.CutsFound.{cut_shipped, spare_is}
-use Rattle.prune_fields.proofs.pruning.is_cut.Goals as goal
+use Rattle.prune_fields.proofs.CutsFound.{spare_is}
+use Rattle.prune_fields.proofs.pruning.has_spare.Goals as goal
 
 pub returns : goal.returns
 returns c =
@@ -14,5 +14,4 @@ returns c =
     let are =
     subst (λ (t : PlanTree). (k : ℕ) → IsTrue (has_field own k) ↔ HasAttribute p.functions p.ops
     (subtree_of at t) k) c.plan.ensures c.attrs-attributes.ensures in
-    cut_shipped x at p c.in-Some.ship _ (sym c.ship.ensures.ship ∙ c.in-Some.is) c.in_default-ship.not-Forward
-    (spare_is p c.requires.program x.tree at c.args.needed own c.is_subset.result c.requires.needed are c.is_subset.ensures.subset)
+    spare_is p c.requires.program x.tree at c.args.needed own c.is_subset.result c.requires.needed are c.is_subset.ensures.subset
