@@ -12,20 +12,20 @@ use pact_bag::Rows;
 use pact_record::{Keys, OutOfMemory, Record, Value};
 use std::alloc::Global;
 use std::cmp::Ordering;
-use tac_interp::{call_map, call_pair};
+use tac_interp::{Scratch, map_into, pair_into};
 use tac_syntax::Valid;
 
-/// What a Map gives.
-pub fn map_rows(alloc: Global, f: &Valid, rows: &Rows) -> Result<Rows, OutOfMemory>
+/// What a Map gives. A row that its function emits unchanged at its end is moved and not copied.
+pub fn map_rows(alloc: Global, f: &Valid, rows: Rows) -> Result<Rows, OutOfMemory>
     requires kind { f.now.function.kind ≡ Map }
-    requires widths { AreWide f.now.fields rows.now }
-    ensures given { IfOk result (λ out. out ≡ flat_map (λ row. Out f.now.fields f.now.function.body (of_record row)) rows.now) }
+    requires widths { AreWide f.now.fields rows }
+    ensures given { IfOk result (λ out. out ≡ flat_map (λ row. Out f.now.fields f.now.function.body (of_record row)) rows) }
     ensures widths { IfOk result (AreWide f.now.fields) }
 {
+    let mut scratch = Scratch::new(alloc);
     let mut out = Rows::new(alloc);
-    for row in rows.rows() {
-        let mut emitted = call_map(alloc, f, row)?;
-        out.append(&mut emitted)?;
+    for row in rows.into_records() {
+        map_into(alloc, f, row, &mut scratch, &mut out)?;
     }
     Ok(out)
 }
@@ -63,6 +63,7 @@ fn append_pairs(
     right_keys: &Keys,
     left: &Record,
     rights: &Rows,
+    scratch: &mut Scratch,
     out: &mut Rows,
 ) -> Result<(), OutOfMemory>
     requires kind { (f.now.function.kind ≡ Match) ⊎ (f.now.function.kind ≡ Cross) }
@@ -79,8 +80,7 @@ fn append_pairs(
         if left.key_compare(left_keys, right, right_keys) == Ordering::Equal
             && (nulls || !has_null(left, left_keys))
         {
-            let mut emitted = call_pair(alloc, f, left, right)?;
-            out.append(&mut emitted)?;
+            pair_into(alloc, f, left, right, scratch, out)?;
         }
     }
     Ok(())
@@ -105,10 +105,19 @@ pub fn match_rows(
     ensures given { IfOk result (λ out. out ≡ crossed (matched nulls (λ l r. Out f.now.fields f.now.function.body (of_pair l r)) left_keys.now right_keys.now) lefts.now rights.now) }
     ensures widths { IfOk result (AreWide f.now.fields) }
 {
+    let mut scratch = Scratch::new(alloc);
     let mut out = Rows::new(alloc);
     for left in lefts.rows() {
         append_pairs(
-            alloc, nulls, f, left_keys, right_keys, left, rights, &mut out,
+            alloc,
+            nulls,
+            f,
+            left_keys,
+            right_keys,
+            left,
+            rights,
+            &mut scratch,
+            &mut out,
         )?;
     }
     Ok(out)

@@ -17,7 +17,7 @@ use Rattle.pact_record.specs.declared.values.Value.{Value}
 use Rattle.tac_syntax.specs.Valid.{WithFields}
 use Rattle.flow_instance.specs.declared.grouping.Side.{Side}
 use Rattle.flow_instance.specs.declared.grouping.Side.TheVariants.{Left, Right}
-use Rattle.flow_instance.specs.Grouping.{AreCoGroupsGiven, AreGroupsAt, AreGroupsGiven, AreSides, EachGives, IsCalled, IsCalledAlone, IsCalledFrom, IsCalledIf, IsCoCalled, IsGivenFrom, has_none}
+use Rattle.flow_instance.specs.Grouping.{AreCoGroupsGiven, AreGroupsAt, AreGroupsGiven, AreSides, EachGives, IsAppended, IsCalled, IsCalledAlone, IsCalledFrom, IsCalledIf, IsCoCalled, IsGivenFrom, has_none}
 use Rattle.flow_instance.proofs.BothKeys.{keys_of_both}
 use Rattle.flow_instance.proofs.PairsByKeys.{group_wide}
 
@@ -70,14 +70,13 @@ each_more Gives (k ∷ order) zero out given less g c = (given, [], c, ap (λ (l
 each_more Gives (k ∷ order) (suc n) out given less g c =
     (g.0, g.1 ++ given, g.2, ap (λ (l : Bag). l ++ given) g.3 ∙ append_assoc g.0 g.1 given, each_more Gives order n g.1 given (omega (arith, less)) g.4 c)
 
--- what the calls for a front of the keys have given, with the next one's
-pub given_on : (fields : ℕ) (Gives : List Value → Bag → Type 0) (order : List (List Value)) (n : ℕ) (out given whole : Bag) → n < length order → EachGives Gives (take n order) out × AreWide fields out
-    → IfSome (slice_get order n) (λ k. Gives k given) → AreWide fields given → whole ≡ out ++ given → EachGives Gives (take (n + 1) order) whole × AreWide fields whole
-given_on fields Gives order n out given whole less h g wide is =
-    subst (λ (rows : Bag). EachGives Gives (take (n + 1) order) rows × AreWide fields rows) (sym is) (
-      subst (λ (m : ℕ). EachGives Gives (take m order) (out ++ given)) (sym (add-one n)) (each_more Gives order n out given less h.0 g),
-      AllByRecursion-append (λ (row : List Value). length row ≡ fields) out given h.1 wide,
-    )
+-- what the calls for a prefix of the keys have given, with the next one's
+pub given_on : (fields : ℕ) (Gives : List Value → Bag → Type 0) (order : List (List Value)) (n : ℕ) (out whole : Bag) → n < length order → EachGives Gives (take n order) out
+    → IsAppended (λ part. IfSome (slice_get order n) (λ k. Gives k part)) out whole → AreWide fields whole → EachGives Gives (take (n + 1) order) whole × AreWide fields whole
+given_on fields Gives order n out whole less h g wide = (
+  subst (λ (rows : Bag). EachGives Gives (take (n + 1) order) rows) (sym g.2) (subst (λ (m : ℕ). EachGives Gives (take m order) (out ++ g.0)) (sym (add-one n)) (each_more Gives order n out g.0 less h g.1)),
+  wide,
+)
 
 -- and those for all keys
 pub all_given : (Gives : List Value → Bag → Type 0) (order : List (List Value)) (n : ℕ) (out : Bag) → length order ≤ n → EachGives Gives (take n order) out → EachGives Gives order out
@@ -153,13 +152,16 @@ by_side Right f keys other_keys rows others k own other out p q told =
     subst (λ (b : Bool). IsCalledIf b (IsCoCalled f other_keys keys others rows k) out) (sym (has_none-same (group_of_key other_keys others k) other q)) (alone f other_keys keys others rows k other own out q p told)
 
 -- what is given for the key with a number
-pub called_from : {keys other_keys fields : List ℕ} {rows others : Bag} {order : List (List Value)} {n : ℕ} {own other : Bag} (side : Side) (f : List Value → Bag → Bag → Bag) (out : Bag) → fields ≡ other_keys → AreGroupsAt keys fields rows others order n own other
-    → ((k : List Value) → AllByRecursion (λ row. key_of keys row ≡ k) own → AllByRecursion (λ row. key_of other_keys row ≡ k) other → IsGivenFrom side f k own other out)
-    → IfSome (slice_get order n) (λ k. IsCalledFrom side f keys other_keys rows others k out)
-called_from {keys} {other_keys} {fields} {rows} {others} {order} {n} {own} {other} side f out same r told =
+pub called_from : {keys other_keys fields : List ℕ} {rows others : Bag} {order : List (List Value)} {n : ℕ} {own other : Bag} (side : Side) (f : List Value → Bag → Bag → Bag) (old new : Bag) → fields ≡ other_keys → AreGroupsAt keys fields rows others order n own other
+    → ((k : List Value) → AllByRecursion (λ row. key_of keys row ≡ k) own → AllByRecursion (λ row. key_of other_keys row ≡ k) other → IsAppended (IsGivenFrom side f k own other) old new)
+    → IsAppended (λ part. IfSome (slice_get order n) (λ k. IsCalledFrom side f keys other_keys rows others k part)) old new
+called_from {keys} {other_keys} {fields} {rows} {others} {order} {n} {own} {other} side f old new same r told =
     let q = subst (λ (ks : List ℕ). IsPermutation (group_of_key ks others r.key) other) same r.other_same in
-    subst (λ (o : Option (List Value)). IfSome o (λ k. IsCalledFrom side f keys other_keys rows others k out)) (sym r.is)
-    (by_side side f keys other_keys rows others r.key own other out r.same q (told r.key (keys_of_group keys rows own r.key r.same) (keys_of_group other_keys others other r.key q)))
+    let more = told r.key (keys_of_group keys rows own r.key r.same) (keys_of_group other_keys others other r.key q) in (
+      more.0,
+      subst (λ (o : Option (List Value)). IfSome o (λ k. IsCalledFrom side f keys other_keys rows others k more.0)) (sym r.is) (by_side side f keys other_keys rows others r.key own other more.0 r.same q more.1),
+      more.2,
+    )
 
 -- ---- what a CoGroup gives
 
@@ -224,6 +226,11 @@ sides_at {f} {keys} {other_keys} {own_fields} {other_fields} {rows} {others} {or
 }
 
 -- the call for a key that the other side lacks
+-- a key that the left side has is none of the right side alone
+pub given_none : (side : Side) (f : List Value → Bag → Bag → Bag) (k : List Value) (own other : Bag) → side ≡ Right → 0 < length other → IsGivenFrom side f k own other []
+given_none side f k own [] e some = absurd (omega (arith, some))
+given_none side f k own (row ∷ other) e some = subst (λ (s : Side). IsGivenFrom s f k own (row ∷ other) []) (sym e) refl
+
 pub given_alone : (side : Side) (f : List Value → Bag → Bag → Bag) (k : List Value) (own other out : Bag) → side ≡ Right → length other ≤ 0 → out ≡ f k other own → IsGivenFrom side f k own other out
 given_alone side f k own [] out e none told = subst (λ (s : Side). IsGivenFrom s f k own [] out) (sym e) told
 given_alone side f k own (row ∷ other) out e none told = absurd (omega (arith, none))

@@ -30,13 +30,13 @@ given_placed p out before placed queue root none out_wide wide e = record {
   wide = subst (AreWide p.fields) (sym e) (AllByRecursion-append (λ (r : List Value). length r ≡ p.fields) before out wide out_wide);
 }
 
-pub sent_on : (p : Part) (ship : Ship) (out : Bag) (queue : List Parcel) (ops : PlanOps) → p.out ≡ Some ship → (a : AreSent p.fields p.workers ship p.worker p.workers out queue) → Carry (spot_of p ops) p.worker out a.list
+pub sent_on : (p : Part) (ship : Ship) (out : Bag) (queue : List Parcel) (ops : PlanOps) → p.out ≡ Some ship → (a : AreSent p.fields p.workers ship p.worker out queue) → Carry (spot_of p ops) p.worker out a.list
 sent_on p ship out queue ops o a = record {
   notes = AllByRecursion-weaker (IsSent p.fields p.workers ship p.worker) (IsWaiting (spot_of p ops) p.worker) a.list (λ w h. ((h.0.0, ap (λ (x : Option Ship). has_out x p.worker w.0) o ∙ h.0.1), h.1, h.2)) a.batches;
   sent_on = λ to less. is_same (ap (λ (x : Option Ship). sent x p.workers p.worker to out) o ∙ sym (a.each to less));
 }
 
-pub given_sent : (p : Part) (ship : Ship) (out before : Bag) (queue : List Parcel) → p.out ≡ Some ship → PlacesAtRoot p.out before → AreWide p.fields before → AreSent p.fields p.workers ship p.worker p.workers out queue
+pub given_sent : (p : Part) (ship : Ship) (out before : Bag) (queue : List Parcel) → p.out ≡ Some ship → PlacesAtRoot p.out before → AreWide p.fields before → AreSent p.fields p.workers ship p.worker out queue
     → HasGiven p out before before queue
 given_sent p ship out before queue o at_root wide a = record {
   list = a.list;

@@ -15,6 +15,10 @@ abbrev pub EachGives : (List Value → Bag → Type 0) → List (List Value) →
 EachGives Gives [] out = out ≡ []
 EachGives Gives (k ∷ ks) out = (part : Bag) × (rest : Bag) × Gives k part × (out ≡ part ++ rest) × EachGives Gives ks rest
 
+-- such records were appended to a list
+abbrev pub IsAppended : (Bag → Type 0) → (old new : Bag) → Type 0
+IsAppended Gives old new = (part : Bag) × Gives part × (new ≡ old ++ part)
+
 -- ---- of one bag
 
 -- a call over the group of a key in some order

@@ -1,6 +1,6 @@
 //! End marks that an instance takes.
 
-ghost use Rattle.std.specs.Prelude.{◌≡◌, ◌<◌, false, IfOk, OnOk};
+ghost use Rattle.std.specs.Prelude.{◌≡◌, ◌<◌, [], false, IfOk, OnOk};
 ghost use Rattle.flow_model.specs.declared.notes.Note.TheVariants.{End};
 ghost use Rattle.flow_instance.specs.States.{HasEnded, IsReady, IsSound, IsWhole};
 ghost use Rattle.flow_instance.specs.Steps.{GivesGroups, Takes};
@@ -68,6 +68,27 @@ impl<L: Local> State<L> {
         )
     }
 
+    // Nothing is kept any more. The rows are freed here, on the worker that kept them.
+    fn forget(&mut self) -> Result<(), OutOfMemory>
+        ensures same { OnOk result (self.new ≡ record self.old { left = self.new.left; right = self.new.right }) }
+        ensures left { OnOk result (L.rows self.new.left ≡ []) }
+        ensures right { OnOk result (L.rows self.new.right ≡ []) }
+    {
+        self.left = L::start(self.alloc, &self.part.left_keys)?;
+        self.right = L::start(self.alloc, &self.part.right_keys)?;
+        Ok(())
+    }
+
+    // What is given for all groups, after which nothing is kept.
+    fn last_groups(&mut self) -> Result<Rows, OutOfMemory>
+        requires sound { IsSound L.rows L.key_fields L.is_sealed self.old }
+        ensures { IfOk result (GivesGroups L.rows self.old self.new) }
+    {
+        let out = self.groups()?;
+        self.forget()?;
+        Ok(out)
+    }
+
     /// Takes an end mark at a port. With the last one, what waited for it is given, and end marks go out.
     pub(crate) fn take_end(&mut self, port: u32, from: u32) -> Result<(), OutOfMemory>
         requires ready { IsReady L.rows L.key_fields L.is_sealed self.old port }
@@ -78,7 +99,7 @@ impl<L: Local> State<L> {
         if !self.all_ended() {
             return Ok(());
         }
-        let out = self.groups()?;
+        let out = self.last_groups()?;
         self.give(out)?;
         self.mark()
     }

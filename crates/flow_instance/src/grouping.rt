@@ -9,23 +9,25 @@ ghost use Rattle.pact_record.specs.Widths.{AreBelow, AreWide};
 ghost use Rattle.pact_record.specs.declared.values.Value.{Value as FieldValue};
 ghost use Rattle.tac_syntax.specs.Call.{Out, of_group, of_groups};
 ghost use Rattle.tac_syntax.specs.declared.functions.Kind.TheVariants.{Reduce};
-ghost use Rattle.flow_instance.specs.Grouping.{AreCoGroupsGiven, AreGroupsAt, AreGroupsGiven, AreSides, EachGives, IsCalled, IsCalledFrom, IsGivenFrom};
+ghost use Rattle.flow_instance.specs.Grouping.{AreCoGroupsGiven, AreGroupsAt, AreGroupsGiven, AreSides, EachGives, IsAppended, IsCalled, IsCalledFrom, IsGivenFrom};
 
 use local_strategy::Local;
 use pact_bag::Rows;
 use pact_record::{Keys, OutOfMemory};
 use std::alloc::Global;
-use tac_interp::{call_cogroup, call_group};
+use tac_interp::{Scratch, cogroup_into, group_into};
 use tac_syntax::Valid;
 
-// The call for the group with this number.
+// Appends what the call for the group with this number emits.
 fn reduce_one<L: Local>(
     alloc: Global,
     f: &Valid,
     keys: &Keys,
     kept: &L,
     n: usize,
-) -> Result<Rows, OutOfMemory>
+    scratch: &mut Scratch,
+    out: &mut Rows,
+) -> Result<(), OutOfMemory>
     requires kind { f.now.function.kind ≡ Reduce }
     requires key_count { length keys.now ≡ f.now.function.keys }
     requires keys_below { AreBelow f.now.fields keys.now }
@@ -34,11 +36,12 @@ fn reduce_one<L: Local>(
     requires widths { AreWide f.now.fields (L.rows kept.now) }
     requires number { n < length (L.order kept.now) }
     requires order { IsPermutation (keys_in (L.key_fields kept.now) (L.rows kept.now)) (L.order kept.now) }
-    ensures given { IfOk result (λ out. IfSome (slice_get (L.order kept.now) n) (λ key. IsCalled (λ k group. Out f.now.fields f.now.function.body (of_group k group)) keys.now (L.rows kept.now) key out)) }
-    ensures widths { IfOk result (AreWide f.now.fields) }
+    requires out_widths { AreWide f.now.fields out.old }
+    ensures given { OnOk result (IsAppended (λ part. IfSome (slice_get (L.order kept.now) n) (λ key. IsCalled (λ k group. Out f.now.fields f.now.function.body (of_group k group)) keys.now (L.rows kept.now) key part)) out.old out.new) }
+    ensures widths { OnOk result (AreWide f.now.fields out.new) }
 {
     let group = kept.group_at(n);
-    call_group(alloc, f, keys, group)
+    group_into(alloc, f, keys, group, scratch, out)
 }
 
 /// What a Reduce gives for its kept records, in any order.
@@ -57,10 +60,10 @@ pub(crate) fn reduce_kept<L: Local>(
     ensures given { IfOk result (AreGroupsGiven (λ k group. Out f.now.fields f.now.function.body (of_group k group)) keys.now (L.rows kept.now)) }
     ensures widths { IfOk result (AreWide f.now.fields) }
 {
+    let mut scratch = Scratch::new(alloc);
     let mut out = Rows::new(alloc);
     for n in 0..kept.key_count() {
-        let mut emitted = reduce_one(alloc, f, keys, kept, n)?;
-        out.append(&mut emitted)?;
+        reduce_one(alloc, f, keys, kept, n, &mut scratch, &mut out)?;
     }
     Ok(out)
 }
@@ -98,29 +101,32 @@ fn groups_at<'a, L: Local>(keys: &Keys, own: &'a L, others: &'a L, n: usize) -> 
     }
 }
 
-// The call for the groups of a key. Of the right side it is made where the left one has none, so that each key has one call.
+// Appends what the call for the groups of a key emits. For a key of the right side it is made if the left side has none, so that each key has one call.
 fn call_from(
     alloc: Global,
     f: &Valid,
     keys: &Keys,
     other_keys: &Keys,
-    own: &Rows,
-    other: &Rows,
+    groups: Groups<'_>,
     side: Side,
-) -> Result<Rows, OutOfMemory>
-    requires sides { AreSides f.now keys.now other_keys.now keys.now other_keys.now own.now other.now }
-    requires some { 0 < length own.now }
-    ensures given { (key : List FieldValue) → AllByRecursion (λ row. key_of keys.now row ≡ key) own.now → AllByRecursion (λ row. key_of other_keys.now row ≡ key) other.now
-        → IfOk result (IsGivenFrom side (λ k l r. Out f.now.fields f.now.function.body (of_groups k l r)) key own.now other.now) }
-    ensures widths { IfOk result (AreWide f.now.fields) }
+    scratch: &mut Scratch,
+    out: &mut Rows,
+) -> Result<(), OutOfMemory>
+    requires sides { AreSides f.now keys.now other_keys.now keys.now other_keys.now groups.own.now groups.other.now }
+    requires some { 0 < length groups.own.now }
+    requires out_widths { AreWide f.now.fields out.old }
+    ensures given { (key : List FieldValue) → AllByRecursion (λ row. key_of keys.now row ≡ key) groups.entry.own.now → AllByRecursion (λ row. key_of other_keys.now row ≡ key) groups.entry.other.now
+        → OnOk result (IsAppended (IsGivenFrom side (λ k l r. Out f.now.fields f.now.function.body (of_groups k l r)) key groups.entry.own.now groups.entry.other.now) out.old out.new) }
+    ensures widths { OnOk result (AreWide f.now.fields out.new) }
 {
+    let Groups { own, other } = groups;
     match side {
-        Side::Left => call_cogroup(alloc, f, keys, other_keys, own, other),
+        Side::Left => cogroup_into(alloc, f, keys, other_keys, own, other, scratch, out),
         Side::Right => {
             if other.len() > 0 {
-                return Ok(Rows::new(alloc));
+                return Ok(());
             }
-            call_cogroup(alloc, f, other_keys, keys, other, own)
+            cogroup_into(alloc, f, other_keys, keys, other, own, scratch, out)
         }
     }
 }
@@ -142,11 +148,20 @@ fn cogroup_side<L: Local>(
     ensures order { OnOk result (IsPermutation (keys_in keys.now (L.rows own.now)) (L.order own.now)) }
     ensures widths { IfOk result (AreWide f.now.fields) }
 {
+    let mut scratch = Scratch::new(alloc);
     let mut out = Rows::new(alloc);
     for n in 0..own.key_count() {
         let groups = groups_at(keys, own, others, n);
-        let mut given = call_from(alloc, f, keys, other_keys, groups.own, groups.other, side)?;
-        out.append(&mut given)?;
+        call_from(
+            alloc,
+            f,
+            keys,
+            other_keys,
+            groups,
+            side,
+            &mut scratch,
+            &mut out,
+        )?;
     }
     Ok(out)
 }

@@ -13,7 +13,7 @@ use local_strategy::Local;
 use pact_bag::Rows;
 use pact_record::{Keys, OutOfMemory, Record};
 use std::alloc::Global;
-use tac_interp::call_pair;
+use tac_interp::{Scratch, pair_into};
 use tac_syntax::Valid;
 
 // The calls for the pairs of one right record, behind what was given before.
@@ -22,6 +22,7 @@ fn append_pairs(
     f: &Valid,
     lefts: &Rows,
     right: &Record,
+    scratch: &mut Scratch,
     out: &mut Rows,
 ) -> Result<(), OutOfMemory>
     requires kind { (f.now.function.kind ≡ Match) ⊎ (f.now.function.kind ≡ Cross) }
@@ -32,8 +33,7 @@ fn append_pairs(
     ensures widths { OnOk result (AreWide f.now.fields out.new) }
 {
     for left in lefts.rows() {
-        let mut emitted = call_pair(alloc, f, left, right)?;
-        out.append(&mut emitted)?;
+        pair_into(alloc, f, left, right, scratch, out)?;
     }
     Ok(())
 }
@@ -47,6 +47,7 @@ fn append_matches<L: Local>(
     kept: &L,
     right: &Record,
     right_keys: &Keys,
+    scratch: &mut Scratch,
     out: &mut Rows,
 ) -> Result<(), OutOfMemory>
     requires kind { (f.now.function.kind ≡ Match) ⊎ (f.now.function.kind ≡ Cross) }
@@ -63,7 +64,7 @@ fn append_matches<L: Local>(
         return Ok(());
     }
     let lefts = kept.group_of(right, right_keys);
-    append_pairs(alloc, f, lefts, right, out)
+    append_pairs(alloc, f, lefts, right, scratch, out)
 }
 
 /// What a Match gives for its kept left records and these right ones, in any order, where Nulls match in keys or don't.
@@ -84,9 +85,19 @@ pub(crate) fn match_kept<L: Local>(
     ensures given { IfOk result (IsPermutation (crossed (matched nulls (λ l r. Out f.now.fields f.now.function.body (of_pair l r)) (L.key_fields kept.now) right_keys.now) (L.rows kept.now) rights.now)) }
     ensures widths { IfOk result (AreWide f.now.fields) }
 {
+    let mut scratch = Scratch::new(alloc);
     let mut out = Rows::new(alloc);
     for right in rights.rows() {
-        append_matches(alloc, nulls, f, kept, right, right_keys, &mut out)?;
+        append_matches(
+            alloc,
+            nulls,
+            f,
+            kept,
+            right,
+            right_keys,
+            &mut scratch,
+            &mut out,
+        )?;
     }
     Ok(out)
 }

@@ -47,7 +47,7 @@ impl<L: Local> State<L> {
         ensures { OnOk result ((from : ℕ) → Takes L.rows L.key_fields L.is_sealed self.old 0 from (Batch rows) self.new) }
     {
         if self.part.maps() {
-            let out = map_rows(self.alloc, self.part.function(), &rows)?;
+            let out = map_rows(self.alloc, self.part.function(), rows)?;
             return self.give(out);
         }
         let part = &self.part;

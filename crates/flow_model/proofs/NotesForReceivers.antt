@@ -1,7 +1,7 @@
 -- Batches and end marks for all receivers.
-use Rattle.std.proofs.Common.{◌≡◌, ◌≢◌, ◌<◌, ◌+◌, ◌==◌, inl, inr, ℕ, Bool, true, false, cond, List, [], ◌∷◌, ◌++◌, length, map, filter, get_or, refl, ap, sym, ◌∙◌, subst, arith, append_assoc, append-nil}
+use Rattle.std.proofs.Common.{◌≡◌, ◌≢◌, ◌<◌, ◌≤◌, ◌+◌, ◌-◌, ◌==◌, inl, inr, ℕ, Bool, true, false, cond, List, [], ◌∷◌, ◌++◌, length, map, filter, get_or, refl, ap, sym, ◌∙◌, subst, arith, append_assoc, append-nil}
 use Rattle.std.specs.List.{AllByRecursion}
-use Rattle.std.proofs.lemmas.Bool.{cases_eq, eq-eqb, ne_eqb}
+use Rattle.std.proofs.lemmas.Bool.{cases_eq, cases_lt, eq-eqb, ne_eqb}
 use Rattle.std.proofs.lemmas.List.{map-append}
 use Rattle.flow_model.specs.Local.{marks_for, one_if, rows_for}
 use Rattle.pact_operators.specs.Allowed.{Bag}
@@ -11,7 +11,7 @@ use Rattle.pact_record.specs.declared.values.Value.{Value}
 use Rattle.plan_trees.specs.Sending.{goes, has_pipe, sent}
 use Rattle.plan_trees.specs.declared.physicals.Ship.{Ship}
 use Rattle.plan_trees.specs.declared.physicals.Ship.TheVariants.{Forward, Partition, Broadcast}
-use Rattle.flow_model.specs.Sending.{AreCarried, AreFew, AreMarked, AreSent, IsBatchFor, HasPipe, IsSent, IsSplit, batch_parcel, mark_parcel}
+use Rattle.flow_model.specs.Sending.{AreCarried, AreFew, AreMarked, AreSent, AreSentSoFar, IsBatchFor, HasPipe, IsSent, IsSplit, IsTurn, batch_parcel, mark_parcel}
 use Rattle.flow_model.specs.declared.parcels.Parcel.{Parcel}
 use Rattle.flow_model.proofs.CarriedBatches.{rows_for-append}
 use Rattle.flow_model.proofs.SplitRows.{read}
@@ -28,28 +28,66 @@ as_sent fields workers to from ship (w ∷ more) below pipe h =
 pub none_few : (most : ℕ) (queue : List Parcel) → queue ≡ [] → AreFew most queue
 none_few most queue e = subst (AreFew most) (sym e) tt
 
-pub none_sent : (fields workers from : ℕ) (ship : Ship) (rows : Bag) (queue : List Parcel) → queue ≡ [] → AreSent fields workers ship from 0 rows queue
-none_sent fields workers from ship rows queue e = record { list = []; is = e; batches = tt; each = λ t less. absurd (omega (arith, less)); later = λ t above. refl }
+pub none_sent : (fields workers from : ℕ) (ship : Ship) (rows : Bag) (queue : List Parcel) → queue ≡ [] → AreSentSoFar fields workers ship from 0 rows queue
+none_sent fields workers from ship rows queue e =
+    record { list = []; is = e; batches = tt; each = λ turn t less _ _. absurd (omega (arith, less)); later = λ _ t _ _ _ _. refl; others = λ t above. refl }
+
+-- a receiver has one turn
+one_turn : (workers from a b t u : ℕ) → a < workers → b < workers → t < workers → u < workers → IsTurn workers from a t → IsTurn workers from b u → a ≡ b → t ≡ u
+one_turn workers from a b t u al bl tl ul (inl e) (inl f) s = omega (arith, e, f, s)
+one_turn workers from a b t u al bl tl ul (inl e) (inr f) s = absurd (omega (arith, e, f, s, tl, ul))
+one_turn workers from a b t u al bl tl ul (inr e) (inl f) s = absurd (omega (arith, e, f, s, tl, ul))
+one_turn workers from a b t u al bl tl ul (inr e) (inr f) s = omega (arith, e, f, s)
+
+pub one_receiver : (workers from a b t u : ℕ) → a < workers → b < workers → t < workers → u < workers → IsTurn workers from a t → IsTurn workers from b u → t ≡ u → a ≡ b
+one_receiver workers from a b t u al bl tl ul (inl e) (inl f) s = omega (arith, e, f, s)
+one_receiver workers from a b t u al bl tl ul (inl e) (inr f) s = absurd (omega (arith, e, f, s, al, bl))
+one_receiver workers from a b t u al bl tl ul (inr e) (inl f) s = absurd (omega (arith, e, f, s, al, bl))
+one_receiver workers from a b t u al bl tl ul (inr e) (inr f) s = omega (arith, e, f, s)
+
+-- what isn't this receiver had its turn before
+sooner : (workers from n to m t : ℕ) → n < workers → to < workers → t < workers → IsTurn workers from n to → IsTurn workers from m t → t ≢ to → m < n + 1 → m < n
+sooner workers from n to m t early below tl turn its other less = elim (cases_lt m n) as (λ _. m < n) [
+  | inl before ↦ before
+  | inr after ↦ absurd (other (one_turn workers from m n t to (omega (arith, less, early)) early tl below its turn (omega (arith, less, after))))
+]
 
 -- one receiver more, to which the edge leads
-pub sent_one : (fields workers from to : ℕ) (ship : Ship) (rows part : Bag) (old new : List Parcel) → to < workers → has_pipe ship from to ≡ true → part ≡ sent ship workers from to rows → AreCarried fields to part old new
-    → AreSent fields workers ship from to rows old → AreSent fields workers ship from (to + 1) rows new
-sent_one fields workers from to ship rows part old new below pipe part_is c h =
+pub sent_one : (fields workers from n to : ℕ) (ship : Ship) (rows part : Bag) (old new : List Parcel) → n < workers → to < workers → IsTurn workers from n to → has_pipe ship from to ≡ true → part ≡ sent ship workers from to rows
+    → AreCarried fields to part old new → AreSentSoFar fields workers ship from n rows old → AreSentSoFar fields workers ship from (n + 1) rows new
+sent_one fields workers from n to ship rows part old new early below turn pipe part_is c h =
     let all = h.list ++ c.more in
     let apart : (t : ℕ) → t ≢ to → rows_for t all ≡ rows_for t h.list = λ t other.
     rows_for-append t h.list c.more ∙ ap (λ (l : Bag). rows_for t h.list ++ l) (others_none fields to t c.more c.batches other) ∙ append-nil (rows_for t h.list) in
     let here : rows_for to all ≡ sent ship workers from to rows =
-    rows_for-append to h.list c.more ∙ ap (λ (l : Bag). l ++ rows_for to c.more) (h.later to (omega arith)) ∙ c.carried ∙ part_is in
+    rows_for-append to h.list c.more ∙ ap (λ (l : Bag). l ++ rows_for to c.more) (h.later n to (omega arith) early below turn) ∙ c.carried ∙ part_is in
     record {
       list = all;
       is = c.behind ∙ ap (λ (l : List Parcel). l ++ map batch_parcel c.more) h.is ∙ sym (map-append batch_parcel h.list c.more);
       batches = AllByRecursion-append (IsSent fields workers ship from) h.list c.more h.batches (as_sent fields workers to from ship c.more below pipe c.batches);
-      each = λ t less. elim (cases_eq t to) as (λ _. rows_for t all ≡ sent ship workers from t rows) [
-        | inl e ↦ subst (λ (n : ℕ). rows_for n all ≡ sent ship workers from n rows) (sym e) here
-        | inr other ↦ apart t other ∙ h.each t (omega (arith, less))
+      each = λ m t less tl its. elim (cases_eq t to) as (λ _. rows_for t all ≡ sent ship workers from t rows) [
+        | inl e ↦ subst (λ (k : ℕ). rows_for k all ≡ sent ship workers from k rows) (sym e) here
+        | inr other ↦ apart t other ∙ h.each m t (sooner workers from n to m t early below tl turn its other less) tl its
       ];
-      later = λ t above. apart t (λ e. omega (arith, e)) ∙ h.later t (omega (arith, above));
+      later = λ m t above ml tl its. apart t (λ e. omega (arith, above, one_receiver workers from m n t to ml early tl below its turn e)) ∙ h.later m t (omega (arith, above)) ml tl its;
+      others = λ t above. apart t (λ e. omega (arith, e, above, below)) ∙ h.others t above;
     }
+
+-- all have had their turn
+turn_of : (workers from t : ℕ) → from < workers → t < workers → (turn : ℕ) × (turn < workers) × IsTurn workers from turn t
+turn_of workers from t fl tl = elim (cases_lt t from) as (λ _. (turn : ℕ) × (turn < workers) × IsTurn workers from turn t) [
+  | inl less ↦ (t + workers - from, omega (arith, less, fl, tl), inr (omega (arith, less, fl)))
+  | inr above ↦ (t - from, omega (arith, above, tl), inl (omega (arith, above)))
+]
+
+pub all_sent : (fields workers from : ℕ) (ship : Ship) (rows : Bag) (queue : List Parcel) → from < workers → AreSentSoFar fields workers ship from workers rows queue → AreSent fields workers ship from rows queue
+all_sent fields workers from ship rows queue fl h = record {
+  list = h.list;
+  is = h.is;
+  batches = h.batches;
+  each = λ t tl. let its = turn_of workers from t fl tl in h.each its.0 t its.1 tl its.2;
+  others = h.others;
+}
 
 -- an edge that forwards leads to one worker
 filter-const : {X : Type 0} (b : Bool) (xs : List X) → filter (λ x. b) xs ≡ cond b xs []
@@ -58,7 +96,7 @@ filter-const false [] = refl
 filter-const true (x ∷ xs) = ap (λ (l : List _). x ∷ l) (filter-const true xs)
 filter-const false (x ∷ xs) = filter-const false xs
 
-pub sent_forward : (fields workers from : ℕ) (rows : Bag) (old new : List Parcel) → from < workers → old ≡ [] → AreCarried fields from rows old new → AreSent fields workers Forward from workers rows new
+pub sent_forward : (fields workers from : ℕ) (rows : Bag) (old new : List Parcel) → from < workers → old ≡ [] → AreCarried fields from rows old new → AreSent fields workers Forward from rows new
 sent_forward fields workers from rows old new below none c = record {
   list = c.more;
   is = c.behind ∙ ap (λ (l : List Parcel). l ++ map batch_parcel c.more) none;
@@ -68,7 +106,7 @@ sent_forward fields workers from rows old new below none c = record {
         (c.carried ∙ sym (filter-const (from == from) rows ∙ ap (λ (b : Bool). cond b rows []) (eq-eqb from from refl)))
     | inr other ↦ others_none fields from t c.more c.batches other ∙ sym (filter-const (from == t) rows ∙ ap (λ (b : Bool). cond b rows []) (ne_eqb from t (λ e. other (sym e))))
   ];
-  later = λ t above. others_none fields from t c.more c.batches (λ e. omega (arith, e, above, below));
+  others = λ t above. others_none fields from t c.more c.batches (λ e. omega (arith, e, above, below));
 }
 
 -- one that broadcasts takes all rows to each

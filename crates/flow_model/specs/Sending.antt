@@ -1,5 +1,5 @@
 -- Notes in a queue, each with its receiver.
-use Rattle.std.specs.Prelude.{◌≡◌, ◌<◌, ◌≤◌, ℕ, true, List, [], ◌∷◌, ◌++◌, length, map, slice_get, Some}
+use Rattle.std.specs.Prelude.{◌≡◌, ◌<◌, ◌≤◌, ◌+◌, ◌⊎◌, ℕ, true, List, [], ◌∷◌, ◌++◌, length, map, slice_get, Some}
 use Rattle.std.specs.List.{AllByRecursion}
 use Rattle.flow_model.specs.Local.{marks_for, one_if, rows_for}
 use Rattle.flow_model.specs.declared.notes.Note.{Note}
@@ -84,13 +84,26 @@ HasPipe workers ship from to = (to < workers) × (has_pipe ship from to ≡ true
 abbrev pub IsSent : (fields workers : ℕ) → Ship → (from : ℕ) → ℕ × Bag → Type 0
 IsSent fields workers ship from w = HasPipe workers ship from w.0 × (0 < length w.1) × AreWide fields w.1
 
--- a queue of batches that carry the records to those of the first n workers to which they go
-pub record AreSent (fields workers : ℕ) (ship : Ship) (from n : ℕ) (rows : Bag) (queue : List Parcel) : Type 0 where
+-- a queue of batches that carry the records to those workers to which they go
+pub record AreSent (fields workers : ℕ) (ship : Ship) (from : ℕ) (rows : Bag) (queue : List Parcel) : Type 0 where
   pub list : List (ℕ × Bag)
   pub is : queue ≡ map batch_parcel list
   pub batches : AllByRecursion (IsSent fields workers ship from) list
-  pub each : (to : ℕ) → to < n → rows_for to list ≡ sent ship workers from to rows
-  pub later : (to : ℕ) → n ≤ to → rows_for to list ≡ []
+  pub each : (to : ℕ) → to < workers → rows_for to list ≡ sent ship workers from to rows
+  pub others : (to : ℕ) → workers ≤ to → rows_for to list ≡ []
+
+-- the receiver after n others: a sender begins with the worker of its own number and goes around
+abbrev pub IsTurn : (workers from n to : ℕ) → Type 0
+IsTurn workers from n to = (from + n ≡ to) ⊎ (from + n ≡ to + workers)
+
+-- batches for the first n receivers
+pub record AreSentSoFar (fields workers : ℕ) (ship : Ship) (from n : ℕ) (rows : Bag) (queue : List Parcel) : Type 0 where
+  pub list : List (ℕ × Bag)
+  pub is : queue ≡ map batch_parcel list
+  pub batches : AllByRecursion (IsSent fields workers ship from) list
+  pub each : (turn to : ℕ) → turn < n → to < workers → IsTurn workers from turn to → rows_for to list ≡ sent ship workers from to rows
+  pub later : (turn to : ℕ) → n ≤ turn → turn < workers → to < workers → IsTurn workers from turn to → rows_for to list ≡ []
+  pub others : (to : ℕ) → workers ≤ to → rows_for to list ≡ []
 
 -- end marks for those of the first n workers to which the edge leads came behind the others
 pub record AreMarked (workers : ℕ) (ship : Ship) (from n : ℕ) (old new : List Parcel) : Type 0 where

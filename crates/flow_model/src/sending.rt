@@ -3,7 +3,7 @@
 ghost use Rattle.std.specs.Prelude.{◌≡◌, ◌<◌, ◌≤◌, ◌+◌, ◌^◌, [], ℕ, List, Some, length, slice_get, IfOk, OnOk};
 ghost use Rattle.pact_operators.specs.Allowed.{Bag};
 ghost use Rattle.pact_record.specs.Widths.{AreWide};
-ghost use Rattle.flow_model.specs.Sending.{AreCarried, AreCarriedBut, AreFew, AreMarked, AreSent, IsSplit};
+ghost use Rattle.flow_model.specs.Sending.{AreCarried, AreCarriedBut, AreFew, AreMarked, AreSent, IsSplit, IsTurn};
 ghost use Rattle.flow_model.specs.declared.parcels.Parcel.{Parcel as Sealed};
 
 use crate::notes::Note;
@@ -14,6 +14,7 @@ use pact_record::{Keys, OutOfMemory};
 use plan_trees::Ship;
 use std::alloc::Global;
 use std::collections::VecDeque;
+use std::mem;
 
 // Puts the rows away as a batch where they are enough. `more` come behind them: the next batch has room for as many of these as it takes.
 fn stow(
@@ -109,24 +110,44 @@ fn split(alloc: Global, keys: &Keys, workers: u32, rows: Rows) -> Result<Vec<Row
     Ok(parts)
 }
 
-// The first part is for worker 0, and so on.
+// The receiver after `n` others. Each sender begins with the worker of its own number and goes around, so that they don't all feed the same worker
+// at the same time while the others wait.
+fn receiver(workers: u32, from: u32, n: u32) -> u32
+    requires from { from < workers }
+    requires n { n < workers }
+    ensures below { result < workers }
+    ensures turn { IsTurn workers from n result }
+{
+    let before_the_end = workers - from;
+    if n < before_the_end {
+        from + n
+    } else {
+        n - before_the_end
+    }
+}
+
+// Part `to` is for worker `to`.
 fn send_parts(
     alloc: Global,
+    from: u32,
+    workers: u32,
     batch: u32,
     parts: Vec<Rows>,
     queue: &mut VecDeque<Parcel>,
 ) -> Result<(), OutOfMemory>
     requires some { 1 ≤ batch }
+    requires from { from < workers }
     requires none { queue.old.items ≡ [] }
-    requires few { length parts.items < 2 ^ 32 }
-    ensures sent { OnOk result ((fields : ℕ) (keys : List ℕ) (from : ℕ) (rows : Bag) → AreWide fields rows → IsSplit keys (length parts.items) rows parts.items
-        → AreSent fields (length parts.items) (Ship.Partition keys) from (length parts.items) rows queue.new.items) }
+    requires parts { length parts.items ≡ workers }
+    ensures sent { OnOk result ((fields : ℕ) (keys : List ℕ) (rows : Bag) → AreWide fields rows → IsSplit keys workers rows parts.items
+        → AreSent fields workers (Ship.Partition keys) from rows queue.new.items) }
     ensures batches { OnOk result (AreFew batch queue.new.items) }
 {
-    let mut to = 0;
-    for part in parts {
+    let mut parts = parts;
+    for n in 0..workers {
+        let to = receiver(workers, from, n);
+        let part = mem::replace(&mut parts[to as usize], Rows::new(alloc));
         send_to(alloc, to, batch, part, queue)?;
-        to += 1;
     }
     Ok(())
 }
@@ -134,22 +155,25 @@ fn send_parts(
 // Each worker has them all, the last one the rows themselves.
 fn send_all(
     alloc: Global,
+    from: u32,
     workers: u32,
     batch: u32,
     rows: Rows,
     queue: &mut VecDeque<Parcel>,
 ) -> Result<(), OutOfMemory>
     requires some { 1 ≤ batch }
-    requires workers { 1 ≤ workers }
+    requires from { from < workers }
     requires none { queue.old.items ≡ [] }
-    ensures sent { OnOk result ((fields from : ℕ) → AreWide fields rows → AreSent fields workers Ship.Broadcast from workers rows queue.new.items) }
+    ensures sent { OnOk result ((fields : ℕ) → AreWide fields rows → AreSent fields workers Ship.Broadcast from rows queue.new.items) }
     ensures batches { OnOk result (AreFew batch queue.new.items) }
 {
     let last = workers - 1;
-    for to in 0..last {
+    for n in 0..last {
+        let to = receiver(workers, from, n);
         send_to(alloc, to, batch, rows.copy(alloc)?, queue)?;
     }
-    send_to(alloc, last, batch, rows, queue)
+    let to = receiver(workers, from, last);
+    send_to(alloc, to, batch, rows, queue)
 }
 
 // Puts the records into the queue for all workers to which an edge takes them.
@@ -165,16 +189,16 @@ fn send(
     requires some { 1 ≤ batch }
     requires below { from < workers }
     requires none { queue.old.items ≡ [] }
-    ensures sent { OnOk result ((fields : ℕ) → AreWide fields rows → AreSent fields workers ship.now from workers rows queue.new.items) }
+    ensures sent { OnOk result ((fields : ℕ) → AreWide fields rows → AreSent fields workers ship.now from rows queue.new.items) }
     ensures batches { OnOk result (AreFew batch queue.new.items) }
 {
     match ship {
         Ship::Forward => send_to(alloc, from, batch, rows, queue),
         Ship::Partition(keys) => {
             let parts = split(alloc, keys, workers, rows)?;
-            send_parts(alloc, batch, parts, queue)
+            send_parts(alloc, from, workers, batch, parts, queue)
         }
-        Ship::Broadcast => send_all(alloc, workers, batch, rows, queue),
+        Ship::Broadcast => send_all(alloc, from, workers, batch, rows, queue),
     }
 }
 
@@ -192,7 +216,7 @@ pub fn queue_rows(
     requires some { 1 ≤ batch }
     requires below { from < workers }
     requires none { queue.items ≡ [] }
-    ensures sent { IfOk result (λ queue. (fields : ℕ) → AreWide fields rows → AreSent fields workers ship.now from workers rows queue.items) }
+    ensures sent { IfOk result (λ queue. (fields : ℕ) → AreWide fields rows → AreSent fields workers ship.now from rows queue.items) }
     ensures batches { IfOk result (λ queue. AreFew batch queue.items) }
 {
     let mut queue = queue;

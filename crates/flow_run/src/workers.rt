@@ -14,6 +14,7 @@ use local_strategy::Local;
 use pact_record::OutOfMemory;
 use std::sync::Wait;
 use std::thread;
+use std::time::Duration;
 use worker_gate::{Flags, Gate};
 
 /// One worker: its instance of each source and operator, by number, and its ends of the pipes that leave it, by edge and receiver, and of those that
@@ -28,8 +29,15 @@ pub struct Worker<'a, L: Local, W: Width> {
     pub flags: &'a Flags,
 }
 
-// So many turns in a row without an event a worker waits for others to start.
+// How many turns in a row without an event a worker waits for others to start. After the first `TRIES` it naps between turns, so it waits some 0.4
+// seconds: a thread that a busy system starts late still finds the others there.
 const PATIENCE: u32 = 4096;
+
+// How many turns in a row without an event a worker tries again at once.
+const TRIES: u32 = 64;
+
+// How many microseconds a nap takes.
+const NAP: u64 = 50;
 
 // Whether every instance is done.
 fn all_done<L: Local>(instances: &[Instance<L>]) -> bool {
@@ -55,6 +63,15 @@ fn is_over<L: Local>(flags: &Flags, instances: &[Instance<L>], tried: Tried, idl
         flags.leave();
     }
     leaves
+}
+
+// Yields the thread: for a moment, or for a nap where the last turns were all idle, so that workers without work take no processor from the others.
+fn rest<R: Wait>(rt: &R, flags: &Flags, idle: u32) {
+    if idle < TRIES {
+        thread::yield_now();
+    } else {
+        flags.nap(rt, Duration::from_micros(NAP));
+    }
 }
 
 // Turns until all instances are done, or the worker leaves.
@@ -83,16 +100,16 @@ fn turns<L: Local, W: Width, R: Wait, G: Gate>(
             if is_over(flags, instances, tried, idle) {
                 return Ok(());
             }
-            thread::yield_now();
+            rest(seat.rt, flags, idle);
         }
     }
     unreachable!()
 }
 
 /// Does events of its own instances and nothing else, until all of them are done or it leaves. It goes over its instances in turns, and after a turn
-/// without an event yields the thread. It leaves after such a turn alone, and only where another worker has left, where 4,096 such turns came in a row
-/// and not all workers have started, or where a put would be the 2^61st of its end, which isn't tried. It notes in the flags that it has started, and
-/// that it leaves.
+/// without an event yields the thread, by a nap after 63 such turns in a row. It leaves only after such a turn, and only if another worker has left, if
+/// 4,096 such turns came in a row and not all workers have started, or if a put would be the 2^61st of its end, which isn't tried. It notes in the flags
+/// that it has started, and that it leaves.
 ///
 /// Want of memory is the error; the worker is spoilt then, and has noted that it leaves.
 pub fn work<L: Local, W: Width, R: Wait, G: Gate>(

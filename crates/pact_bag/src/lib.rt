@@ -4,7 +4,10 @@
 pub mod counts;
 pub mod orders;
 pub mod outcomes;
+mod prefixes;
 pub mod rows;
+mod sort_words;
+mod sorting;
 
 pub use counts::Counts;
 pub use orders::compare_at;

@@ -1,4 +1,5 @@
 pub mod Limits
+pub mod TextStorage
 pub mod Value
 pub mod Record
 pub mod Order

@@ -14,6 +14,7 @@ pub mod keys;
 pub mod operations;
 mod pairs;
 pub mod records;
+mod text_storage;
 pub mod texts;
 pub mod values;
 pub mod words;

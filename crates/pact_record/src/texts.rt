@@ -3,6 +3,7 @@ ghost use Rattle.pact_record.specs.declared.texts.NotText.TheVariants.{Utf8, Lon
 ghost use Rattle.pact_record.specs.Limits.{text_limit};
 
 use crate::OutOfMemory;
+use crate::text_storage::Storage;
 use std::alloc::Global;
 use std::marker::Model;
 use std::str;
@@ -13,7 +14,7 @@ pub const MAX_TEXT: usize = 4096;
 /// A short text: UTF-8 of at most `MAX_TEXT` bytes.
 #[derive(Debug, Drop)]
 pub struct Text {
-    held: Vec<u8>,
+    storage: Storage,
 }
 
 /// Why bytes are no text.
@@ -39,12 +40,13 @@ impl From<OutOfMemory> for NotText {
 impl Model for Text {
     ghost use Rattle.std.specs.Prelude.{List, ℕ, length, ◌≤◌, IsUtf8};
     ghost use Rattle.pact_record.specs.Limits.{text_limit};
+    ghost use Rattle.pact_record.specs.TextStorage.{stored_bytes};
 
     ghost Value = { List ℕ };
 
-    ghost view = { λ t. t.held.items };
+    ghost view = { λ t. stored_bytes t.storage };
 
-    ghost invariant = { λ t. (length t.held.items ≤ text_limit) × IsUtf8 t.held.items };
+    ghost invariant = { λ t. (length (stored_bytes t.storage) ≤ text_limit) × IsUtf8 (stored_bytes t.storage) };
 }
 
 impl Text {
@@ -61,7 +63,7 @@ impl Text {
             return Err(NotText::Long);
         }
         Ok(Text {
-            held: Vec::from_slice(alloc, bytes)?,
+            storage: Storage::from_slice(alloc, bytes)?,
         })
     }
 
@@ -70,14 +72,14 @@ impl Text {
         ensures short { length self.now ≤ text_limit }
         ensures utf8 { IsUtf8 self.now }
     {
-        &self.held
+        self.storage.bytes()
     }
 
     pub fn copy(&self, alloc: Global) -> Result<Text, OutOfMemory>
         ensures { IfOk result (λ t. t ≡ self.now) }
     {
         Ok(Text {
-            held: Vec::from_slice(alloc, &self.held)?,
+            storage: self.storage.copy(alloc)?,
         })
     }
 
@@ -90,12 +92,10 @@ impl Text {
         ensures { IfOk result (λ found.
             SomeIff found (length self.now + length other.now ≤ text_limit) (self.now ++ other.now)) }
     {
-        if self.held.len() + other.held.len() > MAX_TEXT {
+        if self.bytes().len() + other.bytes().len() > MAX_TEXT {
             return Ok(None);
         }
-        let mut held = Vec::with_capacity(alloc, self.held.len() + other.held.len())?;
-        held.extend_from_slice(&self.held)?;
-        held.extend_from_slice(&other.held)?;
-        Ok(Some(Text { held }))
+        let storage = Storage::joined(alloc, self.bytes(), other.bytes())?;
+        Ok(Some(Text { storage }))
     }
 }

@@ -5,7 +5,8 @@ ghost use Rattle.pact_operators.specs.Inputs.{AreInputsOf};
 ghost use Rattle.pact_operators.specs.PlanOps.{is_source_kind};
 ghost use Rattle.pact_operators.specs.Programs.{AreNames, IsPlanOf};
 ghost use Rattle.plan_trees.specs.Physicals.{worker_limit};
-ghost use Rattle.plan_enumerate.specs.Listing.{entry_limit};
+ghost use Rattle.plan_enumerate.specs.KnownPlans.{AreKnownPlans};
+ghost use Rattle.plan_enumerate.specs.Listing.{entry_limit, plans_of};
 ghost use Rattle.pact_top.specs.CommandTexts as texts;
 ghost use Rattle.pact_top.specs.declared.loaded.Loaded.{Loaded as LoadedData};
 ghost use Rattle.ship_strategy.specs.Layouts.{layout_count};
@@ -16,7 +17,7 @@ use crate::texts::Texts;
 use pact_bag::{Counts, Inputs};
 use pact_operators::{Op, Plan, Program};
 use pact_record::OutOfMemory;
-use plan_enumerate::{Chosen, Listed, choose, enumerate, steps_of};
+use plan_enumerate::{Chosen, KnownPlans, Listed, choose_known, enumerate_and_analyse, steps_of};
 use plan_printer::{Shown, plan_text};
 use reorder_pair::ConditionList;
 use ship_strategy::layout;
@@ -76,21 +77,23 @@ fn row_counts(alloc: Global, program: &Program, inputs: &Inputs) -> Result<Count
     Ok(counts)
 }
 
-/// The first of the listed plans that costs least on these rows, with its layout.
+/// The first of the listed plans that costs least on these rows, with its layout. No function is analysed for it.
 pub fn choose_listed(
     alloc: Global,
     program: &Program,
     inputs: &Inputs,
     listed: &Listed,
+    known: &KnownPlans,
     workers: u32,
 ) -> Result<Picked, OutOfMemory>
     requires inputs { AreInputsOf program.now inputs.now }
     requires workers { (1 ≤ workers) × (workers ≤ worker_limit) }
     requires plans { ArePlansOf program.now listed.now.entries }
+    requires known { AreKnownPlans program.now (plans_of listed.now.entries) known.now }
     ensures { IfOk result (IsPicked program.now inputs.now workers listed.now.entries) }
 {
     let counts = row_counts(alloc, program, inputs)?;
-    let chosen = choose(program, listed, &counts, workers);
+    let chosen = choose_known(program, listed, known, &counts, workers);
     let plan = listed.entries().at(chosen.entry as usize).plan;
     Ok(Picked { chosen, plan })
 }
@@ -108,8 +111,8 @@ pub fn choose_plan(
     ensures { IfOk result (IsPlanChosen loaded.now workers plans) }
 {
     let Loaded { program, inputs } = loaded;
-    let listed = enumerate(alloc, program, plans)?;
-    let Picked { chosen, plan } = choose_listed(alloc, program, inputs, &listed, workers)?;
+    let (listed, known) = enumerate_and_analyse(alloc, program, plans)?;
+    let Picked { chosen, plan } = choose_listed(alloc, program, inputs, &listed, &known, workers)?;
     Ok(Choice {
         listed,
         chosen,

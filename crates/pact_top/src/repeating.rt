@@ -3,6 +3,8 @@
 ghost use Rattle.std.specs.Prelude.{◌≡◌, ◌≤◌, length, IfOk};
 ghost use Rattle.iterate_plan.specs.Rounds.{AllowsOn, IsIterated};
 ghost use Rattle.pact_operators.specs.Inputs.{AreInputsOf};
+ghost use Rattle.plan_enumerate.specs.KnownPlans.{AreKnownPlans};
+ghost use Rattle.plan_enumerate.specs.Listing.{plans_of};
 ghost use Rattle.pact_operators.specs.PlanOps.{source_place};
 ghost use Rattle.pact_record.specs.Widths.{AreWide};
 ghost use Rattle.plan_trees.specs.Plans.{node_limit};
@@ -24,7 +26,7 @@ use pact_bag::{Inputs, Outcome, Rows};
 use pact_operators::{Op, Program};
 use pact_record::{Bytes, OutOfMemory};
 use pact_words::Options;
-use plan_enumerate::{Listed, enumerate};
+use plan_enumerate::{KnownPlans, Listed, enumerate_and_analyse};
 use plan_printer::push_number;
 use std::alloc::Global;
 
@@ -65,6 +67,7 @@ fn one_round<F: Fn(&Program, &Task, Inputs) -> Result<Outcome, OutOfMemory>>(
     alloc: Global,
     program: &Program,
     listed: &Listed,
+    known: &KnownPlans,
     options: Options,
     inputs: &Inputs,
     run: &F,
@@ -72,10 +75,18 @@ fn one_round<F: Fn(&Program, &Task, Inputs) -> Result<Outcome, OutOfMemory>>(
     requires inputs { AreInputsOf program.now inputs.now }
     requires options { AreOptionsInRange options }
     requires plans { ArePlansOf program.now listed.now.entries }
+    requires known { AreKnownPlans program.now (plans_of listed.now.entries) known.now }
     requires runs { IsRunner (F.pre run.now) (F.post run.now) }
     ensures { IfOk result (AllowsOn program.now inputs.now) }
 {
-    let Picked { chosen, plan } = choose_listed(alloc, program, inputs, listed, options.workers)?;
+    let Picked { chosen, plan } = choose_listed(
+        alloc,
+        program,
+        inputs,
+        listed,
+        known,
+        options.workers,
+    )?;
     let copied = inputs.copy(alloc)?;
     let whole = Options {
         prune: false,
@@ -105,6 +116,7 @@ fn run_rounds<F: Fn(&Program, &Task, Inputs) -> Result<Outcome, OutOfMemory>>(
     alloc: Global,
     program: &Program,
     listed: &Listed,
+    known: &KnownPlans,
     inputs: Inputs,
     at: usize,
     options: Options,
@@ -115,6 +127,7 @@ fn run_rounds<F: Fn(&Program, &Task, Inputs) -> Result<Outcome, OutOfMemory>>(
     requires source { HasSource program.now at }
     requires options { AreOptionsInRange options }
     requires plans { ArePlansOf program.now listed.now.entries }
+    requires known { AreKnownPlans program.now (plans_of listed.now.entries) known.now }
     requires rounds { 1 ≤ extent.rounds }
     requires runs { IsRunner (F.pre run.now) (F.post run.now) }
     ensures { IfOk result (λ i. IsIterated program.now inputs (source_place program.now.ops at) (columns_at program.now at) extent.rounds extent.stable i.rows i.rounds) }
@@ -127,9 +140,10 @@ fn run_rounds<F: Fn(&Program, &Task, Inputs) -> Result<Outcome, OutOfMemory>>(
             requires inputs { AreInputsOf program.now inputs.now }
             requires options { AreOptionsInRange options }
             requires plans { ArePlansOf program.now listed.now.entries }
+            requires known { AreKnownPlans program.now (plans_of listed.now.entries) known.now }
             requires runs { IsRunner (F.pre run.now) (F.post run.now) }
             ensures { IfOk result (AllowsOn program.entry.now inputs.now) }
-        { one_round(alloc, program, listed, options, inputs, run) },
+        { one_round(alloc, program, listed, known, options, inputs, run) },
     };
     let columns = &ops[at].columns;
     iterate(
@@ -174,7 +188,8 @@ fn texts_of_rounds(
 }
 
 /// The sorted rows of the last of so many rounds. With `stable` an iteration ends behind the first round that gives back the rows with which it began, and
-/// how many rounds there were is told. The plans of the program are listed once, and one is chosen for the rows of each round.
+/// how many rounds there were is told. The plans of the program are listed and their operators analysed once, and one
+/// plan is chosen for the rows of each round.
 pub fn iteration_texts<F: Fn(&Program, &Task, Inputs) -> Result<Outcome, OutOfMemory>>(
     alloc: Global,
     repeated: Repeated,
@@ -194,8 +209,10 @@ pub fn iteration_texts<F: Fn(&Program, &Task, Inputs) -> Result<Outcome, OutOfMe
     let Loaded { program, inputs } = loaded;
     // a program tells that it is one
     let _fields = program.fields();
-    let listed = enumerate(alloc, &program, options.plans)?;
+    let (listed, known) = enumerate_and_analyse(alloc, &program, options.plans)?;
     let extent = Extent { rounds, stable };
-    let iterated = run_rounds(alloc, &program, &listed, inputs, at, options, extent, run)?;
+    let iterated = run_rounds(
+        alloc, &program, &listed, &known, inputs, at, options, extent, run,
+    )?;
     texts_of_rounds(alloc, &program, iterated, stable)
 }

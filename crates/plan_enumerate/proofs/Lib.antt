@@ -8,3 +8,4 @@ pub mod WeighedLayouts
 pub mod WeighedRows
 pub mod HeldTrees
 pub mod PlansOfEntries
+pub mod AnalysedPlans

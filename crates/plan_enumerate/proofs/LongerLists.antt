@@ -15,7 +15,7 @@ slice_get-last : {A : Type 0} (xs : List A) (y : A) → slice_get (xs ++ y ∷ [
 slice_get-last [] y = refl
 slice_get-last (x ∷ xs) y = slice_get-last xs y
 
-front_or_last : {A : Type 0} (xs : List A) (y : A) (i : ℕ) (x : A) → slice_get (xs ++ y ∷ []) i ≡ Some x → (slice_get xs i ≡ Some x) ⊎ ((i ≡ length xs) × (x ≡ y))
+pub front_or_last : {A : Type 0} (xs : List A) (y : A) (i : ℕ) (x : A) → slice_get (xs ++ y ∷ []) i ≡ Some x → (slice_get xs i ≡ Some x) ⊎ ((i ≡ length xs) × (x ≡ y))
 front_or_last [] y zero x h = inr (refl, sym (same_Some y x h))
 front_or_last [] y (suc i) x h = absurd (cc)
 front_or_last (z ∷ xs) y zero x h = inl h

@@ -5,5 +5,6 @@ pub mod ListedCode
 pub mod Walks
 pub mod Leasts
 pub mod Choices
+pub mod KnownPlans
 pub mod Weights
 pub mod RowsOfPlans

@@ -6,22 +6,25 @@ ghost use Rattle.plan_trees.specs.Plans.{PlanTree, node_limit};
 ghost use Rattle.pact_operators.specs.Programs.{IsPlanOf, ProgramData};
 ghost use Rattle.ship_strategy.specs.Facts.{Facts};
 ghost use Rattle.ship_strategy.specs.Layouts.{layout_count, ways_of};
+ghost use Rattle.ship_strategy.specs.PlanFacts.{facts_of};
 ghost use Rattle.ship_strategy.specs.Seen.{AreTold};
-ghost use Rattle.ship_strategy.specs.Views.{ways_in};
+ghost use Rattle.ship_strategy.specs.Views.{facts_in, ways_in};
 ghost use Rattle.plan_enumerate.specs.Choices.{IsChosen, layout_cost, pair_cost};
-ghost use Rattle.plan_enumerate.specs.Leasts.{IsLeastBelow};
+ghost use Rattle.plan_enumerate.specs.KnownPlans.{AreKnownPlans};
+ghost use Rattle.plan_enumerate.specs.Leasts.{IsLeastBelow, IsLeastPair};
 ghost use Rattle.plan_enumerate.specs.Listing.{IsListed, plans_of};
 ghost use Rattle.plan_enumerate.specs.RowsOfPlans.{AreWeighed, Holds};
 ghost use Rattle.plan_enumerate.specs.Weights.{weighed};
 ghost use Rattle.plan_enumerate.specs.declared.plan_rows.Row as row;
 
 use crate::entries::Entries;
+use crate::known_plans::KnownPlans;
 use crate::listings::Listed;
 use crate::plan_rows::{Rows, rows_of};
 use crate::weights::{Weight, row_weight, source_weight};
 use pact_bag::Counts;
 use pact_operators::{MAX_NODES, Op, Plan, Program};
-use ship_strategy::{Seen, Ways, chosen, known_after, layouts};
+use ship_strategy::{Seen, Table, Ways, chosen, known_after, layouts};
 
 /// Which listed plan and which of its layouts is chosen, and what it is expected to cost.
 #[derive(Clone, Copy, Debug, PartialEq, Eq)]
@@ -109,22 +112,21 @@ fn cheapest_in(rows: &Rows, ops: &[Op], workers: u32, count: u32) -> Least
     least
 }
 
-// The first layout of a plan that costs least, by what was seen of the plans before.
-fn cheapest(program: &Program, plan: &Plan, counts: &Counts, workers: u32, seen: &mut Seen) -> Least
+// The first layout of a plan that costs least, where the table says what is known of its operators.
+fn cheapest(program: &Program, plan: &Plan, table: &Table, counts: &Counts, workers: u32) -> Least
     requires of { IsPlanOf program.now.functions program.now.ops plan.now }
     requires workers { (1 ≤ workers) × (workers ≤ worker_limit) }
-    requires seen { AreTold program.now seen.old.tables }
-    ensures seen { AreTold program.now seen.new.tables }
-    ensures least { IsLeastBelow (layout_cost program.now counts.now workers plan.now) (layout_count program.now.ops) result.layout result.cost }
+    requires table { facts_in table.now ≡ facts_of program.now plan.now }
+    ensures { IsLeastBelow (layout_cost program.now counts.now workers plan.now) (layout_count program.now.ops) result.layout result.cost }
 {
-    // Its clause says that the numbers of a plan are small.
+    // The call states that the numbers of a plan are small.
     let _root = plan.root();
-    let rows = rows_of(program, counts, &known_after(program, plan, seen), plan);
+    let rows = rows_of(program, counts, table, plan);
     cheapest_in(&rows, program.ops(), workers, layouts(program, plan))
 }
 
-// The same of the plan of an entry.
-fn cheapest_at(
+// The cheapest layout of an entry's plan, with the table that is made of what was seen of the plans before.
+fn cheapest_seen(
     program: &Program,
     entries: &Entries,
     entry: usize,
@@ -139,12 +141,49 @@ fn cheapest_at(
     ensures seen { AreTold program.now seen.new.tables }
     ensures least { IsLeastBelow (pair_cost program.now (plans_of entries.now) counts.now workers entry) (layout_count program.now.ops) result.layout result.cost }
 {
-    cheapest(program, &entries.at(entry).plan, counts, workers, seen)
+    let plan = entries.at(entry).plan;
+    let table = known_after(program, &plan, seen);
+    cheapest(program, &plan, &table, counts, workers)
+}
+
+// The cheapest layout of an entry's plan, with the table that was made of it.
+fn cheapest_known(
+    program: &Program,
+    entries: &Entries,
+    entry: usize,
+    known: &KnownPlans,
+    counts: &Counts,
+    workers: u32,
+) -> Least
+    requires within { entry < length entries.now }
+    requires of { (t : PlanTree) → IsListed t entries.now → IsPlanOf program.now.functions program.now.ops t }
+    requires workers { (1 ≤ workers) × (workers ≤ worker_limit) }
+    requires known { AreKnownPlans program.now (plans_of entries.now) known.now }
+    ensures { IsLeastBelow (pair_cost program.now (plans_of entries.now) counts.now workers entry) (layout_count program.now.ops) result.layout result.cost }
+{
+    let plan = entries.at(entry).plan;
+    cheapest(program, &plan, known.table(entry), counts, workers)
+}
+
+// The choice among the entries before this one and this one, whose cheapest layout is `least`.
+fn cheaper(chosen: Chosen, entry: u32, least: Least) -> Chosen
+    ensures { (c : ℕ → ℕ → ℕ) (n : ℕ) → IsLeastPair c entry n chosen.entry chosen.layout chosen.cost → IsLeastBelow (c entry) n least.layout least.cost
+        → IsLeastPair c (entry + 1) n result.entry result.layout result.cost }
+{
+    if least.cost < chosen.cost {
+        return Chosen {
+            entry,
+            layout: least.layout,
+            cost: least.cost,
+        };
+    }
+    chosen
 }
 
 /// The first pair of a listed plan and one of its layouts that is expected to cost least, where each source has the number of rows that `counts`
 /// has at its number: the entries count first, then the layouts. It takes no memory: what is known of operators is kept on the stack, of the last plans
-/// alone. Time grows with the plans times their layouts, of which there are at most 6,561 each.
+/// alone. Time grows with the plans times their layouts, of which there are at most 6,561 each. A caller that chooses more than once has
+/// `choose_known`.
 pub fn choose(program: &Program, listed: &Listed, counts: &Counts, workers: u32) -> Chosen
     requires of { (t : PlanTree) → IsListed t listed.now.entries → IsPlanOf program.now.functions program.now.ops t }
     requires workers { (1 ≤ workers) × (workers ≤ worker_limit) }
@@ -152,21 +191,42 @@ pub fn choose(program: &Program, listed: &Listed, counts: &Counts, workers: u32)
 {
     let entries = listed.entries();
     let mut seen = Seen::nothing();
-    let first = cheapest_at(program, entries, 0, counts, workers, &mut seen);
+    let first = cheapest_seen(program, entries, 0, counts, workers, &mut seen);
     let mut chosen = Chosen {
         entry: 0,
         layout: first.layout,
         cost: first.cost,
     };
     for entry in 1..entries.len() {
-        let next = cheapest_at(program, entries, entry, counts, workers, &mut seen);
-        if next.cost < chosen.cost {
-            chosen = Chosen {
-                entry: entry as u32,
-                layout: next.layout,
-                cost: next.cost,
-            };
-        }
+        let least = cheapest_seen(program, entries, entry, counts, workers, &mut seen);
+        chosen = cheaper(chosen, entry as u32, least);
+    }
+    chosen
+}
+
+/// The same pair as `choose` returns, where `known` says what is known of the listed plans. It takes no memory and analyses no function.
+pub fn choose_known(
+    program: &Program,
+    listed: &Listed,
+    known: &KnownPlans,
+    counts: &Counts,
+    workers: u32,
+) -> Chosen
+    requires of { (t : PlanTree) → IsListed t listed.now.entries → IsPlanOf program.now.functions program.now.ops t }
+    requires workers { (1 ≤ workers) × (workers ≤ worker_limit) }
+    requires known { AreKnownPlans program.now (plans_of listed.now.entries) known.now }
+    ensures { IsChosen program.now (plans_of listed.now.entries) counts.now workers result }
+{
+    let entries = listed.entries();
+    let first = cheapest_known(program, entries, 0, known, counts, workers);
+    let mut chosen = Chosen {
+        entry: 0,
+        layout: first.layout,
+        cost: first.cost,
+    };
+    for entry in 1..entries.len() {
+        let least = cheapest_known(program, entries, entry, known, counts, workers);
+        chosen = cheaper(chosen, entry as u32, least);
     }
     chosen
 }

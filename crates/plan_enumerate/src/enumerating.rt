@@ -158,7 +158,8 @@ fn walk(
     requires few { limit ≤ entry_limit }
     requires findings { AreFindings program.now findings.old }
     requires begun { IsWalked program.now limit entries.old 0 0 0 }
-    ensures { IfOk result (GoesTo program.now limit entries.new (length entries.new) 0 0) }
+    ensures walked { IfOk result (GoesTo program.now limit entries.new (length entries.new) 0 0) }
+    ensures findings { OnOk result (AreFindings program.now findings.new) }
 {
     let mut from = 0;
     while (from as usize) < entries.len() {
@@ -171,14 +172,20 @@ fn walk(
 }
 
 // The list from the plan as written on.
-fn list_plans(alloc: Global, program: &Program, limit: u32) -> Result<Listed, OutOfMemory>
+pub(crate) fn list_plans(
+    alloc: Global,
+    program: &Program,
+    limit: u32,
+    findings: &mut Findings,
+) -> Result<Listed, OutOfMemory>
     requires some { 1 ≤ limit }
     requires few { limit ≤ entry_limit }
-    ensures { IfOk result (IsListing program.now limit) }
+    requires findings { AreFindings program.now findings.old }
+    ensures listing { IfOk result (IsListing program.now limit) }
+    ensures findings { OnOk result (AreFindings program.now findings.new) }
 {
-    let mut findings = Findings::new(alloc);
     let mut entries = Entries::of(alloc, *program.plan())?;
-    let complete = walk(program, &mut findings, &mut entries, limit)?;
+    let complete = walk(program, findings, &mut entries, limit)?;
     Ok(Listed::of(entries, complete))
 }
 
@@ -199,5 +206,6 @@ pub fn enumerate(alloc: Global, program: &Program, limit: u32) -> Result<Listed,
 {
     // Its clause says that the program keeps every rule.
     let _fields = program.fields();
-    list_plans(alloc, program, limit)
+    let mut findings = Findings::new(alloc);
+    list_plans(alloc, program, limit, &mut findings)
 }

@@ -7,18 +7,25 @@
 //!
 //! `choose` takes the first of least cost, with one of its layouts; `specs/Choices` says what that is. Each plan is taken apart once, into the rows of
 //! `plan_rows`, and a layout is weighed by going on from the one before it.
+//!
+//! A caller that chooses among the same plans again and again lists them by `enumerate_and_analyse`, which returns what is known of their operators
+//! too (`specs/KnownPlans`). `choose_known` chooses by that, and analyses nothing.
 #![tactic(auto)]
 
+mod analysing;
 pub mod choosing;
 pub mod entries;
 mod enumerating;
+mod known_plans;
 mod listings;
 mod plan_rows;
 mod steps;
 mod weights;
 
-pub use choosing::{Chosen, choose};
+pub use analysing::enumerate_and_analyse;
+pub use choosing::{Chosen, choose, choose_known};
 pub use entries::{Entries, Entry};
 pub use enumerating::enumerate;
+pub use known_plans::KnownPlans;
 pub use listings::Listed;
 pub use steps::steps_of;

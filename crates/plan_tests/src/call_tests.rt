@@ -5,7 +5,7 @@ use pact_bag::Rows;
 use pact_record::{OutOfMemory, Record, Value};
 use std::alloc::Global;
 use std::test::Fail;
-use tac_interp::call_pair;
+use tac_interp::{Scratch, call_pair, map_into};
 use tac_syntax::{Kind, Valid};
 use tac_text::read_function;
 use tac_validate::validate;
@@ -60,6 +60,17 @@ emit r2
 end
 ";
 
+// Emits its record with both fields alike, and then as it is.
+const MAP: &str = "function f map
+r0 = copy in
+r1 = copy in
+v0 = get r1 0
+set r1 1 v0
+emit r1
+emit r0
+end
+";
+
 // The function of this text, where it is one, in programs with so many fields.
 fn valid(alloc: Global, text: &[u8], fields: u32) -> Result<Valid, Fail>
     requires some { 1 ≤ fields }
@@ -99,5 +110,21 @@ fn a_pair_is_joined(rt: HostRuntime) -> Result<(), Fail> {
     // what is Null on both sides is Null
     let rows = call_pair(alloc, &f, &left, &numbers(alloc, None, None)?)?;
     assert!(rt; are(&rows, &[(None, Some(1)), (None, Some(1)), (Some(1), None)]));
+    Ok(())
+}
+
+// A record that is emitted unchanged at a call's end is moved, and comes after what was emitted before.
+#[test]
+fn calls_append(rt: HostRuntime) -> Result<(), Fail> {
+    let alloc = rt.alloc();
+    let f = function(alloc, MAP, Kind::Map)?;
+    let mut scratch = Scratch::new(alloc);
+    let mut out = Rows::new(alloc);
+    let first = numbers(alloc, Some(1), None)?;
+    map_into(alloc, &f, first, &mut scratch, &mut out)?;
+    let second = numbers(alloc, Some(2), Some(5))?;
+    map_into(alloc, &f, second, &mut scratch, &mut out)?;
+    let (one, two) = ((Some(1), Some(1)), (Some(2), Some(2)));
+    assert!(rt; are(&out, &[one, (Some(1), None), two, (Some(2), Some(5))]));
     Ok(())
 }

@@ -9,7 +9,7 @@ use cost_model::{cost, estimate};
 use pact_bag::Counts;
 use pact_operators::{Program, Ship};
 use pact_record::{Keys, OutOfMemory};
-use plan_enumerate::{choose, enumerate};
+use plan_enumerate::{choose, choose_known, enumerate, enumerate_and_analyse};
 use ship_strategy::{layout, layouts, legal_ship};
 use std::alloc::Global;
 use std::test::Fail;
@@ -124,6 +124,8 @@ fn eight_matches_have_so_many_layouts(rt: HostRuntime) -> Result<(), Fail> {
     let listed = enumerate(alloc, &program, 2)?;
     let chosen = choose(&program, &listed, &counts, 4);
     assert!(rt; (chosen.entry, chosen.layout, chosen.cost) == (0, 0, 25));
+    let (listed, known) = enumerate_and_analyse(alloc, &program, 2)?;
+    assert!(rt; choose_known(&program, &listed, &known, &counts, 4) == chosen);
     Ok(())
 }
 

@@ -235,9 +235,9 @@ fn workers_share_the_rows_of_a_source_in_turn(rt: HostRuntime) -> Result<(), Fai
     assert_eq!(rt; notes_put(rt.alloc(), TWICE, &[two], 0, 2, 1)?, 2);
     assert_eq!(rt; notes_put(rt.alloc(), TWICE, &[two], 0, 3, 1)?, 1);
     assert_eq!(rt; notes_put(rt.alloc(), TWICE, &[four], 0, 3, 1)?, 2);
-    // worker 1 has the second row of either key, and the keys belong to different workers
+    // worker 1 has the second row of either key, and the keys belong to different workers: it begins with its own
     let world = world(rt.alloc(), GROUP, &["0,5\n0,6\n1,7\n1,8\n"], 2, 1, 64)?;
-    let notes = [put(0, 1, 0), put(0, 1, 1), put(0, 1, 0), put(0, 1, 1)];
+    let notes = [put(0, 1, 1), put(0, 1, 0), put(0, 1, 0), put(0, 1, 1)];
     assert_eq!(rt; followed(world, &notes)?, (4, 2));
     Ok(())
 }

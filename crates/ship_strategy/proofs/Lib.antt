@@ -9,8 +9,9 @@ pub mod ChosenWays
 pub mod PlacesOfChoices
 pub mod BlankTables
 pub mod FilledTables
-pub mod SeenRows
 pub mod PlanAttributes
+pub mod FactsInContext
+pub mod SeenRows
 pub mod PlanSets
 pub mod ProgramLayouts
 pub mod Arrivals

@@ -1,5 +1,5 @@
 -- What was found of an operator in a plan before is what is found of it now, where its inputs have the same attributes.
-use Rattle.std.proofs.Common.{◌≡◌, ◌==◌, ◌&&◌, inl, inr, ℕ, Bool, true, false, cond, List, [], ◌∷◌, Option, Some, None, refl, ap, sym, ◌∙◌}
+use Rattle.std.proofs.Common.{◌≡◌, ◌==◌, inl, inr, ℕ, Bool, true, false, cond, List, [], ◌∷◌, Option, Some, None, refl, ap, sym, ◌∙◌}
 use Rattle.std.specs.Prelude.{slice_get}
 use Rattle.std.proofs.lemmas.Bool.{and_parts, cases_Bool, eqb-true}
 use Rattle.pact_record.specs.FieldSets.{has_field}
@@ -12,6 +12,7 @@ use Rattle.ship_strategy.specs.Facts.{NodeFacts}
 use Rattle.ship_strategy.specs.PlanFacts.{facts_at, facts_for, facts_of}
 use Rattle.ship_strategy.specs.Seen.{AreTold, IsTold, first_seen, is_row_with, or_else, row_with}
 use Rattle.ship_strategy.specs.Views.{facts_in, known_in, known_of, unknown}
+use Rattle.ship_strategy.proofs.FactsInContext.{facts_away, facts_there}
 use Rattle.ship_strategy.specs.declared.tables.OpFacts.{OpFacts}
 use Rattle.ship_strategy.specs.declared.tables.Table.{Table}
 
@@ -51,15 +52,9 @@ seen-true p (t ∷ tables) at left right x h e = at_row (slice_get t.nodes at) (
 
 known_told : (p : ProgramData) (t : PlanTree) (n : ℕ) (f : NodeFacts) → f ≡ facts_of p t n → (f.kind ≡ Source → ⊥) → f ≡ facts_for p n f.left f.right
 known_told p t n f e operator = elim (cases_Bool (has n t)) [
-  | inl there ↦ in_plan there (e ∙ facts_there there)
-  | inr away ↦ absurd (operator (ap (λ (g : NodeFacts). g.kind) (e ∙ facts_away away)))
+  | inl there ↦ in_plan there (e ∙ facts_there p t n there)
+  | inr away ↦ absurd (operator (ap (λ (g : NodeFacts). g.kind) (e ∙ facts_away p t n away)))
 ] where
-  facts_there : has n t ≡ true → facts_of p t n ≡ facts_at p (subtree_of n t)
-  facts_there h = rw h refl
-
-  facts_away : has n t ≡ false → facts_of p t n ≡ unknown
-  facts_away h = rw h refl
-
   in_plan : has n t ≡ true → f ≡ facts_at p (subtree_of n t) → f ≡ facts_for p n f.left f.right
   in_plan h is =
       let root = root_of-subtree n t h in

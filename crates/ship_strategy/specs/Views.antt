@@ -1,8 +1,11 @@
 -- What is kept in tables, by number.
 use Rattle.std.specs.Prelude.{◌==◌, ◌%◌, ℕ, suc, false, Option, Some, None, slice_get, get_or, List, [], ◌∷◌, if◌then◌else◌}
 use Rattle.pact_record.specs.FieldSets.{has_field}
+use Rattle.tac_syntax.specs.declared.contexts.Context.{Context}
+use Rattle.tac_syntax.specs.declared.declarations.OpKind.{OpKind}
 use Rattle.tac_syntax.specs.declared.declarations.OpKind.TheVariants.{Source}
 use Rattle.tac_flow.specs.Known.{no_fields}
+use Rattle.tac_flow.specs.Results.{FoundSets}
 use Rattle.pact_operators.specs.declared.operators.Op.{Op}
 use Rattle.ship_strategy.specs.declared.tables.OpFacts.{OpFacts}
 use Rattle.ship_strategy.specs.declared.tables.Table.{Table}
@@ -23,6 +26,19 @@ known_of x = record {
   writes = has_field x.writes;
   anchor_left = x.anchor_left;
   anchor_right = x.anchor_right;
+}
+
+-- the facts of an operator of a kind in a context in which these sets are found
+abbrev pub known_by : OpKind → Context → FoundSets → NodeFacts
+known_by kind c s = record {
+  kind = kind;
+  left_keys = c.left_keys;
+  right_keys = c.right_keys;
+  left = has_field c.left;
+  right = has_field c.right;
+  writes = s.writes;
+  anchor_left = s.anchor_left;
+  anchor_right = s.anchor_right;
 }
 
 -- what is known where there is no operator

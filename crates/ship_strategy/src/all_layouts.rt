@@ -45,6 +45,33 @@ pub fn layout_in(table: &Table, ops: &[Op], plan: &Plan, number: u32, workers: u
     physical
 }
 
+/// The layout that `layout` returns, where the table says what is known of the plan's operators. It analyses no function.
+pub fn layout_known(
+    program: &Program,
+    plan: &Plan,
+    table: &Table,
+    number: u32,
+    workers: u32,
+) -> Physical
+    requires of { IsPlanOf program.now.functions program.now.ops plan.now }
+    requires number { number < layout_count program.now.ops }
+    requires workers { (1 ≤ workers) × (workers ≤ worker_limit) }
+    requires table { facts_in table.now ≡ facts_of program.now plan.now }
+    ensures value { result ≡ layout_of (facts_of program.now plan.now) program.now.ops plan.now number workers }
+    ensures tree { result.tree ≡ plan.now }
+    ensures legal { LegalShip (facts_of program.now result.tree) result }
+    ensures ships { IsLaidOut (facts_of program.now plan.now) (ways_of program.now.ops number) result plan.now }
+    ensures meets { (inputs : List Bag) → AreInputsOf program.now inputs → (gave : Shares) → AllGaveShares (plan_ops program.now inputs) result gave → AllMeet (plan_ops program.now inputs) result gave }
+    ensures counted { (inputs : List Bag) → AreInputsOf program.now inputs → (rows : Bag) (counts : List ℕ)
+        → IsDivided (plan_ops program.now inputs) result rows counts → Counted (plan_ops program.now inputs) result.tree rows counts }
+    ensures runs { (inputs : List Bag) → (rows : Bag) × (counts : List ℕ) × IsDivided (plan_ops program.now inputs) result rows counts }
+    ensures place { AreChoices program.now.ops (choices program.now.ops number) × (place_of program.now.ops (choices program.now.ops number) ≡ number) }
+{
+    // the root of a plan tells that it is one
+    let _root = plan.root();
+    layout_in(table, program.ops(), plan, number, workers)
+}
+
 /// The layout of a number for so many workers. Layouts are numbered from 0 in the order of their lists of choices, in which that of the last operator
 /// varies fastest: a Match goes by key, with its left side everywhere, or with its right one; a Cross with its left side or with its right one.
 pub fn layout(program: &Program, plan: &Plan, number: u32, workers: u32) -> Physical
@@ -61,7 +88,5 @@ pub fn layout(program: &Program, plan: &Plan, number: u32, workers: u32) -> Phys
     ensures runs { (inputs : List Bag) → (rows : Bag) × (counts : List ℕ) × IsDivided (plan_ops program.now inputs) result rows counts }
     ensures place { AreChoices program.now.ops (choices program.now.ops number) × (place_of program.now.ops (choices program.now.ops number) ≡ number) }
 {
-    // the root of a plan tells that it is one
-    let _root = plan.root();
-    layout_in(&known(program, plan), program.ops(), plan, number, workers)
+    layout_known(program, plan, &known(program, plan), number, workers)
 }

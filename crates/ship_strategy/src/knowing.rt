@@ -32,8 +32,8 @@ fn own_fields(program: &Program, at: u32) -> Fields
     attrs(program, &Plan::leaf(at), at)
 }
 
-// Of a source, which has no function.
-fn nothing_found() -> Sets
+/// The sets of a source, which has no function.
+pub fn nothing_found() -> Sets
     ensures { found_of result ≡ no_sets }
 {
     Sets {
@@ -100,16 +100,7 @@ fn facts_for(program: &Program, at: u32, left: Fields, right: Fields) -> OpFacts
     // a program tells that its keys are below its number of fields
     let _fields = program.fields();
     let found = sets_unless_source(program, at, kind, &context);
-    OpFacts {
-        kind,
-        left_keys,
-        right_keys,
-        left,
-        right,
-        writes: found.writes,
-        anchor_left: found.anchor_left,
-        anchor_right: found.anchor_right,
-    }
+    OpFacts::of(kind, &context, &found)
 }
 
 // The same, by what was found before where it was found in this context.

@@ -7,8 +7,9 @@
 //! evaluation of the plan: `layout` and `legal_ship` tell both.
 //!
 //! `layouts`, `layout` and `legal_ship` are for one plan at a time. For many layouts of one plan, `known` finds what is known of its operators
-//! once, and for many plans `known_after` what the plans before don't tell; `chosen` tells the ways of a number, and `left_ship`, `right_ship`, `only_ship`, `placed_over` and `placed_both` take a
-//! step each, without a physical plan.
+//! once, and for many plans `known_after` what the plans before don't tell. A caller with findings of its own fills a `Table` with what `OpFacts::of`
+//! makes of them, and `layout_known` needs no more than the table. `chosen` tells the ways of a number, and `left_ship`, `right_ship`, `only_ship`,
+//! `placed_over` and `placed_both` take a step each, without a physical plan.
 #![tactic(auto)]
 
 mod all_layouts;
@@ -22,9 +23,9 @@ mod seen;
 mod tables;
 mod ways;
 
-pub use all_layouts::{layout, layout_in, layouts};
+pub use all_layouts::{layout, layout_in, layout_known, layouts};
 pub use edges::{left_ship, only_ship, right_ship};
-pub use knowing::{known, known_after};
+pub use knowing::{known, known_after, nothing_found};
 pub use legality::legal_ship;
 pub use numbering::{choices_of, chosen};
 pub use placements::{placed_both, placed_over};

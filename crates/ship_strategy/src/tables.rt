@@ -2,10 +2,13 @@
 
 ghost use Rattle.std.specs.Prelude.{◌≡◌, ◌<◌};
 ghost use Rattle.plan_trees.specs.Plans.{node_limit};
-ghost use Rattle.ship_strategy.specs.Views.{facts_in, known_of, put, unknown};
+ghost use Rattle.tac_flow.specs.Views.{found_of};
+ghost use Rattle.ship_strategy.specs.Views.{facts_in, known_by, known_of, put, unknown};
 
 use pact_operators::{MAX_NODES, OpKind};
 use pact_record::{Fields, Keys};
+use tac_flow::Sets;
+use tac_syntax::Context;
 
 /// What is known of a source or an operator in its place in a plan.
 #[derive(Clone, Copy, Debug)]
@@ -25,6 +28,40 @@ pub struct OpFacts {
     pub anchor_right: bool,
 }
 
+impl OpFacts {
+    /// The facts of a source or an operator of this kind in a context in which the analysis finds these sets.
+    pub fn of(kind: OpKind, context: &Context, found: &Sets) -> OpFacts
+        ensures { known_of result ≡ known_by kind context.now (found_of found.now) }
+    {
+        OpFacts {
+            kind,
+            left_keys: context.left_keys,
+            right_keys: context.right_keys,
+            left: context.left,
+            right: context.right,
+            writes: found.writes,
+            anchor_left: found.anchor_left,
+            anchor_right: found.anchor_right,
+        }
+    }
+
+    /// The facts for a number that the plan doesn't have.
+    pub fn nothing() -> OpFacts
+        ensures { known_of result ≡ unknown }
+    {
+        OpFacts {
+            kind: OpKind::Source,
+            left_keys: Keys::new(),
+            right_keys: Keys::new(),
+            left: Fields::empty(),
+            right: Fields::empty(),
+            writes: Fields::empty(),
+            anchor_left: false,
+            anchor_right: false,
+        }
+    }
+}
+
 /// What is known of each source and operator of a plan, by its number.
 #[derive(Clone, Copy, Debug)]
 pub struct Table {
@@ -32,15 +69,17 @@ pub struct Table {
 }
 
 impl Table {
-    pub(crate) fn blank() -> Table
+    /// A table in which nothing is known of any number.
+    pub fn blank() -> Table
         ensures { facts_in result ≡ (λ k. unknown) }
     {
         Table {
-            nodes: [nothing(); MAX_NODES],
+            nodes: [OpFacts::nothing(); MAX_NODES],
         }
     }
 
-    pub(crate) fn set(&mut self, at: u32, x: OpFacts)
+    /// Enters what is known of the source or operator of this number.
+    pub fn set(&mut self, at: u32, x: OpFacts)
         requires { at < node_limit }
         ensures { facts_in self.new ≡ put at (known_of x) (facts_in self.old) }
     {
@@ -53,22 +92,7 @@ impl Table {
     {
         match self.nodes.get(at as usize) {
             Some(x) => *x,
-            None => nothing(),
+            None => OpFacts::nothing(),
         }
-    }
-}
-
-fn nothing() -> OpFacts
-    ensures { known_of result ≡ unknown }
-{
-    OpFacts {
-        kind: OpKind::Source,
-        left_keys: Keys::new(),
-        right_keys: Keys::new(),
-        left: Fields::empty(),
-        right: Fields::empty(),
-        writes: Fields::empty(),
-        anchor_left: false,
-        anchor_right: false,
     }
 }

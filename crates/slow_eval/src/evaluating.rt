@@ -34,18 +34,23 @@ fn source_place(ops: &[Op], at: u32) -> usize
 }
 
 // What an operator of one input gives.
-fn over_one(alloc: Global, program: &Program, at: u32, rows: &Rows) -> Result<Rows, OutOfMemory>
+fn over_one(
+    alloc: Global,
+    program: &Program,
+    at: u32,
+    below: GivenRows<'_>,
+) -> Result<Rows, OutOfMemory>
     requires takes { Takes program.now.ops at 1 }
-    requires widths { AreWide program.now.fields rows.now }
-    ensures given { IfOk result (λ out. (inputs : List (List (List FieldValue))) → Gives (plan_ops program.now inputs) (kind_at program.now.ops at) at rows.now out) }
+    requires widths { AreWide program.now.fields (rows_of below) }
+    ensures given { IfOk result (λ out. (inputs : List (List (List FieldValue))) → Gives (plan_ops program.now inputs) (kind_at program.now.ops at) at (rows_of below.entry) out) }
     ensures widths { IfOk result (AreWide program.now.fields) }
 {
     let _kept = program.fields();
     let op = &program.ops()[at as usize];
     let f = &program.functions()[op.function as usize];
     match op.kind {
-        OpKind::Map => map_rows(alloc, f, rows),
-        OpKind::Reduce => reduce_rows(alloc, f, &op.left_keys, rows),
+        OpKind::Map => map_rows(alloc, f, below.into_rows(alloc)?),
+        OpKind::Reduce => reduce_rows(alloc, f, &op.left_keys, below.rows()),
         OpKind::Source | OpKind::Match | OpKind::Cross | OpKind::CoGroup => unreachable!(),
     }
 }
@@ -111,7 +116,7 @@ fn evaluate_into<'a>(
         }
         Parts::OverOne { at, input } => {
             let below = evaluate_into(alloc, program, &input, inputs, counts)?;
-            let rows = over_one(alloc, program, at, below.rows())?;
+            let rows = over_one(alloc, program, at, below)?;
             counts.set(at as usize, rows.len() as u64);
             Ok(GivenRows::Own(rows))
         }

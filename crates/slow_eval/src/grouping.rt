@@ -1,6 +1,6 @@
 //! One call for each group of records with equal keys.
 
-ghost use Rattle.std.specs.Prelude.{◌≡◌, ◌<◌, ◌++◌, List, length, map, IfOk};
+ghost use Rattle.std.specs.Prelude.{◌≡◌, ◌<◌, ◌++◌, List, length, map, IfOk, OnOk};
 ghost use Rattle.pact_record.specs.declared.values.Value.{Value as FieldValue};
 ghost use Rattle.std.specs.List.{AllByRecursion, list_any};
 ghost use Rattle.pact_record.specs.Record.{key_of};
@@ -14,7 +14,7 @@ ghost use Rattle.pact_record.specs.Widths.{AreBelow, AreWide};
 use pact_bag::Rows;
 use pact_record::{Keys, OutOfMemory, Record};
 use std::alloc::Global;
-use tac_interp::{call_cogroup, call_group};
+use tac_interp::{Scratch, cogroup_into, group_into};
 use tac_syntax::Valid;
 
 // Whether some of the keys are those of the record.
@@ -100,25 +100,28 @@ fn keys_in_either(
     with_keys(alloc, right_keys, rights, found)
 }
 
-// The call for the records that have these key values.
+// Appends what the call for the records with these key values emits.
 fn call_for_key(
     alloc: Global,
     f: &Valid,
     keys: &Keys,
     rows: &Rows,
     key: &Record,
-) -> Result<Rows, OutOfMemory>
+    scratch: &mut Scratch,
+    out: &mut Rows,
+) -> Result<(), OutOfMemory>
     requires kind { f.now.function.kind ≡ Reduce }
     requires keys { length keys.now ≡ f.now.function.keys }
     requires below { AreBelow f.now.fields keys.now }
-    requires widths { AreWide f.now.fields rows.now }
+    requires row_widths { AreWide f.now.fields rows.now }
     requires length { length key.now ≡ length keys.now }
     requires group { HasGroup keys.now rows.now key.now }
-    ensures given { IfOk result (λ out. out ≡ Out f.now.fields f.now.function.body (of_group key.now (group_of_key keys.now rows.now key.now))) }
-    ensures widths { IfOk result (AreWide f.now.fields) }
+    requires widths { AreWide f.now.fields out.old }
+    ensures given { OnOk result (out.new ≡ out.old ++ Out f.now.fields f.now.function.body (of_group key.now (group_of_key keys.now rows.now key.now))) }
+    ensures widths { OnOk result (AreWide f.now.fields out.new) }
 {
     let group = group_of(alloc, f.fields(), keys, rows, key)?;
-    call_group(alloc, f, keys, &group)
+    group_into(alloc, f, keys, &group, scratch, out)
 }
 
 /// What a Reduce gives, with each group in the order of its records.
@@ -136,15 +139,15 @@ pub(crate) fn reduce_rows(
     ensures widths { IfOk result (AreWide f.now.fields) }
 {
     let found = keys_in(alloc, keys, rows)?;
+    let mut scratch = Scratch::new(alloc);
     let mut out = Rows::new(alloc);
     for key in found.rows() {
-        let mut emitted = call_for_key(alloc, f, keys, rows, key)?;
-        out.append(&mut emitted)?;
+        call_for_key(alloc, f, keys, rows, key, &mut scratch, &mut out)?;
     }
     Ok(out)
 }
 
-// The call for the records of either side that have these key values.
+// Appends what the call for the records of either side with these key values emits.
 fn call_for_either(
     alloc: Global,
     f: &Valid,
@@ -153,7 +156,9 @@ fn call_for_either(
     lefts: &Rows,
     rights: &Rows,
     key: &Record,
-) -> Result<Rows, OutOfMemory>
+    scratch: &mut Scratch,
+    out: &mut Rows,
+) -> Result<(), OutOfMemory>
     requires kind { f.now.function.kind ≡ CoGroup }
     requires left_keys { length left_keys.now ≡ f.now.function.keys }
     requires right_keys { length right_keys.now ≡ f.now.function.keys }
@@ -163,12 +168,13 @@ fn call_for_either(
     requires right_widths { AreWide f.now.fields rights.now }
     requires length { length key.now ≡ length left_keys.now }
     requires group { HasEitherGroup left_keys.now right_keys.now lefts.now rights.now key.now }
-    ensures given { IfOk result (λ out. out ≡ Out f.now.fields f.now.function.body (of_groups key.now (group_of_key left_keys.now lefts.now key.now) (group_of_key right_keys.now rights.now key.now))) }
-    ensures widths { IfOk result (AreWide f.now.fields) }
+    requires widths { AreWide f.now.fields out.old }
+    ensures given { OnOk result (out.new ≡ out.old ++ Out f.now.fields f.now.function.body (of_groups key.now (group_of_key left_keys.now lefts.now key.now) (group_of_key right_keys.now rights.now key.now))) }
+    ensures widths { OnOk result (AreWide f.now.fields out.new) }
 {
     let left = group_of(alloc, f.fields(), left_keys, lefts, key)?;
     let right = group_of(alloc, f.fields(), right_keys, rights, key)?;
-    call_cogroup(alloc, f, left_keys, right_keys, &left, &right)
+    cogroup_into(alloc, f, left_keys, right_keys, &left, &right, scratch, out)
 }
 
 /// What a CoGroup gives, with each group in the order of its records.
@@ -191,10 +197,20 @@ pub(crate) fn cogroup_rows(
     ensures widths { IfOk result (AreWide f.now.fields) }
 {
     let found = keys_in_either(alloc, left_keys, right_keys, lefts, rights)?;
+    let mut scratch = Scratch::new(alloc);
     let mut out = Rows::new(alloc);
     for key in found.rows() {
-        let mut emitted = call_for_either(alloc, f, left_keys, right_keys, lefts, rights, key)?;
-        out.append(&mut emitted)?;
+        call_for_either(
+            alloc,
+            f,
+            left_keys,
+            right_keys,
+            lefts,
+            rights,
+            key,
+            &mut scratch,
+            &mut out,
+        )?;
     }
     Ok(out)
 }

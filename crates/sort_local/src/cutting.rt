@@ -53,7 +53,6 @@ pub(crate) fn sorted_groups(alloc: Global, keys: &Keys, rows: Rows) -> Result<Gr
     ensures { IfOk result (λ groups. IsSortedInto keys.now rows groups) }
 {
     let _width = rows.rows();
-    let mut held = rows.into_records();
-    sort_down(keys, &mut held)?;
-    cut(alloc, keys, held)
+    let sorted = sort_down(alloc, keys, rows)?;
+    cut(alloc, keys, sorted)
 }

@@ -10,7 +10,10 @@ pub mod NamesOfLoops
 pub mod RoomToChange
 pub mod SameFacts
 pub mod LoopsSettle
+pub mod LooserStates
 pub mod SetsBelowFields
+pub mod SoundStates
+pub mod LooserWalks
 pub mod NotesBelowFields
 pub mod SamePaths
 pub mod StartingRecords
@@ -24,6 +27,11 @@ pub mod GroupsKept
 pub mod ListsSoFar
 pub mod KeyPositions
 pub mod WalkedSoFar
+pub mod WarmStarts
+pub mod WarmWalks
+pub mod SameKept
+pub mod WalksCounted
 pub mod GatheredNotes
 pub mod FoundSets
+pub mod WarmBodies
 pub mod KeysRead

@@ -4,3 +4,5 @@ pub mod Walks
 pub mod Results
 pub mod Gathering
 pub mod Views
+pub mod Memos
+pub mod Warm

@@ -15,12 +15,11 @@ ghost use Rattle.tac_flow.specs.Results as results;
 ghost use Rattle.tac_flow.specs.Gathering.{noted_of};
 ghost use Rattle.tac_flow.specs.Views.{IsTouchedOf, found_of, scope_of, sets_in};
 
-use crate::facts::Facts;
 use crate::found_sets::Sets;
 use crate::noted::Noted;
+use crate::noting::noted_in;
+use crate::places::least_size;
 use crate::scopes::Scope;
-use crate::sides::Sides;
-use crate::walks::walk_body;
 use pact_record::Fields;
 use tac_syntax::{Context, Kind, Valid};
 
@@ -48,16 +47,9 @@ pub fn sets(f: &Valid, context: &Context) -> Sets
         kind: function.kind,
         fields: f.fields(),
         context: *context,
+        least: least_size(&function.body),
     };
-    let mut facts = Facts::start(scope.fresh());
-    let mut noted = Noted::nothing(scope.fields);
-    walk_body(
-        &scope,
-        &Sides::none(),
-        &function.body,
-        &mut facts,
-        &mut noted,
-    );
+    let noted = noted_in(&scope, &function.body);
     found(&scope, &noted, f.named())
 }
 

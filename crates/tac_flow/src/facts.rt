@@ -6,6 +6,7 @@ ghost use Rattle.pact_record.specs.declared.records.TheConstants.{MAX_FIELDS};
 ghost use Rattle.pact_record.specs.FieldSets.{has_field};
 ghost use Rattle.tac_flow.specs.Known as known;
 ghost use Rattle.tac_flow.specs.Steps as steps;
+ghost use Rattle.tac_flow.specs.Memos.{dropped_any};
 ghost use Rattle.tac_flow.specs.Views.{known_of, held_of, state_of};
 
 use crate::bases::{Base, Origin};
@@ -166,6 +167,15 @@ impl Facts {
     {
         drop_values(name, &mut self.values);
         drop_records(name, &mut self.records);
+    }
+
+    pub(crate) fn drop_any(&mut self, name: Option<u32>)
+        ensures { state_of self.new ≡ dropped_any name (state_of self.old) }
+    {
+        match name {
+            Some(name) => self.drop_name(name),
+            None => {}
+        }
     }
 
     pub(crate) fn value(&self, n: u32) -> ValueFacts

@@ -3,17 +3,22 @@
 //! `sets` walks through a function's body with what is known of each register: of a value, the fields that it depends on
 //! and what it is known to equal; of a record, what it began as and the fields in which it may differ from that. Branches
 //! are joined, loops are walked until nothing changes, and what is emitted and what decides is written down.
-//! `specs/Known`, `Steps` and `Walks` have the rules, `specs/Results` what follows from them.
+//! `specs/Known`, `Steps` and `Walks` have the rules, `specs/Results` what follows from them. `specs/Memos` and `Warm` are
+//! of the walk that does the work: each of its loops begins from where it settled before.
 #![tactic(auto)]
 
 mod analysis;
 mod bases;
 mod facts;
 mod found_sets;
+mod memos;
 mod noted;
+mod noting;
+mod places;
 mod scopes;
 mod sides;
 mod walks;
+mod warm;
 
 pub use analysis::sets;
 pub use found_sets::Sets;

@@ -12,12 +12,14 @@ use crate::facts::{RecordFacts, ValueFacts};
 use pact_record::{Fields, Keys};
 use tac_syntax::{Context, Kind, Side};
 
-/// A function's kind and number of fields, in a context.
+/// A function's kind and number of fields, in a context. A loop has a place in the table of what is kept if its body has
+/// `least` statements or more.
 #[derive(Clone, Copy)]
 pub(crate) struct Scope {
     pub(crate) kind: Kind,
     pub(crate) fields: u32,
     pub(crate) context: Context,
+    pub(crate) least: u32,
 }
 
 impl Scope {
@@ -160,7 +162,7 @@ impl Scope {
     }
 
     // Whether the value is the base's own in that field.
-    fn is_copy(&self, base: Base, origin: Origin, field: u32) -> bool
+    pub(crate) fn is_copy(&self, base: Base, origin: Origin, field: u32) -> bool
         ensures { result ≡ steps.is_copy (scope_of self.now) base origin field }
     {
         match origin {

@@ -6,11 +6,12 @@ ghost use Rattle.pact_record.specs.declared.records.TheConstants.{MAX_FIELDS};
 ghost use Rattle.tac_syntax.specs.Limits.{loop_limit, value_registers, record_registers};
 ghost use Rattle.tac_syntax.specs.Code as code;
 ghost use Rattle.tac_syntax.specs.Trees.{only};
-ghost use Rattle.tac_flow.specs.Known.{Side, dropped};
+ghost use Rattle.tac_flow.specs.Known.{Side};
 ghost use Rattle.tac_flow.specs.Steps as steps;
 ghost use Rattle.tac_flow.specs.Walks.{settled, side_of_list, walk, notes, walks_at_most as most};
 ghost use Rattle.tac_flow.specs.Gathering.{gather, noted_of};
 ghost use Rattle.tac_syntax.specs.WellFormed.{CanRead, IsWellFormedSimple, IsWellFormed};
+ghost use Rattle.tac_flow.specs.Warm.{turn_of};
 ghost use Rattle.tac_flow.specs.Views.{known_of, held_of, state_of, scope_of, sides_of};
 
 use crate::bases::{Base, Origin};
@@ -115,7 +116,13 @@ fn learn_set_at(scope: &Scope, facts: &mut Facts, to: u32, at: u32, value: u32)
 
 // A statement, and what is written down there.
 #[cycle(walk)]
-fn walk_stmt(scope: &Scope, sides: &Sides, stmt: &Stmt, facts: &mut Facts, noted: &mut Noted)
+pub(crate) fn walk_stmt(
+    scope: &Scope,
+    sides: &Sides,
+    stmt: &Stmt,
+    facts: &mut Facts,
+    noted: &mut Noted,
+)
     requires well_formed { IsWellFormed scope.now.kind scope.now.fields (length (sides_of sides.now)) (only stmt.now) }
     requires fields { scope.now.fields ≤ MAX_FIELDS }
     ensures facts { state_of facts.new ≡ walk (scope_of scope.now) (sides_of sides.now) (only stmt.now) (state_of facts.old) }
@@ -154,7 +161,7 @@ fn walk_stmt(scope: &Scope, sides: &Sides, stmt: &Stmt, facts: &mut Facts, noted
             walk_if(scope, sides, *on, body, other, facts, noted);
         }
         Stmt::Repeat { body, .. } => {
-            settle_repeat(scope, sides, body, facts);
+            settle(scope, sides, None, body, facts);
             walk_body(scope, sides, body, facts, noted);
         }
         Stmt::Each { name, list, body } => {
@@ -206,36 +213,18 @@ fn walk_if(
     facts.join(scope.fields, &second);
 }
 
-// Walks through a body until nothing changes.
+// Walks through a loop's body until nothing changes.
 #[cycle(walk)]
-fn settle_repeat(scope: &Scope, sides: &Sides, body: &Body, facts: &mut Facts)
-    requires well_formed { IsWellFormed scope.now.kind scope.now.fields (length (sides_of sides.now)) body.now }
-    requires fields { scope.now.fields ≤ MAX_FIELDS }
-    ensures { state_of facts.new ≡ settled scope.now.fields (walk (scope_of scope.now) (sides_of sides.now) body.now) (state_of facts.old) }
-{
-    for _ in 0..walks_at_most(scope.fields) {
-        let mut turn = *facts;
-        let mut scratch = Noted::nothing(scope.fields);
-        walk_body(scope, sides, body, &mut turn, &mut scratch);
-        let before = *facts;
-        facts.join(scope.fields, &turn);
-        if *facts == before {
-            return;
-        }
-    }
-}
-
-#[cycle(walk)]
-fn settle_each(scope: &Scope, inside: &Sides, name: u32, body: &Body, facts: &mut Facts)
+fn settle(scope: &Scope, inside: &Sides, name: Option<u32>, body: &Body, facts: &mut Facts)
     requires well_formed { IsWellFormed scope.now.kind scope.now.fields (length (sides_of inside.now)) body.now }
     requires fields { scope.now.fields ≤ MAX_FIELDS }
-    ensures { state_of facts.new ≡ settled scope.now.fields (λ j. dropped name (walk (scope_of scope.now) (sides_of inside.now) body.now j)) (state_of facts.old) }
+    ensures { state_of facts.new ≡ settled scope.now.fields (turn_of (scope_of scope.now) (sides_of inside.now) body.now name) (state_of facts.old) }
 {
     for _ in 0..walks_at_most(scope.fields) {
         let mut turn = *facts;
         let mut scratch = Noted::nothing(scope.fields);
         walk_body(scope, inside, body, &mut turn, &mut scratch);
-        turn.drop_name(name);
+        turn.drop_any(name);
         let before = *facts;
         facts.join(scope.fields, &turn);
         if *facts == before {
@@ -262,12 +251,12 @@ fn walk_each(
 {
     let inside = sides.inside(side_of(list));
     facts.drop_name(name);
-    settle_each(scope, &inside, name, body, facts);
+    settle(scope, &inside, Some(name), body, facts);
     let mut last = *facts;
     walk_body(scope, &inside, body, &mut last, noted);
 }
 
-fn side_of(list: LoopList) -> Side
+pub(crate) fn side_of(list: LoopList) -> Side
     ensures { result ≡ side_of_list list }
 {
     match list {
@@ -276,7 +265,7 @@ fn side_of(list: LoopList) -> Side
     }
 }
 
-fn walks_at_most(fields: u32) -> u32
+pub(crate) fn walks_at_most(fields: u32) -> u32
     requires { fields ≤ MAX_FIELDS }
     ensures { result ≡ most fields }
 {

@@ -1,9 +1,11 @@
-//! The end of a call, behind which no statement reads a register. So a record that the last statement emits isn't copied.
+//! The end of a call. No later statement reads a register, so a record that the last statement emits isn't copied. If that is the input's
+//! record, the caller emits it: the caller may own it.
 
-ghost use Rattle.std.specs.Prelude.{◌≡◌, OnOk};
+ghost use Rattle.std.specs.Prelude.{IfOk};
 ghost use Rattle.tac_syntax.specs.Trees.{statement_of, only};
 ghost use Rattle.tac_syntax.specs.Exec.{exec};
 ghost use Rattle.tac_syntax.specs.Ready.{IsReady, CanStart};
+ghost use Rattle.tac_interp.specs.Machine.{AreEmitted};
 
 use crate::machines::Machine;
 use crate::runs::run_stmt;
@@ -11,19 +13,20 @@ use pact_record::OutOfMemory;
 use std::alloc::Global;
 use tac_syntax::{Body, Stmt};
 
-/// The statements of a body behind which none comes: what is promised is what was emitted, not what a register has then.
+/// The statements of a body after which no statement comes. The contract says what was emitted, not what a register has then. The call
+/// returns whether the input's record is still to be emitted, as the last one.
 #[cycle(finish)]
 pub(crate) fn finish_body(
     alloc: Global,
     body: &Body,
     machine: &mut Machine<'_>,
-) -> Result<(), OutOfMemory>
+) -> Result<bool, OutOfMemory>
     requires { IsReady body.now machine.old }
-    ensures { OnOk result (machine.new.emitted ≡ (exec body.now machine.old).emitted) }
+    ensures { IfOk result (λ passes. AreEmitted passes (exec body.now machine.old).input machine.new.emitted (exec body.now machine.old).emitted) }
 {
     let stmts = body.stmts();
     if stmts.len() == 0 {
-        return Ok(());
+        return Ok(false);
     }
     let last = stmts.len() - 1;
     for at in 0..last {
@@ -34,9 +37,9 @@ pub(crate) fn finish_body(
 
 // The last statement.
 #[cycle(finish)]
-fn finish_stmt(alloc: Global, stmt: &Stmt, machine: &mut Machine<'_>) -> Result<(), OutOfMemory>
+fn finish_stmt(alloc: Global, stmt: &Stmt, machine: &mut Machine<'_>) -> Result<bool, OutOfMemory>
     requires { CanStart (statement_of stmt.now) machine.old }
-    ensures { OnOk result (machine.new.emitted ≡ (exec (only stmt.now) machine.old).emitted) }
+    ensures { IfOk result (λ passes. AreEmitted passes (exec (only stmt.now) machine.old).input machine.new.emitted (exec (only stmt.now) machine.old).emitted) }
 {
     match stmt {
         Stmt::Emit { from } => machine.emit_last(alloc, *from),
@@ -47,6 +50,9 @@ fn finish_stmt(alloc: Global, stmt: &Stmt, machine: &mut Machine<'_>) -> Result<
                 finish_body(alloc, other, machine)
             }
         }
-        _ => run_stmt(alloc, stmt, machine),
+        _ => {
+            run_stmt(alloc, stmt, machine)?;
+            Ok(false)
+        }
     }
 }

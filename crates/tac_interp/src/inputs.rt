@@ -5,7 +5,8 @@ ghost use Rattle.pact_record.specs.declared.values.Value.TheVariants.{Null};
 ghost use Rattle.tac_syntax.specs.declared.statements.LoopList.TheVariants.{Group};
 ghost use Rattle.tac_syntax.specs.Call.{first_record, input_record, key_values, left_record, right_record, rows_of};
 ghost use Rattle.tac_syntax.specs.CallInputs.{IsOfGroup, IsOfPair, IsOfRecord};
-ghost use Rattle.tac_interp.specs.Machine.{HasKeyFields, input_of};
+ghost use Rattle.tac_interp.specs.Machine.{HasKeyFields, input_of, record_of};
+ghost use Rattle.tac_interp.specs.Registers.{lent_of};
 
 use pact_record::{Keys, Record, Value};
 use tac_syntax::LoopList;
@@ -34,6 +35,16 @@ pub(crate) enum Input<'a> {
 }
 
 impl<'a> Input<'a> {
+    /// The record that registers may hold without a copy: only a Map has one.
+    pub(crate) fn lent(&self) -> Option<&'a Record>
+        ensures { lent_of result ≡ record_of self.now }
+    {
+        match self {
+            Input::Record(row) => Some(*row),
+            Input::Pair(..) | Input::Group { .. } | Input::Groups { .. } => None,
+        }
+    }
+
     pub(crate) fn record(&self) -> &'a Record
         requires { IsOfRecord (input_of self.now) }
         ensures { result.now ≡ input_record (input_of self.now) }

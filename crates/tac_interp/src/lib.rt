@@ -2,7 +2,8 @@
 //!
 //! A call is run on a `Machine`: the registers, the records bound to loops, and what was emitted
 //! so far. `call_map` is a call for one record, `call_pair` for two, `call_group` for the records of a
-//! group, and `call_cogroup` for the groups of either side.
+//! group, and `call_cogroup` for the groups of either side. `map_into` and the others append to a list,
+//! and take their memory from a `Scratch`.
 #![tactic(auto)]
 
 mod calls;
@@ -11,5 +12,9 @@ mod inputs;
 mod machines;
 mod registers;
 mod runs;
+mod scratches;
 
-pub use calls::{call_cogroup, call_group, call_map, call_pair};
+pub use calls::{
+    call_cogroup, call_group, call_map, call_pair, cogroup_into, group_into, map_into, pair_into,
+};
+pub use scratches::Scratch;

@@ -1,6 +1,6 @@
 //! The registers of a call, and what each statement of one line does to them.
 
-ghost use Rattle.std.specs.Prelude.{◌≡◌, ◌≤◌, ◌<◌, length, OnOk, IfOk};
+ghost use Rattle.std.specs.Prelude.{◌≡◌, ◌≤◌, ◌<◌, [], length, OnOk, IfOk};
 ghost use Rattle.pact_record.specs.declared.records.TheConstants.{MAX_FIELDS};
 ghost use Rattle.pact_record.specs.Record.{at_field};
 ghost use Rattle.pact_record.specs.Value as values;
@@ -11,10 +11,11 @@ ghost use Rattle.tac_syntax.specs.Call as call;
 ghost use Rattle.pact_record.specs.Widths.{AreWide};
 ghost use Rattle.tac_syntax.specs.CallInputs.{HasWidth};
 ghost use Rattle.tac_syntax.specs.Ready.{HasRecord, CanAct};
-ghost use Rattle.tac_interp.specs.Machine.{HasKeyFields, IsGiven, input_of};
+ghost use Rattle.tac_interp.specs.Machine.{AreEmitted, HasKeyFields, IsGiven, input_of};
 
 use crate::inputs::Input;
-use crate::registers::{RecordRegisters, ValueRegisters};
+use crate::registers::{Held, RecordRegisters, ValueRegisters};
+use crate::scratches::Parts;
 use pact_bag::Rows;
 use pact_record::{Op1, Op2, OutOfMemory, Record, Text, Value, apply1, apply2};
 use std::alloc::Global;
@@ -26,7 +27,7 @@ use tac_syntax::{LoopList, Rec};
 pub(crate) struct Machine<'a> {
     input: Input<'a>,
     values: ValueRegisters,
-    records: RecordRegisters,
+    records: RecordRegisters<'a>,
     // of the loops around a statement, the outermost first
     loops: Vec<&'a Record>,
     emitted: Rows,
@@ -37,26 +38,29 @@ impl<'a> Model for Machine<'a> {
 
     ghost Value = { Store };
 
-    ghost use Rattle.tac_interp.specs.Machine.{HasKeyFields, IsWide, store_of};
+    ghost use Rattle.std.specs.Prelude.{◌≡◌};
+    ghost use Rattle.tac_interp.specs.Machine.{HasKeyFields, IsWide, record_of, store_of};
 
     ghost view = { store_of };
 
-    ghost invariant = { λ m. IsWide (store_of m) × HasKeyFields m.input };
+    ghost invariant = { λ m. IsWide (store_of m) × HasKeyFields m.input × (m.records.lent ≡ record_of m.input) };
 }
 
 impl<'a> Machine<'a> {
-    pub(crate) fn start(alloc: Global, fields: u32, input: Input<'a>) -> Machine<'a>
+    pub(crate) fn start(alloc: Global, fields: u32, input: Input<'a>, parts: Parts) -> Machine<'a>
         requires fields { fields ≤ MAX_FIELDS }
         requires width { HasWidth fields (input_of input) }
         requires keys { HasKeyFields input }
+        requires empty { parts.emitted ≡ [] }
         ensures { result ≡ start_store fields (input_of input.entry) }
     {
+        let lent = input.lent();
         Machine {
             input,
-            values: ValueRegisters::new(alloc),
-            records: RecordRegisters::new(alloc, fields),
+            values: ValueRegisters::reset(parts.values),
+            records: RecordRegisters::reset(parts.records, fields, lent),
             loops: Vec::new(alloc),
-            emitted: Rows::new(alloc),
+            emitted: parts.emitted,
         }
     }
 
@@ -255,12 +259,11 @@ impl<'a> Machine<'a> {
         self.values.set(to, value)
     }
 
-    pub(crate) fn new_record(&mut self, alloc: Global, to: u32) -> Result<(), OutOfMemory>
+    pub(crate) fn new_record(&mut self, to: u32) -> Result<(), OutOfMemory>
         requires { CanAct (code.new_record to) self.old }
         ensures { OnOk result (self.new ≡ after (code.new_record to) self.old) }
     {
-        let row = Record::empty(alloc, self.records.fields())?;
-        self.records.set(to, row)
+        self.records.set(to, Held::Blank)
     }
 
     pub(crate) fn copy_record(
@@ -272,8 +275,13 @@ impl<'a> Machine<'a> {
         requires { CanAct (code.copy_record to from) self.old }
         ensures { OnOk result (self.new ≡ after (code.copy_record to from) self.old) }
     {
-        let row = self.copy_of(alloc, from)?;
-        self.records.set(to, row)
+        match from {
+            Rec::Input => self.records.set(to, Held::Lent),
+            _ => {
+                let row = self.copy_of(alloc, from)?;
+                self.records.set(to, Held::Own(row))
+            }
+        }
     }
 
     pub(crate) fn set_field(
@@ -318,19 +326,27 @@ impl<'a> Machine<'a> {
         Ok(())
     }
 
-    /// Emits a record that no statement reads any more: it is moved, and its register has the empty record.
-    pub(crate) fn emit_last(&mut self, alloc: Global, from: u32) -> Result<(), OutOfMemory>
+    /// Emits a record that no later statement reads, so it is moved out of its register. If it is the input's record, nothing is
+    /// emitted here: the call returns true, and the caller emits it.
+    pub(crate) fn emit_last(&mut self, alloc: Global, from: u32) -> Result<bool, OutOfMemory>
         requires { CanAct (code.emit_record from) self.old }
-        ensures { OnOk result (self.new.emitted ≡ (after (code.emit_record from) self.old).emitted) }
+        ensures { IfOk result (λ passes. AreEmitted passes self.old.input self.new.emitted (after (code.emit_record from) self.old).emitted) }
     {
-        let row = self.records.take(alloc, from)?;
+        let Some(row) = self.records.take(alloc, from)? else {
+            return Ok(true);
+        };
         self.emitted.push(row)?;
-        Ok(())
+        Ok(false)
     }
 
-    pub(crate) fn into_emitted(self) -> Rows
-        ensures { result ≡ self.entry.emitted }
+    /// What was emitted, and memory for the next call.
+    pub(crate) fn into_parts(self) -> Parts
+        ensures { result.emitted ≡ self.entry.emitted }
     {
-        self.emitted
+        Parts {
+            values: self.values.into_held(),
+            records: self.records.into_held(),
+            emitted: self.emitted,
+        }
     }
 }

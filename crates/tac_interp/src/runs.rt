@@ -31,7 +31,7 @@ pub(crate) fn run_stmt(
         Stmt::Key { to, at } => machine.get_key(alloc, *to, *at),
         Stmt::One { to, op, a } => machine.apply_one(*to, *op, *a),
         Stmt::Two { to, op, a, b } => machine.apply_two(alloc, *to, *op, *a, *b),
-        Stmt::New { to } => machine.new_record(alloc, *to),
+        Stmt::New { to } => machine.new_record(*to),
         Stmt::Copy { to, from } => machine.copy_record(alloc, *to, *from),
         Stmt::Set { to, field, value } => machine.set_field(alloc, *to, *field, *value),
         Stmt::SetAt { to, at, value } => machine.set_at(alloc, *to, *at, *value),

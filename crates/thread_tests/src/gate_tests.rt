@@ -2,6 +2,7 @@
 
 use std::test::Fail;
 use std::thread;
+use std::time::Duration;
 use worker_gate::{Act, Flags, Gate, MeetGate};
 
 #[test]
@@ -28,6 +29,8 @@ fn flags_tell_who_has_started_and_left(rt: HostRuntime) -> Result<(), Fail> {
     assert!(rt; !flags.all_started() && !flags.left());
     flags.start();
     flags.leave();
+    // a nap ends when a worker leaves
+    flags.nap(&rt, Duration::from_secs(1000));
     assert!(rt; flags.all_started() && flags.left());
     Ok(())
 }

@@ -1,7 +1,9 @@
 //! What workers tell each other.
 
 use crossbeam_utils::CachePadded;
+use std::sync::Wait;
 use std::sync::atomic::{AtomicU64, Ordering};
+use std::time::Duration;
 
 /// How many workers have started, and whether one has left unfinished. No contract says what a flag holds.
 #[derive(Drop)]
@@ -26,9 +28,15 @@ impl Flags {
         self.started.fetch_add(1, Ordering::SeqCst);
     }
 
-    /// A worker leaves unfinished.
+    /// A worker leaves unfinished. Those that nap are woken.
     pub fn leave(&self) {
         self.gone.store(1, Ordering::SeqCst);
+        self.gone.wake_all();
+    }
+
+    /// Leaves the processor to other threads for about that long, or until a worker leaves unfinished. It may return at once.
+    pub fn nap<R: Wait>(&self, rt: &R, time: Duration) {
+        self.gone.park_timeout(rt, 0, time);
     }
 
     /// Whether as many workers have started as there are.

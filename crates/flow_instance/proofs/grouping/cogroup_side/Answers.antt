@@ -1,6 +1,5 @@
 use Rattle.std.proofs.Common.{ℕ, List, arith, subst}
 use Rattle.std.specs.List.Sorted.{IsPermutation}
-use Rattle.pact_bag.proofs.Widths.{HaveOneWidth-append}
 use Rattle.pact_operators.specs.Allowed.{Bag, keys_in}
 use Rattle.pact_record.specs.declared.values.Value.{Value}
 use Rattle.tac_syntax.specs.Call.{Out, of_groups}
@@ -14,16 +13,13 @@ groups_at-groups-requires-clause-below g c = λ lifetimes bound. (c.args.f.now.f
 pub call_from-requires-clause-sides : goal.call_from-requires-clause-sides
 call_from-requires-clause-sides g c = sides_at c.requires.sides c.groups_at-groups.ensures
 
-pub append-requires : goal.append-requires
-append-requires g c = HaveOneWidth-append c.args.f.now.fields _ _ c.loop-n.invariant.1 c.in_ok-given.ensures.widths
-
 pub loop-n-preserved : goal.loop-n-preserved
 loop-n-preserved g c =
     let f = c.args.f.now in
     let calls : List Value → Bag → Bag → Bag = λ k x y. Out f.fields f.function.body (of_groups k x y) in
     given_on f.fields (IsCalledFrom c.args.side calls c.args.keys.now c.args.other_keys.now (g.L.Local.rows c.args.own.now) (g.L.Local.rows c.args.others.now))
-    (g.L.Local.order c.args.own.now) c.loop-n.n c.loop-n.out c.in_ok-given.given _ (omega (arith, c.key_count-n-end.ensures.count, c.loop-n-test.true)) c.loop-n.invariant
-    (called_from c.args.side calls c.in_ok-given.given c.requires.sides.right_same c.groups_at-groups.ensures c.in_ok-given.ensures.given) c.in_ok-given.ensures.widths c.in_ok-append.ensures.ok
+    (g.L.Local.order c.args.own.now) c.loop-n.n c.loop-n.out _ (omega (arith, c.key_count-n-end.ensures.count, c.loop-n-test.true)) c.loop-n.invariant.0
+    (called_from c.args.side calls c.loop-n.out _ c.requires.sides.right_same c.groups_at-groups.ensures c.in_ok-call_from.ensures.given) c.in_ok-call_from.ensures.widths
 
 pub returns-clause-given : goal.returns-clause-given
 returns-clause-given g c =

@@ -1,6 +1,5 @@
 use Rattle.std.proofs.Common.{ℕ, List, arith, subst}
 use Rattle.std.specs.List.Sorted.{IsPermutation}
-use Rattle.pact_bag.proofs.Widths.{HaveOneWidth-append}
 use Rattle.pact_operators.specs.Allowed.{Bag, keys_in}
 use Rattle.pact_record.specs.declared.values.Value.{Value}
 use Rattle.tac_syntax.specs.Call.{Out, of_group}
@@ -8,15 +7,12 @@ use Rattle.flow_instance.specs.Grouping.{IsCalled}
 use Rattle.flow_instance.proofs.CallsForGroups.{all_given, given_on, groups_given}
 use Rattle.flow_instance.proofs.grouping.reduce_kept.Goals as goal
 
-pub append-requires : goal.append-requires
-append-requires g c = HaveOneWidth-append c.args.f.now.fields _ _ c.loop-n.invariant.1 c.in_ok-emitted.ensures.widths
-
 pub loop-n-preserved : goal.loop-n-preserved
 loop-n-preserved g c =
     let f = c.args.f.now in
     let calls : List Value → Bag → Bag = λ k group. Out f.fields f.function.body (of_group k group) in
-    given_on f.fields (IsCalled calls c.args.keys.now (g.L.Local.rows c.args.kept.now)) (g.L.Local.order c.args.kept.now) c.loop-n.n c.loop-n.out c.in_ok-emitted.emitted _
-    (omega (arith, c.key_count-n-end.ensures.count, c.loop-n-test.true)) c.loop-n.invariant c.in_ok-emitted.ensures.given c.in_ok-emitted.ensures.widths c.in_ok-append.ensures.ok
+    given_on f.fields (IsCalled calls c.args.keys.now (g.L.Local.rows c.args.kept.now)) (g.L.Local.order c.args.kept.now) c.loop-n.n c.loop-n.out _
+    (omega (arith, c.key_count-n-end.ensures.count, c.loop-n-test.true)) c.loop-n.invariant.0 c.in_ok-reduce_one.ensures.given c.in_ok-reduce_one.ensures.widths
 
 pub returns-clause-given : goal.returns-clause-given
 returns-clause-given g c =

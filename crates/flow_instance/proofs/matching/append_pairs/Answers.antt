@@ -1,30 +1,21 @@
-use Rattle.std.proofs.Common.{◌≡◌, List, ◌++◌, length, ap, sym, subst, ◌∙◌}
+use Rattle.std.proofs.Common.{◌++◌, ap, refl, ◌∙◌}
 use Rattle.std.specs.Prelude.{flat_map}
 use Rattle.std.proofs.lemmas.List.{take_all}
 use Rattle.pact_operators.specs.Allowed.{Bag}
-use Rattle.pact_record.proofs.Lists.{AllByRecursion-append}
-use Rattle.pact_record.specs.Widths.{AreWide}
-use Rattle.pact_record.specs.declared.values.Value.{Value}
 use Rattle.tac_syntax.specs.Call.{Out, of_pair}
 use Rattle.flow_instance.proofs.PairsByKeys.{item_width, pairs_more}
-use Rattle.pact_bag.proofs.Widths.{HaveOneWidth-append}
 use Rattle.flow_instance.proofs.matching.append_pairs.Goals as goal
 
-pub append-requires : goal.append-requires
-append-requires c = HaveOneWidth-append c.args.f.now.fields _ _ c.loop-left.invariant.1 c.in_ok-emitted.ensures.widths
-
-pub call_pair-requires-clause-left_width : goal.call_pair-requires-clause-left_width
-call_pair-requires-clause-left_width c =
+pub pair_into-requires-clause-left_width : goal.pair_into-requires-clause-left_width
+pair_into-requires-clause-left_width c =
     item_width c.args.f.now.fields c.rows-left-items.result.now c.args.lefts.now c.loop-left.left-index c.left-item.result c.rows-left-items.ensures.rows c.loop-left-test.true c.left-item.is c.requires.left_widths
 
 pub loop-left-preserved : goal.loop-left-preserved
 loop-left-preserved c =
-    let f = c.args.f.now in
-    let given = c.in_ok-emitted.emitted in
-    let is = c.in_ok-append.ensures.ok in (
-      pairs_more (λ l. Out f.fields f.function.body (of_pair l c.args.right.now)) c.rows-left-items.result.now c.loop-left.left-index c.left-item.result c.args.out.now c.loop-left.out given _ c.loop-left-test.true c.left-item.is
-          c.loop-left.invariant.0 c.in_ok-emitted.ensures.emitted is,
-      subst (AreWide f.fields) (sym is) (AllByRecursion-append (λ (r : List Value). length r ≡ f.fields) c.loop-left.out given c.loop-left.invariant.1 c.in_ok-emitted.ensures.widths),
+    let f = c.args.f.now in (
+      pairs_more (λ l. Out f.fields f.function.body (of_pair l c.args.right.now)) c.rows-left-items.result.now c.loop-left.left-index c.left-item.result c.args.out.now c.loop-left.out _ _ c.loop-left-test.true c.left-item.is
+          c.loop-left.invariant.0 refl c.in_ok-pair_into.ensures.given,
+      c.in_ok-pair_into.ensures.widths,
     )
 
 pub returns-clause-given : goal.returns-clause-given

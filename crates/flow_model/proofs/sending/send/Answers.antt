@@ -1,14 +1,14 @@
-use Rattle.std.proofs.Common.{ℕ, sym, subst}
+use Rattle.std.proofs.Common.{sym, subst}
 use Rattle.std.proofs.lemmas.Result.{on_ok_weaker}
 use Rattle.plan_trees.specs.declared.physicals.Ship.{Ship}
 use Rattle.plan_trees.specs.declared.physicals.Ship.TheVariants.{Partition}
-use Rattle.flow_model.specs.Sending.{AreSent, IsSplit}
+use Rattle.flow_model.specs.Sending.{AreSent}
 use Rattle.flow_model.proofs.NotesForReceivers.{none_few, sent_forward}
 use Rattle.flow_model.proofs.sending.send.Goals as goal
 
 pub returns-in-Forward-clause-sent : goal.returns-in-Forward-clause-sent
 returns-in-Forward-clause-sent c = on_ok_weaker c.send_to.result (λ h fields wide.
-    subst (λ (s : Ship). AreSent fields c.args.workers s c.args.from c.args.workers c.args.rows c.send_to.new.queue.items) (sym c.in-Forward.is)
+    subst (λ (s : Ship). AreSent fields c.args.workers s c.args.from c.args.rows c.send_to.new.queue.items) (sym c.in-Forward.is)
     (sent_forward fields c.args.workers c.args.from c.args.rows c.args.queue.now.items c.send_to.new.queue.items c.requires.below c.requires.none (h fields wide))) c.send_to.ensures.carried
 
 pub returns-in_ok-parts-in-Partition-clause-sent : goal.returns-in_ok-parts-in-Partition-clause-sent
@@ -17,9 +17,8 @@ returns-in_ok-parts-in-Partition-clause-sent c =
     let split = c.in_ok-parts-in-Partition.ensures in
     let keys = c.in-Partition.keys in
     on_ok_weaker c.send_parts.result (λ h fields wide.
-    subst (λ (s : Ship). AreSent fields c.args.workers s c.args.from c.args.workers c.args.rows c.send_parts.new.queue.items) (sym c.in-Partition.is)
-    (subst (λ (n : ℕ). AreSent fields n (Partition keys) c.args.from n c.args.rows c.send_parts.new.queue.items) split.0
-    (h fields keys c.args.from c.args.rows wide (subst (λ (n : ℕ). IsSplit keys n c.args.rows parts) (sym split.0) split)))) c.send_parts.ensures.sent
+    subst (λ (s : Ship). AreSent fields c.args.workers s c.args.from c.args.rows c.send_parts.new.queue.items) (sym c.in-Partition.is)
+    (h fields keys c.args.rows wide split)) c.send_parts.ensures.sent
 
 pub returns-in-Forward-clause-batches : goal.returns-in-Forward-clause-batches
 returns-in-Forward-clause-batches c = on_ok_weaker c.send_to.result (λ h. h (none_few c.args.batch c.args.queue.now.items c.requires.none)) c.send_to.ensures.batches

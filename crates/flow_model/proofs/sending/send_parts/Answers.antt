@@ -1,46 +1,39 @@
-use Rattle.std.proofs.Common.{◌≡◌, ◌<◌, ◌∷◌, [], ℕ, length, refl, sym, subst, ◌∙◌, arith, length-append}
-use Rattle.std.proofs.lemmas.Iterator.Adapters.{YieldsList-from_vec}
-use Rattle.std.proofs.lemmas.Iterator.Consumers.{YieldsList-end, YieldsList-turn}
+use Rattle.std.proofs.Common.{◌≡◌, ◌<◌, ◌∙◌, ℕ, arith, length, refl, subst}
+use Rattle.std.proofs.lemmas.List.{length-set}
+use Rattle.pact_record.proofs.Lists.{slice_get-set_other}
 use Rattle.plan_trees.specs.Sending.{sent}
 use Rattle.plan_trees.specs.declared.physicals.Ship.TheVariants.{Partition}
-use Rattle.flow_model.specs.Sending.{AreSent}
-use Rattle.flow_model.proofs.NotesForReceivers.{none_few, none_sent, part_wide, sent_one, sent_part}
+use Rattle.flow_model.specs.Sending.{AreSentSoFar}
+use Rattle.flow_model.proofs.NotesForReceivers.{all_sent, one_receiver, part_wide, sent_one}
+use Rattle.flow_model.proofs.SplitRows.{read}
 use Rattle.flow_model.proofs.sending.send_parts.Goals as goal
 
-pub loop-part-init : goal.loop-part-init
-loop-part-init c = (refl, λ fields keys from rows wide split. none_sent fields (length c.args.parts.items) from (Partition keys) rows c.args.queue.now.items c.requires.none, none_few c.args.batch c.args.queue.now.items c.requires.none)
-
-pub overflow_add-to : goal.overflow_add-to
-overflow_add-to c =
-    let gives = c.into_iter-part-iterator.ensures.into_iter_gives in
-    let parts = c.args.parts.items in
-    let t = YieldsList-turn (YieldsList-from_vec {s = c.into_iter-part-iterator.result} parts gives.0 (gives.1 ∙ c.args.parts.ok.0)) c.loop-part.yielded c.loop-part.part-iterator c.loop-part.yielded_by c.next.result c.next.new.self
-    c.in-Some.part c.in-Some.is c.next.ensures.steps in
-    omega (arith, t.0, c.loop-part.invariant.0, c.requires.few)
-
-pub loop-part-preserved : goal.loop-part-preserved
-loop-part-preserved c =
-    let gives = c.into_iter-part-iterator.ensures.into_iter_gives in
-    let parts = c.args.parts.items in
-    let t = YieldsList-turn (YieldsList-from_vec {s = c.into_iter-part-iterator.result} parts gives.0 (gives.1 ∙ c.args.parts.ok.0)) c.loop-part.yielded c.loop-part.part-iterator c.loop-part.yielded_by c.next.result c.next.new.self
-    c.in-Some.part c.in-Some.is c.next.ensures.steps in
-    let part = c.in-Some.part in
-    let to = c.loop-part.to in
-    let here : to ≡ length c.loop-part.yielded = c.loop-part.invariant.0 in
-    let below : to < length parts = subst (λ (n : ℕ). n < length parts) (sym here) t.0 in (
-      omega (arith, here, length-append c.loop-part.yielded (part ∷ [])),
-      λ fields keys from rows wide split.
-          let is = sent_part keys (length parts) from (length c.loop-part.yielded) rows part parts split t.0 t.1 in
-          let own = subst (λ (n : ℕ). part ≡ sent (Partition keys) (length parts) from n rows) (sym here) is in
-          sent_one fields (length parts) from to (Partition keys) rows part c.loop-part.queue.items c.send_to.new.queue.items below refl own
-          (c.in_ok-send_to.ensures.carried fields (part_wide fields keys (length parts) from to rows part wide own)) (c.loop-part.invariant.1 fields keys from rows wide split),
-      c.in_ok-send_to.ensures.batches c.loop-part.invariant.2,
+pub loop-n-preserved : goal.loop-n-preserved
+loop-n-preserved c =
+    let workers = c.args.workers in
+    let from = c.args.from in
+    let n = c.loop-n.n in
+    let to = c.receiver-to.result in
+    let below = c.receiver-to.ensures.below in
+    let turn = c.receiver-to.ensures.turn in
+    let early : n < workers = omega (arith, c.loop-n-test.true) in
+    let parts = c.loop-n.parts.items in
+    let part = c.replace-part.result in (
+      λ fields keys rows wide split.
+          let own : part ≡ sent (Partition keys) workers from to rows =
+          c.replace-part.ensures.value ∙ read parts to (sent (Partition keys) workers from to rows) c.index_mut.result.now (c.loop-n.invariant.3 n to (omega arith) early below turn ∙ split.1 from to below) c.index_mut.ensures.value in
+          sent_one fields workers from n to (Partition keys) rows part c.loop-n.queue.items c.send_to.new.queue.items early below turn refl own
+          (c.in_ok-send_to.ensures.carried fields (part_wide fields keys workers from to rows part wide own)) (c.loop-n.invariant.0 fields keys rows wide split),
+      c.in_ok-send_to.ensures.batches c.loop-n.invariant.1,
+      length-set parts to c.replace-part.new.dest ∙ c.loop-n.invariant.2,
+      λ m t later ml tl its.
+          slice_get-set_other parts to t c.replace-part.new.dest (λ e. omega (arith, later, one_receiver workers from m n t to ml early tl below its turn e))
+          ∙ c.loop-n.invariant.3 m t (omega (arith, later)) ml tl its,
     )
 
 pub returns-clause-sent : goal.returns-clause-sent
-returns-clause-sent c = λ fields keys from rows wide split.
-    let gives = c.into_iter-part-iterator.ensures.into_iter_gives in
-    let parts = c.args.parts.items in
-    let all = YieldsList-end (YieldsList-from_vec {s = c.into_iter-part-iterator.result} parts gives.0 (gives.1 ∙ c.args.parts.ok.0)) c.loop-part.yielded c.loop-part.part-iterator c.loop-part.yielded_by c.next.result c.next.new.self
-    c.in-None.is c.next.ensures.steps in
-    subst (λ (n : ℕ). AreSent fields (length parts) (Partition keys) from n rows c.loop-part.queue.items) (c.loop-part.invariant.0 ∙ all.1) (c.loop-part.invariant.1 fields keys from rows wide split)
+returns-clause-sent c = λ fields keys rows wide split.
+    let workers = c.args.workers in
+    let all : c.loop-n.n ≡ workers = omega (arith, c.loop-n-test.false, c.loop-n.auto.n-end) in
+    all_sent fields workers c.args.from (Partition keys) rows c.loop-n.queue.items c.requires.from
+    (subst (λ (k : ℕ). AreSentSoFar fields workers (Partition keys) c.args.from k rows c.loop-n.queue.items) all (c.loop-n.invariant.0 fields keys rows wide split))

@@ -16,8 +16,8 @@ pub cheapest_in-requires-clause-few : goal.cheapest_in-requires-clause-few
 cheapest_in-requires-clause-few c =
     subst (λ (x : List Op). length x ≤ node_limit) (sym c.ops.ensures.ops) (few_ops c.args.plan.now c.args.program.now.ops c.root-root.ensures.plan c.requires.of.all)
 
-pub returns-clause-least : goal.returns-clause-least
-returns-clause-least c =
+pub returns : goal.returns
+returns c =
     let p = c.args.program.now in
     let t = c.args.plan.now in
     let counts = c.args.counts.now in
@@ -25,7 +25,7 @@ returns-clause-least c =
     let some = c.rows_of-rows.ensures.some in
     let root = rows.count - 1 in
     let last : rows.count ≡ root + 1 = omega (arith, some) in
-    let holds = subst (λ (f : Facts). Holds p counts f rows.held root t) c.known_after.ensures.value (c.rows_of-rows.ensures.holds root last) in
+    let holds = subst (λ (f : Facts). Holds p counts f rows.held root t) c.requires.table (c.rows_of-rows.ensures.holds root last) in
     let least = c.cheapest_in.ensures p counts (facts_of p t) t root last holds in
     let same : (λ (k : ℕ). (weighed p counts c.args.workers (facts_of p t) (ways_of c.ops.result.now k) t).cost) ≡ layout_cost p counts c.args.workers t =
     (λ i k. (ap (λ (ops : List Op). (weighed p counts c.args.workers (facts_of p t) (ways_of ops k) t).cost) c.ops.ensures.ops ∙ sym (layout_weighed p counts c.args.workers t k c.root-root.ensures.plan)) i) in

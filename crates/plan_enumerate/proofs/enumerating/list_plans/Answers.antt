@@ -17,7 +17,7 @@ pub of-requires-2 : goal.of-requires-2
 of-requires-2 c =
     let p = c.args.program.now in
     let es = c.walk.new.entries in
-    grown-AreEntries p c.args.limit es c.requires.some c.requires.few (GoesTo-Grows p c.args.limit es c.in_ok-complete.complete c.in_ok-complete.ensures)
+    grown-AreEntries p c.args.limit es c.requires.some c.requires.few (GoesTo-Grows p c.args.limit es c.in_ok-complete.complete c.in_ok-complete.ensures.walked)
 
-pub returns : goal.returns
-returns c = GoesTo-IsListing c.args.program.now c.args.limit c.of-2.result c.walk.new.entries c.in_ok-complete.complete c.of-2.ensures c.in_ok-complete.ensures
+pub returns-clause-listing : goal.returns-clause-listing
+returns-clause-listing c = GoesTo-IsListing c.args.program.now c.args.limit c.of-2.result c.walk.new.entries c.in_ok-complete.complete c.of-2.ensures c.in_ok-complete.ensures.walked

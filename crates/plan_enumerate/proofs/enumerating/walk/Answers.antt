@@ -3,8 +3,8 @@ use Rattle.plan_enumerate.specs.Walks.{GoesTo}
 use Rattle.plan_enumerate.proofs.ReachedPlans.{few_entries}
 use Rattle.plan_enumerate.proofs.enumerating.walk.Goals as goal
 
-pub returns-then-not-branch : goal.returns-then-not-branch
-returns-then-not-branch c = subst (GoesTo c.args.program.now c.args.limit c.add_neighbours.new.entries (c.loop-from.from + 1) 0 0) c.if-not-branch.true c.in_ok-add_neighbours.ensures.walked
+pub returns-then-not-branch-clause-walked : goal.returns-then-not-branch-clause-walked
+returns-then-not-branch-clause-walked c = subst (GoesTo c.args.program.now c.args.limit c.add_neighbours.new.entries (c.loop-from.from + 1) 0 0) c.if-not-branch.true c.in_ok-add_neighbours.ensures.walked
 
 pub overflow_add-from : goal.overflow_add-from
 overflow_add-from c =

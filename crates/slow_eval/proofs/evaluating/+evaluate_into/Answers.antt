@@ -1,6 +1,6 @@
 use Rattle.std.proofs.Common.{ℕ, List, ap, sym, ◌∙◌, subst, arith, [], get_or, slice_get}
 use Rattle.std.proofs.lemmas.Option.{get_or_from_slice_get}
-use Rattle.pact_operators.specs.Allowed.{Counted, Gives, GivesBoth}
+use Rattle.pact_operators.specs.Allowed.{Counted, GivesBoth}
 use Rattle.plan_trees.specs.Distinct.{IsAbsent}
 use Rattle.pact_operators.specs.PlanOps.{kind_at, plan_ops, source_place, sources_of}
 use Rattle.plan_trees.specs.Plans.{IsPlan, PlanTree, leaf, over, both, nodes}
@@ -84,7 +84,7 @@ returns-in_ok-rows-in-OverOne-clause-counted t c =
     let once = subst IsPlan plan c.in-OverOne.ensures.plan in
     let counts = c.evaluate_into.new.counts in
     let rows = c.in_ok-rows-in-OverOne.rows in
-    let given = subst (λ (ls : List (List Value)). Gives o (kind_at p.ops n) n ls rows) c.rows.ensures (c.in_ok-rows-in-OverOne.ensures.given inputs) in
+    let given = c.in_ok-rows-in-OverOne.ensures.given inputs in
     subst (λ (t : PlanTree). Counted o t rows c.set-in-OverOne.new.self) (sym plan)
     (subst (Counted o (over n below) rows) (sym c.set-in-OverOne.ensures)
     (counted-over o n c.len-in-OverOne.result below (rows_of c.in_ok-below-in-OverOne.below) rows counts c.in_ok-below-in-OverOne.ensures.counted once.different.0
@@ -112,8 +112,8 @@ returns-in_ok-rows-in-OverTwo-clause-counted t c =
     let first = c.evaluate_into-in-OverTwo.new.counts in
     let second = c.evaluate_into-in-OverTwo-2.new.counts in
     let rows = c.in_ok-rows-in-OverTwo.rows in
-    let given = subst (λ (ls : List (List Value)). GivesBoth o (kind_at p.ops n) n ls (rows_of c.in_ok-rights-in-OverTwo.rights) rows) c.rows-in-OverTwo.ensures
-    (subst (λ (rs : List (List Value)). GivesBoth o (kind_at p.ops n) n c.rows-in-OverTwo.result.now rs rows) c.rows-in-OverTwo-2.ensures (c.in_ok-rows-in-OverTwo.ensures.given inputs)) in
+    let given = subst (λ (ls : List (List Value)). GivesBoth o (kind_at p.ops n) n ls (rows_of c.in_ok-rights-in-OverTwo.rights) rows) c.rows.ensures
+    (subst (λ (rs : List (List Value)). GivesBoth o (kind_at p.ops n) n c.rows.result.now rs rows) c.rows-in-OverTwo.ensures (c.in_ok-rows-in-OverTwo.ensures.given inputs)) in
     subst (λ (t : PlanTree). Counted o t rows c.set-in-OverTwo.new.self) (sym plan)
     (subst (Counted o (both n left right) rows) (sym c.set-in-OverTwo.ensures)
     (counted-both o n c.len-in-OverTwo.result left right (rows_of c.in_ok-lefts-in-OverTwo.lefts) (rows_of c.in_ok-rights-in-OverTwo.rights) rows first second c.in_ok-lefts-in-OverTwo.ensures.counted c.in_ok-rights-in-OverTwo.ensures.counted

@@ -1,4 +1,4 @@
-use Rattle.std.proofs.Common.{◌≡◌, sym, ◌∙◌, subst}
+use Rattle.std.proofs.Common.{◌≡◌, ◌++◌, sym, ◌∙◌, subst}
 use Rattle.std.proofs.lemmas.Result.{IfOk-weaker}
 use Rattle.std.specs.List.{AllByRecursion}
 use Rattle.pact_record.specs.Record.{key_of}
@@ -14,6 +14,6 @@ returns-clause-given c =
     let key = c.args.key.now in
     let left = c.in_ok-left.ensures.group in
     let right = c.in_ok-right.ensures.group in
-    IfOk-weaker c.call_cogroup.result _ _ (λ out e. e ∙ (λ i. Out f.fields f.function.body (of_groups key (left i) (right i))))
-    (c.call_cogroup.ensures.emitted key (subst (AllByRecursion (λ row. key_of left_keys row ≡ key)) (sym left) (group_keys left_keys c.args.lefts.now key))
+    IfOk-weaker c.cogroup_into.result _ _ (λ u e. e ∙ (λ i. c.args.out.now ++ Out f.fields f.function.body (of_groups key (left i) (right i))))
+    (c.cogroup_into.ensures.given key (subst (AllByRecursion (λ row. key_of left_keys row ≡ key)) (sym left) (group_keys left_keys c.args.lefts.now key))
     (subst (AllByRecursion (λ row. key_of right_keys row ≡ key)) (sym right) (group_keys right_keys c.args.rights.now key)))

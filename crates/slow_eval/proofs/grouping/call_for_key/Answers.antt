@@ -1,4 +1,4 @@
-use Rattle.std.proofs.Common.{◌≡◌, ap, sym, ◌∙◌, subst, List}
+use Rattle.std.proofs.Common.{◌≡◌, ◌++◌, ap, sym, ◌∙◌, subst, List}
 use Rattle.std.proofs.lemmas.Result.{IfOk-weaker}
 use Rattle.std.specs.List.{AllByRecursion}
 use Rattle.pact_record.specs.declared.values.Value.{Value}
@@ -13,5 +13,5 @@ returns-clause-given c =
     let keys = c.args.keys.now in
     let key = c.args.key.now in
     let group = c.in_ok-group.ensures.group in
-    IfOk-weaker c.call_group.result _ _ (λ out e. e ∙ ap (λ (g : List (List Value)). Out f.fields f.function.body (of_group key g)) group)
-    (c.call_group.ensures.emitted key (subst (AllByRecursion (λ row. key_of keys row ≡ key)) (sym group) (group_keys keys c.args.rows.now key)))
+    IfOk-weaker c.group_into.result _ _ (λ u e. e ∙ ap (λ (g : List (List Value)). c.args.out.now ++ Out f.fields f.function.body (of_group key g)) group)
+    (c.group_into.ensures.given key (subst (AllByRecursion (λ row. key_of keys row ≡ key)) (sym group) (group_keys keys c.args.rows.now key)))

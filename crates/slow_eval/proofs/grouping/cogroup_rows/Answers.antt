@@ -1,15 +1,11 @@
 use Rattle.std.proofs.Common.{ap, ◌∙◌}
 use Rattle.std.proofs.lemmas.List.{take_all}
 use Rattle.std.specs.Prelude.{flat_map}
-use Rattle.pact_bag.proofs.Widths.{HaveOneWidth-append}
 use Rattle.pact_bag.specs.Groups.{group_of_key}
 use Rattle.pact_operators.specs.Allowed.{keys_in_either}
 use Rattle.tac_syntax.specs.Call.{Out, of_groups}
 use Rattle.pact_operators.proofs.CallsForKeys.{cogrouped}
 use Rattle.slow_eval.proofs.grouping.cogroup_rows.Goals as goal
-
-pub append-requires : goal.append-requires
-append-requires c = HaveOneWidth-append c.args.f.now.fields _ _ c.loop-key.invariant.1 c.in_ok-emitted.ensures.widths
 
 pub returns-clause-given : goal.returns-clause-given
 returns-clause-given c =

@@ -11,15 +11,15 @@ returns-then-not-all_ended g c =
 
 pub returns : goal.returns
 returns g c = on_ok_two c.mark.result (λ frame marked. record {
-  took = took_last g.L.Local.rows g.L.Local.key_fields g.L.Local.is_sealed c.args.self.now c.end_sender.new.self c.groups.new.self c.give.new.self c.mark.new.self c.args.port c.args.from c.in_ok-out.out c.requires.ready
+  took = took_last g.L.Local.rows g.L.Local.key_fields g.L.Local.is_sealed c.args.self.now c.end_sender.new.self c.last_groups.new.self c.give.new.self c.mark.new.self c.args.port c.args.from c.in_ok-out.out c.requires.ready
       c.in_ok-end_sender.ensures.ended (sym c.all_ended.ensures ∙ c.if-not-all_ended.false) c.in_ok-out.ensures.same c.in_ok-give.ensures.same frame c.in_ok-give.ensures.sent marked
       c.in_ok-out.ensures.given c.in_ok-give.ensures.counted c.in_ok-out.ensures.left_wide c.in_ok-out.ensures.right_wide;
-  sound = not_taking g.L.Local.rows g.L.Local.key_fields g.L.Local.is_sealed c.args.self.now c.end_sender.new.self c.groups.new.self c.give.new.self c.mark.new.self c.args.port c.args.from c.in_ok-out.out c.requires.ready
+  sound = not_taking g.L.Local.rows g.L.Local.key_fields g.L.Local.is_sealed c.args.self.now c.end_sender.new.self c.last_groups.new.self c.give.new.self c.mark.new.self c.args.port c.args.from c.in_ok-out.out c.requires.ready
       c.in_ok-end_sender.ensures.ended (sym c.all_ended.ensures ∙ c.if-not-all_ended.false) c.in_ok-out.ensures.same c.in_ok-give.ensures.same frame;
-  orderly = orderly_last g.L.Local.rows g.L.Local.key_fields g.L.Local.is_sealed c.args.self.now c.end_sender.new.self c.groups.new.self c.give.new.self c.mark.new.self c.args.port c.args.from c.in_ok-out.out c.requires.ready
+  orderly = orderly_last g.L.Local.rows g.L.Local.key_fields g.L.Local.is_sealed c.args.self.now c.end_sender.new.self c.last_groups.new.self c.give.new.self c.mark.new.self c.args.port c.args.from c.in_ok-out.out c.requires.ready
       c.in_ok-end_sender.ensures.ended (sym c.all_ended.ensures ∙ c.if-not-all_ended.false) c.in_ok-out.ensures.same c.in_ok-give.ensures.same frame c.in_ok-give.ensures.sent marked;
-  flags = flags_last g.L.Local.rows g.L.Local.key_fields g.L.Local.is_sealed c.args.self.now c.end_sender.new.self c.groups.new.self c.give.new.self c.mark.new.self c.args.port c.args.from c.in_ok-out.out c.requires.ready
+  flags = flags_last g.L.Local.rows g.L.Local.key_fields g.L.Local.is_sealed c.args.self.now c.end_sender.new.self c.last_groups.new.self c.give.new.self c.mark.new.self c.args.port c.args.from c.in_ok-out.out c.requires.ready
       c.in_ok-end_sender.ensures.ended (sym c.all_ended.ensures ∙ c.if-not-all_ended.false) c.in_ok-out.ensures.same c.in_ok-give.ensures.same frame c.in_ok-end_sender.ensures.sound;
-  batches = few_last g.L.Local.rows c.groups.new.self c.give.new.self c.mark.new.self c.in_ok-give.ensures.same frame c.in_ok-give.ensures.batches marked;
+  batches = few_last g.L.Local.rows c.last_groups.new.self c.give.new.self c.mark.new.self c.in_ok-give.ensures.same frame c.in_ok-give.ensures.batches marked;
 })
     c.mark.ensures.same c.mark.ensures.marked

@@ -20,6 +20,7 @@ invariant_of-self-2 c =
         emitted_widths = h.emitted_widths;
       },
       c.self.invariant.1,
+      c.self.invariant.2,
     )
 
 pub returns : goal.returns

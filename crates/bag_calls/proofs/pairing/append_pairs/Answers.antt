@@ -1,5 +1,0 @@
-use Rattle.pact_bag.proofs.Widths.{HaveOneWidth-append}
-use Rattle.bag_calls.proofs.pairing.append_pairs.Goals as goal
-
-pub append-requires : goal.append-requires
-append-requires c = HaveOneWidth-append c.args.f.now.fields _ _ c.loop-right.invariant.1 c.in_ok-emitted.ensures.widths

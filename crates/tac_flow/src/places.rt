@@ -1,0 +1,75 @@
+//! Which loops have a place in the table of what is kept of them.
+
+ghost use Rattle.std.specs.Prelude.{◌≡◌, ◌+◌, IfSome};
+ghost use Rattle.tac_syntax.specs.Trees.{only};
+ghost use Rattle.tac_flow.specs.Memos as memos;
+ghost use Rattle.tac_flow.specs.Memos.{place, places};
+
+use tac_syntax::{Body, Stmt};
+
+/// How many places there are. The table lies on the stack, at 2 KB a place, and `sets` is to need less than 100 KB of
+/// stack in all. If a function has more loops than this, only the largest have a place.
+pub(crate) const PLACES: usize = 20;
+
+// `least_size` tries multiples of this size.
+const STEP: u32 = 8;
+
+// As many multiples as it takes: a function of 1,000 statements, with loops at most 3 deep, has at most 19 loops of 152
+// statements.
+const STEPS: u32 = 20;
+
+/// How many statements a loop's body needs for a place, so that there are places enough.
+pub(crate) fn least_size(body: &Body) -> u32 {
+    for n in 0..STEPS {
+        let least = n * STEP;
+        if places_left(least, body, PLACES).is_some() {
+            return least;
+        }
+    }
+    u32::MAX
+}
+
+/// How many of these places are left after each large loop of the body takes one, or None if there are too few.
+#[cycle(places)]
+pub(crate) fn places_left(least: u32, body: &Body, room: usize) -> Option<usize>
+    ensures { IfSome result (λ left. left + places least body.now ≡ room) }
+{
+    let mut left = room;
+    for stmt in body.stmts() {
+        left = left_by_stmt(least, stmt, left)?;
+    }
+    Some(left)
+}
+
+#[cycle(places)]
+fn left_by_stmt(least: u32, stmt: &Stmt, room: usize) -> Option<usize>
+    ensures { IfSome result (λ left. left + places least (only stmt.now) ≡ room) }
+{
+    match stmt {
+        Stmt::If { body, other, .. } => {
+            let left = places_left(least, body, room)?;
+            places_left(least, other, left)
+        }
+        Stmt::Repeat { body, .. } | Stmt::Each { body, .. } => left_by_loop(least, body, room),
+        _ => Some(room),
+    }
+}
+
+#[cycle(places)]
+fn left_by_loop(least: u32, body: &Body, room: usize) -> Option<usize>
+    ensures { IfSome result (λ left. left + (place (memos.is_large least body.now) + places least body.now) ≡ room) }
+{
+    if is_large(least, body) {
+        let left = room.checked_sub(1)?;
+        places_left(least, body, left)
+    } else {
+        places_left(least, body, room)
+    }
+}
+
+/// Whether a loop with this body has a place.
+pub(crate) fn is_large(least: u32, body: &Body) -> bool
+    ensures { result ≡ memos.is_large least body.now }
+{
+    body.size() >= least
+}
