@@ -77,10 +77,11 @@ for told in expected/*.plan; do
 done
 count writes 0 certificates/push.good.json /dev/null cert push.pact --workers 2
 
-# Whichever plan is chosen, the rows are those of the program as written. `first` has two answers: one thread takes the rows in the file's order, and
-# of several it is open which comes first.
+# Whichever plan is chosen, the rows are those of the program as written. `first` has two answers: one thread takes the rows in the file's order, or in the
+# opposite one if it sorts them by their keys; of several threads it is open which row comes first.
 printf '1,7\n2,9\n' >"$scratch/last"
 count writes 0 expected/first.stdout /dev/null run first.pact --workers 1
+count writes 0 "$scratch/last" /dev/null run first.pact --workers 1 --local sort
 answers() { # the program's name, and options
     writes 0 "$(or_none "expected/$1.stdout")" /dev/null run "$1.pact" "${@:2}" >/dev/null || { [ "$1" = first ] && cmp "$scratch/out" "$scratch/last"; }
 }

@@ -89,7 +89,7 @@ for document in ../README.md ../docs/*.md ../bench/README.md README.md; do
 done
 
 # Each line of `pact sets` that a document shows is one of some program here.
-for program in *.pact; do
+for program in *.pact shop/*.pact; do
     "$pact" sets "$program" 2>/dev/null
 done | sort -u >"$scratch/all_sets"
 while IFS= read -r line; do

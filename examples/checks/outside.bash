@@ -217,7 +217,7 @@ is_left() {
 }
 count is_left gen 1 100000
 printf 'pact 1\nfields 3\nsource s generated.csv int:0 int:1 text:2\nsink s 0 1 2\n' >"$outside/generated.pact"
-"$pact" gen 1 10000 >"$outside/generated.csv"
+"$pact" gen 1 30000 >"$outside/generated.csv" # long enough to be read in parts
 rows_are_left() (cd "$outside" && is_left run generated.pact)
 count rows_are_left
 
@@ -255,6 +255,17 @@ for options in '--workers 1' '--workers 4' '--workers 4 --local sort'; do
     done
     # shellcheck disable=SC2086
     count rows_or_none 0 0 "$((least + 400000))" $options
+done
+
+# A source that is read in parts: the rows of each reading, and a bad row after the others with its number in the file.
+grouped_on() { (cd "$outside" && "$program" run grouped.pact --workers "$1" | cmp -s - "$scratch/grouped"); }
+for workers in 1 2 3 4 16; do
+    count grouped_on "$workers"
+done
+{ cat "$outside/generated.csv" && echo '1,none,a'; } >"$outside/last_bad.csv"
+sed 's/generated\.csv/last_bad.csv/' "$outside/grouped.pact" >"$outside/last_bad.pact"
+for workers in 1 2 4 16; do
+    count does 7 '' 'source s: row 30001 column 2: why 2\n' "$program" run last_bad.pact --workers "$workers"
 done
 
 # No room for the stack of a thread: one does the work of all.
@@ -319,6 +330,33 @@ nested() { awk -v times="$1" -v word="$2" 'BEGIN { for (i = 0; i < times; i++) p
     done
     echo "sink $before 0"
 } >"$outside/maps.pact"
+: >"$outside/none.csv"
+# Twenty loops inside one, each with a loop inside it: 41 loops, of which the 20 innermost have no room and start anew each time.
+{
+    printf 'pact 1\nfields 64\nsource s none.csv int:0\nfunction f map\n'
+    awk 'function reset(first, last, field, records) {
+        print "v29 = get in " field
+        for (v = first; v <= last; v++) print "v" v " = mov v29"
+        for (r = 0; r < records; r++) print "set r" r " " field " v29"
+        print "repeat 2"
+        for (r = records - 1; r > 0; r--) print "v29 = get r" r - 1 " " field "\nset r" r " " field " v29"
+        print "set r0 " field " v" last
+        for (v = last; v > first; v--) print "v" v " = mov v" v - 1
+        print "v29 = get r" records - 1 " " field "\nv" first " = not v29"
+    }
+    BEGIN {
+        for (r = 0; r < 8; r++) print "r" r " = copy in"
+        reset(0, 18, 1, 8)
+        for (n = 0; n < 20; n++) {
+            reset(19, 23, 2, 1)
+            reset(24, 27, 3, 1)
+            for (b = 0; b < 16; b++) print "if v31\nend"
+            print "end\nend"
+        }
+        print "end\nemit r0\nend"
+    }'
+    printf 'map m f s\nsink m 0\n'
+} >"$outside/twenty.pact"
 on_a_stack() { # kilobytes, status, and words; what stands in the environment is on the stack too
     (cd "$outside" && ulimit -S -s "$1" && exec env -i "$program" "${@:3}" >/dev/null 2>"$scratch/err")
     [ $? = "$2" ]
@@ -330,6 +368,10 @@ for kilobytes in 8192 2048 192; do
     done
     for command in sets plan cert; do
         count on_a_stack "$kilobytes" 0 "$command" deepest.pact
+    done
+    count on_a_stack "$kilobytes" 0 run grouped.pact --workers 4
+    for command in sets plan; do
+        count on_a_stack "$kilobytes" 0 "$command" twenty.pact
     done
     count on_a_stack "$kilobytes" 0 plan maps.pact --plans 1000
     count on_a_stack "$kilobytes" 6 sets nested.pact
@@ -354,6 +396,140 @@ count is_large 0007 67108864
 printf '00007' >>"$outside/large.csv"
 count does 8 '' 'large.csv is longer than 67108864 bytes\n' "$pact" run large.pact
 rm "$outside/large.csv"
+
+# ---- Limits of time
+
+# Programs and certificates that are made to keep pact busy. Each row has a limit in seconds of the processor, since a clock goes on while others have
+# the machine. The limits are some twenty times what was measured.
+ends_within() { # seconds, and words; what is written is long
+    (cd "$outside" && limited -t "$1" "${@:2}" >"$scratch/out" 2>"$scratch/err")
+}
+
+# Maps in a row that may stand in any order. Each has three loops inside each other. A loop hands on what it learns along some values and records, by
+# one each turn, so it settles only after twice as many turns as there are of both. What the analysis learned of an inner loop is forgotten whenever an
+# outer loop takes its next turn, unless the inner loop begins where it settled before.
+slow_maps() { # maps, values of a loop, records, and branches in the innermost loop
+    awk -v maps="$1" -v values="$2" -v records="$3" -v branches="$4" 'BEGIN {
+        print "pact 1\nfields 64\nsource s none.csv int:0 int:1 int:2 int:3"
+        for (m = 0; m < maps; m++) {
+            print "function f" m " map"
+            for (r = 0; r < records; r++) print "r" r " = copy in"
+            for (loop = 1; loop <= 3; loop++) {
+                last = loop * values
+                first = last - values + 1
+                print "v0 = get in " loop
+                for (v = first; v <= last; v++) print "v" v " = mov v0"
+                for (r = 0; r < records; r++) print "set r" r " " loop " v0"
+                print "repeat 2"
+                for (r = records - 1; r > 0; r--) print "v0 = get r" r - 1 " " loop "\nset r" r " " loop " v0"
+                print "set r0 " loop " v" last
+                for (v = last; v > first; v--) print "v" v " = mov v" v - 1
+                print "v0 = get r" records - 1 " " loop "\nv" first " = not v0"
+            }
+            for (b = 0; b < branches; b++) print "if v31\nend"
+            print "end\nend\nend"
+            print "r0 = copy in\nv0 = get in " m + 10 "\nset r0 " m + 10 " v0\nemit r0\nend"
+            print "map m" m " f" m " " (m ? "m" m - 1 : "s")
+        }
+        print "sink m" maps - 1 " 0"
+    }'
+}
+sets_of() { # the number of a map
+    printf 'reads {} writes {} control {} touched {1,2,3,%s} emit 1..1 anchor none' $(($1 + 10))
+}
+slow_maps 1 10 8 850 >"$outside/slow.pact" # 1,000 statements
+count does 0 "m0 map $(sets_of 0) order yes\n" '' limited -t 2 sets slow.pact
+slow_maps 16 10 8 850 >"$outside/slow16.pact"
+count does 0 "$(for ((number = 0; number < 16; number++)); do echo "m$number map $(sets_of $number) order yes"; done)\n" '' limited -t 20 sets slow16.pact
+slow_maps 16 6 3 20 >"$outside/plans.pact"
+count ends_within 8 plan plans.pact --plans 1000
+count ends_within 8 run plans.pact --plans 1000 --prune
+
+count does 0 'm map reads {1,2,3} writes {1,2,3} control {} touched {1,2,3} emit 1..1 anchor none order yes\n' '' limited -t 20 sets twenty.pact
+
+# A CoGroup that puts a key of one side back into records of the other, for which each loop starts anew, so each analysis of it is slow. Maps over it
+# may go below it and bring it into other contexts, but it is analysed once for all of them, or four times if it takes a field's number from a register.
+slow_cogroup() { # the version, and further statements
+    awk -v version="$1" -v more="$2" 'BEGIN {
+        printf "pact " version "\nfields 64\nsource s none.csv int:0 int:1 int:2"
+        for (m = 0; m < 8; m++) printf " int:" m + 20
+        print "\nsource t none.csv int:48\nfunction f cogroup 1"
+        print "each x1 of left\nv0 = get x1 0\neach x2 of right\nr0 = copy x2\nset r0 48 v0\nend\nend"
+        if (more) print more
+        print "each x1 of left"
+        for (r = 0; r < 8; r++) print "r" r " = copy x1"
+        for (loop = 1; loop <= 2; loop++) {
+            last = loop * 12
+            first = last - 11
+            print "v0 = get x1 " loop
+            for (v = first; v <= last; v++) print "v" v " = mov v0"
+            for (r = 0; r < 8; r++) print "set r" r " " loop " v0"
+            print "repeat 2"
+            for (r = 7; r > 0; r--) print "v0 = get r" r - 1 " " loop "\nset r" r " " loop " v0"
+            print "set r0 " loop " v" last
+            for (v = last; v > first; v--) print "v" v " = mov v" v - 1
+            print "v0 = get r7 " loop "\nv" first " = not v0"
+        }
+        for (b = 0; b < 700; b++) print "if v31\nend"
+        print "end\nend\nr0 = copy x1\nemit r0\nend\nend\ncogroup g f s t by 0 = 48"
+        for (m = 0; m < 8; m++) {
+            print "function f" m " map\nr0 = copy in\nv0 = get in " m + 20 "\nset r0 " m + 30 " v0\nemit r0\nend"
+            print "map m" m " f" m " " (m ? "m" m - 1 : "g")
+        }
+        print "sink m7 0"
+    }'
+}
+slow_cogroup 1 '' >"$outside/cogroup.pact"
+count ends_within 8 plan cogroup.pact --plans 1000
+slow_cogroup 2 'each x1 of left\nv30 = int 1\nv30 = get x1 @v30\nend' >"$outside/numbered.pact"
+count ends_within 16 plan numbered.pact --plans 1000
+
+# Certificates of thousands of steps: one that exchanges two slow maps there and back, and one that leads on to other orders of sixteen maps, in which
+# nearly each operator stands over others than before.
+steps_over() { # maps, steps, and the factor by which the place of the next step is drawn
+    awk -v maps="$1" -v steps="$2" -v factor="$3" '
+    function found(m) {
+        return "{\"anchor\":\"none\",\"control\":[],\"hi\":1,\"lo\":1,\"reads\":[],\"touched\":[1,2,3," m + 10 "],\"writes\":[]}"
+    }
+    BEGIN {
+        for (m = 0; m < maps; m++) order[m] = m
+        printf "{\"version\":1,\"steps\":["
+        drawn = 1
+        for (n = 0; n < steps; n++) {
+            drawn = drawn * factor % 65537
+            at = drawn % (maps - 1)
+            lower = order[at]
+            upper = order[at + 1]
+            printf "%s{\"rule\":\"map-map\",\"at\":\"m%d\",\"lower\":%s,\"upper\":%s}", n ? "," : "", upper, found(lower), found(upper)
+            order[at] = upper
+            order[at + 1] = lower
+        }
+        line = "s"
+        for (m = 0; m < maps; m++) line = "m" order[m] "(" line ")"
+        printf "],\"plan\":\"%s\"}", line
+    }'
+}
+slow_maps 2 10 8 850 >"$outside/slow2.pact"
+steps_over 2 4000 75 >"$outside/back.json"
+count does 0 'accepted\n' '' limited -t 5 check slow2.pact back.json
+slow_maps 16 4 2 4 >"$outside/orders.pact"
+steps_over 16 4000 75 >"$outside/on.json"
+count does 0 'accepted\n' '' limited -t 12 check orders.pact on.json
+
+# Eight joins: each round weighs 6,561 layouts of each listed plan.
+{
+    echo 'pact 1'
+    echo 'fields 18'
+    printf 'function f match\nr0 = copy join\nemit r0\nend\nsource s0 none.csv int:0 int:1\n'
+    before=s0
+    for ((number = 1; number <= 8; number++)); do
+        printf 'source s%d none.csv int:%d int:%d\n' "$number" $((2 * number)) $((2 * number + 1))
+        printf 'match j%d f %s s%d by %d = %d\n' "$number" "$before" "$number" $((2 * number - 1)) $((2 * number))
+        before=j$number
+    done
+    echo 'sink j8 0'
+} >"$outside/joins.pact"
+count does 0 '' '' limited -t 20 iterate joins.pact s0 10 --plans 50
 
 # ---- Texts that end anywhere
 

@@ -1,5 +1,5 @@
 -- Rows that are sorted by their words and then by their fields are sorted by their fields.
-use Rattle.std.proofs.Common.{◌≡◌, ◌<◌, ◌+◌, inl, inr, ℕ, Bool, false, List, [], length, map, refl, sym, ap, ◌∙◌, arith}
+use Rattle.std.proofs.Common.{◌≡◌, ◌<◌, ◌+◌, inl, inr, ℕ, Bool, false, List, [], get_or, length, map, refl, sym, ap, ◌∙◌, arith}
 use Rattle.std.proofs.lemmas.List.{get_or-map, length-map}
 use Rattle.std.proofs.lemmas.List.Elements.{All-get_or}
 use Rattle.std.proofs.lemmas.List.Sorted.{ranks_by}
@@ -37,7 +37,7 @@ before prefixes fields a b p q less =
     by_numbers a.first b.first _ (λ gt. never_both l r less (word_less prefixes.first.items r l q.bytes p.bytes (omega (arith, gt, p.first, q.first))))
     (λ e. by_numbers a.second b.second _
     (λ gt. never_both l r less (rest_less prefixes.first.items r l q.bytes p.bytes (sym q.first ∙ sym e ∙ p.first) (word_less prefixes.second.items (rest_of prefixes.first.items r) (rest_of prefixes.first.items l) q.more_bytes p.more_bytes (omega (arith, gt, p.second, q.second)))))
-    (λ f. less))
+    (λ f i. ordering_then (less i) (nat_cmp a.place b.place)))
 
 not_before : (prefixes : Prefixes) (fields : List ℕ) (a b : WordedRow) → IsWorded prefixes fields a → IsWorded prefixes fields b → is_lt (worded_cmp fields a b) ≡ false → is_lt (record_cmp (cut fields a.row) (cut fields b.row)) ≡ false
 not_before prefixes fields a b p q h = by (record_cmp (cut fields a.row) (cut fields b.row)) refl where
@@ -51,7 +51,7 @@ is_before_worded fields a b = is_lt (worded_cmp fields a b)
 
 worded_total : (fields : List ℕ) → IsTotalOrder (worded_cmp fields)
 worded_total fields =
-    then_total (on_total (λ (w : WordedRow). w.first) nat_cmp_total) (then_total (on_total (λ (w : WordedRow). w.second) nat_cmp_total) (on_total (λ (w : WordedRow). cut fields w.row) records_total))
+    then_total (on_total (λ (w : WordedRow). w.first) nat_cmp_total) (then_total (on_total (λ (w : WordedRow). w.second) nat_cmp_total) (then_total (on_total (λ (w : WordedRow). cut fields w.row) records_total) (on_total (λ (w : WordedRow). w.place) nat_cmp_total)))
 
 pub worded_ranks : (fields : List ℕ) → IsStrictWeakOrder (is_before_worded fields)
 worded_ranks fields = ranks_by (worded_total fields) (λ (w : WordedRow). w)
@@ -61,6 +61,6 @@ pub sorted_rows : (prefixes : Prefixes) (fields : List ℕ) (all : List WordedRo
 sorted_rows prefixes fields all words up k d from below =
     let next : k + 1 < length all = omega (arith, below, length-map all row_of) in
     let this : k < length all = omega (arith, next) in
-    let blank : WordedRow = record { first = 0; second = 0; row = [] } in
+    let blank : WordedRow = record { first = 0; second = 0; place = 0; row = [] } in
     (λ i. is_lt (record_cmp (cut fields (get_or-map row_of all (k + 1) blank d next i)) (cut fields (get_or-map row_of all k blank d this i))))
-    ∙ not_before prefixes fields _ _ (All-get_or (IsWorded prefixes fields) all (k + 1) blank next words) (All-get_or (IsWorded prefixes fields) all k blank this words) (up k blank from next)
+    ∙ not_before prefixes fields (get_or all (k + 1) blank) (get_or all k blank) (All-get_or (IsWorded prefixes fields) all (k + 1) blank next words) (All-get_or (IsWorded prefixes fields) all k blank this words) (up k blank from next)

@@ -15,6 +15,10 @@ IsWorded prefixes fields worded = AreWords prefixes.first.items prefixes.second.
 abbrev pub row_of : WordedRow → List Value
 row_of worded = worded.row
 
--- by the words, and then by all listed fields
+-- by all listed fields, and then by the place in the list
+abbrev pub placed_cmp : List ℕ → WordedRow → WordedRow → Ordering
+placed_cmp fields a b = ordering_then (record_cmp (cut fields a.row) (cut fields b.row)) (nat_cmp a.place b.place)
+
+-- by the words, and then so
 abbrev pub worded_cmp : List ℕ → WordedRow → WordedRow → Ordering
-worded_cmp fields a b = ordering_then (nat_cmp a.first b.first) (ordering_then (nat_cmp a.second b.second) (record_cmp (cut fields a.row) (cut fields b.row)))
+worded_cmp fields a b = ordering_then (nat_cmp a.first b.first) (ordering_then (nat_cmp a.second b.second) (placed_cmp fields a b))

@@ -14,20 +14,26 @@ use pact_record::{OutOfMemory, Record};
 use std::alloc::Global;
 use std::cmp::Ordering;
 
-// A row and the words of its listed fields.
+// A row, the words of its listed fields, and its place in the list, so that rows with equal fields keep their order.
 #[derive(Drop)]
 struct WordedRow {
     first: u64,
     second: u64,
+    place: usize,
     row: Record,
 }
 
-fn with_words(prefixes: &Prefixes, fields: &[u32], row: Record) -> WordedRow
+fn with_words(prefixes: &Prefixes, fields: &[u32], place: usize, row: Record) -> WordedRow
     ensures row { row_of result ≡ row }
     ensures words { IsWorded prefixes.now fields.now result }
 {
     let (first, second) = row_words(prefixes, fields, &row);
-    WordedRow { first, second, row }
+    WordedRow {
+        first,
+        second,
+        place,
+        row,
+    }
 }
 
 fn compare_worded(fields: &[u32], left: &WordedRow, right: &WordedRow) -> Ordering
@@ -41,7 +47,11 @@ fn compare_worded(fields: &[u32], left: &WordedRow, right: &WordedRow) -> Orderi
     if found != Ordering::Equal {
         return found;
     }
-    compare_fields(fields, &left.row, &right.row)
+    let found = compare_fields(fields, &left.row, &right.row);
+    if found != Ordering::Equal {
+        return found;
+    }
+    left.place.cmp(&right.place)
 }
 
 fn all_with_words(
@@ -55,7 +65,8 @@ fn all_with_words(
 {
     let mut all = Vec::with_capacity(alloc, rows.len())?;
     for row in rows {
-        all.push_reserved(with_words(prefixes, fields, row));
+        let place = all.len();
+        all.push_reserved(with_words(prefixes, fields, place, row));
     }
     Ok(all)
 }
@@ -104,7 +115,7 @@ fn words_differ(prefixes: &Prefixes, fields: &[u32], rows: &[Record]) -> bool {
     false
 }
 
-/// The same records, sorted by the listed fields. Records that are equal in all of these come in any order.
+/// The same records, sorted by the listed fields. Records that are equal in all of these keep their order; no clause says so.
 pub(crate) fn sort_records(
     mut rows: Vec<Record>,
     fields: &[u32],

@@ -20,6 +20,7 @@ use Rattle.reorder_pair.specs.Reach.{Reach}
 use Rattle.reorder_pair.specs.ToldExchanges.{Lead}
 use Rattle.ship_strategy.specs.PlanFacts.{facts_of}
 use Rattle.ship_strategy.specs.Layouts.{layout_count, layout_of}
+use Rattle.ship_strategy.specs.Views.{facts_in}
 use Rattle.plan_enumerate.specs.Choices.{IsChosen}
 use Rattle.plan_enumerate.specs.declared.entries.Entry.{Entry}
 use Rattle.plan_enumerate.specs.Listing.{IsAt, IsListed, IsListing, plans_of}
@@ -81,6 +82,7 @@ pub record IsPicked (p : ProgramData) (inputs : List Bag) (workers : ℕ) (entri
   pub there : IsAt entries c.chosen.entry c.plan
   pub plan : IsPlanOf p.functions p.ops c.plan
   pub answers : KeepAnswers p p.plan c.plan
+  pub known : facts_in c.facts ≡ facts_of p c.plan
   pub entry : c.chosen.entry < length entries
   pub layout : c.chosen.layout < layout_count p.ops
 
@@ -91,11 +93,13 @@ pub record IsChoice (l : Loaded) (workers plans : ℕ) (c : Choice) : Type 0 whe
   pub chosen : IsChosen l.program (plans_of c.listed.entries) (row_counts l.program.ops l.inputs) workers c.chosen
   pub plan : IsAt c.listed.entries c.chosen.entry c.plan
 
--- Its plan is one of the program's and allows the same bags as the plan as written, and its numbers are those of an entry and of a layout.
+-- Its plan is one of the program's and allows the same bags as the plan as written, its facts are the plan's, and its numbers are those of an entry and of
+-- a layout.
 pub record IsPlanChosen (l : Loaded) (workers plans : ℕ) (c : Choice) : Type 0 where
   pub choice : IsChoice l workers plans c
   pub plan : IsPlanOf l.program.functions l.program.ops c.plan
   pub answers : KeepAnswers l.program l.program.plan c.plan
+  pub known : facts_in c.facts ≡ facts_of l.program c.plan
   pub entry : c.chosen.entry < length c.listed.entries
   pub layout : c.chosen.layout < layout_count l.program.ops
 

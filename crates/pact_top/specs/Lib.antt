@@ -3,6 +3,7 @@ pub mod Headline
 pub mod Iterations
 pub mod Lines
 pub mod OrderFreePrograms
+pub mod Readers
 pub mod Readings
 pub mod Refusal
 pub mod RefusalLines

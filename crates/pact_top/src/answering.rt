@@ -6,6 +6,7 @@ ghost use Rattle.pact_gen.specs.Generated.{seed_limit};
 ghost use Rattle.plan_enumerate.specs.Listing.{entry_limit};
 ghost use Rattle.plan_trees.specs.Physicals.{worker_limit};
 ghost use Rattle.pact_top.specs.CommandTexts.{to_make, to_sum_up};
+ghost use Rattle.pact_top.specs.Readers.{IsReader};
 ghost use Rattle.pact_top.specs.Refusal.{Comes, Decides, IsAnswered, RowRefused};
 ghost use Rattle.pact_top.specs.Runs.{IsRunner};
 ghost use Rattle.pact_top.specs.Work as work;
@@ -25,11 +26,11 @@ use crate::running::run_texts;
 use crate::tasks::Task;
 use crate::texts::Texts;
 use crate::transfer::Stop;
-use csv_source::{BadRow, read_source};
+use csv_source::BadRow;
 use pact_bag::{Inputs, Outcome, Rows};
 use pact_operators::{Op, Program};
 use pact_outside::Feed;
-use pact_record::{Bytes, MAX_FIELDS, OutOfMemory};
+use pact_record::{Bytes, Columns, MAX_FIELDS, OutOfMemory};
 use pact_words::{Command, Options, Refused, read_words};
 use plan_printer::sets_text;
 use std::alloc::Global;
@@ -61,12 +62,19 @@ pub fn load_program<F: Feed>(alloc: Global, feed: &mut F, name: &[u8]) -> Result
 }
 
 // The rows of a source, or why its bytes have none.
-fn rows_in(alloc: Global, fields: u32, source: &Op, bytes: &[u8]) -> Result<Rows, Refusal>
+fn rows_in<D: Fn(&[u8], &Columns, u32) -> Result<Rows, BadRow>>(
+    alloc: Global,
+    fields: u32,
+    source: &Op,
+    bytes: &[u8],
+    read: &D,
+) -> Result<Rows, Refusal>
     requires fields { fields ≤ MAX_FIELDS }
     requires columns { AllByRecursion (λ column. column.field < fields) source.now.columns }
+    requires reads { IsReader (D.pre read.now) (D.post read.now) }
     ensures { Decides (work.rows fields source.now bytes.now) result }
 {
-    match read_source(alloc, bytes, &source.columns, fields) {
+    match read(bytes, &source.columns, fields) {
         Ok(rows) => Ok(rows),
         Err(bad) => Err(row_refused(alloc, source.name.bytes(), bad)),
     }
@@ -81,29 +89,37 @@ fn row_refused(alloc: Global, name: &[u8], bad: BadRow) -> Refusal
     }
 }
 
-fn load_rows<F: Feed>(
+fn load_rows<F: Feed, D: Fn(&[u8], &Columns, u32) -> Result<Rows, BadRow>>(
     alloc: Global,
     feed: &mut F,
     fields: u32,
     source: &Op,
+    read: &D,
 ) -> Result<Rows, Refusal>
     requires fields { fields ≤ MAX_FIELDS }
     requires columns { AllByRecursion (λ column. column.field < fields) source.now.columns }
+    requires reads { IsReader (D.pre read.now) (D.post read.now) }
     ensures { Comes (λ files. work.source_file fields files source.now) (F.shows feed.old) (F.shows feed.new) result }
 {
     let bytes = load_text(alloc, feed, source.file.bytes(), SOURCE_LIMIT)?;
-    rows_in(alloc, fields, source, bytes.bytes())
+    rows_in(alloc, fields, source, bytes.bytes(), read)
 }
 
 // The rows of each source, one source after the other.
-fn load_sources<F: Feed>(alloc: Global, feed: &mut F, program: &Program) -> Result<Inputs, Refusal>
+fn load_sources<F: Feed, D: Fn(&[u8], &Columns, u32) -> Result<Rows, BadRow>>(
+    alloc: Global,
+    feed: &mut F,
+    program: &Program,
+    read: &D,
+) -> Result<Inputs, Refusal>
+    requires reads { IsReader (D.pre read.now) (D.post read.now) }
     ensures { Comes (work.sources program.now) (F.shows feed.old) (F.shows feed.new) result }
 {
     let fields = program.fields();
     let mut inputs = Inputs::new(alloc);
     for op in program.ops() {
         if is_source(op.kind) {
-            let rows = load_rows(alloc, feed, fields, op)?;
+            let rows = load_rows(alloc, feed, fields, op, read)?;
             push_rows(&mut inputs, rows)?;
         }
     }
@@ -111,62 +127,78 @@ fn load_sources<F: Feed>(alloc: Global, feed: &mut F, program: &Program) -> Resu
 }
 
 /// A program and the rows of its sources.
-pub fn load<F: Feed>(alloc: Global, feed: &mut F, name: &[u8]) -> Result<Loaded, Refusal>
+pub fn load<F: Feed, D: Fn(&[u8], &Columns, u32) -> Result<Rows, BadRow>>(
+    alloc: Global,
+    feed: &mut F,
+    name: &[u8],
+    read: &D,
+) -> Result<Loaded, Refusal>
+    requires reads { IsReader (D.pre read.now) (D.post read.now) }
     ensures { Comes (λ files. work.loaded files name.now) (F.shows feed.old) (F.shows feed.new) result }
 {
     let program = load_program(alloc, feed, name)?;
-    let inputs = load_sources(alloc, feed, &program)?;
+    let inputs = load_sources(alloc, feed, &program, read)?;
     Ok(Loaded { program, inputs })
 }
 
 // `run PROGRAM`.
-fn run_program<F: Feed, T: Fn(&Program, &Task, Inputs) -> Result<Outcome, OutOfMemory>>(
+fn run_program<
+    F: Feed,
+    D: Fn(&[u8], &Columns, u32) -> Result<Rows, BadRow>,
+    T: Fn(&Program, &Task, Inputs) -> Result<Outcome, OutOfMemory>,
+>(
     alloc: Global,
     feed: &mut F,
     name: &[u8],
     options: Options,
     counts: bool,
+    read: &D,
     run: &T,
 ) -> Result<Texts, Refusal>
     requires options { AreOptionsInRange options }
+    requires reads { IsReader (D.pre read.now) (D.post read.now) }
     requires runs { IsRunner (T.pre run.now) (T.post run.now) }
     ensures { Comes (λ files. work.texts_for files (to_run name.now options counts)) (F.shows feed.old) (F.shows feed.new) result }
 {
-    let loaded = load(alloc, feed, name)?;
+    let loaded = load(alloc, feed, name, read)?;
     let texts = run_texts(alloc, loaded, options, counts, run)?;
     Ok(texts)
 }
 
 // `plan PROGRAM`.
-fn plan<F: Feed>(
+fn plan<F: Feed, D: Fn(&[u8], &Columns, u32) -> Result<Rows, BadRow>>(
     alloc: Global,
     feed: &mut F,
     name: &[u8],
     workers: u32,
     plans: u32,
+    read: &D,
 ) -> Result<Texts, Refusal>
     requires workers { (1 ≤ workers) × (workers ≤ worker_limit) }
     requires plans { (1 ≤ plans) × (plans ≤ entry_limit) }
+    requires reads { IsReader (D.pre read.now) (D.post read.now) }
     ensures { Comes (λ files. work.texts_for files (to_plan name.now workers plans)) (F.shows feed.old) (F.shows feed.new) result }
 {
-    let loaded = load(alloc, feed, name)?;
+    let loaded = load(alloc, feed, name, read)?;
     let texts = plan_texts(alloc, &loaded, workers, plans)?;
     Ok(texts)
 }
 
 // `cert PROGRAM`.
-fn cert<F: Feed>(
+fn cert<F: Feed, D: Fn(&[u8], &Columns, u32) -> Result<Rows, BadRow>>(
     alloc: Global,
     feed: &mut F,
     name: &[u8],
     workers: u32,
     plans: u32,
+    read: &D,
 ) -> Result<Texts, Refusal>
     requires workers { (1 ≤ workers) × (workers ≤ worker_limit) }
     requires plans { (1 ≤ plans) × (plans ≤ entry_limit) }
+    requires reads { IsReader (D.pre read.now) (D.post read.now) }
     ensures { Comes (λ files. work.texts_for files (to_certify name.now workers plans)) (F.shows feed.old) (F.shows feed.new) result }
 {
-    let loaded = load(alloc, feed, name)?;
+    let loaded = load(alloc, feed, name, read)?;
     let texts = certificate_texts(alloc, &loaded, workers, plans)?;
     Ok(texts)
 }
@@ -203,23 +235,29 @@ fn check<F: Feed>(alloc: Global, feed: &mut F, name: &[u8], other: &[u8]) -> Res
 }
 
 // A program, the source of that name, and the rows of its sources.
-fn load_repeated<F: Feed>(
+fn load_repeated<F: Feed, D: Fn(&[u8], &Columns, u32) -> Result<Rows, BadRow>>(
     alloc: Global,
     feed: &mut F,
     name: &[u8],
     source: &[u8],
+    read: &D,
 ) -> Result<Repeated, Refusal>
+    requires reads { IsReader (D.pre read.now) (D.post read.now) }
     ensures { Comes (λ files. work.repeated files name.now source.now) (F.shows feed.old) (F.shows feed.new) result }
 {
     let program = load_program(alloc, feed, name)?;
     let at = source_named(alloc, &program, source)?;
-    let inputs = load_sources(alloc, feed, &program)?;
+    let inputs = load_sources(alloc, feed, &program, read)?;
     let loaded = Loaded { program, inputs };
     Ok(Repeated { loaded, at })
 }
 
 // `iterate PROGRAM SOURCE ROUNDS`.
-fn iterate<F: Feed, T: Fn(&Program, &Task, Inputs) -> Result<Outcome, OutOfMemory>>(
+fn iterate<
+    F: Feed,
+    D: Fn(&[u8], &Columns, u32) -> Result<Rows, BadRow>,
+    T: Fn(&Program, &Task, Inputs) -> Result<Outcome, OutOfMemory>,
+>(
     alloc: Global,
     feed: &mut F,
     name: &[u8],
@@ -227,14 +265,16 @@ fn iterate<F: Feed, T: Fn(&Program, &Task, Inputs) -> Result<Outcome, OutOfMemor
     rounds: u32,
     options: Options,
     stable: bool,
+    read: &D,
     run: &T,
 ) -> Result<Texts, Refusal>
     requires options { AreOptionsInRange options }
     requires rounds { 1 ≤ rounds }
+    requires reads { IsReader (D.pre read.now) (D.post read.now) }
     requires runs { IsRunner (T.pre run.now) (T.post run.now) }
     ensures { Comes (λ files. work.texts_for files (to_iterate name.now source.now rounds options stable)) (F.shows feed.old) (F.shows feed.new) result }
 {
-    let repeated = load_repeated(alloc, feed, name, source)?;
+    let repeated = load_repeated(alloc, feed, name, source, read)?;
     let texts = iteration_texts(alloc, repeated, rounds, options, stable, run)?;
     Ok(texts)
 }
@@ -266,13 +306,13 @@ fn drill<T: Fn(&Program, &Task, Inputs) -> Result<Outcome, OutOfMemory>>(
 }
 
 // The texts of a command.
-fn texts_for<F: Feed, T: Fn(&Program, &Task, Inputs) -> Result<Outcome, OutOfMemory>>(
-    alloc: Global,
-    command: Command,
-    feed: &mut F,
-    run: &T,
-) -> Result<Texts, Refusal>
+fn texts_for<
+    F: Feed,
+    D: Fn(&[u8], &Columns, u32) -> Result<Rows, BadRow>,
+    T: Fn(&Program, &Task, Inputs) -> Result<Outcome, OutOfMemory>,
+>(alloc: Global, command: Command, feed: &mut F, read: &D, run: &T) -> Result<Texts, Refusal>
     requires range { IsInRange (asked command) }
+    requires reads { IsReader (D.pre read.now) (D.post read.now) }
     requires runs { IsRunner (T.pre run.now) (T.post run.now) }
     ensures { Comes (λ files. work.texts_for files (asked command.entry)) (F.shows feed.old) (F.shows feed.new) result }
 {
@@ -281,17 +321,17 @@ fn texts_for<F: Feed, T: Fn(&Program, &Task, Inputs) -> Result<Outcome, OutOfMem
             program,
             options,
             counts,
-        } => run_program(alloc, feed, program.as_bytes(), options, counts, run),
+        } => run_program(alloc, feed, program.as_bytes(), options, counts, read, run),
         Command::Plan {
             program,
             workers,
             plans,
-        } => plan(alloc, feed, program.as_bytes(), workers, plans),
+        } => plan(alloc, feed, program.as_bytes(), workers, plans, read),
         Command::Cert {
             program,
             workers,
             plans,
-        } => cert(alloc, feed, program.as_bytes(), workers, plans),
+        } => cert(alloc, feed, program.as_bytes(), workers, plans, read),
         Command::Sets { program } => sets(alloc, feed, program.as_bytes()),
         Command::Check {
             program,
@@ -311,23 +351,26 @@ fn texts_for<F: Feed, T: Fn(&Program, &Task, Inputs) -> Result<Outcome, OutOfMem
             stable,
         } => {
             let (name, source) = (program.as_bytes(), source.as_bytes());
-            iterate(alloc, feed, name, source, rounds, options, stable, run)
+            iterate(
+                alloc, feed, name, source, rounds, options, stable, read, run,
+            )
         }
     }
 }
 
-/// The texts that the words ask for, or the first refusal that stands, one stage after the other. `run` is called for each run of a plan.
-pub fn answer<F: Feed, T: Fn(&Program, &Task, Inputs) -> Result<Outcome, OutOfMemory>>(
-    alloc: Global,
-    words: &[&str],
-    feed: &mut F,
-    run: &T,
-) -> Result<Texts, Refusal>
+/// The texts that the words ask for, or the first refusal that stands, one stage after the other. `read` is called for the rows of each source's bytes, and
+/// `run` for each run of a plan.
+pub fn answer<
+    F: Feed,
+    D: Fn(&[u8], &Columns, u32) -> Result<Rows, BadRow>,
+    T: Fn(&Program, &Task, Inputs) -> Result<Outcome, OutOfMemory>,
+>(alloc: Global, words: &[&str], feed: &mut F, read: &D, run: &T) -> Result<Texts, Refusal>
+    requires reads { IsReader (D.pre read.now) (D.post read.now) }
     requires runs { IsRunner (T.pre run.now) (T.post run.now) }
     ensures { IsAnswered (texts_of words.now) (feed.new ≡ feed.old) (F.shows feed.old) (F.shows feed.new) result }
 {
     match read_words(alloc, words) {
-        Ok(command) => texts_for(alloc, command, feed, run),
+        Ok(command) => texts_for(alloc, command, feed, read, run),
         Err(Refused::Usage) => Err(Refusal::Usage),
         Err(Refused::OutOfMemory) => Err(Refusal::OutOfMemory),
     }

@@ -10,6 +10,8 @@ ghost use Rattle.plan_enumerate.specs.Listing.{entry_limit, plans_of};
 ghost use Rattle.pact_top.specs.CommandTexts as texts;
 ghost use Rattle.pact_top.specs.declared.loaded.Loaded.{Loaded as LoadedData};
 ghost use Rattle.ship_strategy.specs.Layouts.{layout_count};
+ghost use Rattle.ship_strategy.specs.PlanFacts.{facts_of};
+ghost use Rattle.ship_strategy.specs.Views.{facts_in};
 ghost use Rattle.pact_top.specs.CommandTexts.{ArePlansOf, IsCertificateLine, IsChoice, IsDerived, IsOutAlone, IsPicked, IsPlanChosen, IsPlanText};
 
 use crate::loaded::{Loaded, is_source};
@@ -20,23 +22,25 @@ use pact_record::OutOfMemory;
 use plan_enumerate::{Chosen, KnownPlans, Listed, choose_known, enumerate_and_analyse, steps_of};
 use plan_printer::{Shown, plan_text};
 use reorder_pair::ConditionList;
-use ship_strategy::layout;
+use ship_strategy::{Table, layout_known};
 use std::alloc::Global;
 use swap_certificate::{certificate, certificate_line};
 
-/// The plans that are listed, which of them is chosen with which layout, and the plan itself.
+/// The plans that are listed, which of them is chosen with which layout, the plan itself, and what is known of its operators.
 #[derive(Drop)]
 pub struct Choice {
     pub listed: Listed,
     pub chosen: Chosen,
     pub plan: Plan,
+    pub facts: Table,
 }
 
-/// The listed plan that is chosen for some rows, with which layout, and the plan itself.
+/// The listed plan that is chosen for some rows, with which layout, the plan itself, and what is known of its operators.
 #[derive(Drop)]
 pub struct Picked {
     pub chosen: Chosen,
     pub plan: Plan,
+    pub facts: Table,
 }
 
 // How many rows a source or operator has of its own, and the place of the next source. `source` is the place of this one, where it is a source.
@@ -94,8 +98,14 @@ pub fn choose_listed(
 {
     let counts = row_counts(alloc, program, inputs)?;
     let chosen = choose_known(program, listed, known, &counts, workers);
-    let plan = listed.entries().at(chosen.entry as usize).plan;
-    Ok(Picked { chosen, plan })
+    let entry = chosen.entry as usize;
+    let plan = listed.entries().at(entry).plan;
+    let facts = *known.table(entry);
+    Ok(Picked {
+        chosen,
+        plan,
+        facts,
+    })
 }
 
 /// The first plan that costs least, with its layout, of at most so many listed ones.
@@ -112,11 +122,16 @@ pub fn choose_plan(
 {
     let Loaded { program, inputs } = loaded;
     let (listed, known) = enumerate_and_analyse(alloc, program, plans)?;
-    let Picked { chosen, plan } = choose_listed(alloc, program, inputs, &listed, &known, workers)?;
+    let Picked {
+        chosen,
+        plan,
+        facts,
+    } = choose_listed(alloc, program, inputs, &listed, &known, workers)?;
     Ok(Choice {
         listed,
         chosen,
         plan,
+        facts,
     })
 }
 
@@ -139,18 +154,26 @@ fn shown(
     requires inputs { AreInputsOf loaded.now.program loaded.now.inputs }
     requires workers { (1 ≤ workers) × (workers ≤ worker_limit) }
     requires plan { IsPlanOf loaded.now.program.functions loaded.now.program.ops choice.now.plan }
+    requires facts { facts_in choice.now.facts ≡ facts_of loaded.now.program choice.now.plan }
     requires layout { choice.now.chosen.layout < layout_count loaded.now.program.ops }
     ensures { IfOk result (λ s. s ≡ texts.shown loaded.now workers choice.now steps) }
 {
     let counts = row_counts(alloc, &loaded.program, &loaded.inputs)?;
     let entries = choice.listed.entries();
+    let number = choice.chosen.layout;
     Ok(Shown {
         plans: entries.len() as u32,
         complete: choice.listed.complete(),
         entry: choice.chosen.entry,
-        layout: choice.chosen.layout,
+        layout: number,
         cost: choice.chosen.cost,
-        physical: layout(&loaded.program, &choice.plan, choice.chosen.layout, workers),
+        physical: layout_known(
+            &loaded.program,
+            &choice.plan,
+            &choice.facts,
+            number,
+            workers,
+        ),
         counts,
         steps,
     })

@@ -79,20 +79,18 @@ fn one_round<F: Fn(&Program, &Task, Inputs) -> Result<Outcome, OutOfMemory>>(
     requires runs { IsRunner (F.pre run.now) (F.post run.now) }
     ensures { IfOk result (AllowsOn program.now inputs.now) }
 {
-    let Picked { chosen, plan } = choose_listed(
-        alloc,
-        program,
-        inputs,
-        listed,
-        known,
-        options.workers,
-    )?;
+    let Picked {
+        chosen,
+        plan,
+        facts,
+    } = choose_listed(alloc, program, inputs, listed, known, options.workers)?;
     let copied = inputs.copy(alloc)?;
     let whole = Options {
         prune: false,
         ..options
     };
-    let left = run_plan(alloc, program, copied, &plan, chosen.layout, whole, run)?;
+    let number = chosen.layout;
+    let left = run_plan(alloc, program, copied, &plan, &facts, number, whole, run)?;
     Ok(left.outcome.rows)
 }
 

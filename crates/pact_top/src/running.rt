@@ -12,6 +12,7 @@ ghost use Rattle.pact_top.specs.Lines.{AreLines};
 ghost use Rattle.ship_strategy.specs.Layouts.{layout_count, layout_of};
 ghost use Rattle.ship_strategy.specs.PlanFacts.{facts_of};
 ghost use Rattle.ship_strategy.specs.Ships.{LegalShip};
+ghost use Rattle.ship_strategy.specs.Views.{facts_in};
 ghost use Rattle.pact_top.specs.CommandTexts.{AreToldCounts, IsAnswerOf, IsOutcome, IsRun, keeps_text};
 ghost use Rattle.pact_top.specs.Runs.{IsRunner};
 
@@ -27,7 +28,7 @@ use pact_record::{Bytes, OutOfMemory};
 use pact_words::Options;
 use plan_printer::{counts_text, push_keeps, push_partials};
 use prune_fields::Kept;
-use ship_strategy::layout;
+use ship_strategy::{Table, layout_known};
 use std::alloc::Global;
 
 /// A run of a program by the plan that was chosen for it, and what it gave.
@@ -40,10 +41,11 @@ pub struct FinishedRun {
     pub combined: Vec<(u32, u32)>,
 }
 
-// What is run: a plan in one of its layouts, as the options say.
-fn task_of(program: &Program, plan: &Plan, number: u32, options: Options) -> Task
+// What is run: a plan in one of its layouts, as the options say. The facts are those of the plan, so that no function is analysed again.
+fn task_of(program: &Program, plan: &Plan, facts: &Table, number: u32, options: Options) -> Task
     requires options { AreOptionsInRange options }
     requires plan { IsPlanOf program.now.functions program.now.ops plan.now }
+    requires facts { facts_in facts.now ≡ facts_of program.now plan.now }
     requires layout { number < layout_count program.now.ops }
     ensures physical { result.physical ≡ layout_of (facts_of program.now plan.now) program.now.ops plan.now number options.workers }
     ensures workers { result.options.workers ≡ options.workers }
@@ -55,7 +57,7 @@ fn task_of(program: &Program, plan: &Plan, number: u32, options: Options) -> Tas
     ensures tree { result.physical.tree ≡ plan.now }
     ensures legal { LegalShip (facts_of program.now result.physical.tree) result.physical }
 {
-    let physical = layout(program, plan, number, options.workers);
+    let physical = layout_known(program, plan, facts, number, options.workers);
     let Options {
         workers,
         batch,
@@ -76,12 +78,13 @@ fn task_of(program: &Program, plan: &Plan, number: u32, options: Options) -> Tas
 }
 
 /// What a run of a plan in parts gives, in the layout of that number: records that are, cut to the sink's fields, those of a bag that the plan as written
-/// allows too.
+/// allows too. `facts` has what is known of the plan's operators.
 pub fn run_plan<F: Fn(&Program, &Task, Inputs) -> Result<Outcome, OutOfMemory>>(
     alloc: Global,
     program: &Program,
     inputs: Inputs,
     plan: &Plan,
+    facts: &Table,
     number: u32,
     options: Options,
     run: &F,
@@ -89,12 +92,13 @@ pub fn run_plan<F: Fn(&Program, &Task, Inputs) -> Result<Outcome, OutOfMemory>>(
     requires inputs { AreInputsOf program.now inputs }
     requires options { AreOptionsInRange options }
     requires plan { IsPlanOf program.now.functions program.now.ops plan.now }
+    requires facts { facts_in facts.now ≡ facts_of program.now plan.now }
     requires layout { number < layout_count program.now.ops }
     requires answers { KeepAnswers program.now program.now.plan plan.now }
     requires runs { IsRunner (F.pre run.now) (F.post run.now) }
     ensures { IfOk result (IsOutcome (record { program = program.now; inputs = inputs }) options.workers plan.now number options.prune options.combine) }
 {
-    let task = task_of(program, plan, number, options);
+    let task = task_of(program, plan, facts, number, options);
     run_task_as(
         alloc,
         program,
@@ -162,7 +166,16 @@ pub fn run_chosen<F: Fn(&Program, &Task, Inputs) -> Result<Outcome, OutOfMemory>
         outcome,
         kept,
         combined,
-    } = run_plan(alloc, &program, inputs, &choice.plan, number, options, run)?;
+    } = run_plan(
+        alloc,
+        &program,
+        inputs,
+        &choice.plan,
+        &choice.facts,
+        number,
+        options,
+        run,
+    )?;
     Ok(FinishedRun {
         program,
         choice,

@@ -1,8 +1,9 @@
 //! The call that the program makes, and the same without threads.
 
-ghost use Rattle.std.specs.Prelude.{◌≡◌, ◌≢◌, ◌≤◌, false, IfOk, IsTrue};
+ghost use Rattle.std.specs.Prelude.{◌≡◌, ◌≢◌, ◌≤◌, false, IfOk};
 ghost use Rattle.pact_outside.specs.Outside.{Rose};
 ghost use Rattle.pact_top.specs.Headline.{Answered, AnsweredQuietly, Complete, MissingFile, NoOther, NothingWritten, Refused, RefusedAlways, Told, UnreadName, UnreadOpened, Unwritten, UnwrittenCause, Usage, UsageAlways, UsageUnnamed};
+ghost use Rattle.pact_top.specs.Readers.{CanRead, IsRead};
 ghost use Rattle.pact_top.specs.Refusal.{AskForThreads, status_of, refusal_line};
 ghost use Rattle.pact_top.specs.Runs.{CanRun, HasRun};
 ghost use Rattle.pact_top.specs.Statuses.{TellsMore, WritesTexts};
@@ -14,10 +15,12 @@ use crate::refusals::{Refusal, tell};
 use crate::tasks::{Task, run_task, run_task_on_threads};
 use crate::texts::Texts;
 use crate::transfer::write_all;
-use pact_bag::{Inputs, Outcome};
+use csv_parts::{parts_for, read_source_on_threads};
+use csv_source::{BadRow, read_source};
+use pact_bag::{Inputs, Outcome, Rows};
 use pact_operators::Program;
 use pact_outside::{Failed, Feed, Sink};
-use pact_record::{Bytes, OutOfMemory};
+use pact_record::{Bytes, Columns, OutOfMemory};
 use pact_words::{Command, read_words};
 use std::alloc::Global;
 use std::sync::Wait;
@@ -58,8 +61,8 @@ fn write_texts<O: Sink, E: Sink>(out: &mut O, err: &mut E, texts: &Texts) -> u8
 
 /// Does what the command line's words ask for on the calling thread, and answers the exit status.
 ///
-/// It does what `pact_main` does, with the same clauses and statuses, and starts no thread: the instances of all workers are stepped
-/// in turn. So it waits for nobody, and always returns.
+/// It does what `pact_main` does, with the same clauses and statuses, and starts no thread: sources are read by the calling thread,
+/// and the instances of all workers are stepped in turn. So it waits for nobody, and always returns.
 pub fn pact_alone<F: Feed, O: Sink, E: Sink>(
     alloc: Global,
     words: &[&str],
@@ -93,25 +96,30 @@ pub fn pact_alone<F: Feed, O: Sink, E: Sink>(
     ensures told { Told (F.shows feed.new) (E.taken err.old) (E.taken err.new) (E.faults err.old) (E.faults err.new) result }
     ensures no_other { NoOther result }
 {
+    let read = |bytes: &[u8], columns: &Columns, fields: u32| -> Result<Rows, BadRow>
+        requires { CanRead fields columns.now }
+        ensures { IsRead fields columns.now bytes.now result }
+    { read_source(alloc, bytes, columns, fields) };
     let run = |program: &Program, task: &Task, inputs: Inputs| -> Result<Outcome, OutOfMemory>
         requires { CanRun program.now task.now inputs }
         ensures { IfOk result (HasRun program.now task.now inputs) }
     { run_task(alloc, program, task, inputs) };
-    match answer(alloc, words, feed, &run) {
+    match answer(alloc, words, feed, &read, &run) {
         Ok(texts) => write_texts(out, err, &texts),
         Err(refusal) => refuse(err, &refusal),
     }
 }
 
-// Whether the words ask for a run, a drill or an iteration with two workers or more. Where memory is wanting to read them, nothing is asked.
-fn asks_for_threads(alloc: Global, words: &[&str]) -> bool
-    ensures { IsTrue result → AskForThreads (texts_of words.now) }
+// How many threads the words ask for, one for each worker of a run, a drill or an iteration. Every other command asks for none, and so do words for which
+// there is no memory to read them.
+fn threads_asked(alloc: Global, words: &[&str]) -> u32
+    ensures { 2 ≤ result → AskForThreads (texts_of words.now) }
 {
     match read_words(alloc, words) {
-        Ok(Command::Run { options, .. }) => options.workers >= 2,
-        Ok(Command::Drill { options, .. }) => options.workers >= 2,
-        Ok(Command::Iterate { options, .. }) => options.workers >= 2,
-        _ => false,
+        Ok(Command::Run { options, .. }) => options.workers,
+        Ok(Command::Drill { options, .. }) => options.workers,
+        Ok(Command::Iterate { options, .. }) => options.workers,
+        _ => 0,
     }
 }
 
@@ -140,7 +148,8 @@ fn asks_for_threads(alloc: Global, words: &[&str]) -> bool
 /// `specs/Headline.antt` has the clauses, with what each says.
 ///
 /// A run, a drill or an iteration with two workers or more has a thread for each, as far as the system
-/// gives them, and `gate` is called there before each event of the worker's instances. The workers wait
+/// gives them, and `gate` is called there before each event of the worker's instances. Long sources are
+/// read on at most as many threads, one source after the other (`csv_parts`). The workers wait
 /// for one another's notes, so the call may wait, and what is promised holds if it returns. With one
 /// worker, and for every other command, it is `pact_alone`, which waits for nobody; that is how it is
 /// built, and no clause tells it.
@@ -185,14 +194,22 @@ pub fn pact_main<R: Threads + Wait + Sync, F: Feed, O: Sink, E: Sink, G: Gate>(
     ensures told { Told (F.shows feed.new) (E.taken err.old) (E.taken err.new) (E.faults err.old) (E.faults err.new) result }
     ensures no_other { NoOther result }
 {
-    if !asks_for_threads(alloc, words) {
+    let workers = threads_asked(alloc, words);
+    if workers < 2 {
         return pact_alone(alloc, words, feed, out, err);
     }
+    let read = |bytes: &[u8], columns: &Columns, fields: u32| -> Result<Rows, BadRow>
+        requires { CanRead fields columns.now }
+        ensures { IsRead fields columns.now bytes.now result }
+    {
+        let parts = parts_for(bytes.len(), workers);
+        read_source_on_threads(rt, alloc, bytes, columns, fields, parts)
+    };
     let run = |program: &Program, task: &Task, inputs: Inputs| -> Result<Outcome, OutOfMemory>
         requires { CanRun program.now task.now inputs }
         ensures { IfOk result (HasRun program.now task.now inputs) }
     { run_task_on_threads(rt, alloc, program, task, inputs, gate) };
-    match answer(alloc, words, feed, &run) {
+    match answer(alloc, words, feed, &read, &run) {
         Ok(texts) => write_texts(out, err, &texts),
         Err(refusal) => refuse(err, &refusal),
     }

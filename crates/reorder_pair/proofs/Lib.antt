@@ -20,3 +20,5 @@ pub mod OneFinding
 pub mod FoundInContexts
 pub mod WordsOfRules
 pub mod KeptFindings
+pub mod ComposedFindings
+pub mod RowsBehind

@@ -5,4 +5,5 @@ pub mod Conditions
 pub mod Legal
 pub mod Reach
 pub mod ToldExchanges
+pub mod Corners
 pub mod FindingTable

@@ -1,14 +1,18 @@
 //! What is found of operators, kept for the contexts that they come to have.
 
-ghost use Rattle.std.specs.Prelude.{◌≡◌, ◌++◌, ◌∷◌, [], true, IfNone, IfOk, IfSome, OnErr, OnOk};
+ghost use Rattle.std.specs.Prelude.{◌≡◌, ◌++◌, ◌∷◌, [], true, List, IfNone, IfOk, IfSome, OnErr, OnOk};
 ghost use Rattle.tac_syntax.specs.declared.declarations.OpKind.TheVariants.{Source};
 ghost use Rattle.plan_trees.specs.Plans.{has};
 ghost use Rattle.pact_operators.specs.PlanOps.{kind_at};
 ghost use Rattle.pact_operators.specs.Programs.{ProgramData};
-ghost use Rattle.reorder_pair.specs.FindingTable.{AreFindings, IsKept, Keeps, KeepsBoth, KeepsInPlan};
+ghost use Rattle.reorder_pair.specs.FindingTable.{AreFindings, BeginsWith, IsKept, Keeps, KeepsBoth, KeepsEach, KeepsInPlan, corner_place, corner_places, kept_under};
+ghost use Rattle.reorder_pair.specs.Corners.{AreCorners, IsCornered};
+ghost use Rattle.reorder_pair.specs.declared.findings.OperatorIn.{OperatorIn};
+ghost use Rattle.reorder_pair.specs.declared.finding.Found.{Found};
 ghost use Rattle.reorder_pair.specs.Legal.{IsFoundAt};
 ghost use Rattle.reorder_pair.specs.Places.{IsFound, IsFoundFor, IsOperatorIn, IsPlace};
 
+use crate::corners::{Corners, corner, from_corners, is_cornered};
 use crate::exchanges::neighbours;
 use crate::finding::{Found, context_in_plan, found_for};
 use crate::rules::Rule;
@@ -17,6 +21,7 @@ use pact_operators::{Plan, Program};
 use pact_record::OutOfMemory;
 use std::alloc::Global;
 use std::marker::Model;
+use tac_flow::shared_context;
 use tac_syntax::Context;
 
 /// An operator by its number, in a context.
@@ -26,8 +31,34 @@ struct OperatorIn {
     context: Context,
 }
 
+// The row of an operator without corners.
+fn place_of(program: &Program, at: u32, context: &Context) -> OperatorIn
+    requires operator { IsOperatorIn program.now at context.now }
+    requires corners { IsCornered program.now at → ⊥ }
+    ensures place { (old : List (OperatorIn × Found)) (new : List (OperatorIn × Found)) (s : Found) → Keeps result s old new → KeepsEach (kept_under program.now at context.now) old new }
+    ensures operator { IsOperatorIn program.now result.at result.context }
+    ensures found { (s : Found) → IsFoundFor program.now result.at result.context s → IsFoundFor program.now at context.now s }
+{
+    OperatorIn {
+        at,
+        context: shared_context(program.function_at(at), context),
+    }
+}
+
+// The row of one of an operator's corners.
+fn corner_of(program: &Program, at: u32, left: bool, right: bool, context: &Context) -> OperatorIn
+    requires { IsOperatorIn program.now at context.now }
+    ensures place { result ≡ corner_place program.now at left right context.now }
+    ensures operator { IsOperatorIn program.now result.at result.context }
+{
+    OperatorIn {
+        at,
+        context: corner(program.fields(), left, right, context),
+    }
+}
+
 /// What was found of operators of one program, each in the contexts in which it was asked for: plans that exchanges lead to have an operator in far
-/// fewer contexts than places.
+/// fewer contexts than places. Contexts in which the same is found of an operator count as one.
 #[derive(Drop)]
 pub struct Findings {
     table: IndexMap<OperatorIn, Found>,
@@ -77,7 +108,96 @@ impl Findings {
         Ok(())
     }
 
-    /// What is found of an operator in a context: what was kept, or else what the analysis finds now, which is kept from now on.
+    // What is found of an operator in a context: what was kept, or else what the analysis finds now, which is kept from now on.
+    fn found_under(&mut self, program: &Program, placed: &OperatorIn) -> Result<Found, OutOfMemory>
+        requires operator { IsOperatorIn program.now placed.now.at placed.now.context }
+        requires findings { AreFindings program.now self.old }
+        ensures found { IfOk result (IsFoundFor program.now placed.now.at placed.now.context) }
+        ensures kept { IfOk result (λ s. Keeps placed.now s self.old self.new) }
+        ensures unchanged { OnErr result (self.new ≡ self.old) }
+        ensures findings { OnOk result (AreFindings program.now self.new) }
+    {
+        if let Some(found) = self.kept(placed) {
+            return Ok(found);
+        }
+        let found = found_for(program, placed.at, &placed.context);
+        self.keep(placed, &found)?;
+        Ok(found)
+    }
+
+    // What is found of an operator in each of its corners. After out of memory the table may have rows for some of them.
+    fn corners(
+        &mut self,
+        program: &Program,
+        at: u32,
+        context: &Context,
+    ) -> Result<Corners, OutOfMemory>
+        requires operator { IsOperatorIn program.now at context.now }
+        requires findings { AreFindings program.now self.old }
+        ensures found { IfOk result (AreCorners program.now at context.now) }
+        ensures kept { OnOk result (KeepsEach (corner_places program.now at context.now) self.old self.new) }
+        ensures begins { BeginsWith self.old self.new }
+        ensures findings { OnOk result (AreFindings program.now self.new) }
+    {
+        let neither = self.found_under(program, &corner_of(program, at, false, false, context))?;
+        let left = self.found_under(program, &corner_of(program, at, true, false, context))?;
+        let right = self.found_under(program, &corner_of(program, at, false, true, context))?;
+        let both = self.found_under(program, &corner_of(program, at, true, true, context))?;
+        Ok(Corners {
+            neither,
+            left,
+            right,
+            both,
+        })
+    }
+
+    // `found` for an operator with corners. If memory runs out, the rows of this call are removed again.
+    fn found_by_corners(
+        &mut self,
+        program: &Program,
+        at: u32,
+        context: &Context,
+    ) -> Result<Found, OutOfMemory>
+        requires operator { IsOperatorIn program.now at context.now }
+        requires cornered { IsCornered program.now at }
+        requires findings { AreFindings program.now self.old }
+        ensures found { IfOk result (IsFoundFor program.now at context.now) }
+        ensures kept { OnOk result (KeepsEach (kept_under program.now at context.now) self.old self.new) }
+        ensures unchanged { OnErr result (self.new ≡ self.old) }
+        ensures findings { OnOk result (AreFindings program.now self.new) }
+    {
+        let rows = self.table.len();
+        match self.corners(program, at, context) {
+            Ok(corners) => Ok(from_corners(program, at, context, &corners)),
+            Err(not) => {
+                self.table.truncate(rows);
+                Err(not)
+            }
+        }
+    }
+
+    // `found` for an operator without corners.
+    fn found_by_place(
+        &mut self,
+        program: &Program,
+        at: u32,
+        context: &Context,
+    ) -> Result<Found, OutOfMemory>
+        requires operator { IsOperatorIn program.now at context.now }
+        requires corners { IsCornered program.now at → ⊥ }
+        requires findings { AreFindings program.now self.old }
+        ensures found { IfOk result (IsFoundFor program.now at context.now) }
+        ensures kept { OnOk result (KeepsEach (kept_under program.now at context.now) self.old self.new) }
+        ensures unchanged { OnErr result (self.new ≡ self.old) }
+        ensures findings { OnOk result (AreFindings program.now self.new) }
+    {
+        let placed = place_of(program, at, context);
+        self.found_under(program, &placed)
+    }
+
+    /// What is found of an operator in a context: what was kept, or else what the analysis finds now, which is kept from now on. Contexts in which
+    /// the same is found of the operator's function share a row. A CoGroup that takes a field's number from a register has four rows for all its
+    /// contexts.
     pub fn found(
         &mut self,
         program: &Program,
@@ -87,20 +207,15 @@ impl Findings {
         requires operator { IsOperatorIn program.now at context.now }
         requires findings { AreFindings program.now self.old }
         ensures found { IfOk result (IsFoundFor program.now at context.now) }
-        ensures kept { IfOk result (λ s. Keeps (record { at = at; context = context.now }) s self.old self.new) }
+        ensures kept { OnOk result (KeepsEach (kept_under program.now at context.now) self.old self.new) }
         ensures unchanged { OnErr result (self.new ≡ self.old) }
         ensures findings { OnOk result (AreFindings program.now self.new) }
     {
-        let placed = OperatorIn {
-            at,
-            context: *context,
-        };
-        if let Some(found) = self.kept(&placed) {
-            return Ok(found);
+        if is_cornered(program, at) {
+            self.found_by_corners(program, at, context)
+        } else {
+            self.found_by_place(program, at, context)
         }
-        let found = found_for(program, at, context);
-        self.keep(&placed, &found)?;
-        Ok(found)
     }
 
     /// What `found_in_plan` of this crate tells, by the table: the operator is analysed only where it isn't kept in the context that it has in the plan.
@@ -114,7 +229,7 @@ impl Findings {
         requires place { has at plan.now ≡ true }
         requires findings { AreFindings program.now self.old }
         ensures found { IfOk result (IsFound program.now at plan.now plan.now) }
-        ensures kept { IfOk result (λ s. KeepsInPlan program.now plan.now at s self.old self.new) }
+        ensures kept { OnOk result (KeepsInPlan program.now plan.now at self.old self.new) }
         ensures unchanged { OnErr result (self.new ≡ self.old) }
         ensures findings { OnOk result (AreFindings program.now self.new) }
     {
@@ -134,7 +249,7 @@ impl Findings {
         requires findings { AreFindings program.now self.old }
         ensures found { IfOk result (λ told. IfSome told (λ both. IsFoundAt program.now plan.now at rule both.0 both.1)) }
         ensures none { IfOk result (λ told. IfNone told ((IsPlace program.now plan.now at rule → ⊥) × (self.new ≡ self.old))) }
-        ensures kept { IfOk result (λ told. IfSome told (λ both. KeepsBoth program.now plan.now at rule both.0 both.1 self.old self.new)) }
+        ensures kept { IfOk result (λ told. IfSome told (λ both. KeepsBoth program.now plan.now at rule self.old self.new)) }
         ensures findings { OnOk result (AreFindings program.now self.new) }
     {
         let Some(both) = neighbours(program, plan, at, rule) else {

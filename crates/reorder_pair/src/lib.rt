@@ -11,6 +11,7 @@
 #![tactic(auto)]
 
 pub mod condition_lists;
+mod corners;
 mod exchanges;
 pub mod finding;
 pub mod findings;

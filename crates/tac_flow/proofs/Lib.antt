@@ -35,3 +35,5 @@ pub mod GatheredNotes
 pub mod FoundSets
 pub mod WarmBodies
 pub mod KeysRead
+pub mod SameAtField
+pub mod SharedSets

@@ -6,3 +6,4 @@ pub mod Gathering
 pub mod Views
 pub mod Memos
 pub mod Warm
+pub mod Sharing

@@ -16,9 +16,11 @@ mod noted;
 mod noting;
 mod places;
 mod scopes;
+mod sharing;
 mod sides;
 mod walks;
 mod warm;
 
 pub use analysis::sets;
 pub use found_sets::Sets;
+pub use sharing::{shared_context, takes_numbers};

@@ -7,16 +7,17 @@ ghost use Rattle.tac_flow.specs.Memos.{place, places};
 
 use tac_syntax::{Body, Stmt};
 
-/// How many places there are. The table lies on the stack, at 2 KB a place, and `sets` is to need less than 100 KB of
-/// stack in all. If a function has more loops than this, only the largest have a place.
-pub(crate) const PLACES: usize = 20;
+/// How many places there are. The table lies on the stack, at 2 KB a place, and `pact` is to need less than 192 KB of stack
+/// in all. If a function has more loops than this, only the largest have a place. With 20 places the worst function found
+/// took five times as long.
+pub(crate) const PLACES: usize = 40;
 
 // `least_size` tries multiples of this size.
 const STEP: u32 = 8;
 
-// As many multiples as it takes: a function of 1,000 statements, with loops at most 3 deep, has at most 19 loops of 152
+// As many multiples as it takes: a function of 1,000 statements, with loops at most 3 deep, has at most 37 loops of 80
 // statements.
-const STEPS: u32 = 20;
+const STEPS: u32 = 11;
 
 /// How many statements a loop's body needs for a place, so that there are places enough.
 pub(crate) fn least_size(body: &Body) -> u32 {

@@ -10,6 +10,7 @@ mod calls;
 mod endings;
 mod inputs;
 mod machines;
+mod number_operations;
 mod registers;
 mod runs;
 mod scratches;

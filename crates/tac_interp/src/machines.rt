@@ -1,7 +1,9 @@
 //! The registers of a call, and what each statement of one line does to them.
 
-ghost use Rattle.std.specs.Prelude.{◌≡◌, ◌≤◌, ◌<◌, [], length, OnOk, IfOk};
+ghost use Rattle.std.specs.Prelude.{◌≡◌, ◌≤◌, ◌<◌, [], length, OnOk, IfOk, IfSome};
 ghost use Rattle.pact_record.specs.declared.records.TheConstants.{MAX_FIELDS};
+ghost use Rattle.pact_record.specs.declared.values.Value.TheVariants.{Int};
+ghost use Rattle.pact_record.specs.Operations.{applied2};
 ghost use Rattle.pact_record.specs.Record.{at_field};
 ghost use Rattle.pact_record.specs.Value as values;
 ghost use Rattle.tac_syntax.specs.Limits.{value_registers};
@@ -14,6 +16,7 @@ ghost use Rattle.tac_syntax.specs.Ready.{HasRecord, CanAct};
 ghost use Rattle.tac_interp.specs.Machine.{AreEmitted, HasKeyFields, IsGiven, input_of};
 
 use crate::inputs::Input;
+use crate::number_operations::on_numbers;
 use crate::registers::{Held, RecordRegisters, ValueRegisters};
 use crate::scratches::Parts;
 use pact_bag::Rows;
@@ -44,6 +47,17 @@ impl<'a> Model for Machine<'a> {
     ghost view = { store_of };
 
     ghost invariant = { λ m. IsWide (store_of m) × HasKeyFields m.input × (m.records.lent ≡ record_of m.input) };
+}
+
+// What the operation gives, or None if one of the values or what it gives may be no number.
+#[inline(always)]
+fn number_of_both(op: Op2, first: &Value, second: &Value) -> Option<i64>
+    ensures { IfSome result (λ n. applied2 op first.now second.now ≡ Int n) }
+{
+    match (first, second) {
+        (Value::Int(x), Value::Int(y)) => on_numbers(op, *x, *y),
+        _ => None,
+    }
 }
 
 impl<'a> Machine<'a> {
@@ -255,7 +269,11 @@ impl<'a> Machine<'a> {
         requires { CanAct (code.apply_two to op a b) self.old }
         ensures { OnOk result (self.new ≡ after (code.apply_two to op a b) self.old) }
     {
-        let value = apply2(alloc, op, self.values.get(a), self.values.get(b))?;
+        let (first, second) = (self.values.get(a), self.values.get(b));
+        if let Some(number) = number_of_both(op, first, second) {
+            return self.values.set_number(to, number);
+        }
+        let value = apply2(alloc, op, first, second)?;
         self.values.set(to, value)
     }
 

@@ -92,7 +92,8 @@ impl ValueRegisters {
         }
     }
 
-    fn set_number(&mut self, at: u32, number: i64) -> Result<(), OutOfMemory>
+    /// Sets a register to a number.
+    pub(crate) fn set_number(&mut self, at: u32, number: i64) -> Result<(), OutOfMemory>
         requires { at < value_registers }
         ensures { OnOk result (self.new ≡ slice_set self.old at (Value.Int number)) }
     {

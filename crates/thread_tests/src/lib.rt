@@ -1,9 +1,12 @@
-//! Tests of pipes, gates and runs on threads, over what the libraries make public: what a pipe holds and in which order it gives it, what gates and
-//! flags answer, and that a run on threads gives what the run on one thread and the plain evaluation give.
+//! Tests of pipes, gates, runs on threads and reads on threads, over what the libraries make public: what a pipe holds and in which order it gives it,
+//! what gates and flags answer, that a run on threads gives what the run on one thread and the plain evaluation give, and that a source read in parts has
+//! the rows, or the first bad row, that a read by one thread reports.
 //!
 //! `programs` makes programs and the rows of their sources of texts, and `outcomes` compares what runs gave.
 #![tactic(auto)]
 
+#[cfg(test)]
+mod csv_tests;
 #[cfg(test)]
 mod example_tests;
 #[cfg(test)]

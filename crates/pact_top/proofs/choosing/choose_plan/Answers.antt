@@ -10,6 +10,7 @@ returns c =
       choice = record { listing = c.in_ok-listed.ensures.listing; chosen = p.chosen; plan = p.there };
       plan = p.plan;
       answers = p.answers;
+      known = p.known;
       entry = p.entry;
       layout = p.layout;
     }
