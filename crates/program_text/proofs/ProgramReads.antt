@@ -18,7 +18,7 @@ use Rattle.tac_syntax.specs.Functions.{IsSpelledFunction}
 use Rattle.tac_syntax.specs.Limits.{nesting_limit}
 use Rattle.tac_text.specs.FunctionLines.{SpellsBody, FunctionLine, IsWritable, SpellsFunction, header_words, words_of_function_line, header, inside}
 use Rattle.tac_text.specs.FunctionStates.{OpenData, FunctionState, waiting, reading, whole, MayFollow, after}
-use Rattle.statement_lines.specs.Spelling.{words_of_line}
+use Rattle.tac_text.specs.StatementSpelling.{words_of_line}
 use Rattle.tac_text.proofs.FunctionReads.{LedBy, finished, function_steps, led_step, lines_of_function, words_of_inside, follow_words, function_faults, function_sayings}
 use Rattle.text_lines.specs.declared.line_words.LineWord.{LineWord}
 use Rattle.text_lines.specs.Runs.{Steps, AreSayings, TellsFaults}

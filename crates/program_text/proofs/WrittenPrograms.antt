@@ -9,7 +9,7 @@ use Rattle.tac_syntax.specs.declared.functions.Function.{Function}
 use Rattle.tac_syntax.specs.Code.{nesting}
 use Rattle.tac_syntax.specs.Functions.{IsSpelledFunction}
 use Rattle.tac_syntax.specs.Limits.{nesting_limit}
-use Rattle.tac_text.specs.Spelling.{function_spelling}
+use Rattle.tac_text.specs.FunctionSpelling.{function_spelling}
 use Rattle.tac_text.proofs.WrittenFunctions.{function_written, last_line}
 use Rattle.text_lines.specs.CanonicalLines.{canonical_line, line_spelling}
 use Rattle.text_lines.specs.declared.line_words.LineWord.{LineWord}

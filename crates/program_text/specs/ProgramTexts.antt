@@ -9,9 +9,9 @@ use Rattle.tac_syntax.specs.Code.{nesting}
 use Rattle.tac_syntax.specs.Limits.{nesting_limit}
 use Rattle.tac_text.specs.FunctionFaults.{header_fault}
 use Rattle.tac_text.specs.FunctionLines.{SpellsFunction}
-use Rattle.tac_text.specs.Spelling.{function_spelling}
-use Rattle.statement_lines.specs.StatementFaults.{statement_fault}
-use Rattle.statement_lines.specs.StatementLines.{LinePlace}
+use Rattle.tac_text.specs.FunctionSpelling.{function_spelling}
+use Rattle.tac_text.specs.StatementFaults.{statement_fault}
+use Rattle.tac_text.specs.StatementLines.{LinePlace}
 use Rattle.text_lines.specs.declared.line_words.LineWord.{LineWord}
 use Rattle.text_lines.specs.declared.line_words.LineWord.TheVariants.{Plain as plain_word, Literal as literal_word}
 use Rattle.text_lines.specs.CanonicalLines.{line_spelling}

@@ -13,10 +13,9 @@ ghost use Rattle.tac_syntax.specs.Limits.{nesting_limit};
 ghost use Rattle.text_lines.specs.TextLines.{lines_of};
 
 use pact_record::{Bytes, Columns, OutOfMemory, Word};
-use statement_lines::{Words, put_line};
 use std::alloc::Global;
 use tac_syntax::{Decl, Draft, Function, Numbers, OpKind, functions_of};
-use tac_text::write_function;
+use tac_text::{Words, put_line, write_function};
 
 fn and_numbers(alloc: Global, mut words: Words, numbers: &Numbers) -> Result<Words, OutOfMemory>
     ensures { IfOk result (λ all. all ≡ words ++ map word_text (number_words numbers.now)) }

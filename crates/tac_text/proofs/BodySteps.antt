@@ -7,7 +7,7 @@ use Rattle.tac_syntax.specs.Limits.{nesting_limit}
 use Rattle.tac_text.specs.declared.building.Block.{Block}
 use Rattle.tac_text.specs.Places.{Build, with_statement, built, IsBuilt, lists_in, MayInside, built_or, built_on, opening, before_block, FitsBody, FitsFirst, FitsBuild, BeginsBlock, Front}
 use Rattle.tac_syntax.specs.Grammar.{IsSpelled, IsSpelledLine, IsSpelledSimple}
-use Rattle.statement_lines.specs.StatementLines.{MayStandSimple}
+use Rattle.tac_text.specs.StatementLines.{MayStandSimple}
 use Rattle.tac_syntax.specs.FieldRegisters.{Takes, TakesSimple}
 use Rattle.tac_syntax.proofs.Bodies.{nesting-joined}
 use Rattle.text_lines.specs.Runs.{Steps}

@@ -16,12 +16,12 @@ use Rattle.tac_text.specs.FunctionLines.{SpellsBody, FunctionLine, header, insid
 use Rattle.tac_text.specs.Places.{Build, build_start, lists_in, IsInside, MayInside, built_on, place_of, FitsBuild, Front}
 use Rattle.tac_text.specs.FunctionStates.{OpenData, begun, function_of, with_build, TakesWords, FunctionState, waiting, reading, whole, MayFollow, after_inside, after, place_at, Leads, LeadsOn, IsFunctionFault, GivesFunction, state_of, LeadsLine}
 use Rattle.tac_text.specs.FunctionFaults.{ended_fault, function_fault, function_missing}
-use Rattle.statement_lines.specs.StatementLines.{MayStand}
-use Rattle.statement_lines.specs.Spelling.{words_of_line}
+use Rattle.tac_text.specs.StatementLines.{MayStand}
+use Rattle.tac_text.specs.StatementSpelling.{words_of_line}
 use Rattle.tac_text.proofs.BodySteps.{body_steps, front_step, front_whole, ends, build}
-use Rattle.statement_lines.proofs.FaultlessWords.{line_of_words}
+use Rattle.tac_text.proofs.FaultlessWords.{line_of_words}
 use Rattle.tac_text.proofs.HeaderWords.{header_fault-header_words, header_of_words, one_header, AreFine-header_words}
-use Rattle.statement_lines.proofs.StatementWords.{IsSpelledLine-MayStand, statement_fault-words_of_line, words_of_line-some, words_of_one_line, AreFine-words_of_line}
+use Rattle.tac_text.proofs.StatementWords.{IsSpelledLine-MayStand, statement_fault-words_of_line, words_of_line-some, words_of_one_line, AreFine-words_of_line}
 use Rattle.text_lines.proofs.CanonicalLines.{AreLineWords-fine}
 use Rattle.text_lines.proofs.Faultless.{some_length}
 use Rattle.text_lines.specs.TextLines.{HasWords, lines_of, trimmed}

@@ -1,3 +1,5 @@
+pub mod FaultlessWords
+pub mod StatementWords
 pub mod FunctionReads
 pub mod HeaderWords
 pub mod BodySteps

@@ -5,7 +5,7 @@ use Rattle.tac_syntax.specs.Code.{Code, stop, simple, test, turns, over, close, 
 use Rattle.tac_syntax.specs.Coding.{is_stop}
 use Rattle.tac_syntax.specs.declared.statements.Stmt.{Stmt}
 use Rattle.tac_syntax.specs.Trees.{Statement, one_line, choice, turning, going_through, onto, statement_of, code_of, only}
-use Rattle.tac_text.specs.Spelling.{at_depth, body_text, other_text, function_spelling}
+use Rattle.tac_text.specs.FunctionSpelling.{at_depth, body_text, other_text, function_spelling}
 use Rattle.std.proofs.Math.Seq.{drop-append_seam}
 use Rattle.tac_syntax.specs.declared.functions.Function.{Function}
 use Rattle.tac_syntax.specs.FieldRegisters.{Takes}
@@ -16,8 +16,8 @@ use Rattle.text_lines.specs.CanonicalLines.{canonical_line, line_spelling, line_
 use Rattle.text_lines.specs.declared.line_words.LineWord.{LineWord}
 use Rattle.text_lines.specs.TextLines.{lines_of}
 use Rattle.text_lines.proofs.CanonicalLines.{AreLineWords-fine, HasWords-canonical_line, IsWritten, IsWritten-append, line_written, nothing_written}
-use Rattle.statement_lines.specs.Spelling.{words_of_line}
-use Rattle.statement_lines.proofs.StatementWords.{words_of_line-some, AreFine-words_of_line}
+use Rattle.tac_text.specs.StatementSpelling.{words_of_line}
+use Rattle.tac_text.proofs.StatementWords.{words_of_line-some, AreFine-words_of_line}
 use Rattle.tac_text.specs.FunctionLines.{SpellsBody, header_words, FunctionText, SpellsFunction, FunctionAt}
 use Rattle.tac_text.proofs.HeaderWords.{AreFine-header_words}
 

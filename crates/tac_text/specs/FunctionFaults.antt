@@ -5,11 +5,11 @@ use Rattle.tac_syntax.specs.declared.functions.Kind.TheVariants.{Map, Match, Cro
 use Rattle.tac_syntax.specs.Functions.{key_limit}
 use Rattle.text_lines.specs.declared.line_words.LineWord.{LineWord}
 use Rattle.text_lines.specs.declared.line_words.LineWord.TheVariants.{Plain as plain_word, Literal as literal_word}
-use Rattle.statement_lines.specs.StatementFaults.{statement_fault}
+use Rattle.tac_text.specs.StatementFaults.{statement_fault}
 use Rattle.text_lines.specs.OperandWords.{named_in}
 use Rattle.tac_text.specs.FunctionLines.{kind_word}
 use Rattle.text_lines.specs.Slots.{Slot, identifier, number, fault_then, first_fault}
-use Rattle.statement_lines.specs.StatementLines.{LinePlace}
+use Rattle.tac_text.specs.StatementLines.{LinePlace}
 
 -- before the header, inside the function, and behind its `end`
 pub data FunctionPlace : Type 0 where

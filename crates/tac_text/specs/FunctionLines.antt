@@ -11,7 +11,7 @@ use Rattle.tac_syntax.specs.FieldRegisters.{Takes}
 use Rattle.text_lines.specs.declared.line_words.LineWord.{LineWord}
 use Rattle.text_lines.specs.declared.line_words.LineWord.TheVariants.{Plain as plain_word}
 use Rattle.text_lines.specs.TextLines.{HasWords, Say, lines_of}
-use Rattle.statement_lines.specs.Spelling.{words_of_line}
+use Rattle.tac_text.specs.StatementSpelling.{words_of_line}
 
 -- ---- bodies
 

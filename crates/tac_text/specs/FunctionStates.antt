@@ -10,7 +10,7 @@ use Rattle.tac_text.specs.BuildCode.{coded_build}
 use Rattle.tac_text.specs.Places.{Build, build_start, MayInside, built_on, place_of}
 use Rattle.text_lines.specs.declared.faults.NotRead.{NotRead}
 use Rattle.text_lines.specs.declared.faults.NotRead.TheVariants.{Fault, Memory}
-use Rattle.statement_lines.specs.Spelling.{words_of_line}
+use Rattle.tac_text.specs.StatementSpelling.{words_of_line}
 use Rattle.tac_syntax.specs.Functions.{HasKeys}
 use Rattle.text_lines.specs.declared.line_words.LineWord.TheVariants.{Plain as plain_word}
 use Rattle.text_lines.specs.LineReading.{Gives, IsFaultOf}
@@ -21,7 +21,7 @@ use Rattle.tac_text.specs.FunctionLines.{IsHeader, header_words, key_words, kind
 use Rattle.text_lines.specs.Runs.{Runs}
 use Rattle.text_lines.specs.TextLines.{HasWords}
 use Rattle.tac_text.specs.declared.building.Block.{Block}
-use Rattle.statement_lines.specs.StatementLines.{MayStand}
+use Rattle.tac_text.specs.StatementLines.{MayStand}
 use Rattle.text_lines.specs.FirstFaults.{TellsFirst}
 use Rattle.text_lines.specs.declared.lines.TextFault.{TextFault}
 use Rattle.text_lines.specs.declared.lines.TextFault.TheVariants.{At, Memory as NoMemory}

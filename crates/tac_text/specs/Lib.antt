@@ -1,4 +1,8 @@
-pub mod Spelling
+pub mod StatementSpelling
+pub mod StatementLines
+pub mod StatementFaults
+pub mod StatementAnswers
+pub mod FunctionSpelling
 pub mod BuildCode
 pub mod Places
 pub mod FunctionFaults

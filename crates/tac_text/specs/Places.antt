@@ -7,7 +7,7 @@ use Rattle.tac_text.specs.declared.building.Block.TheVariants.{If, Else, Repeat,
 use Rattle.tac_syntax.specs.Grammar.{IsSpelled, IsSpelledLine}
 use Rattle.tac_syntax.specs.FieldRegisters.{Takes}
 use Rattle.tac_text.specs.FunctionLines.{SpellsBody}
-use Rattle.statement_lines.specs.StatementLines.{LinePlace, MayStand}
+use Rattle.tac_text.specs.StatementLines.{LinePlace, MayStand}
 
 -- the blocks that are open, the innermost first, and the innermost body as far as it was read
 pub record Build : Type 0 where

@@ -6,10 +6,10 @@ ghost use Rattle.tac_syntax.specs.Code.{Line, stop, otherwise, close};
 ghost use Rattle.tac_syntax.specs.Trees.{only};
 ghost use Rattle.tac_text.specs.Places.{IsBuilt, build_start, built, closed, finished, with_statement, lists_in, may_part, place_of};
 ghost use Rattle.tac_syntax.specs.Limits.{nesting_limit};
-ghost use Rattle.statement_lines.specs.StatementAnswers.{said};
+ghost use Rattle.tac_text.specs.StatementAnswers.{said};
 
+use crate::lines::{BodyLine, Place};
 use pact_record::OutOfMemory;
-use statement_lines::{BodyLine, Place};
 use std::alloc::Global;
 use std::marker::Model;
 use std::mem;

@@ -3,15 +3,16 @@
 ghost use Rattle.std.specs.Prelude.{◌≡◌, ◌≤◌, ◌+◌, ◌++◌, OnOk, ℕ, IfOk, List, false, true, length, map};
 ghost use Rattle.tac_syntax.specs.Code.{nesting};
 ghost use Rattle.tac_syntax.specs.Trees.{only};
-ghost use Rattle.tac_text.specs.Spelling.{body_text, deepest, function_spelling};
+ghost use Rattle.tac_text.specs.FunctionSpelling.{body_text, deepest, function_spelling};
 ghost use Rattle.tac_syntax.specs.FieldRegisters.{Takes};
 ghost use Rattle.tac_syntax.specs.Functions.{IsSpelledFunction};
 ghost use Rattle.tac_text.specs.FunctionLines.{FunctionAt, header_words};
 ghost use Rattle.text_lines.specs.CanonicalLines.{word_text};
 
 use crate::kind_words::kind_name;
+use crate::statement_writing::{first_words, put_line, put_word};
+use crate::words::Words;
 use pact_record::{Bytes, OutOfMemory};
-use statement_lines::{Words, first_words, put_line, put_word};
 use std::alloc::Global;
 use tac_syntax::{Body, Function, Kind, Stmt};
 

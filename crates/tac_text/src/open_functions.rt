@@ -10,14 +10,15 @@ ghost use Rattle.tac_text.specs.Places.{build_start, built_on, IsInside, MayInsi
 ghost use Rattle.tac_text.specs.FunctionStates.{begun, function_of, GivesHeader, IsUnchanged, TakesWords, with_build};
 ghost use Rattle.tac_text.specs.FunctionFaults.{header_fault};
 ghost use Rattle.tac_text.specs.FunctionLines.{header_words, IsHeader, IsWritable};
-ghost use Rattle.statement_lines.specs.StatementAnswers.{said};
+ghost use Rattle.tac_text.specs.StatementAnswers.{said};
 ghost use Rattle.text_lines.specs.LineReading.{IsFaultOf, TellsFault, TellsNoFault};
-ghost use Rattle.statement_lines.specs.StatementFaults.{statement_fault};
+ghost use Rattle.tac_text.specs.StatementFaults.{statement_fault};
 
 use crate::building::Builder;
 use crate::headers::read_parts;
+use crate::lines::BodyLine;
+use crate::statement_reading::read_statement;
 use pact_record::{OutOfMemory, Word};
-use statement_lines::{BodyLine, read_statement};
 use std::alloc::Global;
 use std::marker::Model;
 use tac_syntax::{Function, Kind};

@@ -4,7 +4,7 @@ use Rattle.tac_syntax.specs.Code.{nesting}
 use Rattle.tac_syntax.specs.Coding.{tall}
 use Rattle.tac_syntax.specs.Trees.{only}
 use Rattle.tac_syntax.proofs.Bodies.{tall-only-le, nesting-only-le}
-use Rattle.tac_text.specs.Spelling.{deepest}
+use Rattle.tac_text.specs.FunctionSpelling.{deepest}
 use Rattle.tac_text.proofs.WrittenFunctions.{written_more}
 use Rattle.tac_text.proofs.function_writing.+write.Goals as goal
 

@@ -1,7 +1,7 @@
 use Rattle.std.proofs.Common.{◌≡◌, ◌++◌, ◌+◌, ◌*◌, drop}
 use Rattle.tac_syntax.specs.Coding.{tall}
 use Rattle.tac_syntax.specs.Trees.{code_of, only}
-use Rattle.tac_text.specs.Spelling.{body_text}
+use Rattle.tac_text.specs.FunctionSpelling.{body_text}
 use Rattle.tac_text.proofs.function_writing.+write.Given as goal
 
 abbrev pub decreases-write_lines : goal.decreases-write_lines

@@ -18,10 +18,10 @@ use Rattle.text_lines.specs.Slots.{Slot, fixed, register, operand, number, which
 use Rattle.text_lines.specs.Digits.{or_else}
 use Rattle.text_lines.proofs.Faultless.{by_cases, by_cases_of, named, or_else-none, same_word, is_plain-same}
 use Rattle.text_lines.proofs.FilledSlots.{AllFit, AreUsual, Values, filled_line, words_then}
-use Rattle.statement_lines.specs.Spelling.{assigned, op1_word, op2_word, words_of_line}
-use Rattle.statement_lines.specs.StatementLines.{LinePlace, MayStand, MayStandSimple}
-use Rattle.statement_lines.specs.StatementFaults.{is_target, Wanted, wanted_by, form_fault, is_op1, is_op2, target_alone, assignment_fault, block_fault, word_fault, statement_fault}
-use Rattle.statement_lines.specs.declared.operation_words.TheConstants.{OPS1, OPS2}
+use Rattle.tac_text.specs.StatementSpelling.{assigned, op1_word, op2_word, words_of_line}
+use Rattle.tac_text.specs.StatementLines.{LinePlace, MayStand, MayStandSimple}
+use Rattle.tac_text.specs.StatementFaults.{is_target, Wanted, wanted_by, form_fault, is_op1, is_op2, target_alone, assignment_fault, block_fault, word_fault, statement_fault}
+use Rattle.tac_text.specs.declared.operation_words.TheConstants.{OPS1, OPS2}
 
 -- the line whose words these are, which may stand
 abbrev pub LineFor : LinePlace → List LineWord → Type 0

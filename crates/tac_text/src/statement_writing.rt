@@ -5,7 +5,7 @@ ghost use Rattle.text_lines.specs.CanonicalLines.{line_text, escaped, literal};
 ghost use Rattle.std.specs.Fmt.{decimal};
 ghost use Rattle.tac_syntax.specs.Trees.{first_line};
 ghost use Rattle.text_lines.specs.OperandWords.{list_word};
-ghost use Rattle.statement_lines.specs.Spelling.{line_words};
+ghost use Rattle.tac_text.specs.StatementSpelling.{line_words};
 
 use crate::operation_words::{op1_name, op2_name};
 use crate::words::Words;

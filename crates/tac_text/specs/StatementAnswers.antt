@@ -2,16 +2,16 @@
 use Rattle.std.specs.Prelude.{Bool, Option, Some, None, ◌≡◌, ℕ, List, ◌∷◌, Result, Ok, Err, codes}
 use Rattle.tac_syntax.specs.Code.{Line, simple, test, turns, over, otherwise, close}
 use Rattle.tac_syntax.specs.Trees.{Statement, one_line, statement_of}
-use Rattle.statement_lines.specs.declared.lines.BodyLine.{BodyLine}
-use Rattle.statement_lines.specs.declared.lines.BodyLine.TheVariants.{Plain, If, Repeat, Each, Else, End}
+use Rattle.tac_text.specs.declared.lines.BodyLine.{BodyLine}
+use Rattle.tac_text.specs.declared.lines.BodyLine.TheVariants.{Plain, If, Repeat, Each, Else, End}
 use Rattle.tac_syntax.specs.declared.statements.Stmt.{Stmt}
 use Rattle.text_lines.specs.declared.line_words.LineWord.{LineWord}
 use Rattle.text_lines.specs.declared.line_words.LineWord.TheVariants.{Plain as plain_word}
 use Rattle.text_lines.specs.LineReading.{Gives, IsFaultOf}
 use Rattle.text_lines.specs.declared.faults.NotRead.{NotRead}
-use Rattle.statement_lines.specs.StatementFaults.{wanted_by, form_fault, assignment_fault, statement_fault}
-use Rattle.statement_lines.specs.StatementLines.{LinePlace, MayStand, MayStandSimple}
-use Rattle.statement_lines.specs.Spelling.{words_of_simple, words_of_line}
+use Rattle.tac_text.specs.StatementFaults.{wanted_by, form_fault, assignment_fault, statement_fault}
+use Rattle.tac_text.specs.StatementLines.{LinePlace, MayStand, MayStandSimple}
+use Rattle.tac_text.specs.StatementSpelling.{words_of_simple, words_of_line}
 
 -- ---- what a line says
 

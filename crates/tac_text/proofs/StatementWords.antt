@@ -4,7 +4,7 @@ use Rattle.pact_record.specs.declared.operations.Op1.{Op1}
 use Rattle.pact_record.specs.declared.operations.Op1.TheVariants.{Not, IsNull, Len}
 use Rattle.pact_record.specs.declared.operations.Op2.{Op2}
 use Rattle.pact_record.specs.declared.operations.Op2.TheVariants.{Add, Sub, Mul, Div, Rem, AddW, Min, Max, Lt, Le, Eq, And, Or, Cat}
-use Rattle.statement_lines.specs.declared.operation_words.TheConstants.{OPS1, OPS2}
+use Rattle.tac_text.specs.declared.operation_words.TheConstants.{OPS1, OPS2}
 use Rattle.std.proofs.Common.{◌≡◌, ◌<◌, ◌^◌, ◌==◌, inr, inl, ℕ, suc, Bool, ℤ, pos, negsuc, neg_ℤ, if◌then◌else◌, Option, None, unwrap_or, FitsSigned, List, [], ◌∷◌, ◌++◌, map, length, drop, get_or, nat_lt, codes, bytes_eq, decimal, refl, ap, ◌∙◌, arith, w64, ◌≢◌, ◌+◌, true, false, Some, Result, Ok, Err, sym, subst}
 use Rattle.std.specs.Fmt.{signed_decimal}
 use Rattle.std.specs.Str.Parse.{AllDigits}
@@ -21,16 +21,16 @@ use Rattle.text_lines.specs.declared.operands.FieldWord.TheVariants.{Number as b
 use Rattle.text_lines.specs.OperandWords.{fixed_record, list_word, named_in, record_word, value_register, record_register}
 use Rattle.text_lines.proofs.DigitWords.{number_back, number_in, number_in-decimal, are_digits-decimal, is_in_range-decimal, is_signed_word-signed_decimal}
 use Rattle.text_lines.proofs.FilledSlots.{bytes_eq-decimal, no_digit_at, field_fault-field_text, digit_other, register_fault-letter, number_fits, operand_fault-record_word, is_list_word-list_word, name_fault-loop_name, fine_slot}
-use Rattle.statement_lines.specs.Spelling.{op1_word, op2_word, words_of_line}
+use Rattle.tac_text.specs.StatementSpelling.{op1_word, op2_word, words_of_line}
 use Rattle.std.proofs.lemmas.Bool.{lt-ltb}
 use Rattle.tac_syntax.specs.Limits.{nesting_limit}
-use Rattle.statement_lines.specs.StatementLines.{LinePlace, MayStand, MayStandSimple}
+use Rattle.tac_text.specs.StatementLines.{LinePlace, MayStand, MayStandSimple}
 use Rattle.text_lines.specs.LineReading.{TellsFault}
 use Rattle.text_lines.specs.declared.faults.NotRead.{NotRead}
 use Rattle.text_lines.specs.declared.faults.NotRead.TheVariants.{Fault, Memory}
-use Rattle.statement_lines.specs.declared.lines.BodyLine.{BodyLine}
-use Rattle.statement_lines.specs.StatementAnswers.{said, GivesLine, IsLineAt, ReadsLine}
-use Rattle.statement_lines.specs.StatementFaults.{is_target, to_value, wanted_by, statement_fault}
+use Rattle.tac_text.specs.declared.lines.BodyLine.{BodyLine}
+use Rattle.tac_text.specs.StatementAnswers.{said, GivesLine, IsLineAt, ReadsLine}
+use Rattle.tac_text.specs.StatementFaults.{is_target, to_value, wanted_by, statement_fault}
 use Rattle.text_lines.specs.Slots.{begins_with, which_field, register, name_fault, register_fault, list as list_slot, loop, number, operand, signed}
 use Rattle.text_lines.proofs.CanonicalLines.{AreFine, IsFine}
 

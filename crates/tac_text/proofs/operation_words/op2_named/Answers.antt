@@ -1,9 +1,9 @@
 use Rattle.std.proofs.Common.{bytes_eq, ap, sym, ◌∙◌}
 use Rattle.pact_record.specs.declared.operations.Op2.TheVariants.{Add}
 use Rattle.text_lines.proofs.Faultless.{named_in-next}
-use Rattle.statement_lines.specs.Spelling.{op2_word}
-use Rattle.statement_lines.specs.declared.operation_words.TheConstants.{OPS2}
-use Rattle.statement_lines.proofs.operation_words.op2_named.Goals as goal
+use Rattle.tac_text.specs.StatementSpelling.{op2_word}
+use Rattle.tac_text.specs.declared.operation_words.TheConstants.{OPS2}
+use Rattle.tac_text.proofs.operation_words.op2_named.Goals as goal
 
 pub loop-op-preserved : goal.loop-op-preserved
 loop-op-preserved c =

@@ -7,8 +7,8 @@ use Rattle.text_lines.specs.declared.line_words.LineWord.{LineWord}
 use Rattle.text_lines.specs.declared.line_words.LineWord.TheVariants.{Plain as plain_word, Literal as literal_word}
 use Rattle.text_lines.specs.Digits.{is_in_form, or_else}
 use Rattle.text_lines.specs.OperandWords.{named_in}
-use Rattle.statement_lines.specs.Spelling.{op1_word, op2_word}
-use Rattle.statement_lines.specs.StatementLines.{LinePlace}
+use Rattle.tac_text.specs.StatementSpelling.{op1_word, op2_word}
+use Rattle.tac_text.specs.StatementLines.{LinePlace}
 use Rattle.text_lines.specs.LineGrammar.{is_plain}
 use Rattle.text_lines.specs.Slots.{Slot, fixed, register, operand, number, which_field, signed, text, loop, list, numbered_fault, register_fault, first_fault}
 

@@ -4,7 +4,7 @@ use Rattle.tac_syntax.specs.Code.{Code, stop, plain, branch, again, each, Line, 
 use Rattle.tac_syntax.specs.Coding.{is_stop}
 use Rattle.tac_syntax.specs.declared.functions.Function.{Function}
 use Rattle.text_lines.specs.CanonicalLines.{line_spelling}
-use Rattle.statement_lines.specs.Spelling.{words_of_line}
+use Rattle.tac_text.specs.StatementSpelling.{words_of_line}
 use Rattle.tac_text.specs.FunctionLines.{header_words}
 
 -- ---- bodies

@@ -1,5 +1,5 @@
-use Rattle.statement_lines.proofs.StatementWords.{GivesLine-read, TellsFault-read}
-use Rattle.statement_lines.proofs.statement_reading.read_statement.Goals as goal
+use Rattle.tac_text.proofs.StatementWords.{GivesLine-read, TellsFault-read}
+use Rattle.tac_text.proofs.statement_reading.read_statement.Goals as goal
 
 pub returns-clause-line_always : goal.returns-clause-line_always
 returns-clause-line_always c = GivesLine-read c.args.place c.read_line.result c.args.words.now c.read_line.ensures

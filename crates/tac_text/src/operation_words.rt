@@ -1,8 +1,8 @@
 //! The words of operations, for reading and for writing.
 
 ghost use Rattle.std.specs.Prelude.{◌≡◌, IfNone, IfSome, false};
-ghost use Rattle.statement_lines.specs.Spelling.{op1_word, op2_word};
-ghost use Rattle.statement_lines.specs.StatementFaults.{is_op1, is_op2};
+ghost use Rattle.tac_text.specs.StatementSpelling.{op1_word, op2_word};
+ghost use Rattle.tac_text.specs.StatementFaults.{is_op1, is_op2};
 
 use pact_record::{Op1, Op2};
 use text_lines::is_word;

@@ -9,10 +9,10 @@ ghost use Rattle.text_lines.specs.Digits.{or_else};
 ghost use Rattle.text_lines.specs.declared.line_words.LineWord.TheVariants.{Plain as plain_word};
 ghost use Rattle.text_lines.specs.LineReading.{IsFaultOf, TellsFault, TellsNoFault};
 ghost use Rattle.text_lines.specs.declared.faults.NotRead.TheVariants.{Fault};
-ghost use Rattle.statement_lines.specs.StatementAnswers.{said, GivesLine, ReadsAssignment, ReadsForm, ReadsLine};
-ghost use Rattle.statement_lines.specs.Spelling.{op1_word, op2_word, words_of_line};
-ghost use Rattle.statement_lines.specs.StatementFaults.{is_target, statement_fault, target_alone};
-ghost use Rattle.statement_lines.specs.StatementLines.{LinePlace, MayStand};
+ghost use Rattle.tac_text.specs.StatementAnswers.{said, GivesLine, ReadsAssignment, ReadsForm, ReadsLine};
+ghost use Rattle.tac_text.specs.StatementSpelling.{op1_word, op2_word, words_of_line};
+ghost use Rattle.tac_text.specs.StatementFaults.{is_target, statement_fault, target_alone};
+ghost use Rattle.tac_text.specs.StatementLines.{LinePlace, MayStand};
 
 use crate::lines::{BodyLine, Place};
 use crate::operation_words::{op1_named, op2_named};

@@ -31,7 +31,7 @@ pub struct Place {
 }
 
 impl Model for Place {
-    ghost use Rattle.statement_lines.specs.StatementLines.{LinePlace};
+    ghost use Rattle.tac_text.specs.StatementLines.{LinePlace};
 
     ghost Value = { LinePlace };
 

@@ -1,2 +1,0 @@
-pub mod FaultlessWords
-pub mod StatementWords

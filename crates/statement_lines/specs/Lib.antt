@@ -1,4 +1,0 @@
-pub mod Spelling
-pub mod StatementLines
-pub mod StatementFaults
-pub mod StatementAnswers
