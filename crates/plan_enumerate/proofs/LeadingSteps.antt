@@ -8,7 +8,7 @@ use Rattle.reorder_pair.specs.declared.legality.Condition.{Condition}
 use Rattle.plan_enumerate.specs.declared.entries.Entry.{Entry}
 use Rattle.plan_enumerate.specs.Listing.{AreEntries, Grows, IsAt, begins, first_entry, goes_on}
 use Rattle.reorder_pair.specs.ToldExchanges.{IsLegalIn, Lead, after}
-use Rattle.reorder_unique.proofs.PlansInReach.{lead_on}
+use Rattle.reorder_group.proofs.PlansInReach.{lead_on}
 use Rattle.plan_enumerate.specs.Steps.{AreStepsTo, behind, none}
 use Rattle.plan_enumerate.proofs.LongerLists.{IsAt-entry, IsAt-one_more, old_or_last_entry}
 

@@ -15,8 +15,8 @@ use crate::entries::{Entries, Entry};
 use crate::listings::Listed;
 use pact_operators::{MAX_NODES, Plan, Program};
 use pact_record::OutOfMemory;
+use reorder_group::{apply, legal_for, other_is_unique};
 use reorder_pair::{Condition, Findings, Rule, kind_of};
-use reorder_unique::{apply, legal_for, other_is_unique};
 use std::alloc::Global;
 
 // Whether an operator may be the upper one of an exchange by the rule. This is asked first, since what is found at a place takes the plan apart.

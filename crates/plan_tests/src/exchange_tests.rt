@@ -7,8 +7,8 @@ ghost use Rattle.reorder_pair.specs.Rules.{IsPairRule};
 
 use crate::programs::program;
 use pact_operators::{Plan, Program};
+use reorder_group::{apply, legal};
 use reorder_pair::{Rule, apply_pair, legal_pair};
-use reorder_unique::{apply, legal};
 use std::test::Fail;
 
 // The number of `h` is 4, and that of `g` 3.

@@ -13,7 +13,7 @@ use pact_record::Fields;
 use reorder_pair::{Found, NotLegal, Rule};
 
 // The key fields of an operator on the left.
-fn left_keys_of(program: &Program, at: u32) -> Fields
+fn left_key_fields(program: &Program, at: u32) -> Fields
     ensures { (k : ℕ) → has_field result k ≡ is_listed (left_keys_in (slice_get program.now.ops at)) k }
 {
     match program.ops().get(at as usize) {
@@ -23,7 +23,7 @@ fn left_keys_of(program: &Program, at: u32) -> Fields
 }
 
 // Those on the right.
-fn right_keys_of(program: &Program, at: u32) -> Fields
+fn right_key_fields(program: &Program, at: u32) -> Fields
     ensures { (k : ℕ) → has_field result k ≡ is_listed (right_keys_in (slice_get program.now.ops at)) k }
 {
     match program.ops().get(at as usize) {
@@ -44,7 +44,7 @@ fn keeps_left_groups(program: &Program, mover: &Found, at: u32) -> Result<(), No
     ensures passes { IfOk result (λ x. Passes (keeps_groups_of (uses_of mover.now) (left_keys_in (slice_get program.now.ops at)))) }
     ensures fails { IfErr result (Fails (keeps_groups_of (uses_of mover.now) (left_keys_in (slice_get program.now.ops at)))) }
 {
-    if keeps_groups(mover, left_keys_of(program, at)) {
+    if keeps_groups(mover, left_key_fields(program, at)) {
         Ok(())
     } else {
         Err(NotLegal::KeyGroup)
@@ -56,7 +56,7 @@ fn keeps_right_groups(program: &Program, mover: &Found, at: u32) -> Result<(), N
     ensures passes { IfOk result (λ x. Passes (keeps_groups_of (uses_of mover.now) (right_keys_in (slice_get program.now.ops at)))) }
     ensures fails { IfErr result (Fails (keeps_groups_of (uses_of mover.now) (right_keys_in (slice_get program.now.ops at)))) }
 {
-    if keeps_groups(mover, right_keys_of(program, at)) {
+    if keeps_groups(mover, right_key_fields(program, at)) {
         Ok(())
     } else {
         Err(NotLegal::KeyGroup)

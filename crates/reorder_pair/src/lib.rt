@@ -2,8 +2,8 @@
 //!
 //! A legal exchange keeps what the plan allows over every input. `specs/Rules` has the rules, `specs/Conditions` what is asked of the two
 //! operators, in the order in which a refusal is told, and `specs/Legal` when an exchange is legal. All of it is said of every
-//! rule; `legal_pair` and `apply_pair` serve those in which no group is made. They, `reorder_group` and `reorder_unique` stand on
-//! `legal_but_for_groups` and `swapped_plan`.
+//! rule; `legal_pair` and `apply_pair` serve those in which no group is made, and `reorder_group` has the calls for every rule.
+//! All of them call `legal_but_for_groups` and `swapped_plan`.
 //!
 //! `neighbours` tells the two operators of an exchange with their contexts, `found_for` what is found of an operator in a context, and `found` both in
 //! one, for a caller that keeps no findings. `Findings` keeps them, for a caller that meets the same operators again. `found_in_plan` tells what is

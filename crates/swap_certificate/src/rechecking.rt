@@ -14,8 +14,8 @@ ghost use Rattle.swap_certificate.specs.declared.certificates.CertFault.TheVaria
 use crate::certificates::{CertFault, Certificate, Step};
 use crate::names::{operator_named, plan_line};
 use pact_operators::{Plan, Program};
+use reorder_group::{apply, legal_for, other_is_unique};
 use reorder_pair::{Findings, Found, Rule};
-use reorder_unique::{apply, legal_for, other_is_unique};
 use std::alloc::Global;
 
 // Whether a step states what is found.

@@ -1,4 +1,4 @@
-use Rattle.reorder_unique.proofs.PlansInReach.{reached-IsPlanOf, reached-KeepAnswers}
+use Rattle.reorder_group.proofs.PlansInReach.{reached-IsPlanOf, reached-KeepAnswers}
 use Rattle.plan_enumerate.proofs.OneListing.{listing_is_one}
 use Rattle.plan_enumerate.proofs.ReachedPlans.{complete-Reach, incomplete-IsOpen, listed-Reach}
 use Rattle.plan_enumerate.proofs.analysing.enumerate_and_analyse.Goals as goal

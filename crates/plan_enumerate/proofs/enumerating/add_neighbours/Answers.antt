@@ -1,6 +1,6 @@
 use Rattle.std.proofs.Common.{◌≡◌, subst, arith}
 use Rattle.plan_trees.specs.Plans.{node_limit}
-use Rattle.reorder_unique.proofs.PlansInReach.{reached-IsPlanOf}
+use Rattle.reorder_group.proofs.PlansInReach.{reached-IsPlanOf}
 use Rattle.plan_enumerate.specs.Walks.{IsWalked}
 use Rattle.plan_enumerate.proofs.LongerLists.{IsAt-within}
 use Rattle.plan_enumerate.proofs.PastExchanges.{past_operators, small_operators}

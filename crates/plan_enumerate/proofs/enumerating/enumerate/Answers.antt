@@ -1,5 +1,5 @@
 use Rattle.std.proofs.lemmas.Result.{IfOk-weaker}
-use Rattle.reorder_unique.proofs.PlansInReach.{reached-IsPlanOf, reached-KeepAnswers}
+use Rattle.reorder_group.proofs.PlansInReach.{reached-IsPlanOf, reached-KeepAnswers}
 use Rattle.plan_enumerate.proofs.OneListing.{listing_is_one}
 use Rattle.plan_enumerate.proofs.ReachedPlans.{complete-Reach, incomplete-IsOpen, listed-Reach}
 use Rattle.plan_enumerate.proofs.enumerating.enumerate.Goals as goal

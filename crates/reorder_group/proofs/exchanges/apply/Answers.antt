@@ -9,7 +9,7 @@ use Rattle.reorder_group.proofs.exchanges.apply.Goals as goal
 pub returns-clause-answers : goal.returns-clause-answers
 returns-clause-answers c =
     let a = c.args in
-    subst (λ (t : PlanTree). KeepAnswers a.program.now a.plan.now t) (sym c.swapped_plan.ensures) (legal-KeepAnswers a.program.now c.fields-fields.ensures.keeps a.plan.now c.requires.plan a.at a.rule c.requires.rule c.requires.legal)
+    subst (λ (t : PlanTree). KeepAnswers a.program.now a.plan.now t) (sym c.swapped_plan.ensures) (legal-KeepAnswers a.program.now c.fields-fields.ensures.keeps a.plan.now c.requires.plan a.at a.rule c.requires.legal)
 
 pub returns-clause-plan : goal.returns-clause-plan
 returns-clause-plan c =

@@ -1,7 +1,7 @@
 use Rattle.std.proofs.Common.{List, Ok, Err, true≢false, sym, ap, subst, ◌∙◌}
 use Rattle.pact_operators.specs.declared.operators.Op.{Op}
 use Rattle.reorder_pair.specs.FindingTable.{AreFindings}
-use Rattle.reorder_unique.proofs.PlansInReach.{reached-IsPlanOf}
+use Rattle.reorder_group.proofs.PlansInReach.{reached-IsPlanOf}
 use Rattle.swap_certificate.specs.declared.certificates.CertFault.TheVariants.{C5}
 use Rattle.swap_certificate.specs.Checks.{same_line}
 use Rattle.swap_certificate.specs.PlanLines.{line_of}

@@ -3,7 +3,7 @@ use Rattle.std.proofs.lemmas.Result.{IfOk-weaker}
 use Rattle.pact_operators.specs.Programs.{IsPlanOf}
 use Rattle.reorder_pair.specs.Legal.{KeepAnswers}
 use Rattle.reorder_pair.specs.Reach.{Reach}
-use Rattle.reorder_unique.proofs.PlansInReach.{reached-IsPlanOf, reached-KeepAnswers}
+use Rattle.reorder_group.proofs.PlansInReach.{reached-IsPlanOf, reached-KeepAnswers}
 use Rattle.swap_certificate.specs.declared.certificates.CertFault.TheVariants.{C6}
 use Rattle.swap_certificate.proofs.OneResult.{checked-one}
 use Rattle.swap_certificate.proofs.rechecking.recheck.Goals as goal

@@ -1,5 +1,0 @@
-use Rattle.std.proofs.Common.{inl, refl}
-use Rattle.reorder_group.proofs.exchanges.legal.Goals as goal
-
-pub returns-in-None-clause-refused : goal.returns-in-None-clause-refused
-returns-in-None-clause-refused c = inl (c.in-None.ensures.none, refl)
