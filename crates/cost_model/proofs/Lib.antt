@@ -1,3 +1,1 @@
-pub mod NumbersApart
-pub mod InnerEdges
 pub mod WholeSums

@@ -5,14 +5,14 @@ ghost use Rattle.plan_trees.specs.Plans.{has, root_of};
 ghost use Rattle.pact_operators.specs.Allowed.{count_of};
 ghost use Rattle.cost_model.specs.Costs as costs;
 ghost use Rattle.cost_model.specs.Costs.{whole_cost};
-ghost use Rattle.cost_model.specs.Edges.{EdgesLieIn};
+ghost use Rattle.plan_trees.specs.Edges.{EdgesLieIn};
 ghost use Rattle.plan_trees.specs.Physicals.{ship_of};
 ghost use Rattle.cost_model.specs.Estimates.{estimate};
 
-use crate::edges::{parts_within, ship_below};
 use crate::estimates::{estimate_above_one, estimate_above_two, plus, rows_at, times};
 use pact_bag::Counts;
 use pact_operators::{Parts, Physical, Plan, Program, Ship};
+use plan_trees::{parts_within, ship_below};
 
 // What a tree's root is expected to give, and what its operators are expected to cost.
 #[derive(Clone, Copy)]

@@ -5,14 +5,11 @@
 //! bits. `specs/Estimates` and `specs/Costs` have the rules.
 //!
 //! `estimate_above_one`, `estimate_above_two`, `edge_cost` and `plus` are the single steps, for a caller that goes over many
-//! physical plans of one plan. `ship_below` tells the ship of an edge by the tree that the edge leaves, and `parts_within`
-//! takes a tree apart into inputs whose edges may be asked for so.
+//! physical plans of one plan.
 #![tactic(auto)]
 
 mod costs;
-mod edges;
 mod estimates;
 
 pub use costs::{cost, edge_cost};
-pub use edges::{parts_within, ship_below};
 pub use estimates::{estimate, estimate_above_one, estimate_above_two, estimate_of, plus, rows_at};

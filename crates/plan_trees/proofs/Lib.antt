@@ -17,6 +17,8 @@ pub mod NeighbourTrees
 pub mod EachWorker
 pub mod NumbersBelow
 pub mod FlagsOfSenders
+pub mod NumbersApart
+pub mod InnerEdges
 pub mod InsertedTrees
 pub mod InsertedPlaces
 pub mod InsertedPhysicals

@@ -8,6 +8,7 @@ pub mod NodeRows
 pub mod Physicals
 pub mod Sending
 pub mod PhysicalCode
+pub mod Edges
 pub mod Inserted
 pub mod Shapes
 pub mod Senders

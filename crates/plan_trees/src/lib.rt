@@ -3,14 +3,19 @@
 //! A number stands for an operator or a source of a program. Which of them a number is, and what it
 //! does, is said in the crates above. A `Plan` holds its nodes in an array, each operator before its
 //! inputs, so that it is copied without memory; contracts see it as a tree.
+//!
+//! `ship_below` returns the ship of an edge by the tree that the edge leaves, and `parts_within` takes a
+//! tree apart into inputs whose edges may be asked for so.
 #![tactic(auto)]
 
+mod edges;
 pub mod physicals;
 pub mod plans;
 mod preorders;
 pub mod senders;
 pub mod shapes;
 
+pub use edges::{parts_within, ship_below};
 pub use physicals::{Physical, Ship};
 pub use plans::{Parts, Plan};
 pub use preorders::MAX_NODES;

@@ -11,7 +11,7 @@ use Rattle.ship_strategy.specs.declared.ways.Way.{Way}
 use Rattle.ship_strategy.specs.Facts.{Facts}
 use Rattle.ship_strategy.specs.Ships.{Placement, placed_over, placed_both, placement, IsLegal, AllowsOver, AllowsBoth}
 use Rattle.ship_strategy.specs.Layouts.{planned, laid, left_ship, right_ship, only_ship}
-use Rattle.cost_model.proofs.NumbersApart.{above_one, above_two}
+use Rattle.plan_trees.proofs.NumbersApart.{above_one, above_two}
 use Rattle.ship_strategy.proofs.AllowedShips.{IsSingle, Suits, over_allowed, both_allowed}
 
 -- ---- what a layout leaves alone

@@ -2,7 +2,7 @@
 use Rattle.std.proofs.Common.{◌≡◌, ℕ, length, refl, ap, sym, ◌∙◌}
 use Rattle.plan_trees.specs.Physicals.{PhysicalData}
 use Rattle.plan_trees.specs.Plans.{PlanTree, leaf, over, both, IsPlan, node_limit}
-use Rattle.cost_model.proofs.NumbersApart.{above_one, above_two}
+use Rattle.plan_trees.proofs.NumbersApart.{above_one, above_two}
 use Rattle.ship_strategy.specs.declared.ways.Way.{Way}
 use Rattle.ship_strategy.specs.Facts.{Facts}
 use Rattle.ship_strategy.specs.Ships.{placed_over, placed_both, placement}

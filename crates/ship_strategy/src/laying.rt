@@ -3,7 +3,7 @@
 ghost use Rattle.std.specs.Prelude.{◌≡◌, ◌≢◌, true};
 ghost use Rattle.plan_trees.specs.Physicals.{with_ship};
 ghost use Rattle.plan_trees.specs.Plans.{has, root_of};
-ghost use Rattle.cost_model.specs.Edges.{EdgesLieIn};
+ghost use Rattle.plan_trees.specs.Edges.{EdgesLieIn};
 ghost use Rattle.ship_strategy.specs.Layouts as layouts;
 ghost use Rattle.ship_strategy.specs.Layouts.{planned};
 ghost use Rattle.ship_strategy.specs.Views.{facts_in, ways_in};
@@ -12,9 +12,9 @@ use crate::edges::{left_ship, only_ship, right_ship};
 use crate::placements::{placed_both, placed_over};
 use crate::tables::Table;
 use crate::ways::Ways;
-use cost_model::parts_within;
 use pact_operators::{Parts, Physical, Plan, Ship};
 use pact_record::Keys;
+use plan_trees::parts_within;
 
 // A ship that is lent again may not be passed by value.
 fn put(physical: &mut Physical, input: &Plan, ship: &Ship)

@@ -1,7 +1,7 @@
 //! Whether a physical plan's ships are legal.
 
 ghost use Rattle.std.specs.Prelude.{◌≡◌, ◌&&◌, ◌↔◌, ℕ, IsTrue, List};
-ghost use Rattle.cost_model.specs.Edges.{EdgesLieIn};
+ghost use Rattle.plan_trees.specs.Edges.{EdgesLieIn};
 ghost use Rattle.pact_operators.specs.Allowed.{Bag, Counted};
 ghost use Rattle.pact_operators.specs.Divided.{IsDivided, Shares};
 ghost use Rattle.pact_operators.specs.Inputs.{AreInputsOf};
@@ -18,9 +18,9 @@ use crate::placements::{
     edge_placement, is_broadcast, is_exactly, is_within, placed_both, placed_over,
 };
 use crate::tables::{OpFacts, Table};
-use cost_model::{parts_within, ship_below};
 use pact_operators::{OpKind, Parts, Physical, Plan, Program, Ship};
 use pact_record::Keys;
+use plan_trees::{parts_within, ship_below};
 
 // Where the records of a tree's root lie, and whether every edge of the tree is legal.
 #[derive(Clone, Copy)]

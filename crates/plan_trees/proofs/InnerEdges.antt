@@ -7,8 +7,8 @@ use Rattle.plan_trees.specs.Plans.{PlanTree, over, both, root_of, has, IsPlan}
 use Rattle.plan_trees.specs.Preorders.{count_of}
 use Rattle.plan_trees.proofs.RootParts.{is_both, is_over}
 use Rattle.plan_trees.proofs.SubtreesOfPlans.{has-root}
-use Rattle.cost_model.specs.Edges.{AreInner, EdgesLieIn, IsInner}
-use Rattle.cost_model.proofs.NumbersApart.{above_one, above_two}
+use Rattle.plan_trees.specs.Edges.{AreInner, EdgesLieIn, IsInner}
+use Rattle.plan_trees.proofs.NumbersApart.{above_one, above_two}
 
 -- all numbers of an input are those of edges
 abbrev AllLieIn : PlanTree → PlanTree → Type 0

@@ -4,9 +4,10 @@ ghost use Rattle.std.specs.Prelude.{◌≡◌, ◌≢◌, true};
 ghost use Rattle.plan_trees.specs.Plans.{has, root_of};
 ghost use Rattle.plan_trees.specs.Physicals.{ship_of};
 ghost use Rattle.plan_trees.specs.PlanParts.{parts_of};
-ghost use Rattle.cost_model.specs.Edges.{AreInner, EdgesLieIn};
+ghost use Rattle.plan_trees.specs.Edges.{AreInner, EdgesLieIn};
 
-use pact_operators::{Parts, Physical, Plan, Ship};
+use crate::physicals::{Physical, Ship};
+use crate::plans::{Parts, Plan};
 
 /// The root of a tree and the plans of its inputs, whose edges are the physical plan's as the tree's own are.
 pub fn parts_within(physical: &Physical, tree: &Plan) -> Parts
