@@ -20,7 +20,8 @@ use Rattle.plan_trees.specs.Plans.{PlanTree, leaf, over, both, has, nodes, root_
 use Rattle.plan_trees.specs.Sending.{all_of, arriving, sent, share_from}
 use Rattle.plan_trees.proofs.EachWorker.{only_one, same_each}
 use Rattle.plan_trees.proofs.EverySubtree.{AllBelow, all_below, all_below-at, all_below-root}
-use Rattle.pact_operators.specs.Allowed.{Bag, Gives, GivesBoth, Grouped, CoGrouped, count_of, keys_in, keys_in_either, crossed, matched}
+use Rattle.pact_operators.specs.Allowed.{Bag, Gives, GivesBoth, Grouped, CoGrouped, count_of, keys_in, keys_in_either}
+use Rattle.pact_bag.specs.Pairs.{crossed, matched}
 use Rattle.pact_operators.specs.Divided.{IsDivided, Shares, IsReceived, GaveShare, count_given}
 use Rattle.pact_operators.specs.PlanOps.{PlanOps}
 use Rattle.plan_trees.specs.Inserted.{wrapped, inserted}

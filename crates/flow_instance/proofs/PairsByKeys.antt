@@ -7,7 +7,8 @@ use Rattle.flow_model.proofs.Bags.{beside, crossed-left, crossed-nil, is_same, j
 use Rattle.pact_bag.specs.Groups.{do_match, group_of_key, is_same_key}
 use Rattle.pact_bag.proofs.KeyGroups.{group_keys}
 use Rattle.std.specs.List.{AllByRecursion}
-use Rattle.pact_operators.specs.Allowed.{Bag, crossed, has_null, matched, unless_null}
+use Rattle.pact_operators.specs.Allowed.{Bag}
+use Rattle.pact_bag.specs.Pairs.{crossed, has_null, matched, unless_null}
 use Rattle.pact_record.proofs.Lists.{AllByRecursion-filter, AllByRecursion-get_or}
 use Rattle.pact_record.proofs.Permutations.{flat_map-append, flat_map_perm, from_permutation, to_permutation, turn}
 use Rattle.pact_record.specs.Record.{key_of}

@@ -14,7 +14,8 @@ use Rattle.plan_trees.specs.Sending.{has_out, goes}
 use Rattle.flow_model.specs.Steps.{Carry, GivesAtOnce, GivesNow, KeepsMore, Mark, Took, is_end}
 use Rattle.flow_model.specs.declared.notes.Note.{Note}
 use Rattle.flow_model.specs.declared.notes.Note.TheVariants.{Batch}
-use Rattle.pact_operators.specs.Allowed.{Bag, count_of, crossed, has_null, matched}
+use Rattle.pact_operators.specs.Allowed.{Bag, count_of}
+use Rattle.pact_bag.specs.Pairs.{crossed, has_null, matched}
 use Rattle.pact_operators.specs.PlanOps.{PlanOps}
 use Rattle.pact_operators.specs.Programs.{HasKeyLists, is_pair_kind, takes}
 use Rattle.pact_record.proofs.Permutations.{filter_perm, from_permutation, to_permutation}

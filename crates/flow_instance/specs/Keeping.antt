@@ -1,7 +1,8 @@
 -- Records that come to those that are kept.
 use Rattle.std.specs.Prelude.{◌≡◌, ◌||◌, ◌++◌, ◌∷◌, [], filter, not, ℕ, Bool, false, List}
 use Rattle.std.specs.List.Sorted.{IsPermutation}
-use Rattle.pact_operators.specs.Allowed.{Bag, has_null}
+use Rattle.pact_operators.specs.Allowed.{Bag}
+use Rattle.pact_bag.specs.Pairs.{has_null}
 use Rattle.pact_record.specs.Record.{key_of}
 use Rattle.pact_record.specs.declared.values.Value.{Value}
 use Rattle.pact_record.specs.Widths.{AreWide}

@@ -5,7 +5,8 @@ use Rattle.flow_model.specs.Local.{Calls, IsGiven, Placed, works_at_once}
 use Rattle.flow_model.specs.Spots.{Port as PortData, Spot, is_edge}
 use Rattle.flow_model.specs.Steps.{Carry, Mark, Took}
 use Rattle.flow_model.specs.declared.notes.Note.{Note}
-use Rattle.pact_operators.specs.Allowed.{Bag, count_of, crossed, matched}
+use Rattle.pact_operators.specs.Allowed.{Bag, count_of}
+use Rattle.pact_bag.specs.Pairs.{crossed, matched}
 use Rattle.pact_operators.specs.PlanOps.{PlanOps}
 use Rattle.pact_operators.specs.Programs.{HasKeyLists, IsKindFor, is_pair_kind, takes}
 use Rattle.pact_record.specs.Widths.{AreBelow, AreWide}

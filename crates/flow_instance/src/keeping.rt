@@ -1,14 +1,13 @@
 //! Records that are kept until they are asked for.
 
 ghost use Rattle.std.specs.Prelude.{◌≡◌, ◌||◌, false, filter, length, not, OnOk};
-ghost use Rattle.pact_operators.specs.Allowed.{has_null};
+ghost use Rattle.pact_bag.specs.Pairs.{has_null};
 ghost use Rattle.pact_record.specs.Record.{key_of};
 ghost use Rattle.pact_record.specs.Widths.{AreBelow, AreWide};
 ghost use Rattle.flow_instance.specs.Keeping.{IsKept, IsRowKept, may_match};
 
-use bag_calls::has_null;
 use local_strategy::Local;
-use pact_bag::Rows;
+use pact_bag::{Rows, has_null};
 use pact_record::{Keys, OutOfMemory, Record};
 
 /// Whether a record may match another one, where Nulls match in keys or don't.

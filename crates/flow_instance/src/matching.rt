@@ -4,16 +4,15 @@ ghost use Rattle.std.specs.Prelude.{◌≡◌, ◌⊎◌, ◌++◌, [], true, fl
 ghost use Rattle.std.specs.List.Sorted.{IsPermutation};
 ghost use Rattle.tac_syntax.specs.Call.{Out, of_pair};
 ghost use Rattle.tac_syntax.specs.declared.functions.Kind.TheVariants.{Cross, Match};
-ghost use Rattle.pact_operators.specs.Allowed.{crossed, matched};
+ghost use Rattle.pact_bag.specs.Pairs.{crossed, matched};
 ghost use Rattle.pact_record.specs.Widths.{AreBelow, AreWide};
 
 use crate::keeping::may_match;
-use bag_calls::cross_rows;
 use local_strategy::Local;
 use pact_bag::Rows;
 use pact_record::{Keys, OutOfMemory, Record};
 use std::alloc::Global;
-use tac_interp::{Scratch, pair_into};
+use tac_interp::{Scratch, cross_rows, pair_into};
 use tac_syntax::Valid;
 
 // The calls for the pairs of one right record, behind what was given before.

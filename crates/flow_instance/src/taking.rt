@@ -11,11 +11,11 @@ ghost use Rattle.flow_instance.specs.Steps.{Takes};
 use crate::keeping::keep;
 use crate::matching::{cross_kept, match_kept};
 use crate::states::State;
-use bag_calls::map_rows;
 use flow_model::Note;
 use local_strategy::Local;
 use pact_bag::Rows;
 use pact_record::OutOfMemory;
+use tac_interp::map_rows;
 
 impl<L: Local> State<L> {
     // What a Match or a Cross gives for right records.

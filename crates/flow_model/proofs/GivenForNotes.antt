@@ -9,7 +9,8 @@ use Rattle.std.proofs.lemmas.List.Sorted.{IsPermutation-refl, length_permutation
 use Rattle.tac_syntax.specs.declared.declarations.OpKind.{OpKind}
 use Rattle.tac_syntax.specs.declared.declarations.OpKind.TheVariants.{Source, Map, Reduce, Match, Cross, CoGroup}
 use Rattle.pact_bag.specs.Groups.{do_match}
-use Rattle.pact_operators.specs.Allowed.{Bag, crossed, has_null, matched}
+use Rattle.pact_operators.specs.Allowed.{Bag}
+use Rattle.pact_bag.specs.Pairs.{crossed, has_null, matched}
 use Rattle.pact_record.proofs.Permutations.{filter_perm, from_permutation, to_permutation}
 use Rattle.pact_record.specs.Record.{key_of}
 use Rattle.pact_record.specs.declared.values.Value.{Value}

@@ -7,7 +7,8 @@ use Rattle.std.proofs.lemmas.List.Sorted.{length_permutation}
 use Rattle.tac_syntax.specs.declared.declarations.OpKind.{OpKind}
 use Rattle.tac_syntax.specs.declared.declarations.OpKind.TheVariants.{Source, Map, Reduce, Match, Cross, CoGroup}
 use Rattle.pact_record.specs.declared.values.Value.{Value}
-use Rattle.pact_operators.specs.Allowed.{Bag, crossed, matched}
+use Rattle.pact_operators.specs.Allowed.{Bag}
+use Rattle.pact_bag.specs.Pairs.{crossed, matched}
 use Rattle.plan_trees.specs.Plans.{PlanTree, leaf, over, both, root_of}
 use Rattle.flow_model.specs.declared.notes.Want.TheVariants.{Done}
 use Rattle.flow_model.specs.Instances.{all_ended, want}

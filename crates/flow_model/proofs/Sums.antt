@@ -6,7 +6,8 @@ use Rattle.std.proofs.Math.Nat.{mul-le-mul, suc-mul, le_refl, mul-zero}
 use Rattle.std.proofs.lemmas.Bool.{cases_eq, ne_eqb}
 use Rattle.std.proofs.lemmas.List.Sorted.{length_permutation}
 use Rattle.pact_bag.specs.Groups.{distinct_keys, do_match, group_of_key, is_same_key}
-use Rattle.pact_operators.specs.Allowed.{Bag, CoGrouped, Grouped, crossed, keys_in, keys_in_either, matched, has_null, unless_null}
+use Rattle.pact_operators.specs.Allowed.{Bag, CoGrouped, Grouped, keys_in, keys_in_either}
+use Rattle.pact_bag.specs.Pairs.{crossed, matched, has_null, unless_null}
 use Rattle.std.proofs.lemmas.List.Sums.{count_by-le-length, length-filter}
 use Rattle.pact_record.specs.declared.values.Value.{Value}
 use Rattle.pact_record.specs.Record.{key_of}

@@ -11,7 +11,8 @@ use Rattle.tac_syntax.specs.declared.declarations.OpKind.{OpKind}
 use Rattle.tac_syntax.specs.declared.declarations.OpKind.TheVariants.{Source, Map, Reduce, Match, Cross, CoGroup}
 use Rattle.plan_trees.specs.declared.physicals.Ship.{Ship}
 use Rattle.plan_trees.specs.Sending.{all_of, share_from, has_out}
-use Rattle.pact_operators.specs.Allowed.{Bag, Gives, GivesBoth, count_of, has_null}
+use Rattle.pact_operators.specs.Allowed.{Bag, Gives, GivesBoth, count_of}
+use Rattle.pact_bag.specs.Pairs.{has_null}
 use Rattle.flow_model.specs.declared.notes.Note.{Note}
 use Rattle.flow_model.specs.Instances.{Instance, Part, all_ended, ended_at, kept_at, port_ended}
 use Rattle.flow_model.specs.Notes.{AreNotes, has_end, rows_of}

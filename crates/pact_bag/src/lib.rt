@@ -1,7 +1,8 @@
-//! Bags of records as lists: rows of one width, and their order.
+//! Bags of records as lists: rows of one width, and their order; and which records of two bags match.
 #![tactic(auto)]
 
 pub mod counts;
+mod null_keys;
 pub mod orders;
 pub mod outcomes;
 mod prefixes;
@@ -10,6 +11,7 @@ mod sort_words;
 mod sorting;
 
 pub use counts::Counts;
+pub use null_keys::has_null;
 pub use orders::compare_at;
 pub use outcomes::Outcome;
 pub use rows::{Inputs, NoRoom, Rows, sort_rows};

@@ -9,7 +9,8 @@ use Rattle.pact_record.specs.Record.{key_of}
 use Rattle.pact_record.proofs.Lists.{AllByRecursion-append, AllByRecursion-filter, AllByRecursion-flat_map, AllByRecursion-weaker}
 use Rattle.pact_record.proofs.Permutations.{from_permutation, each_perm, length-perm}
 use Rattle.tac_syntax.specs.Forms.{HaveKey}
-use Rattle.pact_operators.specs.Allowed.{Bag, Grouped, CoGrouped, crossed, keys_in, keys_in_either}
+use Rattle.pact_operators.specs.Allowed.{Bag, Grouped, CoGrouped, keys_in, keys_in_either}
+use Rattle.pact_bag.specs.Pairs.{crossed}
 
 -- ---- pairs
 

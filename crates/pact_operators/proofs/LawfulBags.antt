@@ -15,7 +15,8 @@ use Rattle.tac_syntax.specs.declared.declarations.OpKind.{OpKind}
 use Rattle.tac_syntax.specs.declared.declarations.OpKind.TheVariants.{Source, Map, Reduce, Match, Cross, CoGroup}
 use Rattle.plan_trees.specs.Plans.{PlanTree, leaf, over, both}
 use Rattle.pact_operators.specs.declared.operators.Op.{Op}
-use Rattle.pact_operators.specs.Allowed.{Bag, Allows, Gives, GivesBoth, has_null, matched, unless_null}
+use Rattle.pact_operators.specs.Allowed.{Bag, Allows, Gives, GivesBoth}
+use Rattle.pact_bag.specs.Pairs.{has_null, matched, unless_null}
 use Rattle.pact_operators.specs.PlanOps.{PlanOps}
 use Rattle.pact_operators.specs.Programs.{HasAttribute, Owns}
 use Rattle.pact_operators.specs.SoundOps.{AreOpsOf, IsCallOf, called}

@@ -1,9 +1,9 @@
 -- The bags that a plan allows, and counts of the same evaluation.
-use Rattle.std.specs.Prelude.{◌≡◌, ◌-◌, ◌^◌, ◌||◌, not, ℕ, Bool, true, false, cond, List, [], ◌∷◌, ◌++◌, flat_map, length, map, min, slice_get, Some}
+use Rattle.std.specs.Prelude.{◌≡◌, ◌-◌, ◌^◌, ℕ, List, [], ◌∷◌, ◌++◌, flat_map, length, map, min, slice_get, Some}
 use Rattle.std.specs.List.Sorted.{IsPermutation}
-use Rattle.pact_bag.specs.Groups.{distinct_keys, do_match, group_of_key}
+use Rattle.pact_bag.specs.Groups.{distinct_keys, group_of_key}
+use Rattle.pact_bag.specs.Pairs.{crossed, matched}
 use Rattle.pact_record.specs.declared.values.Value.{Value}
-use Rattle.pact_record.specs.declared.values.Value.TheVariants.{Null}
 use Rattle.pact_record.specs.Record.{key_of}
 use Rattle.tac_syntax.specs.declared.declarations.OpKind.{OpKind}
 use Rattle.tac_syntax.specs.declared.declarations.OpKind.TheVariants.{Source, Map, Reduce, Match, Cross, CoGroup}
@@ -15,24 +15,6 @@ abbrev pub Bag : Type 0
 Bag = List (List Value)
 
 -- ---- what an operator gives
-
--- one call for each pair
-abbrev pub crossed : (List Value → List Value → Bag) → Bag → Bag → Bag
-crossed f ls rs = flat_map (λ l. flat_map (f l) rs) ls
-
--- a key that has a Null
-abbrev pub has_null : List Value → Bool
-has_null [] = false
-has_null (Null ∷ key) = true
-has_null (v ∷ key) = has_null key
-
--- a call unless the key has a Null; where Nulls match, a call always
-abbrev pub unless_null : Bool → (List Value → List Value → Bag) → List ℕ → List Value → List Value → Bag
-unless_null nulls f left_keys l r = cond (nulls || not (has_null (key_of left_keys l))) (f l r) []
-
--- a call where the pair matches, and nothing where it doesn't: its keys are equal and, unless Nulls match, have no Null
-abbrev pub matched : Bool → (List Value → List Value → Bag) → List ℕ → List ℕ → List Value → List Value → Bag
-matched nulls f left_keys right_keys l r = cond (do_match left_keys right_keys l r) (unless_null nulls f left_keys l r) []
 
 -- one call for each of the key values, over the records that have them, in some order
 abbrev pub Grouped : (List Value → Bag → Bag) → List ℕ → Bag → List (List Value) → Bag → Type 0

@@ -4,7 +4,8 @@ use Rattle.std.specs.Prelude.{flat_map}
 use Rattle.pact_record.specs.declared.values.Value.{Value}
 use Rattle.tac_syntax.specs.declared.declarations.OpKind.{OpKind}
 use Rattle.tac_syntax.specs.declared.declarations.OpKind.TheVariants.{Map, Reduce, Match, Cross, CoGroup}
-use Rattle.pact_operators.specs.Allowed.{Bag, CoGrouped, Gives, GivesBoth, Grouped, crossed, keys_in, keys_in_either, matched}
+use Rattle.pact_operators.specs.Allowed.{Bag, CoGrouped, Gives, GivesBoth, Grouped, keys_in, keys_in_either}
+use Rattle.pact_bag.specs.Pairs.{crossed, matched}
 use Rattle.pact_operators.specs.PlanOps.{PlanOps}
 
 pub record DoSame (o p : PlanOps) (n : ℕ) : Type 0 where

@@ -19,7 +19,8 @@ use Rattle.tac_syntax.specs.CallInputs.{IsInputOf}
 use Rattle.tac_syntax.specs.Call.{of_record, of_pair, of_group, of_groups}
 use Rattle.tac_syntax.specs.Contexts.{FieldSet, Has, Ports, ports}
 use Rattle.tac_syntax.specs.Forms.{AreApart, HasFormAlone, HaveKey, IsLawful, IsWithin}
-use Rattle.pact_operators.specs.Allowed.{Bag, CoGrouped, Gives, GivesBoth, Grouped, crossed, has_null, keys_in, keys_in_either, matched, unless_null}
+use Rattle.pact_operators.specs.Allowed.{Bag, CoGrouped, Gives, GivesBoth, Grouped, keys_in, keys_in_either}
+use Rattle.pact_bag.specs.Pairs.{crossed, has_null, matched, unless_null}
 use Rattle.pact_operators.specs.PlanOps.{PlanOps}
 use Rattle.pact_operators.specs.SoundOps.{called, function_kind}
 use Rattle.pact_operators.proofs.WithinFields.{same_key_of}

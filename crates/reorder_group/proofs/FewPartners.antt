@@ -4,7 +4,8 @@ use Rattle.std.proofs.lemmas.Bool.{cond_both}
 use Rattle.std.specs.List.{AllByRecursion}
 use Rattle.pact_record.specs.Record.{key_of}
 use Rattle.pact_bag.proofs.KeyLists.{Key}
-use Rattle.pact_operators.specs.Allowed.{Bag, has_null, unless_null}
+use Rattle.pact_operators.specs.Allowed.{Bag}
+use Rattle.pact_bag.specs.Pairs.{has_null, unless_null}
 use Rattle.reorder_pair.proofs.FunctionForms.{Row}
 use Rattle.reorder_group.specs.UniqueRows.{HaveEachOnce, HaveOther}
 use Rattle.reorder_group.proofs.Partners.{with_rows}

@@ -16,7 +16,8 @@ use Rattle.tac_syntax.specs.declared.declarations.OpKind.{OpKind}
 use Rattle.tac_syntax.specs.declared.declarations.OpKind.TheVariants.{Match, Reduce}
 use Rattle.plan_trees.specs.Plans.{PlanTree, over, both}
 use Rattle.pact_operators.specs.declared.operators.Op.{Op}
-use Rattle.pact_operators.specs.Allowed.{AllowSame, Allows, Bag, crossed, keys_in, matched, unless_null}
+use Rattle.pact_operators.specs.Allowed.{AllowSame, Allows, Bag, keys_in}
+use Rattle.pact_bag.specs.Pairs.{crossed, matched, unless_null}
 use Rattle.pact_operators.specs.PlanOps.{PlanOps}
 use Rattle.pact_operators.specs.Programs.{HasAttribute, Owns}
 use Rattle.pact_operators.specs.SoundOps.{AreOpsOf}

@@ -7,7 +7,8 @@ use Rattle.pact_record.specs.declared.values.Value.TheVariants.{Null}
 use Rattle.pact_record.proofs.JoinedRecords.{at_field-nulls}
 use Rattle.pact_record.proofs.Permutations.{Perm, chains, each_moved, flat_map_flat_map, flat_map_perm, is_same, turn}
 use Rattle.tac_syntax.specs.Forms.{IsWithin}
-use Rattle.pact_operators.specs.Allowed.{Bag, crossed}
+use Rattle.pact_operators.specs.Allowed.{Bag}
+use Rattle.pact_bag.specs.Pairs.{crossed}
 use Rattle.reorder_pair.proofs.CallsInEitherOrder.{AreExchangeable, for_three}
 use Rattle.reorder_pair.proofs.FunctionForms.{Row, none, on_left_alone, on_right_alone, turned_pair}
 use Rattle.reorder_pair.proofs.PermittedExchanges.{UsedFields}

@@ -10,7 +10,8 @@ use Rattle.pact_record.proofs.SideBySide.{AllZip-cond, AllZip-weaker}
 use Rattle.pact_bag.specs.Groups.{is_same_key}
 use Rattle.tac_syntax.specs.Contexts.{FieldSet, Has}
 use Rattle.tac_syntax.specs.Forms.{AreAnchored, AreAnchoredAt, AreApart, IsWithin}
-use Rattle.pact_operators.specs.Allowed.{Bag, has_null, matched, unless_null}
+use Rattle.pact_operators.specs.Allowed.{Bag}
+use Rattle.pact_bag.specs.Pairs.{has_null, matched, unless_null}
 use Rattle.pact_operators.proofs.WithinFields.{same_key_of}
 
 abbrev pub Row : Type 0

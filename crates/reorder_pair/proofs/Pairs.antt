@@ -15,7 +15,8 @@ use Rattle.tac_syntax.specs.declared.declarations.OpKind.{OpKind}
 use Rattle.tac_syntax.specs.declared.declarations.OpKind.TheVariants.{Match, Cross}
 use Rattle.plan_trees.specs.Plans.{PlanTree, both}
 use Rattle.pact_operators.specs.declared.operators.Op.{Op}
-use Rattle.pact_operators.specs.Allowed.{Bag, Allows, GivesBoth, crossed, has_null, matched, unless_null}
+use Rattle.pact_operators.specs.Allowed.{Bag, Allows, GivesBoth}
+use Rattle.pact_bag.specs.Pairs.{crossed, has_null, matched, unless_null}
 use Rattle.pact_operators.specs.PlanOps.{PlanOps}
 use Rattle.pact_operators.specs.SoundOps.{AreOpsOf, called, function_kind}
 use Rattle.pact_operators.proofs.LawfulBags.{OverBoth, all_wide, cross_fits, match_fits}

@@ -6,7 +6,8 @@ use Rattle.tac_syntax.specs.Forms.{AreApart}
 use Rattle.tac_syntax.specs.Valid.{WithFields}
 use Rattle.plan_trees.specs.Plans.{PlanTree, both}
 use Rattle.pact_operators.specs.declared.operators.Op.{Op}
-use Rattle.pact_operators.specs.Allowed.{Allows, Bag, crossed}
+use Rattle.pact_operators.specs.Allowed.{Allows, Bag}
+use Rattle.pact_bag.specs.Pairs.{crossed}
 use Rattle.pact_operators.specs.PlanOps.{PlanOps}
 use Rattle.pact_operators.specs.Programs.{HasAttribute, Owns}
 use Rattle.pact_operators.specs.SoundOps.{AreOpsOf}

@@ -10,7 +10,8 @@ use Rattle.plan_trees.specs.Plans.{IsPlan, PlanTree, leaf, over, both, node_limi
 use Rattle.plan_trees.specs.Sending.{all_of, arriving, share_from}
 use Rattle.plan_trees.proofs.Ships.{below_limit}
 use Rattle.plan_trees.proofs.SubtreesOfPlans.{root_of-subtree}
-use Rattle.pact_operators.specs.Allowed.{Bag, Gives, GivesBoth, count_of, crossed, keys_in, keys_in_either, matched}
+use Rattle.pact_operators.specs.Allowed.{Bag, Gives, GivesBoth, count_of, keys_in, keys_in_either}
+use Rattle.pact_bag.specs.Pairs.{crossed, matched}
 use Rattle.pact_operators.specs.Divided.{GaveShare, IsDivided, IsReceived, Shares, count_given}
 use Rattle.pact_operators.specs.PlanOps.{PlanOps, plan_ops}
 use Rattle.pact_operators.specs.Programs.{HasArity, IsPlanOf, ProgramData, takes}

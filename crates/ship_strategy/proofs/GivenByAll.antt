@@ -18,7 +18,8 @@ use Rattle.tac_syntax.specs.declared.declarations.OpKind.TheVariants.{Source, Ma
 use Rattle.plan_trees.specs.declared.physicals.Ship.{Ship}
 use Rattle.plan_trees.specs.declared.physicals.Ship.TheVariants.{Forward, Partition, Broadcast}
 use Rattle.plan_trees.specs.Sending.{all_of}
-use Rattle.pact_operators.specs.Allowed.{Bag, Gives, GivesBoth, crossed, matched, unless_null, keys_in, keys_in_either}
+use Rattle.pact_operators.specs.Allowed.{Bag, Gives, GivesBoth, keys_in, keys_in_either}
+use Rattle.pact_bag.specs.Pairs.{crossed, matched, unless_null}
 use Rattle.pact_operators.specs.PlanOps.{PlanOps}
 use Rattle.pact_operators.proofs.ChosenForKeys.{AreChosen, IsGivenFor, chosen-CoGrouped, chosen-Grouped, cogrouped-AreChosen, grouped-AreChosen, of_one_side}
 use Rattle.pact_operators.proofs.PermutedPairs.{pairs_perm}

@@ -17,7 +17,8 @@ use Rattle.tac_syntax.specs.Call.{CallInput, of_record, of_pair, of_group, of_gr
 use Rattle.tac_syntax.specs.Contexts.{FieldSet, Has, Ports}
 use Rattle.tac_syntax.specs.Forms.{AreAnchoredAt, AreApart, HasForm, HaveKey, IsLawful, IsWithin, anchors, left_records, right_records}
 use Rattle.tac_flow.specs.Known.{either}
-use Rattle.pact_operators.specs.Allowed.{Bag, Gives, GivesBoth, crossed, matched, has_null, unless_null}
+use Rattle.pact_operators.specs.Allowed.{Bag, Gives, GivesBoth}
+use Rattle.pact_bag.specs.Pairs.{crossed, matched, has_null, unless_null}
 use Rattle.pact_operators.specs.PlanOps.{PlanOps}
 use Rattle.pact_operators.specs.SoundOps.{called, function_kind}
 use Rattle.pact_operators.proofs.EachOfGroups.{cogrouped_each, crossed_each, grouped_each}

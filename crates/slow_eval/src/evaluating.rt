@@ -13,11 +13,11 @@ ghost use Rattle.slow_eval.specs.GivenRows.{rows_of};
 
 use crate::given_rows::GivenRows;
 use crate::grouping::{cogroup_rows, reduce_rows};
-use bag_calls::{cross_rows, map_rows, match_rows};
 use pact_bag::{Counts, Inputs, Outcome, Rows};
 use pact_operators::{Op, OpKind, Parts, Plan, Program};
 use pact_record::OutOfMemory;
 use std::alloc::Global;
+use tac_interp::{cross_rows, map_rows, match_rows};
 
 // The place of a source among the sources.
 fn source_place(ops: &[Op], at: u32) -> usize

@@ -2,7 +2,8 @@ use Rattle.std.proofs.Common.{List, subst, ◌∙◌}
 use Rattle.std.specs.Prelude.{flat_map}
 use Rattle.std.specs.List.Sorted.{IsPermutation}
 use Rattle.std.proofs.lemmas.List.{take_all}
-use Rattle.pact_operators.specs.Allowed.{Bag, matched}
+use Rattle.pact_operators.specs.Allowed.{Bag}
+use Rattle.pact_bag.specs.Pairs.{matched}
 use Rattle.pact_record.specs.declared.values.Value.{Value}
 use Rattle.tac_syntax.specs.Call.{Out, of_pair}
 use Rattle.flow_instance.proofs.PairsByKeys.{item_width, one_right, turned_pairs}

@@ -1,7 +1,7 @@
 use Rattle.std.proofs.Common.{take}
 use Rattle.std.specs.Prelude.{flat_map}
 use Rattle.std.specs.List.Sorted.{IsPermutation}
-use Rattle.pact_operators.specs.Allowed.{matched}
+use Rattle.pact_bag.specs.Pairs.{matched}
 use Rattle.tac_syntax.specs.Call.{Out, of_pair}
 use Rattle.pact_record.specs.Widths.{AreWide}
 use Rattle.flow_instance.proofs.matching.match_kept.Given as goal

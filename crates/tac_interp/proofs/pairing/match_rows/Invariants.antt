@@ -1,8 +1,8 @@
 use Rattle.std.proofs.Common.{◌≡◌, take}
 use Rattle.tac_syntax.specs.Call.{Out, of_pair}
-use Rattle.pact_operators.specs.Allowed.{crossed, matched}
+use Rattle.pact_bag.specs.Pairs.{crossed, matched}
 use Rattle.pact_record.specs.Widths.{AreWide}
-use Rattle.bag_calls.proofs.pairing.match_rows.Given as goal
+use Rattle.tac_interp.proofs.pairing.match_rows.Given as goal
 
 abbrev pub invariant-loop-left : goal.invariant-loop-left
 invariant-loop-left l =

@@ -4,7 +4,7 @@ use Rattle.std.proofs.lemmas.Bool.{both_ways}
 use Rattle.pact_record.specs.declared.values.Value.{Value}
 use Rattle.pact_record.specs.declared.values.Value.TheVariants.{Null, Int, Text}
 use Rattle.pact_record.specs.Record.{at_field}
-use Rattle.pact_operators.specs.Allowed.{has_null}
+use Rattle.pact_bag.specs.Pairs.{has_null}
 
 -- a Null at a place
 pub null_at : (key : List Value) (n : ℕ) → n < length key → at_field key n ≡ Null → has_null (drop n key) ≡ true

@@ -1,8 +1,8 @@
 use Rattle.std.proofs.Common.{◌+◌, ap, sym, ◌∙◌, refl, arith}
 use Rattle.pact_record.specs.Record.{at_field, key_of}
 use Rattle.pact_record.proofs.KeyOrder.{at_field-key_of, length-key_of}
-use Rattle.bag_calls.proofs.NullKeys.{not_null, other_at}
-use Rattle.bag_calls.proofs.pairing.has_null.Goals as goal
+use Rattle.pact_bag.proofs.NullKeys.{not_null, other_at}
+use Rattle.pact_bag.proofs.null_keys.has_null.Goals as goal
 
 pub loop-n-preserved : goal.loop-n-preserved
 loop-n-preserved c =

@@ -1,18 +1,18 @@
 //! One call for each record, or for each pair of records.
 
-ghost use Rattle.std.specs.Prelude.{◌≡◌, ◌<◌, ◌⊎◌, ◌++◌, ◌∷◌, [], flat_map, length, IfOk, OnOk};
+ghost use Rattle.std.specs.Prelude.{◌≡◌, ◌<◌, ◌⊎◌, ◌++◌, flat_map, length, IfOk, OnOk};
 ghost use Rattle.std.specs.List.{AllByRecursion};
 ghost use Rattle.tac_syntax.specs.declared.functions.Kind.TheVariants.{Cross, Map, Match};
 ghost use Rattle.tac_syntax.specs.Call.{Out, of_pair, of_record};
-ghost use Rattle.pact_operators.specs.Allowed.{crossed, has_null, matched};
-ghost use Rattle.pact_record.specs.Record.{key_of};
+ghost use Rattle.pact_bag.specs.Pairs.{crossed, matched};
 ghost use Rattle.pact_record.specs.Widths.{AreBelow, AreWide};
 
-use pact_bag::Rows;
-use pact_record::{Keys, OutOfMemory, Record, Value};
+use crate::calls::{map_into, pair_into};
+use crate::scratches::Scratch;
+use pact_bag::{Rows, has_null};
+use pact_record::{Keys, OutOfMemory, Record};
 use std::alloc::Global;
 use std::cmp::Ordering;
-use tac_interp::{Scratch, map_into, pair_into};
 use tac_syntax::Valid;
 
 /// What a Map gives. A row that its function emits unchanged at its end is moved and not copied.
@@ -28,29 +28,6 @@ pub fn map_rows(alloc: Global, f: &Valid, rows: Rows) -> Result<Rows, OutOfMemor
         map_into(alloc, f, row, &mut scratch, &mut out)?;
     }
     Ok(out)
-}
-
-fn is_null(value: &Value) -> bool
-    ensures { result ≡ has_null (value.now ∷ []) }
-{
-    match value {
-        Value::Null => true,
-        Value::Int(_) => false,
-        Value::Text(_) => false,
-    }
-}
-
-/// Whether one of the record's key values is Null.
-pub fn has_null(row: &Record, keys: &Keys) -> bool
-    requires { AreBelow (length row.now) keys.now }
-    ensures { result ≡ has_null (key_of keys.now row.now) }
-{
-    for n in 0..keys.len() {
-        if is_null(row.get(keys.at(n))) {
-            return true;
-        }
-    }
-    false
 }
 
 // The calls for the pairs of one left record, behind what was given before. Where Nulls don't match, a key with one

@@ -1,8 +1,8 @@
 use Rattle.std.proofs.Common.{◌∙◌, true}
 use Rattle.std.proofs.lemmas.Result.{IfOk-weaker}
-use Rattle.pact_operators.specs.Allowed.{crossed, matched}
+use Rattle.pact_bag.specs.Pairs.{crossed, matched}
 use Rattle.tac_syntax.specs.Call.{Out, of_pair}
-use Rattle.bag_calls.proofs.pairing.cross_rows.Goals as goal
+use Rattle.tac_interp.proofs.pairing.cross_rows.Goals as goal
 
 pub returns-clause-given : goal.returns-clause-given
 returns-clause-given c =

@@ -2,7 +2,7 @@ use Rattle.std.proofs.Common.{◌≡◌}
 use Rattle.std.specs.Prelude.{flat_map}
 use Rattle.tac_syntax.specs.Call.{Out, of_record}
 use Rattle.pact_record.specs.Widths.{AreWide}
-use Rattle.bag_calls.proofs.pairing.map_rows.Given as goal
+use Rattle.tac_interp.proofs.pairing.map_rows.Given as goal
 
 abbrev pub invariant-loop-row : goal.invariant-loop-row
 invariant-loop-row l =

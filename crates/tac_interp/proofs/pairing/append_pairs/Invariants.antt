@@ -1,9 +1,9 @@
 use Rattle.std.proofs.Common.{◌≡◌, ◌++◌, take}
 use Rattle.std.specs.Prelude.{flat_map}
 use Rattle.tac_syntax.specs.Call.{Out, of_pair}
-use Rattle.pact_operators.specs.Allowed.{matched}
+use Rattle.pact_bag.specs.Pairs.{matched}
 use Rattle.pact_record.specs.Widths.{AreWide}
-use Rattle.bag_calls.proofs.pairing.append_pairs.Given as goal
+use Rattle.tac_interp.proofs.pairing.append_pairs.Given as goal
 
 abbrev pub invariant-loop-right : goal.invariant-loop-right
 invariant-loop-right l =
