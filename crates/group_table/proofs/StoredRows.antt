@@ -12,7 +12,7 @@ use Rattle.pact_record.specs.Widths.{AreBelow, AreWide}
 use Rattle.pact_record.proofs.Lists.{AllByRecursion-append, AllByRecursion-last, AllByRecursion-left, AllByRecursion-right, AllByRecursion-weaker}
 use Rattle.pact_record.proofs.Permutations.{Perm, after, before, chains, crossed_over, each_perm, flat_map-append, from_permutation, is_same, middle, to_permutation, turned}
 use Rattle.chain_arena.specs.Arenas.{ArenaData, IsTaken}
-use Rattle.grouped_rows.specs.Grouped.{AreAllBelow, GroupsData, IsFound, order_of, rows_of}
+use Rattle.local_strategy.specs.Grouped.{AreAllBelow, GroupsData, IsFound, order_of, rows_of}
 use Rattle.group_table.specs.declared.buckets.Buckets.{Buckets}
 use Rattle.group_table.specs.Tables.{IsIndex}
 use Rattle.group_table.specs.Stored.{AreBehind, AreMoved, IsAdded, IsNewGroup, IsStored}

@@ -5,7 +5,7 @@ use Rattle.std.specs.List.Sorted.{IsPermutation}
 use Rattle.pact_record.specs.declared.values.Value.{Value}
 use Rattle.pact_record.specs.Record.{key_of}
 use Rattle.pact_record.specs.Widths.{AreWide}
-use Rattle.grouped_rows.specs.Grouped.{AreAllBelow, GroupsData, order_of, rows_of}
+use Rattle.local_strategy.specs.Grouped.{AreAllBelow, GroupsData, order_of, rows_of}
 use Rattle.group_table.specs.declared.buckets.Buckets.{Buckets}
 use Rattle.group_table.specs.Tables.{IsIndex}
 

@@ -4,12 +4,12 @@ ghost use Rattle.std.specs.Prelude.{◌≡◌, ◌<◌, [], get_or, length};
 ghost use Rattle.pact_bag.specs.Groups.{is_same_key};
 ghost use Rattle.pact_record.specs.Record.{key_of};
 ghost use Rattle.pact_record.specs.Widths.{AreBelow};
-ghost use Rattle.grouped_rows.specs.Grouped.{IsFound, order_of};
+ghost use Rattle.local_strategy.specs.Grouped.{IsFound, order_of};
 ghost use Rattle.group_table.specs.Tables.{IsIndex};
 
 use crate::buckets::Buckets;
 use crate::codes::row_code;
-use grouped_rows::Groups;
+use local_strategy::Groups;
 use pact_record::{Keys, Record};
 
 // Whether the group's key values are those that the row has at these fields.

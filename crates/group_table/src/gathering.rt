@@ -1,11 +1,11 @@
 //! The records of lists in their groups.
 
 ghost use Rattle.std.specs.Prelude.{◌≡◌, ◌<◌, [], length, slice_set, OnOk};
-ghost use Rattle.grouped_rows.specs.Grouped.{rows_of};
+ghost use Rattle.local_strategy.specs.Grouped.{rows_of};
 ghost use Rattle.group_table.specs.Stored.{AreBehind, AreMoved};
 
 use chain_arena::Chains;
-use grouped_rows::Groups;
+use local_strategy::Groups;
 use pact_record::{OutOfMemory, Record};
 
 // Moves the records of one list to the group with its number.

@@ -5,7 +5,7 @@ ghost use Rattle.std.specs.List.Sorted.{IsPermutation};
 ghost use Rattle.pact_bag.specs.Groups.{distinct_keys, group_of_key};
 ghost use Rattle.pact_record.specs.Record.{key_of};
 ghost use Rattle.pact_record.specs.Widths.{AreBelow, AreWide};
-ghost use Rattle.grouped_rows.specs.Grouped.{order_of};
+ghost use Rattle.local_strategy.specs.Grouped.{order_of};
 ghost use Rattle.group_table.specs.Stored.{held};
 ghost use Rattle.group_table.specs.Tables.{IsIndex};
 
@@ -14,8 +14,7 @@ use crate::finding::find;
 use crate::gathering::gather;
 use crate::storing::put;
 use chain_arena::Chains;
-use grouped_rows::Groups;
-use local_strategy::Local;
+use local_strategy::{Groups, Local};
 use pact_bag::Rows;
 use pact_record::{Keys, OutOfMemory, Record};
 use std::alloc::Global;

@@ -3,7 +3,7 @@
 ghost use Rattle.std.specs.Prelude.{◌≡◌, ◌<◌, ◌++◌, ◌∷◌, [], None, get_or, length, slice_set, OnOk};
 ghost use Rattle.pact_record.specs.Record.{key_of};
 ghost use Rattle.pact_record.specs.Widths.{AreBelow, AreWide};
-ghost use Rattle.grouped_rows.specs.Grouped.{IsFound, order_of, rows_of};
+ghost use Rattle.local_strategy.specs.Grouped.{IsFound, order_of, rows_of};
 ghost use Rattle.group_table.specs.Stored.{AreBehind, IsAdded, IsNewGroup};
 ghost use Rattle.group_table.specs.Tables.{IsIndex};
 
@@ -11,7 +11,7 @@ use crate::buckets::Buckets;
 use crate::codes::row_code;
 use crate::finding::find;
 use chain_arena::Chains;
-use grouped_rows::Groups;
+use local_strategy::Groups;
 use pact_record::{OutOfMemory, Record};
 
 // The row behind those of a list.

@@ -1,11 +1,16 @@
 //! Records that an instance keeps by key.
 //!
-//! `Local` says what such an object means, and never how it finds the records of a key. `ListLocal` scans.
+//! `Local` says what such an object means, and never how it finds the records of a key. `ListLocal` is one that scans.
+//!
+//! `Groups` holds the records of each key side by side, and lends each group as it is. It leaves open how the group of a
+//! key is found: `ListLocal` goes through all of them, and other crates search by hashing or in sorted records.
 #![tactic(auto)]
 
+pub mod groups;
 pub mod list_locals;
 pub mod locals;
 mod scanning;
 
+pub use groups::Groups;
 pub use list_locals::ListLocal;
 pub use locals::Local;

@@ -5,11 +5,11 @@ ghost use Rattle.std.specs.List.Sorted.{IsPermutation};
 ghost use Rattle.pact_bag.specs.Groups.{distinct_keys, group_of_key};
 ghost use Rattle.pact_record.specs.Record.{key_of};
 ghost use Rattle.pact_record.specs.Widths.{AreBelow, AreWide};
-ghost use Rattle.grouped_rows.specs.Grouped.{order_of, rows_of};
+ghost use Rattle.local_strategy.specs.Grouped.{order_of, rows_of};
 
+use crate::groups::Groups;
 use crate::locals::Local;
 use crate::scanning::find;
-use grouped_rows::Groups;
 use pact_bag::Rows;
 use pact_record::{Keys, OutOfMemory, Record};
 use std::alloc::Global;

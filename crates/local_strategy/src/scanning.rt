@@ -3,9 +3,9 @@
 ghost use Rattle.std.specs.Prelude.{◌≡◌, ◌<◌, length};
 ghost use Rattle.pact_record.specs.Record.{key_of};
 ghost use Rattle.pact_record.specs.Widths.{AreBelow};
-ghost use Rattle.grouped_rows.specs.Grouped.{IsFound, order_of};
+ghost use Rattle.local_strategy.specs.Grouped.{IsFound, order_of};
 
-use grouped_rows::Groups;
+use crate::groups::Groups;
 use pact_record::{Keys, Record};
 use std::cmp::Ordering;
 

@@ -4,11 +4,11 @@ ghost use Rattle.std.specs.Prelude.{◌≡◌, length, IfOk};
 ghost use Rattle.pact_bag.specs.Rows.{HaveOneWidth};
 ghost use Rattle.pact_record.specs.Record.{key_of};
 ghost use Rattle.pact_record.specs.Widths.{AreBelow};
-ghost use Rattle.grouped_rows.specs.Grouped.{AreAllBelow, IsFound, order_of, order_with};
+ghost use Rattle.local_strategy.specs.Grouped.{AreAllBelow, IsFound, order_of, order_with};
 ghost use Rattle.sort_local.specs.Cut.{AreAtMost, IsAscending, IsFalling, IsSortedInto};
 
 use crate::key_orders::sort_down;
-use grouped_rows::Groups;
+use local_strategy::Groups;
 use pact_bag::Rows;
 use pact_record::{Keys, OutOfMemory, Record};
 use std::alloc::Global;

@@ -1,7 +1,7 @@
 use Rattle.std.proofs.Common.{[], get_or, sym, ◌∙◌, subst}
 use Rattle.pact_bag.proofs.KeyGroups.{same_keys}
 use Rattle.pact_record.specs.Record.{key_of}
-use Rattle.grouped_rows.specs.Grouped.{order_of}
+use Rattle.local_strategy.specs.Grouped.{order_of}
 use Rattle.group_table.proofs.FoundByCode.{IsLeft, left_all, left_next, left_none}
 use Rattle.group_table.proofs.finding.find.Goals as goal
 

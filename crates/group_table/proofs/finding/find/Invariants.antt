@@ -1,5 +1,5 @@
 use Rattle.pact_record.specs.Record.{key_of}
-use Rattle.grouped_rows.specs.Grouped.{order_of}
+use Rattle.local_strategy.specs.Grouped.{order_of}
 use Rattle.group_table.proofs.FoundByCode.{IsLeft, places}
 use Rattle.group_table.proofs.finding.find.Given as goal
 

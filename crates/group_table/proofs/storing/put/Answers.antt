@@ -1,7 +1,7 @@
 use Rattle.std.proofs.Common.{List, ℕ, subst}
 use Rattle.std.proofs.lemmas.Result.{on_ok_weaker}
 use Rattle.pact_record.specs.Record.{key_of}
-use Rattle.grouped_rows.specs.Grouped.{IsFound, order_of}
+use Rattle.local_strategy.specs.Grouped.{IsFound, order_of}
 use Rattle.group_table.proofs.StoredRows.{added_behind, added_new}
 use Rattle.group_table.proofs.storing.put.Goals as goal
 

@@ -2,7 +2,7 @@ use Rattle.std.proofs.Common.{List, ℕ, ap, ◌∙◌}
 use Rattle.pact_record.specs.Record.{key_of}
 use Rattle.chain_arena.specs.Arenas.{ArenaData}
 use Rattle.pact_record.specs.declared.values.Value.{Value}
-use Rattle.grouped_rows.specs.Grouped.{order_of}
+use Rattle.local_strategy.specs.Grouped.{order_of}
 use Rattle.group_table.specs.Codes.{code}
 use Rattle.group_table.proofs.GrownBuckets.{grown_index}
 use Rattle.group_table.proofs.storing.put_new.Goals as goal

@@ -1,7 +1,7 @@
 use Rattle.std.proofs.Common.{◌<◌, sym, ◌∙◌, get_or, subst, []}
 use Rattle.pact_record.specs.Record.{key_of}
-use Rattle.grouped_rows.specs.Grouped.{order_of}
-use Rattle.grouped_rows.proofs.GroupLaws.{equal_keys}
+use Rattle.local_strategy.specs.Grouped.{order_of}
+use Rattle.local_strategy.proofs.GroupLaws.{equal_keys}
 use Rattle.local_strategy.proofs.scanning.find.Goals as goal
 
 pub returns-then-eq : goal.returns-then-eq

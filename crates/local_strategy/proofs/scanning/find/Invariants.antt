@@ -1,7 +1,7 @@
 use Rattle.std.proofs.Common.{◌≡◌, drop}
 use Rattle.pact_bag.proofs.KeyGroups.{occurs}
 use Rattle.pact_record.specs.Record.{key_of}
-use Rattle.grouped_rows.specs.Grouped.{order_of}
+use Rattle.local_strategy.specs.Grouped.{order_of}
 use Rattle.local_strategy.proofs.scanning.find.Given as goal
 
 abbrev pub invariant-loop-n : goal.invariant-loop-n

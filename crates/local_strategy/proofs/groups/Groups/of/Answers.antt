@@ -1,9 +1,9 @@
 use Rattle.std.proofs.Common.{arith, ◌≡◌, List, subst, sym}
 use Rattle.pact_bag.specs.Groups.{group_of_key}
 use Rattle.pact_record.specs.declared.values.Value.{Value}
-use Rattle.grouped_rows.specs.Grouped.{GroupsData, IsFound, order_of, rows_of}
-use Rattle.grouped_rows.proofs.LentGroups.{found_below, lent_found, lent_none}
-use Rattle.grouped_rows.proofs.groups.Groups.of.Goals as goal
+use Rattle.local_strategy.specs.Grouped.{GroupsData, IsFound, order_of, rows_of}
+use Rattle.local_strategy.proofs.LentGroups.{found_below, lent_found, lent_none}
+use Rattle.local_strategy.proofs.groups.Groups.of.Goals as goal
 
 pub index-requires : goal.index-requires
 index-requires c =

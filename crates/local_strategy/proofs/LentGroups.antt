@@ -4,8 +4,8 @@ use Rattle.std.specs.Prelude.{slice_get, IfSome}
 use Rattle.std.proofs.lemmas.List.{get_or_default}
 use Rattle.pact_bag.specs.Groups.{group_of_key}
 use Rattle.pact_record.specs.declared.values.Value.{Value}
-use Rattle.grouped_rows.specs.Grouped.{AreGroups, AreHeld, IsFound, first_key, order_of, rows_of}
-use Rattle.grouped_rows.proofs.GroupLaws.{group_absent, group_present, length-order, order-at}
+use Rattle.local_strategy.specs.Grouped.{AreGroups, AreHeld, IsFound, first_key, order_of, rows_of}
+use Rattle.local_strategy.proofs.GroupLaws.{group_absent, group_present, length-order, order-at}
 
 key-at : (keys : List ℕ) (gs : List (List (List Value))) (n : ℕ) (P : List Value → Type 0) → n < length gs → P (first_key keys (get_or gs n [])) → IfSome (slice_get (order_of keys gs) n) P
 key-at keys [] n P lt h = absurd (omega (arith, lt))

@@ -1,10 +1,10 @@
 use Rattle.std.proofs.Common.{arith, ◌≡◌, ◌<◌, length, subst, sym}
 use Rattle.std.specs.Prelude.{slice_get, IfSome}
 use Rattle.pact_bag.specs.Groups.{group_of_key}
-use Rattle.grouped_rows.specs.Grouped.{GroupsData, order_of, rows_of}
-use Rattle.grouped_rows.proofs.GroupLaws.{length-order}
-use Rattle.grouped_rows.proofs.LentGroups.{lent_at_law}
-use Rattle.grouped_rows.proofs.groups.Groups.at.Goals as goal
+use Rattle.local_strategy.specs.Grouped.{GroupsData, order_of, rows_of}
+use Rattle.local_strategy.proofs.GroupLaws.{length-order}
+use Rattle.local_strategy.proofs.LentGroups.{lent_at_law}
+use Rattle.local_strategy.proofs.groups.Groups.at.Goals as goal
 
 pub index-requires : goal.index-requires
 index-requires c =

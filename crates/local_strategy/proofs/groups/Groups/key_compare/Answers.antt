@@ -1,9 +1,9 @@
 use Rattle.std.proofs.Common.{arith, ◌<◌, get_or, length, subst, sym, ap, ◌∙◌, []}
 use Rattle.pact_record.specs.Record.{key_of, record_cmp}
-use Rattle.grouped_rows.specs.Grouped.{GroupsData, order_of}
-use Rattle.grouped_rows.proofs.GroupLaws.{length-order}
-use Rattle.grouped_rows.proofs.PutRows.{compared_first, first_below, some_first}
-use Rattle.grouped_rows.proofs.groups.Groups.key_compare.Goals as goal
+use Rattle.local_strategy.specs.Grouped.{GroupsData, order_of}
+use Rattle.local_strategy.proofs.GroupLaws.{length-order}
+use Rattle.local_strategy.proofs.PutRows.{compared_first, first_below, some_first}
+use Rattle.local_strategy.proofs.groups.Groups.key_compare.Goals as goal
 
 pub index-requires : goal.index-requires
 index-requires c =

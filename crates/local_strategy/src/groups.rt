@@ -7,7 +7,7 @@ ghost use Rattle.pact_bag.specs.Groups.{distinct_keys, group_of_key};
 ghost use Rattle.pact_record.specs.declared.values.Value.{Value as FieldValue};
 ghost use Rattle.pact_record.specs.Record.{key_of, record_cmp};
 ghost use Rattle.pact_record.specs.Widths.{AreBelow, AreWide};
-ghost use Rattle.grouped_rows.specs.Grouped.{AreGroups, IsFound, IsPut, order_of, order_with, rows_of};
+ghost use Rattle.local_strategy.specs.Grouped.{AreGroups, IsFound, IsPut, order_of, order_with, rows_of};
 
 use pact_bag::Rows;
 use pact_record::{Keys, OutOfMemory, Record};
@@ -75,7 +75,7 @@ pub struct Groups {
 }
 
 impl Model for Groups {
-    ghost use Rattle.grouped_rows.specs.Grouped.{GroupsData, AreHeld};
+    ghost use Rattle.local_strategy.specs.Grouped.{GroupsData, AreHeld};
 
     ghost Value = { GroupsData };
 

@@ -1,8 +1,8 @@
 use Rattle.std.proofs.Common.{length, subst, sym}
 use Rattle.pact_record.specs.Widths.{AreBelow}
-use Rattle.grouped_rows.specs.Grouped.{GroupsData}
-use Rattle.grouped_rows.proofs.PutRows.{held_after}
-use Rattle.grouped_rows.proofs.groups.Groups.put.Goals as goal
+use Rattle.local_strategy.specs.Grouped.{GroupsData}
+use Rattle.local_strategy.proofs.PutRows.{held_after}
+use Rattle.local_strategy.proofs.groups.Groups.put.Goals as goal
 
 pub invariant_of-self : goal.invariant_of-self
 invariant_of-self c =

@@ -18,8 +18,8 @@ use Rattle.pact_record.specs.declared.values.Value.{Value}
 use Rattle.pact_record.specs.Record.{key_of}
 use Rattle.pact_record.proofs.Lists.{AllByRecursion-last, AllByRecursion-left, AllByRecursion-right}
 use Rattle.pact_record.proofs.Permutations.{Perm, before, chains, crossed_over, flat_map-append, is_same, to_permutation}
-use Rattle.grouped_rows.specs.Grouped.{AreAllBelow, AreGroups, AreHeld, IsFound, IsGroup, IsPut, first_key, order_of, rows_of}
-use Rattle.grouped_rows.proofs.GroupLaws.{length-order, order-at, unlike}
+use Rattle.local_strategy.specs.Grouped.{AreAllBelow, AreGroups, AreHeld, IsFound, IsGroup, IsPut, first_key, order_of, rows_of}
+use Rattle.local_strategy.proofs.GroupLaws.{length-order, order-at, unlike}
 
 all-set : {X : Type 0} (P : X → Type 0) (xs : List X) (n : ℕ) (x : X) → AllByRecursion P xs → P x → AllByRecursion P (slice_set xs n x)
 all-set P [] n x h p = tt

@@ -16,7 +16,7 @@ use Rattle.pact_bag.proofs.KeyLists.{AreOnce-distinct_keys, occurs-distinct_keys
 use Rattle.pact_record.specs.declared.values.Value.{Value}
 use Rattle.pact_record.specs.Record.{key_of, record_cmp}
 use Rattle.pact_record.proofs.Permutations.{to_permutation}
-use Rattle.grouped_rows.specs.Grouped.{AreGroups, IsGroup, first_key, order_of, rows_of}
+use Rattle.local_strategy.specs.Grouped.{AreGroups, IsGroup, first_key, order_of, rows_of}
 
 pub unlike : (j k : List Value) → is_same_key j k ≡ false → is_same_key k j ≡ false
 unlike j k h = false_from_ne_true (is_same_key k j) (λ e. both_ways (is_same_key j k) h (ap (λ i. is_same_key i k) (sym (same_keys k j e)) ∙ key_itself k))
