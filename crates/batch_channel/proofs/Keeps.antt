@@ -4,9 +4,9 @@ use mathlib.Core.Option.{some, some-ne-none}
 use lib.ListN.{get_elem?}
 use Rattle.crossbeam_queue.specs.Fifo.{Pushes, Pops, Forks, Merges, Learns}
 use Rattle.crossbeam_queue.proofs.Lists.{at_set, at_snoc}
-use Rattle.flow_model.specs.Notes.{IsNote}
+use Rattle.flow_instance.specs.Notes.{IsNote}
 use Rattle.batch_channel.specs.Rule.{HoldsNotes, view_of, IsView, IsPiped, IsBehind}
-use Rattle.flow_model.specs.declared.notes.Note.{Note}
+use Rattle.flow_instance.specs.declared.notes.Note.{Note}
 use Rattle.batch_channel.specs.declared.rules.View.{View}
 
 holds_more : (fields : ℕ) (items : List Note) (note : Note) → HoldsNotes fields items → IsNote fields note → HoldsNotes fields (items ++ note ∷ [])

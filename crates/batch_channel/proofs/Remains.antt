@@ -4,9 +4,9 @@ use Rattle.std.specs.Prelude.{Option, Some, None}
 use native.Mathlib.Omega.{arith}
 use Rattle.std.proofs.Math.Seq.{drop-append_seam}
 use Rattle.crossbeam_queue.specs.Fifo.{Held}
-use Rattle.flow_model.specs.Notes.{IsNote}
+use Rattle.flow_instance.specs.Notes.{IsNote}
 use Rattle.batch_channel.specs.Rule.{view_of}
-use Rattle.flow_model.specs.declared.notes.Note.{Note}
+use Rattle.flow_instance.specs.declared.notes.Note.{Note}
 use Rattle.batch_channel.specs.declared.rules.View.{View}
 
 -- a view of both ends, which knows what is left

@@ -2,10 +2,10 @@
 use Rattle.std.specs.Prelude.{◌≡◌, ℕ, Bool, true, List, ◌++◌}
 use mathlib.Core.Option.{some}
 use lib.ListN.{get_elem?}
-use Rattle.flow_model.specs.declared.notes.Note.{Note}
+use Rattle.flow_instance.specs.declared.notes.Note.{Note}
 use Rattle.batch_channel.specs.declared.rules.View.{View}
 use Rattle.std.specs.List.{AllByRecursion}
-use Rattle.flow_model.specs.Notes.{IsNote}
+use Rattle.flow_instance.specs.Notes.{IsNote}
 
 -- each record of the notes has so many values
 abbrev pub HoldsNotes : ℕ → List Note → Type 0

@@ -1,13 +1,13 @@
 //! What is left in a pipe whose ends are joined.
 
 ghost use Rattle.std.specs.Prelude.{◌≡◌, ◌++◌, ◌∷◌, [], IfSome, IfNone, MatchOption};
-ghost use Rattle.flow_model.specs.Notes.{IsNote};
+ghost use Rattle.flow_instance.specs.Notes.{IsNote};
 
 use crate::ends::{PutEnd, TakeEnd};
 use crate::pipes::Pipe;
 use crate::rules::{BothEnds, Leaves, NotePass, Queue};
 use crate::widths::Width;
-use flow_model::Note;
+use flow_instance::Note;
 use std::marker::Model;
 use std::sync::Wait;
 
@@ -21,7 +21,7 @@ pub struct Left<W: Width> {
 impl<W: Width> Model for Left<W> {
     ghost use Rattle.std.specs.Prelude.{◌≡◌, ◌++◌, true, List, length, drop};
     ghost use Rattle.crossbeam_queue.specs.Passes.{view as seen, IsPassOf};
-    ghost use Rattle.flow_model.specs.declared.notes.Note.{Note};
+    ghost use Rattle.flow_instance.specs.declared.notes.Note.{Note};
 
     ghost Value = { List Note };
 

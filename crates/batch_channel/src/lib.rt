@@ -17,7 +17,7 @@ mod rules;
 mod widths;
 
 pub use ends::{PutEnd, TakeEnd};
-pub use flow_model::Note;
+pub use flow_instance::Note;
 pub use lefts::{Left, close};
 pub use openings::pipe;
 pub use pipes::Pipe;

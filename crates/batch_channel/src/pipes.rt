@@ -1,12 +1,12 @@
 //! Pipes, to which notes are put and from which they are taken.
 
 ghost use Rattle.std.specs.Prelude.{◌≡◌, ◌≤◌, ◌<◌, ◌^◌, ◌++◌, ◌∷◌, [], length, OnOk, IfErr, OnErr, IfSome, IfNone};
-ghost use Rattle.flow_model.specs.Notes.{IsNote};
+ghost use Rattle.flow_instance.specs.Notes.{IsNote};
 
 use crate::ends::{PutEnd, TakeEnd};
 use crate::rules::{Puts, Queue, Takes};
 use crate::widths::Width;
-use flow_model::Note;
+use flow_instance::Note;
 use std::marker::Model;
 use std::sync::Wait;
 

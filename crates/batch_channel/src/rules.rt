@@ -3,7 +3,7 @@
 use crate::widths::Width;
 use crossbeam_queue::protocol::{Join, Lesson, Outcome, Protocol, Split};
 use crossbeam_queue::{Pass, RuledArrayQueue};
-use flow_model::Note;
+use flow_instance::Note;
 use std::collections::LinkedList;
 use std::marker::PhantomData;
 
@@ -73,7 +73,7 @@ pub struct Takes<W: Width> {
 
 impl<W: Width> Outcome<Note, View> for Takes<W> {
     ghost use Rattle.std.specs.Prelude.{◌≡◌, ◌++◌, ◌∷◌, []};
-    ghost use Rattle.flow_model.specs.Notes.{IsNote};
+    ghost use Rattle.flow_instance.specs.Notes.{IsNote};
     ghost use Rattle.batch_channel.specs.Rule.{view_of};
 
     ghost then = { λ v x w. IsNote W.fields x × (w ≡ view_of v.puts v.takes v.put (v.taken ++ x ∷ [])) };
@@ -92,9 +92,9 @@ pub struct Leaves<W: Width> {
 
 impl<W: Width> Outcome<Note, View> for Leaves<W> {
     ghost use Rattle.std.specs.Prelude.{◌≡◌, ◌++◌, ◌∷◌, [], List};
-    ghost use Rattle.flow_model.specs.Notes.{IsNote};
+    ghost use Rattle.flow_instance.specs.Notes.{IsNote};
     ghost use Rattle.batch_channel.specs.Rule.{view_of};
-    ghost use Rattle.flow_model.specs.declared.notes.Note.{Note};
+    ghost use Rattle.flow_instance.specs.declared.notes.Note.{Note};
 
     ghost then = { λ v x w. IsNote W.fields x × ((rest : List Note) × (v.put ≡ v.taken ++ x ∷ rest)) × (w ≡ view_of v.puts v.takes v.put (v.taken ++ x ∷ [])) };
 }

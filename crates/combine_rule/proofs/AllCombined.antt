@@ -17,9 +17,9 @@ use Rattle.pact_operators.specs.Programs.{IsPlanOf, IsProgram}
 use Rattle.ship_strategy.specs.PlanFacts.{facts_of}
 use Rattle.ship_strategy.specs.Ships.{LegalShip}
 use Rattle.ship_strategy.proofs.DividedRuns.{divided_counted}
-use Rattle.flow_model.specs.Spots.{setting}
-use Rattle.flow_model.specs.Spread.{Spread}
-use Rattle.flow_model.proofs.DividedRuns.{divided}
+use Rattle.flow_instance.specs.Spots.{setting}
+use Rattle.flow_instance.specs.Spread.{Spread}
+use Rattle.flow_instance.proofs.DividedRuns.{divided}
 use Rattle.combine_rule.specs.CombinedPrograms.{Planned, combined_at, sender_for, sender_op, IsCombinedFrom, IsCombinedPlan}
 use Rattle.plan_trees.proofs.InsertedPlaces.{has-inserted}
 use Rattle.combine_rule.proofs.CombinedTheorem.{combined_divided, combined_plan, combined_program, below_there, no_new}

@@ -11,8 +11,8 @@ use Rattle.pact_operators.specs.PlanOps.{plan_ops}
 use Rattle.pact_operators.specs.Programs.{IsPlanOf, IsProgram}
 use Rattle.ship_strategy.specs.PlanFacts.{facts_of}
 use Rattle.ship_strategy.specs.Ships.{LegalShip}
-use Rattle.flow_model.specs.Spots.{setting}
-use Rattle.flow_model.specs.Spread.{Spread}
+use Rattle.flow_instance.specs.Spots.{setting}
+use Rattle.flow_instance.specs.Spread.{Spread}
 use Rattle.combine_rule.specs.CombinedPrograms.{Planned, combined_at, IsCombinedFrom, IsCombinedPlan}
 use Rattle.combine_rule.proofs.AllCombined.{combined_run_counted}
 use Rattle.combine_rule.proofs.CombinedTheorem.{combined_plan, combined_program, below_there, not_top, no_new}

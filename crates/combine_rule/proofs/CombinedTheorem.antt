@@ -29,9 +29,9 @@ use Rattle.ship_strategy.proofs.PlanAttributes.{left_true}
 use Rattle.plan_trees.specs.Distinct.{AreDifferent}
 use Rattle.pact_operators.specs.Divided.{IsDivided}
 use Rattle.ship_strategy.proofs.DividedRuns.{divided_counted}
-use Rattle.flow_model.proofs.DividedRuns.{divided}
-use Rattle.flow_model.specs.Spots.{setting}
-use Rattle.flow_model.specs.Spread.{Spread}
+use Rattle.flow_instance.proofs.DividedRuns.{divided}
+use Rattle.flow_instance.specs.Spots.{setting}
+use Rattle.flow_instance.specs.Spread.{Spread}
 use Rattle.combine_rule.specs.Pieces.{front_of, loop_of, rest_of}
 use Rattle.combine_rule.specs.declared.slots.Slot.{Slot}
 use Rattle.combine_rule.specs.Slots.{slots_of}

@@ -16,7 +16,7 @@ use Rattle.pact_operators.specs.Allowed.{Bag, Gives, Grouped, keys_in}
 use Rattle.pact_operators.specs.Divided.{GaveShare, Shares}
 use Rattle.pact_operators.specs.PlanOps.{PlanOps, kind_at, kind_in, plan_ops}
 use Rattle.pact_operators.specs.Programs.{HasArity, IsPlanOf, IsProgram, takes}
-use Rattle.flow_model.proofs.DividedRuns.{divided}
+use Rattle.flow_instance.proofs.DividedRuns.{divided}
 use Rattle.combine_rule.specs.Splits.{GroupCall, IsSplitIn}
 use Rattle.combine_rule.specs.Combined.{IsSameAt}
 use Rattle.combine_rule.specs.CombinedPrograms.{CanCombine, Planned, combined_at, IsCombinedFrom, IsCombinedPlan}

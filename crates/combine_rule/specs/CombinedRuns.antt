@@ -11,8 +11,8 @@ use Rattle.pact_operators.specs.Inputs.{AreInputsOf}
 use Rattle.pact_operators.specs.PlanOps.{PlanOps, plan_ops}
 use Rattle.ship_strategy.specs.PlanFacts.{facts_of}
 use Rattle.ship_strategy.specs.Ships.{LegalShip}
-use Rattle.flow_model.specs.Spots.{setting}
-use Rattle.flow_model.specs.Spread.{Spread}
+use Rattle.flow_instance.specs.Spots.{setting}
+use Rattle.flow_instance.specs.Spread.{Spread}
 use Rattle.combine_rule.specs.CombinedPrograms.{Planned}
 
 -- A run of the combined plan for a plan that ships legally, over the rows of the sources of its program.

@@ -3,11 +3,11 @@ use Rattle.std.proofs.Common.{◌≡◌, ◌<◌, ◌++◌, ◌∷◌, ◌&&◌,
 use Rattle.std.proofs.lemmas.Bool.{cases_eq, eq-eqb}
 use Rattle.std.proofs.lemmas.List.{get_or-set_other, get_or-set_same, length-set}
 use Rattle.plan_trees.specs.Physicals.{PhysicalData}
-use Rattle.flow_model.specs.declared.notes.Note.{Note}
-use Rattle.flow_model.specs.declared.notes.PipeId.{PipeId}
-use Rattle.flow_model.specs.Events.{Ends, ListChanged, Puts, is_pipe}
-use Rattle.flow_model.specs.Steps.{next_note}
-use Rattle.flow_model.specs.Worlds.{World}
+use Rattle.flow_instance.specs.declared.notes.Note.{Note}
+use Rattle.flow_instance.specs.declared.notes.PipeId.{PipeId}
+use Rattle.flow_instance.specs.Events.{Ends, ListChanged, Puts, is_pipe}
+use Rattle.flow_instance.specs.Steps.{next_note}
+use Rattle.flow_instance.specs.Worlds.{World}
 use Rattle.flow_core.specs.Stations.{with_end, with_put}
 use Rattle.flow_core.specs.Worlds.{IsWhole, StationData, instance_in, queue_in, station_in}
 use Rattle.flow_core.proofs.StationsAtPlaces.{IsFoundAt, IsSet}

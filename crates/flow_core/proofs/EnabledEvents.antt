@@ -2,19 +2,19 @@
 use Rattle.std.proofs.Common.{◌∷◌, [], ◌≡◌, ◌<◌, ◌&&◌, ℕ, true, false, Option, None, Some, List, length, slice_get, nat_lt, refl, subst, sym, ◌∙◌}
 use Rattle.std.proofs.lemmas.Bool.{and_parts, ltb-true}
 use Rattle.plan_trees.specs.Plans.{has, subtree_of}
-use Rattle.flow_model.specs.declared.notes.Event.TheVariants as events
-use Rattle.flow_model.specs.declared.notes.Note.{Note}
-use Rattle.flow_model.specs.declared.notes.Note.TheVariants.{Batch, End as EndNote}
-use Rattle.flow_model.specs.declared.notes.PipeId.{PipeId}
-use Rattle.flow_model.specs.declared.notes.Want.TheVariants.{Take}
-use Rattle.flow_model.specs.Events.{first_note}
-use Rattle.flow_model.specs.Instances.{want}
-use Rattle.flow_model.specs.Local.{sender_ended}
-use Rattle.flow_model.specs.Notes.{AreNotes, IsNote, has_end}
-use Rattle.flow_model.specs.Spots.{Port, Setting, is_edge, ports_of, setting}
-use Rattle.flow_model.specs.Worlds.{can_take, does_want, enabled, lists_at, reader_of}
-use Rattle.flow_model.proofs.Events.{wants_take}
-use Rattle.flow_model.proofs.StandsAfterEvents.{can_be_taken}
+use Rattle.flow_instance.specs.declared.notes.Event.TheVariants as events
+use Rattle.flow_instance.specs.declared.notes.Note.{Note}
+use Rattle.flow_instance.specs.declared.notes.Note.TheVariants.{Batch, End as EndNote}
+use Rattle.flow_instance.specs.declared.notes.PipeId.{PipeId}
+use Rattle.flow_instance.specs.declared.notes.Want.TheVariants.{Take}
+use Rattle.flow_instance.specs.Events.{first_note}
+use Rattle.flow_instance.specs.Instances.{want}
+use Rattle.flow_instance.specs.Local.{sender_ended}
+use Rattle.flow_instance.specs.Notes.{AreNotes, IsNote, has_end}
+use Rattle.flow_instance.specs.Spots.{Port, Setting, is_edge, ports_of, setting}
+use Rattle.flow_instance.specs.Worlds.{can_take, does_want, enabled, lists_at, reader_of}
+use Rattle.flow_instance.proofs.Events.{wants_take}
+use Rattle.flow_instance.proofs.StandsAfterEvents.{can_be_taken}
 use Rattle.flow_core.specs.Stations.{IsReadyFor}
 use Rattle.flow_core.specs.Worlds.{StandsForSome, WorldData, instance_in, queue_in, seen}
 

@@ -7,18 +7,18 @@ use Rattle.plan_trees.specs.Physicals.{IsPhysical, PhysicalData}
 use Rattle.plan_trees.specs.Plans.{PlanTree, leaf, over, both, has, input_of, node_limit, nodes, root_input_of, root_of, subtree_of}
 use Rattle.plan_trees.proofs.SubtreesOfPlans.{root_of-subtree}
 use Rattle.tac_syntax.specs.declared.declarations.OpKind.TheVariants.{Source}
-use Rattle.flow_model.specs.declared.notes.Event.{Event}
-use Rattle.flow_model.specs.declared.notes.Event.TheVariants as events
-use Rattle.flow_model.specs.declared.notes.PipeId.{PipeId}
-use Rattle.flow_model.specs.declared.notes.Want.{Want}
-use Rattle.flow_model.specs.declared.notes.Want.TheVariants.{Done, End, Put, Take}
-use Rattle.flow_model.specs.Instances.{want}
-use Rattle.flow_model.specs.Spots.{Port, Setting, ports_of}
-use Rattle.flow_model.specs.Worlds.{IsStuck, World, can_take, does_want, enabled, reader_of}
-use Rattle.flow_model.proofs.Events.{wants_end, wants_put, wants_take}
-use Rattle.flow_model.proofs.Readers.{IsFound, found}
+use Rattle.flow_instance.specs.declared.notes.Event.{Event}
+use Rattle.flow_instance.specs.declared.notes.Event.TheVariants as events
+use Rattle.flow_instance.specs.declared.notes.PipeId.{PipeId}
+use Rattle.flow_instance.specs.declared.notes.Want.{Want}
+use Rattle.flow_instance.specs.declared.notes.Want.TheVariants.{Done, End, Put, Take}
+use Rattle.flow_instance.specs.Instances.{want}
+use Rattle.flow_instance.specs.Spots.{Port, Setting, ports_of}
+use Rattle.flow_instance.specs.Worlds.{IsStuck, World, can_take, does_want, enabled, reader_of}
+use Rattle.flow_instance.proofs.Events.{wants_end, wants_put, wants_take}
+use Rattle.flow_instance.proofs.Readers.{IsFound, found}
 use Rattle.plan_trees.proofs.EverySubtree.{all_below-at}
-use Rattle.flow_model.proofs.Trees.{Reads, read}
+use Rattle.flow_instance.proofs.Trees.{Reads, read}
 use Rattle.flow_core.specs.Idle.{IsIdle, IsOf}
 use Rattle.flow_core.specs.Wired.{input_in}
 use Rattle.plan_trees.proofs.Ships.{below_limit}

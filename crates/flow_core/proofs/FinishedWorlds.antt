@@ -14,12 +14,12 @@ use Rattle.plan_trees.specs.Plans.{has, root_of, subtree_of}
 use Rattle.plan_trees.specs.Sending.{all_of}
 use Rattle.plan_trees.proofs.EachWorker.{all_each}
 use Rattle.plan_trees.proofs.SubtreesOfPlans.{has-root, root_of-subtree}
-use Rattle.flow_model.specs.Spots.{Setting}
-use Rattle.flow_model.specs.Spread.{Spread, placed_in, sum_below}
-use Rattle.flow_model.specs.Worlds.{AreDone, History, IsStuck, LocalAt}
-use Rattle.flow_model.proofs.Bags.{is_same}
-use Rattle.flow_model.proofs.AllPutIsTaken.{spread}
-use Rattle.flow_model.proofs.Stuck.{stuck_is_done}
+use Rattle.flow_instance.specs.Spots.{Setting}
+use Rattle.flow_instance.specs.Spread.{Spread, placed_in, sum_below}
+use Rattle.flow_instance.specs.Worlds.{AreDone, History, IsStuck, LocalAt}
+use Rattle.flow_instance.proofs.Bags.{is_same}
+use Rattle.flow_instance.proofs.AllPutIsTaken.{spread}
+use Rattle.flow_instance.proofs.Stuck.{stuck_is_done}
 use Rattle.flow_core.specs.Outcomes.{IsOutcome}
 use Rattle.flow_core.specs.Stations.{given_by, placed_by, total_given}
 use Rattle.flow_core.specs.Worlds.{IsStanding, IsWhole, StandsForSome, StationData, WorldData, seen}

@@ -5,13 +5,13 @@ use Rattle.std.proofs.lemmas.Bool.{and_from, cases_eq, cases_lt, eq-eqb}
 use Rattle.std.proofs.lemmas.List.{get_or_default, get_or_past, length-set}
 use Rattle.pact_operators.specs.Programs.{IsPlanOf, IsProgram, ProgramData}
 use Rattle.plan_trees.specs.Physicals.{IsPhysical, PhysicalData}
-use Rattle.flow_model.specs.declared.notes.Note.{Note}
-use Rattle.flow_model.specs.declared.notes.PipeId.{PipeId}
-use Rattle.flow_model.specs.Events.{ListChanged, is_pipe}
-use Rattle.flow_model.specs.Instances.{Instance}
-use Rattle.flow_model.specs.Spots.{Setting, setting}
-use Rattle.flow_model.specs.Worlds.{History, Stands, World}
-use Rattle.flow_model.proofs.StandsAfterEvents.{other_edge, other_from, other_to}
+use Rattle.flow_instance.specs.declared.notes.Note.{Note}
+use Rattle.flow_instance.specs.declared.notes.PipeId.{PipeId}
+use Rattle.flow_instance.specs.Events.{ListChanged, is_pipe}
+use Rattle.flow_instance.specs.Instances.{Instance}
+use Rattle.flow_instance.specs.Spots.{Setting, setting}
+use Rattle.flow_instance.specs.Worlds.{History, Stands, World}
+use Rattle.flow_instance.proofs.StandsAfterEvents.{other_edge, other_from, other_to}
 use Rattle.flow_core.specs.Left.{AreAllEmptied, AreEmptied, AreFilled, AreOfPlan, IsEmptied, IsPipeOf, LeftOn, StandForSome, instance_of, left_on, left_world, refilled}
 use Rattle.flow_core.specs.Worlds.{IsStanding, IsWhole, StandsForSome, StationData, WorldData, instance_in, no_instance, no_station, queue_in, seen, station_in}
 use Rattle.flow_core.proofs.ChangedStations.{list_changed, same_instances, whole_after}

@@ -14,14 +14,14 @@ use Rattle.plan_trees.specs.Plans.{node_limit}
 use Rattle.plan_trees.proofs.Ships.{below_limit}
 use Rattle.ship_strategy.specs.PlanFacts.{facts_of}
 use Rattle.ship_strategy.specs.Ships.{LegalShip}
-use Rattle.flow_model.specs.declared.notes.Event.{Event}
-use Rattle.flow_model.specs.declared.notes.Event.TheVariants as events
-use Rattle.flow_model.specs.declared.notes.PipeId.{PipeId}
-use Rattle.flow_model.specs.declared.notes.Want.{Want}
-use Rattle.flow_model.specs.declared.notes.Want.TheVariants as wants
-use Rattle.flow_model.specs.Spots.{Setting, setting}
-use Rattle.flow_model.specs.Spread.{Spread}
-use Rattle.flow_model.specs.Worlds.{History, IsStuck, World, can_take, enabled, reader_of}
+use Rattle.flow_instance.specs.declared.notes.Event.{Event}
+use Rattle.flow_instance.specs.declared.notes.Event.TheVariants as events
+use Rattle.flow_instance.specs.declared.notes.PipeId.{PipeId}
+use Rattle.flow_instance.specs.declared.notes.Want.{Want}
+use Rattle.flow_instance.specs.declared.notes.Want.TheVariants as wants
+use Rattle.flow_instance.specs.Spots.{Setting, setting}
+use Rattle.flow_instance.specs.Spread.{Spread}
+use Rattle.flow_instance.specs.Worlds.{History, IsStuck, World, can_take, enabled, reader_of}
 use Rattle.flow_core.specs.Picks.{GoesByPick, IsLed, enabled_events, events_by, events_of, if_enabled, joined_below, picked_from, takes_from}
 use Rattle.flow_core.specs.Replays.{IsReached}
 use Rattle.flow_core.specs.Wired.{input_in}

@@ -7,7 +7,7 @@ use Rattle.pact_operators.specs.Allowed.{Bag}
 use Rattle.pact_record.specs.declared.values.Value.{Value}
 use Rattle.pact_record.proofs.Lists.{AllByRecursion-left}
 use Rattle.plan_trees.specs.Sending.{all_of}
-use Rattle.flow_model.specs.Spread.{sum_below}
+use Rattle.flow_instance.specs.Spread.{sum_below}
 use Rattle.flow_core.specs.Stations.{placed_by}
 use Rattle.flow_core.specs.Worlds.{StationData, no_station}
 

@@ -4,7 +4,7 @@ use Rattle.std.proofs.lemmas.Bool.{eq-eqb, ne_eqb}
 use Rattle.plan_trees.specs.PlanParts.{parts_of}
 use Rattle.plan_trees.specs.Plans.{PlanTree, root_of}
 use Rattle.plan_trees.specs.declared.plans.Parts.TheVariants.{OverOne, OverTwo}
-use Rattle.flow_model.specs.Worlds.{first_of, reader_of}
+use Rattle.flow_instance.specs.Worlds.{first_of, reader_of}
 use Rattle.plan_trees.proofs.RootParts.{is_both, is_over}
 
 pub read_here : (tree : PlanTree) (e at : ℕ) (input : PlanTree) → parts_of tree ≡ OverOne at input → e ≡ root_of input → Some (at, 0) ≡ reader_of e tree

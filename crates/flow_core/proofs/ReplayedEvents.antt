@@ -6,13 +6,13 @@ use Rattle.std.proofs.lemmas.Option.{same_Some, slice_get-get_or}
 use Rattle.pact_operators.specs.Allowed.{Bag}
 use Rattle.pact_operators.specs.Programs.{ProgramData}
 use Rattle.plan_trees.specs.Physicals.{PhysicalData}
-use Rattle.flow_model.specs.declared.notes.Event.{Event}
-use Rattle.flow_model.specs.Events.{Runs, Steps, noted}
-use Rattle.flow_model.specs.Spots.{Setting, setting}
-use Rattle.flow_model.specs.Most.{most, program_turns}
-use Rattle.flow_model.proofs.CallTurns.{bounded_program}
-use Rattle.flow_model.proofs.Runs.{runs_short}
-use Rattle.flow_model.specs.Worlds.{History, World, enabled}
+use Rattle.flow_instance.specs.declared.notes.Event.{Event}
+use Rattle.flow_instance.specs.Events.{Runs, Steps, noted}
+use Rattle.flow_instance.specs.Spots.{Setting, setting}
+use Rattle.flow_instance.specs.Most.{most, program_turns}
+use Rattle.flow_instance.proofs.CallTurns.{bounded_program}
+use Rattle.flow_instance.proofs.Runs.{runs_short}
+use Rattle.flow_instance.specs.Worlds.{History, World, enabled}
 use Rattle.flow_core.specs.Replays.{IsReplayed}
 use Rattle.flow_core.specs.Worlds.{IsStanding, StandsForSome, WorldData, seen}
 

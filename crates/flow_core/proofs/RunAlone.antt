@@ -9,16 +9,16 @@ use Rattle.plan_trees.specs.Physicals.{IsPhysical, PhysicalData}
 use Rattle.ship_strategy.specs.PlanFacts.{facts_of}
 use Rattle.ship_strategy.specs.Ships.{LegalShip}
 use Rattle.ship_strategy.proofs.DividedRuns.{divided_counted}
-use Rattle.flow_model.specs.declared.notes.Event.{Event}
-use Rattle.flow_model.specs.Events.{Steps, noted}
-use Rattle.flow_model.specs.Most.{most, program_turns}
-use Rattle.flow_model.specs.Spots.{Setting, setting}
-use Rattle.flow_model.specs.Spread.{Spread}
-use Rattle.flow_model.specs.Worlds.{History, IsStuck, enabled}
-use Rattle.flow_model.proofs.EventsWithinMost.{bound}
-use Rattle.flow_model.proofs.CallTurns.{bounded_program}
-use Rattle.flow_model.proofs.Counting.{step_counted}
-use Rattle.flow_model.proofs.DividedRuns.{divided}
+use Rattle.flow_instance.specs.declared.notes.Event.{Event}
+use Rattle.flow_instance.specs.Events.{Steps, noted}
+use Rattle.flow_instance.specs.Most.{most, program_turns}
+use Rattle.flow_instance.specs.Spots.{Setting, setting}
+use Rattle.flow_instance.specs.Spread.{Spread}
+use Rattle.flow_instance.specs.Worlds.{History, IsStuck, enabled}
+use Rattle.flow_instance.proofs.EventsWithinMost.{bound}
+use Rattle.flow_instance.proofs.CallTurns.{bounded_program}
+use Rattle.flow_instance.proofs.Counting.{step_counted}
+use Rattle.flow_instance.proofs.DividedRuns.{divided}
 use Rattle.flow_core.specs.Outcomes.{IsEnded, IsOutcome}
 use Rattle.flow_core.specs.Replays.{IsReached}
 use Rattle.flow_core.specs.Worlds.{IsStanding, StandsForSome, WorldData, seen}

@@ -18,7 +18,7 @@ use Rattle.pact_record.specs.Widths.{AreWide}
 use Rattle.pact_record.specs.declared.values.Value.{Value}
 use Rattle.pact_record.proofs.Lists.{AllByRecursion-cond, AllByRecursion-get_or}
 use Rattle.plan_trees.specs.Sending.{share_from}
-use Rattle.flow_model.proofs.CarriedBatches.{IsNext, next_width}
+use Rattle.flow_instance.proofs.CarriedBatches.{IsNext, next_width}
 use Rattle.flow_core.specs.Starting.{AreDealt, AreOwn, MayStart, TakesOwn}
 
 -- ---- shares

@@ -8,10 +8,10 @@ use Rattle.pact_operators.specs.Inputs.{AreInputsOf}
 use Rattle.pact_operators.specs.Programs.{IsPlanOf, IsProgram, ProgramData}
 use Rattle.plan_trees.specs.Physicals.{IsPhysical, PhysicalData}
 use Rattle.plan_trees.specs.Plans.{has}
-use Rattle.flow_model.specs.declared.notes.Note.{Note}
-use Rattle.flow_model.specs.Events.{no_history}
-use Rattle.flow_model.specs.Spots.{Setting, setting}
-use Rattle.flow_model.proofs.Events.{start_stands}
+use Rattle.flow_instance.specs.declared.notes.Note.{Note}
+use Rattle.flow_instance.specs.Events.{no_history}
+use Rattle.flow_instance.specs.Spots.{Setting, setting}
+use Rattle.flow_instance.proofs.Events.{start_stands}
 use Rattle.flow_core.specs.Starting.{AreStarted}
 use Rattle.flow_core.specs.Worlds.{HasBatchSize, IsStanding, IsWhole, StandsForSome, StationData, WorldData, no_station, queue_in, seen, station_in}
 

@@ -4,8 +4,8 @@ use Rattle.std.proofs.lemmas.Bool.{cases_eq, cases_lt, false_from_ne_true}
 use Rattle.std.proofs.lemmas.List.{get_or-set_other, get_or-set_same, get_or_past}
 use Rattle.plan_trees.specs.Plans.{IsPlan, PlanTree, has, node_limit}
 use Rattle.plan_trees.proofs.Ships.{below_limit}
-use Rattle.flow_model.specs.Worlds.{reader_of}
-use Rattle.flow_model.proofs.Trees.{no_reader}
+use Rattle.flow_instance.specs.Worlds.{reader_of}
+use Rattle.flow_instance.proofs.Trees.{no_reader}
 use Rattle.flow_core.specs.Wired.{input_in}
 
 -- the first entries are those of a function, and so is the next one

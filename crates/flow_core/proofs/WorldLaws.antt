@@ -2,13 +2,13 @@
 use Rattle.std.proofs.Common.{◌≡◌, ◌<◌, subst, sym, true}
 use Rattle.plan_trees.specs.Physicals.{IsPhysical, PhysicalData}
 use Rattle.plan_trees.specs.Plans.{has}
-use Rattle.flow_model.specs.Most.{program_turns}
-use Rattle.flow_model.specs.Spots.{setting}
-use Rattle.flow_model.specs.Worlds.{enabled}
-use Rattle.flow_model.proofs.EventsWithinMost.{bound}
-use Rattle.flow_model.proofs.CallTurns.{bounded_program}
-use Rattle.flow_model.proofs.AllPutIsTaken.{put_is_taken, spread}
-use Rattle.flow_model.proofs.Runs.{some_event}
+use Rattle.flow_instance.specs.Most.{program_turns}
+use Rattle.flow_instance.specs.Spots.{setting}
+use Rattle.flow_instance.specs.Worlds.{enabled}
+use Rattle.flow_instance.proofs.EventsWithinMost.{bound}
+use Rattle.flow_instance.proofs.CallTurns.{bounded_program}
+use Rattle.flow_instance.proofs.AllPutIsTaken.{put_is_taken, spread}
+use Rattle.flow_instance.proofs.Runs.{some_event}
 use Rattle.flow_core.specs.Laws.{ObeysLaws}
 use Rattle.flow_core.specs.Worlds.{StandsForSome, WorldData, seen}
 use Rattle.flow_core.proofs.RunAlone.{spread_counted}

@@ -4,17 +4,17 @@ use Rattle.std.proofs.lemmas.Bool.{cases_eq}
 use Rattle.plan_trees.specs.Physicals.{IsPhysical, PhysicalData}
 use Rattle.plan_trees.specs.Plans.{has, subtree_of}
 use Rattle.pact_operators.specs.Programs.{IsPlanOf}
-use Rattle.flow_model.specs.declared.notes.Event.{Event}
-use Rattle.flow_model.specs.declared.notes.Event.TheVariants as events
-use Rattle.flow_model.specs.declared.notes.Note.{Note}
-use Rattle.flow_model.specs.declared.notes.PipeId.{PipeId}
-use Rattle.flow_model.specs.Events.{ListChanged, OthersSame, Steps, Takes, TakesBy, first_note, noted}
-use Rattle.flow_model.specs.Instances.{Instance}
-use Rattle.flow_model.specs.Local.{IsLocal}
-use Rattle.flow_model.specs.Spots.{Setting, Spot, ports_of, setting, spot}
-use Rattle.flow_model.specs.Steps.{Took, later}
-use Rattle.flow_model.specs.Worlds.{History, World, enabled, lists_at, reader_of}
-use Rattle.flow_model.proofs.Events.{step_stands}
+use Rattle.flow_instance.specs.declared.notes.Event.{Event}
+use Rattle.flow_instance.specs.declared.notes.Event.TheVariants as events
+use Rattle.flow_instance.specs.declared.notes.Note.{Note}
+use Rattle.flow_instance.specs.declared.notes.PipeId.{PipeId}
+use Rattle.flow_instance.specs.Events.{ListChanged, OthersSame, Steps, Takes, TakesBy, first_note, noted}
+use Rattle.flow_instance.specs.Instances.{Instance}
+use Rattle.flow_instance.specs.Local.{IsLocal}
+use Rattle.flow_instance.specs.Spots.{Setting, Spot, ports_of, setting, spot}
+use Rattle.flow_instance.specs.Steps.{Took, later}
+use Rattle.flow_instance.specs.Worlds.{History, World, enabled, lists_at, reader_of}
+use Rattle.flow_instance.proofs.Events.{step_stands}
 use Rattle.flow_core.specs.Worlds.{IsStanding, IsWhole, StandsForSome, WorldData, instance_in, queue_in, seen}
 
 -- a note that left a pipe, which gave the world u, was taken

@@ -2,9 +2,9 @@
 use Rattle.std.specs.Prelude.{◌≡◌, ℕ, false, Some}
 use Rattle.plan_trees.specs.Physicals.{PhysicalData}
 use Rattle.plan_trees.specs.Plans.{PlanTree}
-use Rattle.flow_model.specs.declared.notes.Event.{Event}
-use Rattle.flow_model.specs.declared.notes.Event.TheVariants.{Put, Take, End}
-use Rattle.flow_model.specs.Worlds.{World, enabled, reader_of}
+use Rattle.flow_instance.specs.declared.notes.Event.{Event}
+use Rattle.flow_instance.specs.declared.notes.Event.TheVariants.{Put, Take, End}
+use Rattle.flow_instance.specs.Worlds.{World, enabled, reader_of}
 
 -- The event is one of the instance on the worker: it puts, takes or ends.
 abbrev pub IsOf : PlanTree → (at worker : ℕ) → Event → Type 0

@@ -8,13 +8,13 @@ use Rattle.pact_operators.specs.Programs.{IsPlanOf, IsProgram, ProgramData}
 use Rattle.plan_trees.specs.Plans.{has}
 use Rattle.ship_strategy.specs.PlanFacts.{facts_of}
 use Rattle.ship_strategy.specs.Ships.{LegalShip}
-use Rattle.flow_model.specs.declared.notes.Event.{Event}
-use Rattle.flow_model.specs.declared.notes.Want.TheVariants.{Done}
-use Rattle.flow_model.specs.Instances.{want}
-use Rattle.flow_model.specs.Most.{events, most, program_turns}
-use Rattle.flow_model.specs.Spots.{Setting, setting}
-use Rattle.flow_model.specs.Spread.{given_in, placed_in}
-use Rattle.flow_model.specs.Worlds.{AreDone, History, enabled}
+use Rattle.flow_instance.specs.declared.notes.Event.{Event}
+use Rattle.flow_instance.specs.declared.notes.Want.TheVariants.{Done}
+use Rattle.flow_instance.specs.Instances.{want}
+use Rattle.flow_instance.specs.Most.{events, most, program_turns}
+use Rattle.flow_instance.specs.Spots.{Setting, setting}
+use Rattle.flow_instance.specs.Spread.{given_in, placed_in}
+use Rattle.flow_instance.specs.Worlds.{AreDone, History, enabled}
 use Rattle.flow_core.specs.Worlds.{IsStanding, WorldData, instance_in, seen}
 
 -- For each setting and history for which it stands: it isn't stuck, so that while some instance isn't done, an event is enabled; the notes put, the

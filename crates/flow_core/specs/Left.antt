@@ -6,12 +6,12 @@ use Rattle.plan_trees.specs.Plans.{has}
 use Rattle.pact_operators.specs.Allowed.{Bag}
 use Rattle.pact_operators.specs.Inputs.{AreInputsOf}
 use Rattle.pact_operators.specs.Programs.{ProgramData}
-use Rattle.flow_model.specs.declared.notes.Note.{Note}
-use Rattle.flow_model.specs.declared.notes.PipeId.{PipeId}
-use Rattle.flow_model.specs.Events.{is_pipe}
-use Rattle.flow_model.specs.Instances.{Instance}
-use Rattle.flow_model.specs.Spots.{setting}
-use Rattle.flow_model.specs.Worlds.{History, Stands, World}
+use Rattle.flow_instance.specs.declared.notes.Note.{Note}
+use Rattle.flow_instance.specs.declared.notes.PipeId.{PipeId}
+use Rattle.flow_instance.specs.Events.{is_pipe}
+use Rattle.flow_instance.specs.Instances.{Instance}
+use Rattle.flow_instance.specs.Spots.{setting}
+use Rattle.flow_instance.specs.Worlds.{History, Stands, World}
 use Rattle.flow_core.specs.Worlds.{IsWhole, StationData, instance_in, no_instance, no_station, queue_in}
 
 -- The notes that are left on a pipe, the next one first.

@@ -2,11 +2,11 @@
 use Rattle.std.specs.Prelude.{List, refl}
 use Rattle.std.specs.Coded.{Coded, code_by, coded×, coded_list}
 use Rattle.flow_instance.specs.InstanceCode.{coded_instance}
-use Rattle.flow_model.specs.Instances.{Instance}
-use Rattle.flow_model.specs.contracts.notes.Note.{the_row as note_row}
-use Rattle.flow_model.specs.contracts.notes.PipeId.{the_row as pipe_row}
-use Rattle.flow_model.specs.declared.notes.Note.{Note}
-use Rattle.flow_model.specs.declared.notes.PipeId.{PipeId}
+use Rattle.flow_instance.specs.Instances.{Instance}
+use Rattle.flow_instance.specs.contracts.notes.Note.{the_row as note_row}
+use Rattle.flow_instance.specs.contracts.notes.PipeId.{the_row as pipe_row}
+use Rattle.flow_instance.specs.declared.notes.Note.{Note}
+use Rattle.flow_instance.specs.declared.notes.PipeId.{PipeId}
 use Rattle.flow_core.specs.Left.{LeftOn}
 
 -- the instances of one source or operator

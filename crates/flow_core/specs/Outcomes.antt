@@ -3,10 +3,10 @@ use Rattle.std.specs.Prelude.{◌≡◌, ◌≤◌, ◌-◌, ◌^◌, ℕ, Bool,
 use Rattle.pact_operators.specs.Allowed.{Bag}
 use Rattle.pact_operators.specs.Programs.{ProgramData}
 use Rattle.pact_record.specs.Widths.{AreWide}
-use Rattle.flow_model.specs.Most.{most, program_turns}
-use Rattle.flow_model.specs.Spots.{Setting, setting}
-use Rattle.flow_model.specs.Spread.{Spread}
-use Rattle.flow_model.specs.Worlds.{AreDone, History}
+use Rattle.flow_instance.specs.Most.{most, program_turns}
+use Rattle.flow_instance.specs.Spots.{Setting, setting}
+use Rattle.flow_instance.specs.Spread.{Spread}
+use Rattle.flow_instance.specs.Worlds.{AreDone, History}
 use Rattle.flow_core.specs.Replays.{IsReached}
 use Rattle.flow_core.specs.Worlds.{IsStanding, StandsForSome, WorldData, seen}
 

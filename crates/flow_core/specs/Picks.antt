@@ -2,14 +2,14 @@
 use Rattle.std.specs.Prelude.{◌≡◌, ◌%◌, ◌++◌, ◌∷◌, [], ℕ, zero, suc, Bool, true, false, if◌then◌else◌, Option, Some, None, List, length, slice_get}
 use Rattle.plan_trees.specs.Physicals.{PhysicalData}
 use Rattle.plan_trees.specs.Plans.{node_limit}
-use Rattle.flow_model.specs.declared.notes.Event.{Event}
-use Rattle.flow_model.specs.declared.notes.Event.TheVariants as events
-use Rattle.flow_model.specs.declared.notes.Want.{Want}
-use Rattle.flow_model.specs.declared.notes.Want.TheVariants as wants
-use Rattle.flow_model.specs.Instances.{want}
-use Rattle.flow_model.specs.Events.{Steps, noted}
-use Rattle.flow_model.specs.Spots.{Setting}
-use Rattle.flow_model.specs.Worlds.{History, IsStuck, World, enabled}
+use Rattle.flow_instance.specs.declared.notes.Event.{Event}
+use Rattle.flow_instance.specs.declared.notes.Event.TheVariants as events
+use Rattle.flow_instance.specs.declared.notes.Want.{Want}
+use Rattle.flow_instance.specs.declared.notes.Want.TheVariants as wants
+use Rattle.flow_instance.specs.Instances.{want}
+use Rattle.flow_instance.specs.Events.{Steps, noted}
+use Rattle.flow_instance.specs.Spots.{Setting}
+use Rattle.flow_instance.specs.Worlds.{History, IsStuck, World, enabled}
 use Rattle.flow_core.specs.Replays.{IsReached}
 use Rattle.flow_core.specs.Wired.{input_in}
 use Rattle.flow_core.specs.Worlds.{IsStanding, WorldData, seen}

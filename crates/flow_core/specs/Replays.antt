@@ -1,10 +1,10 @@
 -- Where lists of events lead.
 use Rattle.std.specs.Prelude.{◌≡◌, ◌<◌, ◌+◌, ℕ, false, List, Some, length, slice_get, take}
-use Rattle.flow_model.specs.declared.notes.Event.{Event}
-use Rattle.flow_model.specs.Events.{Runs}
-use Rattle.flow_model.specs.Most.{events}
-use Rattle.flow_model.specs.Spots.{Setting}
-use Rattle.flow_model.specs.Worlds.{History, enabled}
+use Rattle.flow_instance.specs.declared.notes.Event.{Event}
+use Rattle.flow_instance.specs.Events.{Runs}
+use Rattle.flow_instance.specs.Most.{events}
+use Rattle.flow_instance.specs.Spots.{Setting}
+use Rattle.flow_instance.specs.Worlds.{History, enabled}
 use Rattle.flow_core.specs.declared.stops.Replay.{Replay}
 use Rattle.flow_core.specs.declared.stops.Replay.TheVariants.{Memory, NotEnabled}
 use Rattle.flow_core.specs.Laws.{ObeysLaws}

@@ -8,8 +8,8 @@ use Rattle.pact_record.specs.Widths.{AreWide}
 use Rattle.plan_trees.specs.Plans.{subtree_of}
 use Rattle.plan_trees.specs.Sending.{share_from}
 use Rattle.tac_syntax.specs.declared.declarations.OpKind.TheVariants.{Source}
-use Rattle.flow_model.specs.Spots.{Setting, spot}
-use Rattle.flow_model.specs.Steps.{Started}
+use Rattle.flow_instance.specs.Spots.{Setting, spot}
+use Rattle.flow_instance.specs.Steps.{Started}
 use Rattle.flow_core.specs.Worlds.{StationData, no_station}
 
 -- of the rows that are left, a source takes those of the first one, and an operator none

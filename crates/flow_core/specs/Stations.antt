@@ -1,14 +1,14 @@
 -- What an event does to a station.
 use Rattle.std.specs.Prelude.{◌≡◌, ◌<◌, ℕ, true, false, [], ◌∷◌, ◌++◌, get_or, length, set, slice_get, List}
-use Rattle.flow_model.specs.declared.notes.Note.{Note}
-use Rattle.flow_model.specs.declared.notes.Want.TheVariants.{Take}
-use Rattle.flow_model.specs.Instances.{Instance, ended_at, want}
-use Rattle.flow_model.specs.Local.{IsLocal}
-use Rattle.flow_model.specs.Notes.{AreNotes}
-use Rattle.flow_model.specs.Spots.{Spot, is_edge}
-use Rattle.flow_model.specs.Steps.{Took, finish, later, next_note, offered}
+use Rattle.flow_instance.specs.declared.notes.Note.{Note}
+use Rattle.flow_instance.specs.declared.notes.Want.TheVariants.{Take}
+use Rattle.flow_instance.specs.Instances.{Instance, ended_at, want}
+use Rattle.flow_instance.specs.Local.{IsLocal}
+use Rattle.flow_instance.specs.Notes.{AreNotes}
+use Rattle.flow_instance.specs.Spots.{Spot, is_edge}
+use Rattle.flow_instance.specs.Steps.{Took, finish, later, next_note, offered}
 use Rattle.pact_operators.specs.Allowed.{Bag, count_of}
-use Rattle.flow_model.specs.Spread.{sum_below}
+use Rattle.flow_instance.specs.Spread.{sum_below}
 use Rattle.flow_core.specs.Worlds.{StationData, no_station}
 
 -- a note was put

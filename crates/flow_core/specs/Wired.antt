@@ -1,7 +1,7 @@
 -- Tables of a plan.
 use Rattle.std.specs.Prelude.{◌≡◌, ℕ, Bool, false, if◌then◌else◌, List, Option, None, get_or}
 use Rattle.plan_trees.specs.Plans.{PlanTree, has, input_of}
-use Rattle.flow_model.specs.Worlds.{reader_of}
+use Rattle.flow_instance.specs.Worlds.{reader_of}
 
 -- what an operator of the plan reads at a port, and nothing where the plan doesn't have it
 abbrev pub input_in : PlanTree → (at port : ℕ) → Option ℕ

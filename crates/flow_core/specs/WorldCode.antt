@@ -4,9 +4,9 @@ use Rattle.std.specs.Coded.{Coded, code_by, coded×, coded_list, coded_ℕ}
 use Rattle.plan_trees.specs.PhysicalCode.{coded_physical}
 use Rattle.plan_trees.specs.Physicals.{PhysicalData}
 use Rattle.flow_instance.specs.InstanceCode.{coded_instance}
-use Rattle.flow_model.specs.Instances.{Instance}
-use Rattle.flow_model.specs.contracts.notes.Note.{the_row as note_row}
-use Rattle.flow_model.specs.declared.notes.Note.{Note}
+use Rattle.flow_instance.specs.Instances.{Instance}
+use Rattle.flow_instance.specs.contracts.notes.Note.{the_row as note_row}
+use Rattle.flow_instance.specs.declared.notes.Note.{Note}
 use Rattle.flow_core.specs.Worlds.{StationData, WorldData}
 
 -- an instance and its pipes

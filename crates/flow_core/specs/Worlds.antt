@@ -7,10 +7,10 @@ use Rattle.plan_trees.specs.Plans.{has}
 use Rattle.pact_operators.specs.Allowed.{Bag}
 use Rattle.pact_operators.specs.Inputs.{AreInputsOf}
 use Rattle.pact_operators.specs.Programs.{IsPlanOf, IsProgram, ProgramData}
-use Rattle.flow_model.specs.declared.notes.Note.{Note}
-use Rattle.flow_model.specs.Instances.{Instance}
-use Rattle.flow_model.specs.Spots.{Setting, setting}
-use Rattle.flow_model.specs.Worlds.{History, Stands, World}
+use Rattle.flow_instance.specs.declared.notes.Note.{Note}
+use Rattle.flow_instance.specs.Instances.{Instance}
+use Rattle.flow_instance.specs.Spots.{Setting, setting}
+use Rattle.flow_instance.specs.Worlds.{History, Stands, World}
 
 -- a pipe holds at most so many notes
 abbrev pub depth_limit : ℕ

@@ -5,8 +5,7 @@ ghost use Rattle.flow_core.specs.Left.{all_unstationed, unstationed};
 
 use crate::stations::{Row, Station};
 use crate::worlds::World;
-use flow_instance::Instance;
-use flow_model::{Note, PipeId};
+use flow_instance::{Instance, Note, PipeId};
 use local_strategy::Local;
 use pact_record::OutOfMemory;
 use std::alloc::Global;
@@ -22,7 +21,7 @@ pub(crate) struct Instances<L: Local> {
 
 impl<L: Local> Model for Instances<L> {
     ghost use Rattle.std.specs.Prelude.{List};
-    ghost use Rattle.flow_model.specs.Instances.{Instance as InstanceData};
+    ghost use Rattle.flow_instance.specs.Instances.{Instance as InstanceData};
     ghost use Rattle.flow_core.specs.LeftCode.{coded_instances};
 
     ghost Value = { List InstanceData };
@@ -40,7 +39,7 @@ pub struct InstanceList<L: Local> {
 
 impl<L: Local> Model for InstanceList<L> {
     ghost use Rattle.std.specs.Prelude.{List};
-    ghost use Rattle.flow_model.specs.Instances.{Instance as InstanceData};
+    ghost use Rattle.flow_instance.specs.Instances.{Instance as InstanceData};
     ghost use Rattle.flow_core.specs.LeftCode.{coded_all};
 
     ghost Value = { List (List InstanceData) };

@@ -21,7 +21,7 @@ mod wirings;
 pub mod worlds;
 
 pub use alone::run_alone;
-pub use flow_model::{Event, PipeId};
+pub use flow_instance::{Event, PipeId};
 pub use lefts::{InstanceList, NoteLists};
 pub use picks::run_picked;
 pub use replays::replay;

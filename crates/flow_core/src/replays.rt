@@ -3,16 +3,16 @@
 ghost use Rattle.std.specs.Prelude.{◌≤◌, List, length, IfErr, IfOk};
 ghost use Rattle.pact_operators.specs.Allowed.{Bag};
 ghost use Rattle.pact_operators.specs.Programs.{ProgramData};
-ghost use Rattle.flow_model.specs.Most.{most, program_turns};
-ghost use Rattle.flow_model.specs.Spots.{setting};
-ghost use Rattle.flow_model.specs.Worlds.{History};
+ghost use Rattle.flow_instance.specs.Most.{most, program_turns};
+ghost use Rattle.flow_instance.specs.Spots.{setting};
+ghost use Rattle.flow_instance.specs.Worlds.{History};
 ghost use Rattle.flow_core.specs.Laws.{ObeysLaws};
 ghost use Rattle.flow_core.specs.Replays.{HandsBackLawful, IsReplayed, IsStopped};
 ghost use Rattle.flow_core.specs.Worlds.{IsStanding, StandsForSome};
 
 use crate::stops::Replay;
 use crate::worlds::World;
-use flow_model::Event;
+use flow_instance::Event;
 use local_strategy::Local;
 
 /// Lets the events of a list happen, in their order. No run has more events than `short` tells.

@@ -4,8 +4,8 @@ ghost use Rattle.std.specs.Prelude.{◌≡◌, ◌≤◌, ◌∷◌, [], ℕ, le
 ghost use Rattle.std.specs.List.{AllByRecursion};
 ghost use Rattle.pact_operators.specs.Programs.{IsPlanOf};
 ghost use Rattle.flow_instance.specs.Limits.{batch_limit};
-ghost use Rattle.flow_model.specs.Spots.{Setting};
-ghost use Rattle.flow_model.specs.Worlds.{History, Stands};
+ghost use Rattle.flow_instance.specs.Spots.{Setting};
+ghost use Rattle.flow_instance.specs.Worlds.{History, Stands};
 ghost use Rattle.flow_core.specs.Laws.{ObeysLaws};
 ghost use Rattle.flow_core.specs.Left.{AreAllEmptied, AreEmptied, AreFilled, AreOfPlan, IsPipeOf, LeftOn, StandForSome, instance_of, left_world};
 ghost use Rattle.flow_core.specs.Worlds.{IsStanding, IsWhole, StandsForSome, depth_limit, instance_in, seen};

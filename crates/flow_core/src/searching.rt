@@ -2,15 +2,15 @@
 
 ghost use Rattle.std.specs.Prelude.{◌≡◌, ◌<◌, ℕ, true, false, length, if◌then◌else◌, Some, None, IfNone, IfSome};
 ghost use Rattle.plan_trees.specs.Physicals.{IsPhysical};
-ghost use Rattle.flow_model.specs.declared.notes.Event.TheVariants as events;
-ghost use Rattle.flow_model.specs.declared.notes.Want.TheVariants as wants;
-ghost use Rattle.flow_model.specs.Instances.{want};
-ghost use Rattle.flow_model.specs.Worlds.{IsStuck, enabled, reader_of};
+ghost use Rattle.flow_instance.specs.declared.notes.Event.TheVariants as events;
+ghost use Rattle.flow_instance.specs.declared.notes.Want.TheVariants as wants;
+ghost use Rattle.flow_instance.specs.Instances.{want};
+ghost use Rattle.flow_instance.specs.Worlds.{IsStuck, enabled, reader_of};
 ghost use Rattle.flow_core.specs.Idle.{IsIdle};
 ghost use Rattle.flow_core.specs.Worlds.{instance_in, queue_in, seen};
 
 use crate::worlds::World;
-use flow_model::{Event, PipeId, Want};
+use flow_instance::{Event, PipeId, Want};
 use local_strategy::Local;
 use pact_operators::MAX_NODES;
 

@@ -8,7 +8,7 @@ ghost use Rattle.pact_operators.specs.PlanOps.{is_source_kind, kind_at};
 ghost use Rattle.pact_operators.specs.Programs.{IsPlanOf};
 ghost use Rattle.pact_record.specs.Widths.{AreWide};
 ghost use Rattle.flow_instance.specs.Limits.{batch_limit};
-ghost use Rattle.flow_model.specs.Spots.{setting};
+ghost use Rattle.flow_instance.specs.Spots.{setting};
 ghost use Rattle.flow_instance.specs.Starting.{IsShareOf};
 ghost use Rattle.flow_core.specs.Starting.{AreDealt, AreOwn, AreStarted, AreStartedAt, IsStarted, MayStart, TakesOwn};
 

@@ -3,14 +3,13 @@
 ghost use Rattle.std.specs.Prelude.{◌≡◌, ◌<◌, [], get_or, length, IfOk, OnOk};
 ghost use Rattle.pact_bag.specs.Rows.{HaveOneWidth};
 ghost use Rattle.plan_trees.specs.Sending.{all_of};
-ghost use Rattle.flow_model.specs.declared.notes.Want.TheVariants.{End, Put};
-ghost use Rattle.flow_model.specs.Events.{first_note};
-ghost use Rattle.flow_model.specs.Instances.{want};
+ghost use Rattle.flow_instance.specs.declared.notes.Want.TheVariants.{End, Put};
+ghost use Rattle.flow_instance.specs.Events.{first_note};
+ghost use Rattle.flow_instance.specs.Instances.{want};
 ghost use Rattle.flow_core.specs.Left.{refilled};
 ghost use Rattle.flow_core.specs.Stations.{CanTake, TakesNote, given, placed_by, total_given, with_end, with_put};
 
-use flow_instance::Instance;
-use flow_model::Note;
+use flow_instance::{Instance, Note};
 use local_strategy::Local;
 use pact_bag::Rows;
 use pact_record::OutOfMemory;
@@ -26,7 +25,7 @@ pub(crate) struct Queue {
 
 impl Model for Queue {
     ghost use Rattle.std.specs.Prelude.{List};
-    ghost use Rattle.flow_model.specs.declared.notes.Note.{Note as NoteData};
+    ghost use Rattle.flow_instance.specs.declared.notes.Note.{Note as NoteData};
 
     ghost Value = { List NoteData };
 

@@ -3,7 +3,7 @@
 ghost use Rattle.std.specs.Prelude.{◌≡◌, ◌&&◌, ℕ, false, nat_lt, None, get_or};
 ghost use Rattle.plan_trees.specs.Plans.{has, root_of};
 ghost use Rattle.flow_core.specs.Wired.{input_in};
-ghost use Rattle.flow_model.specs.Worlds.{reader_of};
+ghost use Rattle.flow_instance.specs.Worlds.{reader_of};
 
 use pact_operators::{MAX_NODES, Parts, Physical, Plan};
 use std::marker::Model;

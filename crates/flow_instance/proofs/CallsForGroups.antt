@@ -5,7 +5,7 @@ use Rattle.std.specs.Prelude.{IfSome, filter, slice_get}
 use Rattle.std.specs.List.{AllByRecursion}
 use Rattle.std.specs.List.Sorted.{IsPermutation}
 use Rattle.std.proofs.lemmas.List.Sorted.{IsPermutation-append_comm, IsPermutation-refl, length_permutation}
-use Rattle.flow_model.proofs.Bags.{beside, is_same, joined}
+use Rattle.flow_instance.proofs.Bags.{beside, is_same, joined}
 use Rattle.pact_bag.proofs.KeyGroups.{all-distinct, group_keys, keys_have_groups}
 use Rattle.pact_bag.specs.Groups.{group_of_key}
 use Rattle.pact_operators.specs.Allowed.{Bag, CoGrouped, Grouped, keys_in, keys_in_either}

@@ -2,8 +2,8 @@
 use Rattle.std.proofs.Common.{◌≡◌, ◌&&◌, ℕ, Bool, true, false, Some, List, [], ◌⊎◌, inl, inr, length, refl, sym, ap, ◌∙◌, subst, arith}
 use Rattle.std.specs.Option.{IsSome}
 use Rattle.std.specs.List.Sorted.{IsPermutation}
-use Rattle.flow_model.specs.Instances.{port_ended}
-use Rattle.flow_model.specs.Local.{works_at_once}
+use Rattle.flow_instance.specs.Instances.{port_ended}
+use Rattle.flow_instance.specs.Local.{works_at_once}
 use Rattle.pact_operators.specs.Programs.{HasKeyLists, IsKindFor, is_pair_kind}
 use Rattle.pact_operators.specs.Allowed.{Bag}
 use Rattle.pact_record.specs.Widths.{AreBelow, AreWide}

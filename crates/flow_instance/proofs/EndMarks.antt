@@ -5,14 +5,14 @@ use Rattle.std.specs.List.Sorted.{IsPermutation}
 use Rattle.std.proofs.Math.Nat.{add-zero}
 use Rattle.std.proofs.lemmas.List.{length-map}
 use Rattle.std.proofs.lemmas.List.Sorted.{IsPermutation-refl}
-use Rattle.flow_model.proofs.Bags.{is_same, joined}
-use Rattle.flow_model.proofs.GivenForNotes.{none_at_end}
-use Rattle.flow_model.specs.Instances.{Instance, Part as PartData, all_ended, ended_at, kept_at, port_ended}
-use Rattle.flow_model.specs.Local.{Calls, Gave, IsGiven, KeepsRows, MayGive, may_match, works_at_once}
+use Rattle.flow_instance.proofs.Bags.{is_same, joined}
+use Rattle.flow_instance.proofs.GivenForNotes.{none_at_end}
+use Rattle.flow_instance.specs.Instances.{Instance, Part as PartData, all_ended, ended_at, kept_at, port_ended}
+use Rattle.flow_instance.specs.Local.{Calls, Gave, IsGiven, KeepsRows, MayGive, may_match, works_at_once}
 use Rattle.plan_trees.specs.Senders.{all_below}
-use Rattle.flow_model.specs.Spots.{Port as PortData, Spot}
-use Rattle.flow_model.specs.Steps.{Carry, GivesNow, KeepsMore, Mark, Took, kept_with}
-use Rattle.flow_model.specs.declared.notes.Note.TheVariants.{End}
+use Rattle.flow_instance.specs.Spots.{Port as PortData, Spot}
+use Rattle.flow_instance.specs.Steps.{Carry, GivesNow, KeepsMore, Mark, Took, kept_with}
+use Rattle.flow_instance.specs.declared.notes.Note.TheVariants.{End}
 use Rattle.pact_operators.specs.Allowed.{Bag, CoGrouped, Grouped, count_of, keys_in, keys_in_either}
 use Rattle.pact_operators.specs.PlanOps.{PlanOps}
 use Rattle.pact_operators.specs.Programs.{takes, is_pair_kind}
@@ -23,10 +23,10 @@ use Rattle.tac_syntax.specs.Valid.{WithFields}
 use Rattle.tac_syntax.specs.declared.declarations.OpKind.{OpKind}
 use Rattle.tac_syntax.specs.declared.declarations.OpKind.TheVariants.{Source, Map, Reduce, Match, Cross, CoGroup}
 use Rattle.flow_instance.specs.Grouping.{AreCoGroupsGiven, AreGroupsGiven}
-use Rattle.flow_model.specs.Sending.{AreFew, batches_in, batch_parcel, mark_parcel, marks_in}
+use Rattle.flow_instance.specs.Sending.{AreFew, batches_in, batch_parcel, mark_parcel, marks_in}
 use Rattle.flow_instance.specs.States.{AreGivenLast, AreOpsOf, AreOrderly, GivesLast, HasEnded, HasFlags, HasTaken, IsOperator, IsReady, IsSound, IsSoundIfTaking, body_in, is_built, is_reduce, part_of, port_of, seen, spot_of}
-use Rattle.flow_instance.specs.Steps.{HasGiven, HasMarked, Takes}
-use Rattle.flow_model.specs.declared.parcels.Parcel.{Parcel}
+use Rattle.flow_instance.specs.StateSteps.{HasGiven, HasMarked, Takes}
+use Rattle.flow_instance.specs.declared.parcels.Parcel.{Parcel}
 use Rattle.flow_instance.specs.declared.parts.Part.{Part}
 use Rattle.flow_instance.specs.declared.states.State.{State}
 use Rattle.flow_instance.proofs.RowsSentOrPlaced.{batches_in-queue, marks_in-queue, orderly_marked}

@@ -1,14 +1,14 @@
 -- Instances at their start.
 use Rattle.std.proofs.Common.{◌≡◌, ◌+◌, Bool, true, false, Option, [], ◌++◌, length, map, ap, sym, ◌∙◌, subst, append-nil}
-use Rattle.flow_model.specs.Instances.{all_ended}
-use Rattle.flow_model.specs.Steps.{Carry, Mark}
+use Rattle.flow_instance.specs.Instances.{all_ended}
+use Rattle.flow_instance.specs.Steps.{Carry, Mark}
 use Rattle.pact_operators.specs.Allowed.{Bag, count_of}
-use Rattle.flow_model.specs.Local.{Placed}
+use Rattle.flow_instance.specs.Local.{Placed}
 use Rattle.plan_trees.specs.declared.physicals.Ship.{Ship}
 use Rattle.pact_record.specs.Widths.{AreWide}
-use Rattle.flow_model.specs.Sending.{batches_in, batch_parcel, mark_parcel, marks_in}
+use Rattle.flow_instance.specs.Sending.{batches_in, batch_parcel, mark_parcel, marks_in}
 use Rattle.flow_instance.specs.States.{AreOrderly, HasBegun, part_of, seen, spot_of}
-use Rattle.flow_instance.specs.Steps.{HasGiven, HasMarked}
+use Rattle.flow_instance.specs.StateSteps.{HasGiven, HasMarked}
 use Rattle.flow_instance.specs.declared.parts.Part.{Part}
 use Rattle.flow_instance.specs.declared.states.State.{State}
 use Rattle.flow_instance.proofs.EndMarks.{queue_lists}

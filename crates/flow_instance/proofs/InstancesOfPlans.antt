@@ -1,15 +1,15 @@
 -- What an instance keeps is what its program and plan say, and so what it owes follows.
 use Rattle.std.proofs.Common.{◌≡◌, ◌<◌, ◌||◌, not, ℕ, Bool, true, false, List, [], ◌∷◌, slice_get, refl, ap, sym, ◌∙◌, subst}
 use Rattle.std.specs.List.{AllByRecursion}
-use Rattle.flow_model.proofs.LocalAfterTakes.{took_local}
-use Rattle.flow_model.proofs.LocalAfterPuts.{IsPutting, batch, mark, putting_by, offered_local}
-use Rattle.flow_model.specs.Instances.{Instance, Part, ended_at, port_ended, want}
-use Rattle.flow_model.specs.Local.{Calls, IsLocal, IsPartOf, IsReceiver, IsWaiting, works_at_once}
-use Rattle.flow_model.specs.Notes.{AreNotes, has_end}
-use Rattle.flow_model.specs.Spots.{Port, Spot, is_edge}
-use Rattle.flow_model.specs.Steps.{Added, AddedTo, GivesNow, Took, next_note, offered}
-use Rattle.flow_model.specs.declared.notes.Note.{Note}
-use Rattle.flow_model.specs.declared.notes.Want.TheVariants.{Take, Put}
+use Rattle.flow_instance.proofs.LocalAfterTakes.{took_local}
+use Rattle.flow_instance.proofs.LocalAfterPuts.{IsPutting, batch, mark, putting_by, offered_local}
+use Rattle.flow_instance.specs.Instances.{Instance, Part, ended_at, port_ended, want}
+use Rattle.flow_instance.specs.Local.{Calls, IsLocal, IsPartOf, IsReceiver, IsWaiting, works_at_once}
+use Rattle.flow_instance.specs.Notes.{AreNotes, has_end}
+use Rattle.flow_instance.specs.Spots.{Port, Spot, is_edge}
+use Rattle.flow_instance.specs.Steps.{Added, AddedTo, GivesNow, Took, next_note, offered}
+use Rattle.flow_instance.specs.declared.notes.Note.{Note}
+use Rattle.flow_instance.specs.declared.notes.Want.TheVariants.{Take, Put}
 use Rattle.pact_operators.specs.Allowed.{Bag}
 use Rattle.pact_operators.specs.PlanOps.{PlanOps}
 use Rattle.tac_syntax.specs.Call.{Out, of_group, of_groups, of_pair, of_record}

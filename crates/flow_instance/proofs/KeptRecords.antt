@@ -4,7 +4,7 @@ use Rattle.std.specs.Prelude.{filter}
 use Rattle.std.specs.List.Sorted.{IsPermutation}
 use Rattle.std.proofs.lemmas.List.Elements.{filter-append}
 use Rattle.std.proofs.lemmas.List.Sorted.{IsPermutation-refl}
-use Rattle.flow_model.proofs.Bags.{beside, is_same, joined}
+use Rattle.flow_instance.proofs.Bags.{beside, is_same, joined}
 use Rattle.pact_operators.specs.Allowed.{Bag}
 use Rattle.pact_record.proofs.Lists.{AllByRecursion-append, AllByRecursion-filter}
 use Rattle.pact_record.proofs.Permutations.{each_perm, from_permutation}

@@ -3,7 +3,7 @@ use Rattle.std.proofs.Common.{◌≡◌, ◌<◌, ◌+◌, ◌++◌, ◌∷◌, 
 use Rattle.std.specs.Prelude.{flat_map}
 use Rattle.std.specs.List.Sorted.{IsPermutation}
 use Rattle.std.proofs.lemmas.List.{take_more}
-use Rattle.flow_model.proofs.Bags.{beside, crossed-left, crossed-nil, is_same, joined}
+use Rattle.flow_instance.proofs.Bags.{beside, crossed-left, crossed-nil, is_same, joined}
 use Rattle.pact_bag.specs.Groups.{do_match, group_of_key, is_same_key}
 use Rattle.pact_bag.proofs.KeyGroups.{group_keys}
 use Rattle.std.specs.List.{AllByRecursion}

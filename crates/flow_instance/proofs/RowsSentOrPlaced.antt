@@ -2,12 +2,12 @@
 use Rattle.std.proofs.Common.{◌≡◌, ◌<◌, ◌&&◌, ℕ, true, List, [], ◌∷◌, ◌++◌, Option, Some, None, map, length, refl, ap, sym, ◌∙◌, subst, append-nil}
 use Rattle.std.specs.List.{AllByRecursion}
 use Rattle.std.proofs.Math.Bool.{and-true}
-use Rattle.flow_model.proofs.Bags.{is_same}
-use Rattle.flow_model.specs.Instances.{Part}
-use Rattle.flow_model.specs.Local.{IsReceiver, IsWaiting, Placed, one_if}
-use Rattle.flow_model.specs.Spots.{Spot, sent}
+use Rattle.flow_instance.proofs.Bags.{is_same}
+use Rattle.flow_instance.specs.Instances.{Part}
+use Rattle.flow_instance.specs.Local.{IsReceiver, IsWaiting, Placed, one_if}
+use Rattle.flow_instance.specs.Spots.{Spot, sent}
 use Rattle.plan_trees.specs.Sending.{has_out, has_pipe}
-use Rattle.flow_model.specs.Steps.{Carry}
+use Rattle.flow_instance.specs.Steps.{Carry}
 use Rattle.pact_operators.specs.Allowed.{Bag}
 use Rattle.pact_operators.specs.PlanOps.{PlanOps}
 use Rattle.pact_record.proofs.Lists.{AllByRecursion-append, AllByRecursion-weaker}
@@ -15,10 +15,10 @@ use Rattle.pact_record.specs.Widths.{AreWide}
 use Rattle.pact_record.specs.declared.values.Value.{Value}
 use Rattle.plan_trees.specs.declared.physicals.Ship.{Ship}
 use Rattle.tac_syntax.specs.declared.declarations.OpKind.TheVariants.{Source}
-use Rattle.flow_model.specs.Sending.{AreMarked, AreSent, HasPipe, IsInOrder, IsSent, batch_parcel, batches_in, mark_parcel, marks_in}
+use Rattle.flow_instance.specs.Sending.{AreMarked, AreSent, HasPipe, IsInOrder, IsSent, batch_parcel, batches_in, mark_parcel, marks_in}
 use Rattle.flow_instance.specs.States.{AreOrderly, PlacesAtRoot, spot_of}
-use Rattle.flow_instance.specs.Steps.{HasGiven, HasMarked}
-use Rattle.flow_model.specs.declared.parcels.Parcel.{Parcel}
+use Rattle.flow_instance.specs.StateSteps.{HasGiven, HasMarked}
+use Rattle.flow_instance.specs.declared.parcels.Parcel.{Parcel}
 
 -- at the root
 pub given_placed : (p : Part) (out before placed : Bag) (queue : List Parcel) → p.out ≡ None → queue ≡ [] → AreWide p.fields out → AreWide p.fields before → placed ≡ before ++ out → HasGiven p out before placed queue

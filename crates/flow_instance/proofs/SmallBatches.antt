@@ -1,17 +1,17 @@
 -- Batches that keep to their size.
 use Rattle.std.proofs.Common.{◌≡◌, ◌≤◌, ℕ, List, [], ◌∷◌, length, map, ap, sym, ◌∙◌, subst}
 use Rattle.std.specs.List.{AllByRecursion}
-use Rattle.flow_model.specs.Instances.{HasSmallBatches, Part}
-use Rattle.flow_model.specs.declared.notes.Note.{Note}
-use Rattle.flow_model.specs.declared.notes.Note.TheVariants.{Batch, End}
+use Rattle.flow_instance.specs.Instances.{HasSmallBatches, Part}
+use Rattle.flow_instance.specs.declared.notes.Note.{Note}
+use Rattle.flow_instance.specs.declared.notes.Note.TheVariants.{Batch, End}
 use Rattle.pact_operators.specs.Allowed.{Bag}
 use Rattle.pact_record.proofs.Lists.{AllByRecursion-append}
-use Rattle.flow_model.specs.Sending.{AreFew, IsFew, batches_in, mark_parcel, with_batch}
+use Rattle.flow_instance.specs.Sending.{AreFew, IsFew, batches_in, mark_parcel, with_batch}
 use Rattle.flow_instance.specs.States.{HasBegun, HasEnded, part_of, seen}
-use Rattle.flow_instance.specs.Steps.{HasMarked}
-use Rattle.flow_model.specs.declared.parcels.Parcel.{Parcel}
+use Rattle.flow_instance.specs.StateSteps.{HasMarked}
+use Rattle.flow_instance.specs.declared.parcels.Parcel.{Parcel}
 use Rattle.flow_instance.specs.declared.states.State.{State}
-use Rattle.flow_model.proofs.NotesForReceivers.{none_few}
+use Rattle.flow_instance.proofs.NotesForReceivers.{none_few}
 
 -- ---- end marks
 

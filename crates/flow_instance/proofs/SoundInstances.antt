@@ -1,10 +1,10 @@
 -- Instances that stay sound.
 use Rattle.std.proofs.Common.{◌≡◌, ◌++◌, ◌+◌, ℕ, Bool, List, Option, Some, None, length, sym, subst, arith}
-use Rattle.flow_model.specs.Local.{Placed}
+use Rattle.flow_instance.specs.Local.{Placed}
 use Rattle.pact_operators.specs.Allowed.{Bag, count_of}
 use Rattle.plan_trees.specs.declared.physicals.Ship.{Ship}
 use Rattle.flow_instance.specs.States.{IsSound, PlacesAtRoot, part_of}
-use Rattle.flow_instance.specs.Steps.{HasGiven}
+use Rattle.flow_instance.specs.StateSteps.{HasGiven}
 use Rattle.flow_instance.specs.declared.states.State.{State}
 
 pub at_root : (o : Option Ship) (given placed : Bag) → Placed o given placed → PlacesAtRoot o placed

@@ -4,12 +4,12 @@ use Rattle.std.proofs.Math.Path.{transport}
 use Rattle.std.proofs.lemmas.Bool.{and_left, and_parts, and_right, eq-eqb}
 use Rattle.std.proofs.lemmas.List.{length-map}
 use Rattle.std.proofs.lemmas.List.Sorted.{IsPermutation-refl}
-use Rattle.flow_model.proofs.Bags.{is_same}
+use Rattle.flow_instance.proofs.Bags.{is_same}
 use Rattle.plan_trees.proofs.NumbersBelow.{all_below_from, all_below_none}
-use Rattle.flow_model.specs.Instances.{all_ended, ended_at, kept_at, port_ended}
-use Rattle.flow_model.specs.Local.{Calls, Gave, IsGiven, IsPartOf, KeepsRows, Placed, sender_ended, works_at_once}
-use Rattle.flow_model.specs.Spots.{Port as PortData, Spot, is_edge, ports_of, setting, spot}
-use Rattle.flow_model.specs.Steps.{Carry, Mark, Started}
+use Rattle.flow_instance.specs.Instances.{all_ended, ended_at, kept_at, port_ended}
+use Rattle.flow_instance.specs.Local.{Calls, Gave, IsGiven, IsPartOf, KeepsRows, Placed, sender_ended, works_at_once}
+use Rattle.flow_instance.specs.Spots.{Port as PortData, Spot, is_edge, ports_of, setting, spot}
+use Rattle.flow_instance.specs.Steps.{Carry, Mark, Started}
 use Rattle.pact_operators.specs.Allowed.{Bag, count_of}
 use Rattle.pact_operators.specs.PlanOps.{PlanOps, body_at, is_source_kind, kind_at, left_keys_in, plan_ops, right_keys_in}
 use Rattle.pact_operators.specs.Programs.{HasArity, HasKeyLists, IsKindFor, ProgramData, takes, is_pair_kind}
@@ -28,7 +28,7 @@ use Rattle.tac_syntax.specs.declared.declarations.OpKind.{OpKind}
 use Rattle.tac_syntax.specs.declared.declarations.OpKind.TheVariants.{Source, Map, Reduce, Match, Cross, CoGroup}
 use Rattle.flow_instance.specs.Starting.{IsCalledAt, IsPartAt, IsShareOf}
 use Rattle.flow_instance.specs.States.{AreOrderly, HasBegun, IsFresh, IsOperator, IsSound, IsWhole, body_in, part_of, port_of, seen, spot_of}
-use Rattle.flow_model.specs.Sending.{batches_in, marks_in}
+use Rattle.flow_instance.specs.Sending.{batches_in, marks_in}
 use Rattle.flow_instance.specs.declared.parts.Part.{Part}
 use Rattle.flow_instance.specs.declared.states.State.{State}
 use Rattle.flow_instance.proofs.PartsOfPlans.{arity_at}

@@ -6,14 +6,14 @@ use Rattle.std.specs.List.Sorted.{IsPermutation}
 use Rattle.std.proofs.Math.Nat.{add-zero}
 use Rattle.std.proofs.lemmas.Bool.{and_left, and_right}
 use Rattle.std.proofs.lemmas.List.Sorted.{IsPermutation-refl, length_permutation}
-use Rattle.flow_model.proofs.Bags.{beside, is_same, joined}
-use Rattle.flow_model.specs.Instances.{Instance, all_ended, ended_at, kept_at, port_ended}
-use Rattle.flow_model.specs.Local.{IsReceiver, Placed, marks_for, one_if, works_at_once, Calls}
-use Rattle.flow_model.specs.Spots.{Spot, sent}
+use Rattle.flow_instance.proofs.Bags.{beside, is_same, joined}
+use Rattle.flow_instance.specs.Instances.{Instance, all_ended, ended_at, kept_at, port_ended}
+use Rattle.flow_instance.specs.Local.{IsReceiver, Placed, marks_for, one_if, works_at_once, Calls}
+use Rattle.flow_instance.specs.Spots.{Spot, sent}
 use Rattle.plan_trees.specs.Sending.{has_out, goes}
-use Rattle.flow_model.specs.Steps.{Carry, GivesAtOnce, GivesNow, KeepsMore, Mark, Took, is_end}
-use Rattle.flow_model.specs.declared.notes.Note.{Note}
-use Rattle.flow_model.specs.declared.notes.Note.TheVariants.{Batch}
+use Rattle.flow_instance.specs.Steps.{Carry, GivesAtOnce, GivesNow, KeepsMore, Mark, Took, is_end}
+use Rattle.flow_instance.specs.declared.notes.Note.{Note}
+use Rattle.flow_instance.specs.declared.notes.Note.TheVariants.{Batch}
 use Rattle.pact_operators.specs.Allowed.{Bag, count_of}
 use Rattle.pact_bag.specs.Pairs.{crossed, has_null, matched}
 use Rattle.pact_operators.specs.PlanOps.{PlanOps}
@@ -27,12 +27,12 @@ use Rattle.std.proofs.lemmas.Option.{same_Some}
 use Rattle.tac_syntax.specs.Call.{Out, of_pair, of_record}
 use Rattle.tac_syntax.specs.Valid.{WithFields}
 use Rattle.tac_syntax.specs.declared.declarations.OpKind.{OpKind}
-use Rattle.flow_model.specs.Sending.{AreFew, batch_parcel, batches_in, marks_in}
+use Rattle.flow_instance.specs.Sending.{AreFew, batch_parcel, batches_in, marks_in}
 use Rattle.flow_instance.specs.States.{AreOpsOf, AreOrderly, ArePairsGiven, HasFlags, HasTaken, IsSound, IsOperator, IsReady, PlacesAtRoot, body_in, is_cross, is_map, is_match, needed_of, part_of, seen, spot_of}
-use Rattle.flow_instance.specs.Steps.{Gives, HasGiven, Takes}
+use Rattle.flow_instance.specs.StateSteps.{Gives, HasGiven, Takes}
 use Rattle.flow_instance.specs.Keeping.{IsKept, may_match}
 use Rattle.flow_instance.proofs.KeptRecords.{all_chosen}
-use Rattle.flow_model.proofs.NotesForReceivers.{none_few}
+use Rattle.flow_instance.proofs.NotesForReceivers.{none_few}
 use Rattle.flow_instance.proofs.SoundInstances.{sound_given}
 use Rattle.flow_instance.specs.declared.parts.Part.{Part}
 use Rattle.flow_instance.specs.declared.states.State.{State}

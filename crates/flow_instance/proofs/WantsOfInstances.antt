@@ -1,18 +1,18 @@
 -- What an instance wants, and when it may take a note.
 use Rattle.std.proofs.Common.{◌≡◌, ◌<◌, ◌≤◌, ◌+◌, ◌-◌, ◌&&◌, ◌⊎◌, inl, inr, ℕ, zero, suc, Bool, true, false, Option, Some, None, List, [], ◌∷◌, length, map, get_or, slice_get, refl, ap, sym, ◌∙◌, subst, arith}
 use Rattle.std.specs.Prelude.{IsSome, ◌↔◌}
-use Rattle.flow_model.proofs.LocalAfterTakes.{IsTaking, not_all, taking_by}
-use Rattle.flow_model.specs.Instances.{Instance, all_ended, port_ended, want, want_by}
-use Rattle.flow_model.specs.Notes.{AreNotes, IsNote}
+use Rattle.flow_instance.proofs.LocalAfterTakes.{IsTaking, not_all, taking_by}
+use Rattle.flow_instance.specs.Instances.{Instance, all_ended, port_ended, want, want_by}
+use Rattle.flow_instance.specs.Notes.{AreNotes, IsNote}
 use Rattle.plan_trees.specs.Senders.{all_below}
-use Rattle.flow_model.specs.Spots.{is_edge}
-use Rattle.flow_model.specs.declared.notes.Note.{Note}
-use Rattle.flow_model.specs.declared.notes.Note.TheVariants as notes
-use Rattle.flow_model.specs.declared.notes.Want.TheVariants.{Done, End, Take}
+use Rattle.flow_instance.specs.Spots.{is_edge}
+use Rattle.flow_instance.specs.declared.notes.Note.{Note}
+use Rattle.flow_instance.specs.declared.notes.Note.TheVariants as notes
+use Rattle.flow_instance.specs.declared.notes.Want.TheVariants.{Done, End, Take}
 use Rattle.pact_operators.specs.Allowed.{Bag}
-use Rattle.flow_model.specs.Sending.{batches_in, marks_in, with_batch, with_mark}
+use Rattle.flow_instance.specs.Sending.{batches_in, marks_in, with_batch, with_mark}
 use Rattle.flow_instance.specs.States.{AreOrderly, IsReady, IsWhole, part_of, port_of, seen}
-use Rattle.flow_model.specs.declared.parcels.Parcel.{Parcel}
+use Rattle.flow_instance.specs.declared.parcels.Parcel.{Parcel}
 use Rattle.flow_instance.specs.declared.parts.Port.{Port}
 use Rattle.flow_instance.specs.declared.states.State.{State}
 

@@ -1,6 +1,6 @@
 -- What a fresh state holds in memory.
 use Rattle.std.specs.Prelude.{◌≡◌, ℕ, Bool, false, List, [], map, slice_get}
-use Rattle.flow_model.specs.Spots.{ship_in}
+use Rattle.flow_instance.specs.Spots.{ship_in}
 use Rattle.pact_operators.specs.Allowed.{Bag}
 use Rattle.plan_trees.specs.Senders.{AreEndedAtStart}
 use Rattle.flow_instance.specs.States.{port_of}

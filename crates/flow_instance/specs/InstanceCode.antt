@@ -1,8 +1,8 @@
 -- How an instance is stored in the logic.
 use Rattle.std.specs.Prelude.{ℕ, Bool, List, Option, refl}
 use Rattle.std.specs.Coded.{Coded, code_by, coded×, coded_bool, coded_list, coded_option, coded_ℕ}
-use Rattle.flow_model.specs.Instances.{Instance, Part}
-use Rattle.flow_model.specs.Spots.{Port}
+use Rattle.flow_instance.specs.Instances.{Instance, Part}
+use Rattle.flow_instance.specs.Spots.{Port}
 use Rattle.pact_operators.specs.Allowed.{Bag}
 use Rattle.pact_record.specs.contracts.values.Value.{the_row as value_row}
 use Rattle.plan_trees.specs.contracts.physicals.Ship.{the_row as ship_row}

@@ -1,6 +1,16 @@
+pub mod Notes
+pub mod Spots
+pub mod Instances
+pub mod Local
+pub mod Worlds
+pub mod Steps
+pub mod Events
+pub mod Spread
+pub mod Most
+pub mod Sending
 pub mod Keeping
 pub mod States
-pub mod Steps
+pub mod StateSteps
 pub mod Grouping
 pub mod Starting
 pub mod InstanceCode

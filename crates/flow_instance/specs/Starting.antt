@@ -1,6 +1,6 @@
 -- What an instance keeps of a program and a physical plan, and instances at their start.
 use Rattle.std.specs.Prelude.{◌≡◌, ℕ, Option, Some, None, List, map, slice_get}
-use Rattle.flow_model.specs.Spots.{ports_of}
+use Rattle.flow_instance.specs.Spots.{ports_of}
 use Rattle.pact_operators.specs.Allowed.{Bag}
 use Rattle.pact_operators.specs.PlanOps.{body_at, kind_at, left_keys_in, plan_ops, right_keys_in}
 use Rattle.pact_operators.specs.Programs.{HasKeyLists, IsKindFor, ProgramData, nulls_match}

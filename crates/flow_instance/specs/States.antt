@@ -1,10 +1,10 @@
 -- The fields of an instance, and the instance that they stand for.
 use Rattle.std.specs.Prelude.{◌≡◌, ◌≤◌, ◌<◌, ◌+◌, ◌&&◌, ◌||◌, ◌==◌, ◌⊎◌, ℕ, Bool, true, false, List, [], filter, length, map, not, slice_get, Option, Some, None}
-use Rattle.flow_model.specs.Instances.{Instance, Part as PartData, all_ended, ended_at, kept_at, port_ended}
-use Rattle.flow_model.specs.Local.{Calls, IsGiven, Placed, works_at_once}
-use Rattle.flow_model.specs.Spots.{Port as PortData, Spot, is_edge}
-use Rattle.flow_model.specs.Steps.{Carry, Mark, Took}
-use Rattle.flow_model.specs.declared.notes.Note.{Note}
+use Rattle.flow_instance.specs.Instances.{Instance, Part as PartData, all_ended, ended_at, kept_at, port_ended}
+use Rattle.flow_instance.specs.Local.{Calls, IsGiven, Placed, works_at_once}
+use Rattle.flow_instance.specs.Spots.{Port as PortData, Spot, is_edge}
+use Rattle.flow_instance.specs.Steps.{Carry, Mark, Took}
+use Rattle.flow_instance.specs.declared.notes.Note.{Note}
 use Rattle.pact_operators.specs.Allowed.{Bag, count_of}
 use Rattle.pact_bag.specs.Pairs.{crossed, matched}
 use Rattle.pact_operators.specs.PlanOps.{PlanOps}
@@ -19,8 +19,8 @@ use Rattle.tac_syntax.specs.declared.declarations.OpKind.TheVariants.{Map, Reduc
 use Rattle.std.specs.List.{AllByRecursion}
 use Rattle.std.specs.VecDeque.{deque_capacity, deque_len}
 use Rattle.std.specs.List.Sorted.{IsPermutation}
-use Rattle.flow_model.specs.Sending.{IsInOrder, batches_in, marks_in}
-use Rattle.flow_model.specs.declared.parcels.Parcel.{Parcel}
+use Rattle.flow_instance.specs.Sending.{IsInOrder, batches_in, marks_in}
+use Rattle.flow_instance.specs.declared.parcels.Parcel.{Parcel}
 use Rattle.flow_instance.specs.Keeping.{may_match}
 use Rattle.flow_instance.specs.declared.parts.Part.{Part}
 use Rattle.flow_instance.specs.declared.parts.Port.{Port}

@@ -1,9 +1,9 @@
 //! End marks that an instance takes.
 
 ghost use Rattle.std.specs.Prelude.{◌≡◌, ◌<◌, [], false, IfOk, OnOk};
-ghost use Rattle.flow_model.specs.declared.notes.Note.TheVariants.{End};
+ghost use Rattle.flow_instance.specs.declared.notes.Note.TheVariants.{End};
 ghost use Rattle.flow_instance.specs.States.{HasEnded, IsReady, IsSound, IsWhole};
-ghost use Rattle.flow_instance.specs.Steps.{GivesGroups, Takes};
+ghost use Rattle.flow_instance.specs.StateSteps.{GivesGroups, Takes};
 
 use crate::grouping::{cogroup_kept, reduce_kept};
 use crate::states::State;

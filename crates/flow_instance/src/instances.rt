@@ -1,12 +1,12 @@
 //! One operator or source on one worker.
 
 ghost use Rattle.std.specs.Prelude.{◌≡◌, ◌≤◌, ◌<◌, ◌∷◌, [], ℕ, true, false, List, Some, length, map, slice_get, IfOk, OnOk};
-ghost use Rattle.flow_model.specs.Instances.{HasSmallBatches, Instance as InstanceData, ended_at, want};
-ghost use Rattle.flow_model.specs.Local.{IsLocal};
-ghost use Rattle.flow_model.specs.Notes.{AreNotes};
-ghost use Rattle.flow_model.specs.Spots.{Spot, is_edge, setting, spot};
-ghost use Rattle.flow_model.specs.Steps.{Added, AddedTo, Started, Took, finish, next_note, offered};
-ghost use Rattle.flow_model.specs.declared.notes.Note.{Note as NoteData};
+ghost use Rattle.flow_instance.specs.Instances.{HasSmallBatches, Instance as InstanceData, ended_at, want};
+ghost use Rattle.flow_instance.specs.Local.{IsLocal};
+ghost use Rattle.flow_instance.specs.Notes.{AreNotes};
+ghost use Rattle.flow_instance.specs.Spots.{Spot, is_edge, setting, spot};
+ghost use Rattle.flow_instance.specs.Steps.{Added, AddedTo, Started, Took, finish, next_note, offered};
+ghost use Rattle.flow_instance.specs.declared.notes.Note.{Note as NoteData};
 ghost use Rattle.pact_operators.specs.Allowed.{Bag};
 ghost use Rattle.pact_operators.specs.PlanOps.{is_source_kind, kind_at};
 ghost use Rattle.pact_operators.specs.Programs.{IsPlanOf};
@@ -15,9 +15,10 @@ ghost use Rattle.plan_trees.specs.Plans.{has, subtree_of};
 ghost use Rattle.flow_instance.specs.Limits.{batch_limit};
 ghost use Rattle.flow_instance.specs.Starting.{IsShareOf};
 
+use crate::notes::{Note, Want};
+use crate::parcels::Parcel;
 use crate::starting::part_at;
 use crate::states::State;
-use flow_model::{Note, Parcel, Want};
 use local_strategy::Local;
 use pact_bag::Rows;
 use pact_operators::{Physical, Program};
@@ -35,7 +36,7 @@ pub struct Instance<L: Local> {
 }
 
 impl<L: Local> Model for Instance<L> {
-    ghost use Rattle.flow_model.specs.Instances.{Instance as InstanceData};
+    ghost use Rattle.flow_instance.specs.Instances.{Instance as InstanceData};
     ghost use Rattle.flow_instance.specs.InstanceCode.{coded_instance};
     ghost use Rattle.flow_instance.specs.States.{IsWhole, seen};
 

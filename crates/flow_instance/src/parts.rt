@@ -1,7 +1,7 @@
 //! What an instance keeps of a program and of a physical plan.
 
 ghost use Rattle.std.specs.Prelude.{◌≡◌, ◌||◌, not, Some, IsSome};
-ghost use Rattle.flow_model.specs.Local.{works_at_once};
+ghost use Rattle.flow_instance.specs.Local.{works_at_once};
 ghost use Rattle.pact_operators.specs.Programs.{is_pair_kind};
 ghost use Rattle.flow_instance.specs.States.{is_cross, is_map, is_match, is_reduce};
 

@@ -1,7 +1,7 @@
 //! Instances at their start.
 
 ghost use Rattle.std.specs.Prelude.{◌≡◌, ◌<◌, true, length, map, IfOk};
-ghost use Rattle.flow_model.specs.Spots as spots;
+ghost use Rattle.flow_instance.specs.Spots as spots;
 ghost use Rattle.pact_operators.specs.Programs.{IsPlanOf};
 ghost use Rattle.plan_trees.specs.Plans.{has, root_of, subtree_of};
 ghost use Rattle.flow_instance.specs.Starting.{IsCalledAt, IsPartAt};

@@ -1,16 +1,17 @@
 //! The fields of an instance.
 
 ghost use Rattle.std.specs.Prelude.{◌≡◌, ◌≤◌, ◌<◌, [], true, length, IfOk, OnOk};
-ghost use Rattle.flow_model.specs.Instances.{all_ended};
+ghost use Rattle.flow_instance.specs.Instances.{all_ended};
 ghost use Rattle.pact_record.specs.Widths.{AreWide};
-ghost use Rattle.flow_model.specs.Sending.{AreFew};
-ghost use Rattle.flow_instance.specs.Steps.{Gives, HasMarked};
+ghost use Rattle.flow_instance.specs.Sending.{AreFew};
+ghost use Rattle.flow_instance.specs.StateSteps.{Gives, HasMarked};
 ghost use Rattle.flow_instance.specs.Held.{IsHeldAtStart};
 ghost use Rattle.flow_instance.specs.States.{HasBegun, IsFresh, PlacesAtRoot, part_of, seen};
 
+use crate::parcels::Parcel;
 use crate::parts::Part;
 use crate::senders::senders_at;
-use flow_model::{Parcel, queue_end_marks, queue_rows};
+use crate::sending::{queue_end_marks, queue_rows};
 use local_strategy::Local;
 use pact_bag::Rows;
 use pact_record::OutOfMemory;

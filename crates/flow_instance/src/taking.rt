@@ -1,17 +1,17 @@
 //! Notes that an instance takes: what a batch does to it.
 
 ghost use Rattle.std.specs.Prelude.{◌≡◌, ◌<◌, ◌∷◌, [], ℕ, true, IfOk, OnOk};
-ghost use Rattle.flow_model.specs.Notes.{AreNotes};
-ghost use Rattle.flow_model.specs.declared.notes.Note.TheVariants.{Batch};
+ghost use Rattle.flow_instance.specs.Notes.{AreNotes};
+ghost use Rattle.flow_instance.specs.declared.notes.Note.TheVariants.{Batch};
 ghost use Rattle.pact_record.specs.Widths.{AreWide};
 ghost use Rattle.pact_operators.specs.Programs.{is_pair_kind};
 ghost use Rattle.flow_instance.specs.States.{ArePairsGiven, IsReady};
-ghost use Rattle.flow_instance.specs.Steps.{Takes};
+ghost use Rattle.flow_instance.specs.StateSteps.{Takes};
 
 use crate::keeping::keep;
 use crate::matching::{cross_kept, match_kept};
+use crate::notes::Note;
 use crate::states::State;
-use flow_model::Note;
 use local_strategy::Local;
 use pact_bag::Rows;
 use pact_record::OutOfMemory;

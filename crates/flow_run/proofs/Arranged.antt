@@ -2,7 +2,7 @@
 use Rattle.std.proofs.Common.{◌≡◌, ◌<◌, ℕ, zero, suc, List, [], ◌∷◌, ◌++◌, get_or, length, map, replicate, set, append-nil, append_assoc, arith, sym, refl, ap, ◌∙◌, subst}
 use Rattle.std.specs.List.{AllByRecursion}
 use Rattle.std.proofs.lemmas.List.{get_or_past, length-replicate}
-use Rattle.flow_model.specs.Instances.{Instance}
+use Rattle.flow_instance.specs.Instances.{Instance}
 use Rattle.flow_core.specs.Worlds.{no_instance}
 use Rattle.flow_run.specs.Remains.{Remains, remains_at, with_column, with_columns}
 

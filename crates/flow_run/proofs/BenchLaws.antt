@@ -3,18 +3,18 @@ use Rattle.std.proofs.Common.{◌≡◌, ◌≢◌, ◌<◌, ◌⊎◌, inl, inr
 use Rattle.std.proofs.lemmas.Bool.{cases_eq}
 use Rattle.plan_trees.specs.Distinct.{AreDifferent}
 use Rattle.plan_trees.specs.Plans.{has, nodes, subtree_of}
-use Rattle.flow_model.specs.declared.notes.Note.{Note}
-use Rattle.flow_model.specs.Instances.{Instance, port_ended}
-use Rattle.flow_model.specs.Local.{IsLocal, IsReceiver, IsWaiting}
-use Rattle.flow_model.specs.Notes.{IsNote, has_end}
-use Rattle.flow_model.specs.Spots.{Port, Setting, Spot, is_edge, ports_of, spot}
-use Rattle.flow_model.specs.Steps.{Added, Took, finish, offered}
-use Rattle.flow_model.specs.Worlds.{lists_at}
-use Rattle.flow_model.proofs.EndMarksAndWants.{put_to}
-use Rattle.flow_model.proofs.LocalAfterPuts.{finish_local, offered_local, returned_local}
-use Rattle.flow_model.proofs.LocalAfterTakes.{took_local}
-use Rattle.flow_model.proofs.Readers.{one_reader}
-use Rattle.flow_model.proofs.StandsAfterEvents.{local_same}
+use Rattle.flow_instance.specs.declared.notes.Note.{Note}
+use Rattle.flow_instance.specs.Instances.{Instance, port_ended}
+use Rattle.flow_instance.specs.Local.{IsLocal, IsReceiver, IsWaiting}
+use Rattle.flow_instance.specs.Notes.{IsNote, has_end}
+use Rattle.flow_instance.specs.Spots.{Port, Setting, Spot, is_edge, ports_of, spot}
+use Rattle.flow_instance.specs.Steps.{Added, Took, finish, offered}
+use Rattle.flow_instance.specs.Worlds.{lists_at}
+use Rattle.flow_instance.proofs.EndMarksAndWants.{put_to}
+use Rattle.flow_instance.proofs.LocalAfterPuts.{finish_local, offered_local, returned_local}
+use Rattle.flow_instance.proofs.LocalAfterTakes.{took_local}
+use Rattle.flow_instance.proofs.Readers.{one_reader}
+use Rattle.flow_instance.proofs.StandsAfterEvents.{local_same}
 use Rattle.flow_run.specs.Benches.{AllLocal, Bench, Ends, Happens, LocalAt, Puts, Rests, Takes, TakenStay, Works, happened, nothing, rested}
 
 pub by_place : (P : ℕ → Type 0) (at : ℕ) → P at → ((k : ℕ) → k ≢ at → P k) → (k : ℕ) → P k

@@ -4,11 +4,11 @@ use Rattle.std.specs.Prelude.{Option, Some, None}
 use Rattle.std.specs.List.{AllByRecursion}
 use Rattle.std.proofs.lemmas.Bool.{cases_eq, cases_lt}
 use Rattle.batch_channel.specs.Ends.{APipe, AnEnd}
-use Rattle.flow_model.specs.declared.notes.Note.{Note}
-use Rattle.flow_model.specs.declared.notes.PipeId.{PipeId}
-use Rattle.flow_model.specs.Events.{is_pipe}
-use Rattle.flow_model.specs.Worlds.{History}
-use Rattle.flow_model.proofs.StandsAfterEvents.{other_edge, other_from, other_to}
+use Rattle.flow_instance.specs.declared.notes.Note.{Note}
+use Rattle.flow_instance.specs.declared.notes.PipeId.{PipeId}
+use Rattle.flow_instance.specs.Events.{is_pipe}
+use Rattle.flow_instance.specs.Worlds.{History}
+use Rattle.flow_instance.proofs.StandsAfterEvents.{other_edge, other_from, other_to}
 use Rattle.flow_core.specs.Left.{IsPipeOf, LeftOn, left_on}
 use Rattle.flow_core.proofs.LeftWorlds.{left_elsewhere, left_here, left_on-append}
 use Rattle.flow_run.specs.Ends.{IsEndOf, PipeTables, notes_in}

@@ -17,11 +17,11 @@ use Rattle.plan_trees.specs.Sending.{has_out}
 use Rattle.plan_trees.specs.declared.physicals.Ship.{Ship}
 use Rattle.plan_trees.proofs.Ships.{below_limit}
 use Rattle.flow_instance.proofs.PartsOfPlans.{number_below}
-use Rattle.flow_model.specs.declared.notes.Note.{Note}
-use Rattle.flow_model.specs.Instances.{Instance}
-use Rattle.flow_model.specs.Local.{IsLocal}
-use Rattle.flow_model.specs.Spots.{Port, Setting, ports_of, setting, spot}
-use Rattle.flow_model.specs.Worlds.{History, IsOutside, Stands, lists_at}
+use Rattle.flow_instance.specs.declared.notes.Note.{Note}
+use Rattle.flow_instance.specs.Instances.{Instance}
+use Rattle.flow_instance.specs.Local.{IsLocal}
+use Rattle.flow_instance.specs.Spots.{Port, Setting, ports_of, setting, spot}
+use Rattle.flow_instance.specs.Worlds.{History, IsOutside, Stands, lists_at}
 use Rattle.flow_core.specs.Left.{AreOfPlan, IsPipeOf, LeftOn, StandForSome, instance_of, left_world}
 use Rattle.flow_core.specs.Worlds.{IsStanding, WorldData, no_instance}
 use Rattle.flow_run.specs.Ends.{IsEndOf, IsPipeIf, PipeTables, goes_along, notes_in}

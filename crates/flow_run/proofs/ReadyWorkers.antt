@@ -13,17 +13,17 @@ use Rattle.plan_trees.specs.Plans.{root_of, subtree_of}
 use Rattle.plan_trees.specs.Sending.{has_out}
 use Rattle.plan_trees.proofs.NumbersBelow.{all_below_from}
 use Rattle.plan_trees.proofs.SubtreesOfPlans.{root_of-subtree}
-use Rattle.flow_model.specs.declared.notes.Note.{Note}
-use Rattle.flow_model.specs.declared.notes.Want.{Want}
-use Rattle.flow_model.specs.declared.notes.Want.TheVariants.{Take, Put, End, Done}
-use Rattle.flow_model.specs.Instances.{Instance, ended_at, port_ended, want}
-use Rattle.flow_model.specs.Local.{IsLocal, IsReceiver, IsWaiting}
-use Rattle.flow_model.specs.Notes.{IsNote, has_end}
-use Rattle.flow_model.specs.Spots.{Port, Setting, Spot, is_edge, ports_of, spot}
-use Rattle.flow_model.specs.Steps.{finish, next_note}
-use Rattle.flow_model.specs.Worlds.{lists_at}
-use Rattle.flow_model.proofs.EndMarksAndWants.{put_to}
-use Rattle.flow_model.proofs.LocalAfterTakes.{IsTaking, taking_by}
+use Rattle.flow_instance.specs.declared.notes.Note.{Note}
+use Rattle.flow_instance.specs.declared.notes.Want.{Want}
+use Rattle.flow_instance.specs.declared.notes.Want.TheVariants.{Take, Put, End, Done}
+use Rattle.flow_instance.specs.Instances.{Instance, ended_at, port_ended, want}
+use Rattle.flow_instance.specs.Local.{IsLocal, IsReceiver, IsWaiting}
+use Rattle.flow_instance.specs.Notes.{IsNote, has_end}
+use Rattle.flow_instance.specs.Spots.{Port, Setting, Spot, is_edge, ports_of, spot}
+use Rattle.flow_instance.specs.Steps.{finish, next_note}
+use Rattle.flow_instance.specs.Worlds.{lists_at}
+use Rattle.flow_instance.proofs.EndMarksAndWants.{put_to}
+use Rattle.flow_instance.proofs.LocalAfterTakes.{IsTaking, taking_by}
 use Rattle.flow_core.specs.Worlds.{no_instance}
 use Rattle.flow_run.specs.Tables.{cell, cell_in}
 use Rattle.flow_run.specs.Ends.{ArePuts, AreTakes, EndTable, IsPipeIf, PipeTables, goes_along, notes_in}

@@ -8,12 +8,12 @@ use Rattle.pact_record.proofs.Lists.{AllByRecursion-get_or}
 use Rattle.plan_trees.specs.Physicals.{IsPhysical, PhysicalData}
 use Rattle.plan_trees.specs.Plans.{has, subtree_of}
 use Rattle.plan_trees.proofs.Ships.{below_limit}
-use Rattle.flow_model.specs.declared.notes.Note.{Note}
-use Rattle.flow_model.specs.Events.{no_history}
-use Rattle.flow_model.specs.Instances.{Instance}
-use Rattle.flow_model.specs.Local.{IsLocal}
-use Rattle.flow_model.specs.Spots.{Port, Setting, ports_of, spot}
-use Rattle.flow_model.specs.Worlds.{lists_at}
+use Rattle.flow_instance.specs.declared.notes.Note.{Note}
+use Rattle.flow_instance.specs.Events.{no_history}
+use Rattle.flow_instance.specs.Instances.{Instance}
+use Rattle.flow_instance.specs.Local.{IsLocal}
+use Rattle.flow_instance.specs.Spots.{Port, Setting, ports_of, spot}
+use Rattle.flow_instance.specs.Worlds.{lists_at}
 use Rattle.flow_core.specs.Left.{all_unstationed, unstationed}
 use Rattle.flow_core.specs.Worlds.{IsStanding, IsWhole, StationData, WorldData, instance_in, no_instance, no_station}
 use Rattle.flow_core.proofs.SharesOfRows.{each_last}

@@ -22,7 +22,7 @@ use Rattle.flow_instance.proofs.parts.Port.TheSendSync.{the_send as port_sends}
 use Rattle.tac_syntax.proofs.statements.Rec.TheSendSync.{the_send as rec_sends}
 use Rattle.tac_syntax.proofs.statements.LoopList.TheSendSync.{the_send as list_sends}
 use Rattle.pact_bag.proofs.rows.Rows.TheSendSync.{the_send as rows_send}
-use Rattle.flow_model.proofs.parcels.Parcel.TheSendSync.{the_send as parcel_send}
+use Rattle.flow_instance.proofs.parcels.Parcel.TheSendSync.{the_send as parcel_send}
 use Rattle.plan_trees.proofs.senders.EndedSenders.TheSendSync.{the_send as senders_send}
 use Rattle.batch_channel.proofs.ends.PutEnd.TheSendSync.{the_send as put_sends}
 use Rattle.batch_channel.proofs.ends.TakeEnd.TheSendSync.{the_send as take_sends}

@@ -7,11 +7,11 @@ use Rattle.plan_trees.specs.Physicals.{IsPhysical, PhysicalData, has_edge, ship_
 use Rattle.plan_trees.specs.Plans.{has, root_of, subtree_of}
 use Rattle.plan_trees.specs.Sending.{has_out}
 use Rattle.plan_trees.specs.declared.physicals.Ship.TheVariants.{Forward}
-use Rattle.flow_model.specs.Instances.{Instance}
-use Rattle.flow_model.specs.Local.{IsLocal}
-use Rattle.flow_model.specs.Spots.{Port, Setting, ports_of, spot}
-use Rattle.flow_model.specs.Worlds.{lists_at}
-use Rattle.flow_model.proofs.StandsAfterEvents.{local_same}
+use Rattle.flow_instance.specs.Instances.{Instance}
+use Rattle.flow_instance.specs.Local.{IsLocal}
+use Rattle.flow_instance.specs.Spots.{Port, Setting, ports_of, spot}
+use Rattle.flow_instance.specs.Worlds.{lists_at}
+use Rattle.flow_instance.proofs.StandsAfterEvents.{local_same}
 use Rattle.flow_core.specs.Worlds.{no_instance}
 use Rattle.flow_run.specs.Tables.{cell}
 use Rattle.flow_run.specs.Ends.{EndTable, PipeTables, goes_along, notes_in}

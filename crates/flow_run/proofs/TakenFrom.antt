@@ -1,11 +1,11 @@
 -- A note that an instance took.
 use Rattle.std.proofs.Common.{◌≡◌, ◌<◌, ℕ, zero, suc, false, Option, Some, None, List, [], ◌∷◌, ◌++◌, map, slice_get, refl, ap, sym, ◌∙◌, subst}
-use Rattle.flow_model.specs.declared.notes.Note.{Note}
-use Rattle.flow_model.specs.Instances.{Instance, ended_at}
-use Rattle.flow_model.specs.Local.{IsLocal}
-use Rattle.flow_model.specs.Notes.{IsNote}
-use Rattle.flow_model.specs.Spots.{Port, Spot, is_edge}
-use Rattle.flow_model.specs.Steps.{Added, Took}
+use Rattle.flow_instance.specs.declared.notes.Note.{Note}
+use Rattle.flow_instance.specs.Instances.{Instance, ended_at}
+use Rattle.flow_instance.specs.Local.{IsLocal}
+use Rattle.flow_instance.specs.Notes.{IsNote}
+use Rattle.flow_instance.specs.Spots.{Port, Spot, is_edge}
+use Rattle.flow_instance.specs.Steps.{Added, Took}
 use Rattle.flow_run.specs.Ends.{PipeTables}
 use Rattle.flow_core.specs.Stations.{TakesNote}
 use Rattle.flow_run.specs.Benches.{TakesAt}

@@ -1,10 +1,10 @@
 -- A turn over the instances of a worker.
 use Rattle.std.proofs.Common.{◌≡◌, ◌<◌, ◌≤◌, inl, inr, ℕ, suc, false, List, length, sym, ◌∙◌, subst, arith}
 use Rattle.std.proofs.lemmas.Bool.{cases_eq}
-use Rattle.flow_model.specs.declared.notes.Note.{Note}
-use Rattle.flow_model.specs.declared.notes.Want.{Want}
-use Rattle.flow_model.specs.declared.notes.Want.TheVariants.{Take, Put, End, Done}
-use Rattle.flow_model.specs.Instances.{Instance, want}
+use Rattle.flow_instance.specs.declared.notes.Note.{Note}
+use Rattle.flow_instance.specs.declared.notes.Want.{Want}
+use Rattle.flow_instance.specs.declared.notes.Want.TheVariants.{Take, Put, End, Done}
+use Rattle.flow_instance.specs.Instances.{Instance, want}
 use Rattle.flow_run.specs.declared.outcomes.Tried.{Tried}
 use Rattle.flow_run.specs.declared.outcomes.Tried.TheVariants.{Event, Idle, Spent}
 use Rattle.flow_run.specs.Ends.{ArePuts, AreTakes, EndTable, PipeTables}

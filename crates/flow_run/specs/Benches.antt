@@ -3,15 +3,15 @@ use Rattle.std.specs.Prelude.{◌≡◌, ◌≢◌, ◌≤◌, ◌<◌, ◌^◌,
 use Rattle.batch_channel.specs.Ends.{APipe}
 use Rattle.plan_trees.specs.Physicals.{IsPhysical}
 use Rattle.plan_trees.specs.Plans.{has, subtree_of}
-use Rattle.flow_model.specs.declared.notes.Note.{Note}
-use Rattle.flow_model.specs.declared.notes.Want.{Want}
-use Rattle.flow_model.specs.declared.notes.Want.TheVariants.{Take, Put, End, Done}
-use Rattle.flow_model.specs.Instances.{Instance, ended_at, want}
-use Rattle.flow_model.specs.Local.{IsLocal}
-use Rattle.flow_model.specs.Notes.{IsNote}
-use Rattle.flow_model.specs.Spots.{Port, Setting, is_edge, ports_of, spot}
-use Rattle.flow_model.specs.Steps.{Added, finish, next_note, offered}
-use Rattle.flow_model.specs.Worlds.{lists_at}
+use Rattle.flow_instance.specs.declared.notes.Note.{Note}
+use Rattle.flow_instance.specs.declared.notes.Want.{Want}
+use Rattle.flow_instance.specs.declared.notes.Want.TheVariants.{Take, Put, End, Done}
+use Rattle.flow_instance.specs.Instances.{Instance, ended_at, want}
+use Rattle.flow_instance.specs.Local.{IsLocal}
+use Rattle.flow_instance.specs.Notes.{IsNote}
+use Rattle.flow_instance.specs.Spots.{Port, Setting, is_edge, ports_of, spot}
+use Rattle.flow_instance.specs.Steps.{Added, finish, next_note, offered}
+use Rattle.flow_instance.specs.Worlds.{lists_at}
 use Rattle.flow_core.specs.Stations.{TakesNote}
 use Rattle.flow_core.specs.Worlds.{no_instance}
 use Rattle.flow_run.specs.Tables.{cell, cell_in}

@@ -1,7 +1,7 @@
 -- What is dealt out to workers.
 use Rattle.std.specs.Prelude.{ℕ, List}
-use Rattle.flow_model.specs.Instances.{Instance}
-use Rattle.flow_model.specs.Spots.{Setting}
+use Rattle.flow_instance.specs.Instances.{Instance}
+use Rattle.flow_instance.specs.Spots.{Setting}
 use Rattle.flow_run.specs.Ends.{PipeTables}
 use Rattle.flow_run.specs.Remains.{AreLocal, HaveReturned, Remains}
 use Rattle.flow_run.specs.Runs.{AreReady, HaveAllLeft}

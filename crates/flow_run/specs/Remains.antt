@@ -7,10 +7,10 @@ use Rattle.pact_operators.specs.Inputs.{AreInputsOf}
 use Rattle.pact_operators.specs.Programs.{ProgramData}
 use Rattle.plan_trees.specs.Physicals.{PhysicalData}
 use Rattle.plan_trees.specs.Plans.{has, subtree_of}
-use Rattle.flow_model.specs.declared.notes.Note.{Note}
-use Rattle.flow_model.specs.Instances.{Instance}
-use Rattle.flow_model.specs.Spots.{Setting, setting}
-use Rattle.flow_model.specs.Worlds.{History, LocalAt, World}
+use Rattle.flow_instance.specs.declared.notes.Note.{Note}
+use Rattle.flow_instance.specs.Instances.{Instance}
+use Rattle.flow_instance.specs.Spots.{Setting, setting}
+use Rattle.flow_instance.specs.Worlds.{History, LocalAt, World}
 use Rattle.flow_core.specs.Left.{IsPipeOf, LeftOn, left_on}
 use Rattle.flow_core.specs.Worlds.{no_instance}
 use Rattle.flow_run.specs.Ends.{ArePipes, ArePuts, AreTakes, EndTable, IsEndOf, PipeTables, notes_in}

@@ -4,7 +4,7 @@ ghost use Rattle.std.specs.Prelude.{◌≡◌, ◌≤◌, length, IfOk};
 ghost use Rattle.pact_operators.specs.Inputs.{AreInputsOf};
 ghost use Rattle.pact_operators.specs.Programs.{IsPlanOf};
 ghost use Rattle.flow_instance.specs.Limits.{batch_limit};
-ghost use Rattle.flow_model.specs.Spots.{setting};
+ghost use Rattle.flow_instance.specs.Spots.{setting};
 ghost use Rattle.flow_core.specs.Worlds.{depth_limit};
 ghost use Rattle.flow_run.specs.Dealing.{AreDealt};
 ghost use Rattle.flow_run.specs.Runs.{AreAtStart};

@@ -11,7 +11,7 @@ use crate::tables::Tables;
 use crate::wires::pipe_of;
 use batch_channel::{Left, Pipe, PutEnd, TakeEnd, Width, close};
 use flow_core::NoteLists;
-use flow_model::{Note, PipeId};
+use flow_instance::{Note, PipeId};
 use local_strategy::Local;
 use pact_record::OutOfMemory;
 use std::alloc::Global;

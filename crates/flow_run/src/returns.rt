@@ -6,8 +6,7 @@ ghost use Rattle.flow_run.specs.Returns.{all_remains};
 
 use crate::tables::Table;
 use batch_channel::{PutEnd, TakeEnd, Width};
-use flow_instance::Instance;
-use flow_model::PipeId;
+use flow_instance::{Instance, PipeId};
 use local_strategy::Local;
 
 /// What a worker has when it has returned: its instances by the number of their source or operator, and its ends of pipes.

@@ -9,8 +9,8 @@ ghost use Rattle.pact_record.specs.Widths.{AreWide};
 ghost use Rattle.ship_strategy.specs.PlanFacts.{facts_of};
 ghost use Rattle.ship_strategy.specs.Ships.{LegalShip};
 ghost use Rattle.flow_instance.specs.Limits.{batch_limit};
-ghost use Rattle.flow_model.specs.Spots.{setting};
-ghost use Rattle.flow_model.specs.Spread.{Spread};
+ghost use Rattle.flow_instance.specs.Spots.{setting};
+ghost use Rattle.flow_instance.specs.Spread.{Spread};
 ghost use Rattle.flow_core.specs.Worlds.{depth_limit};
 
 use crate::assembling::work_all;

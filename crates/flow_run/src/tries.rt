@@ -2,9 +2,9 @@
 
 ghost use Rattle.std.specs.Prelude.{◌≡◌, ◌≤◌, ◌<◌, ℕ, true, false, Some, length, IfNone, IfOk, IfSome, OnOk};
 ghost use Rattle.batch_channel.specs.Ends.{APipe};
-ghost use Rattle.flow_model.specs.Instances.{ended_at, want};
-ghost use Rattle.flow_model.specs.Notes.{IsNote};
-ghost use Rattle.flow_model.specs.Steps.{Added, next_note};
+ghost use Rattle.flow_instance.specs.Instances.{ended_at, want};
+ghost use Rattle.flow_instance.specs.Notes.{IsNote};
+ghost use Rattle.flow_instance.specs.Steps.{Added, next_note};
 ghost use Rattle.flow_run.specs.Benches.{TakesAt};
 ghost use Rattle.flow_run.specs.Ends.{ArePuts, AreTakes, IsPipeIf, notes_in};
 ghost use Rattle.flow_run.specs.Tables.{cell, cell_in};
@@ -14,8 +14,7 @@ use crate::outcomes::Tried;
 use crate::seats::Seat;
 use crate::tables::{Table, Tables};
 use batch_channel::{Pipe, PutEnd, TakeEnd, Width};
-use flow_instance::{Instance, Note, Want};
-use flow_model::PipeId;
+use flow_instance::{Instance, Note, PipeId, Want};
 use local_strategy::Local;
 use pact_record::OutOfMemory;
 use std::sync::Wait;

@@ -8,7 +8,7 @@ ghost use Rattle.flow_run.specs.Wires.{AreWired, IsMade, number_of};
 
 use crate::tables::{Tables, blank_tables};
 use batch_channel::{Pipe, PutEnd, TakeEnd, Width, pipe};
-use flow_model::PipeId;
+use flow_instance::PipeId;
 use pact_operators::Physical;
 use pact_record::OutOfMemory;
 use std::alloc::Global;

@@ -5,10 +5,10 @@ use Rattle.std.specs.List.Sorted.{IsPermutation}
 use Rattle.combine_rule.specs.CombinedPrograms.{planned}
 use Rattle.flow_core.specs.Worlds.{IsStanding, WorldData, depth_limit}
 use Rattle.flow_instance.specs.Limits.{batch_limit}
-use Rattle.flow_model.specs.Events.{no_history}
-use Rattle.flow_model.specs.Spots.{setting}
-use Rattle.flow_model.specs.Spread.{Spread}
-use Rattle.flow_model.specs.Worlds.{History}
+use Rattle.flow_instance.specs.Events.{no_history}
+use Rattle.flow_instance.specs.Spots.{setting}
+use Rattle.flow_instance.specs.Spread.{Spread}
+use Rattle.flow_instance.specs.Worlds.{History}
 use Rattle.flow_run.specs.declared.options.Options.{Options}
 use Rattle.pact_operators.specs.Allowed.{Bag, Counted, count_of}
 use Rattle.pact_operators.specs.Inputs.{AreInputsOf}

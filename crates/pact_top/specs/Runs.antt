@@ -5,8 +5,8 @@ use Rattle.combine_rule.specs.CombinedPrograms.{IsCombinedPlan, Planned, planned
 use Rattle.combine_rule.specs.CombinedRuns.{IsCountedFor}
 use Rattle.flow_core.specs.Worlds.{depth_limit}
 use Rattle.flow_instance.specs.Limits.{batch_limit}
-use Rattle.flow_model.specs.Spots.{setting}
-use Rattle.flow_model.specs.Spread.{Spread}
+use Rattle.flow_instance.specs.Spots.{setting}
+use Rattle.flow_instance.specs.Spread.{Spread}
 use Rattle.pact_bag.specs.declared.outcomes.Outcome.{Outcome}
 use Rattle.pact_operators.specs.Allowed.{Bag, Counted}
 use Rattle.pact_operators.specs.Inputs.{AreInputsOf}

@@ -6,8 +6,8 @@
 ghost use Rattle.std.specs.Prelude.{◌≡◌, true, false, IfOk};
 ghost use Rattle.combine_rule.specs.CombinedPrograms.{planned};
 ghost use Rattle.flow_core.specs.Worlds.{HasBatchSize, IsStanding, StandsForSome};
-ghost use Rattle.flow_model.specs.Events.{no_history};
-ghost use Rattle.flow_model.specs.Spots.{setting};
+ghost use Rattle.flow_instance.specs.Events.{no_history};
+ghost use Rattle.flow_instance.specs.Spots.{setting};
 ghost use Rattle.pact_operators.specs.Programs.{IsPlanOf};
 ghost use Rattle.pact_top.specs.Runs.{CanRun, HasRun, IsCombinedTask, IsGroupedLeft, IsRunner};
 

@@ -7,7 +7,7 @@ use Rattle.pact_operators.specs.Programs.{IsPlanOf, IsProgram, ProgramData}
 use Rattle.ship_strategy.specs.PlanFacts.{facts_of}
 use Rattle.ship_strategy.specs.Ships.{LegalShip}
 use Rattle.ship_strategy.proofs.DividedRuns.{divided_counted}
-use Rattle.flow_model.proofs.DividedRuns.{divided}
+use Rattle.flow_instance.proofs.DividedRuns.{divided}
 use Rattle.prune_fields.specs.declared.pruning.Kept.{Kept}
 use Rattle.prune_fields.specs.Needs.{need}
 use Rattle.prune_fields.specs.PrunedPlans.{IsPruned, cut_below, pruned_physical, pruned_program}

@@ -7,8 +7,8 @@ use Rattle.pact_operators.specs.Allowed.{Allows, Bag, Counted}
 use Rattle.pact_operators.specs.Inputs.{AreInputsOf}
 use Rattle.pact_operators.specs.PlanOps.{PlanOps, plan_ops}
 use Rattle.pact_operators.specs.Programs.{ProgramData}
-use Rattle.flow_model.specs.Spots.{setting}
-use Rattle.flow_model.specs.Spread.{Spread}
+use Rattle.flow_instance.specs.Spots.{setting}
+use Rattle.flow_instance.specs.Spread.{Spread}
 
 -- two bags that are the same lists of records, cut to the sink's fields
 abbrev pub HaveSameRows : List ℕ → Bag → Bag → Type 0

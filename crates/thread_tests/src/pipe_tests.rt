@@ -1,7 +1,7 @@
 //! Pipes on one thread.
 
 ghost use Rattle.std.specs.Prelude.{IfOk};
-ghost use Rattle.flow_model.specs.Notes.{IsNote};
+ghost use Rattle.flow_instance.specs.Notes.{IsNote};
 
 use batch_channel::{Note, close, pipe};
 use pact_bag::Rows;

@@ -1,7 +1,7 @@
 use Rattle.std.proofs.Common.{subst}
 use Rattle.std.proofs.lemmas.Result.{IfOk-weaker}
 use Rattle.flow_core.specs.Outcomes.{IsEnded, IsRun}
-use Rattle.flow_model.specs.Spots.{setting}
+use Rattle.flow_instance.specs.Spots.{setting}
 use Rattle.flow_core.proofs.RunAlone.{ended_numbers, ended_spread, ended_widths, spread_counted}
 use Rattle.flow_core.proofs.alone.run_alone.Goals as goal
 

@@ -1,6 +1,6 @@
 use Rattle.std.proofs.Common.{refl, subst, sym, ◌∙◌, ◌≡◌, true, IfNone, IfSome, Option}
-use Rattle.flow_model.specs.declared.notes.Event.{Event}
-use Rattle.flow_model.specs.Worlds.{IsStuck, enabled}
+use Rattle.flow_instance.specs.declared.notes.Event.{Event}
+use Rattle.flow_instance.specs.Worlds.{IsStuck, enabled}
 use Rattle.flow_core.specs.Worlds.{seen}
 use Rattle.flow_core.proofs.RunAlone.{reached-next, reached_none}
 use Rattle.flow_core.proofs.picks.go_by_pick.Goals as goal

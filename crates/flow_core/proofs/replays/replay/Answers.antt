@@ -1,6 +1,6 @@
 use Rattle.std.proofs.Common.{◌≡◌, List, subst, sym, take, ◌∙◌}
 use Rattle.std.proofs.lemmas.List.{take_all}
-use Rattle.flow_model.specs.declared.notes.Event.{Event}
+use Rattle.flow_instance.specs.declared.notes.Event.{Event}
 use Rattle.flow_core.specs.Replays.{IsReplayed}
 use Rattle.flow_core.proofs.ReplayedEvents.{replayed-next, replayed_short, stopped_at}
 use Rattle.flow_core.proofs.WorldLaws.{laws_hold}

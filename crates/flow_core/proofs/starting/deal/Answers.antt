@@ -1,7 +1,7 @@
 use Rattle.std.proofs.Common.{◌≡◌, ◌<◌, ◌%◌, ◌∷◌, [], ap, arith, length, length-append, ◌∙◌}
 use Rattle.std.proofs.lemmas.Iterator.Adapters.{YieldsList-from_vec}
 use Rattle.std.proofs.lemmas.Iterator.Consumers.{YieldsList-turn}
-use Rattle.flow_model.proofs.SplitRows.{more_wide}
+use Rattle.flow_instance.proofs.SplitRows.{more_wide}
 use Rattle.flow_core.proofs.SharesOfRows.{dealt-more, share_is, share_width}
 use Rattle.flow_core.proofs.starting.deal.Goals as goal
 

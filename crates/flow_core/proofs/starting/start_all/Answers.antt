@@ -1,5 +1,5 @@
 use Rattle.std.proofs.Common.{arith, ◌≡◌, length, ◌+◌, ◌∷◌, [], length-append, rules, subst, sym, ◌∙◌, ap, List}
-use Rattle.flow_model.specs.Spots.{setting}
+use Rattle.flow_instance.specs.Spots.{setting}
 use Rattle.flow_core.specs.Starting.{AreStarted, AreStartedAt}
 use Rattle.flow_core.specs.Worlds.{StationData}
 use Rattle.flow_core.proofs.SharesOfRows.{each_last, has_taken, op_at, some_left}

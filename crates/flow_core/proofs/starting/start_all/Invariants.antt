@@ -1,7 +1,7 @@
 use Rattle.std.proofs.Common.{◌≡◌, ◌≤◌, drop, length, vec_len}
 use Rattle.std.specs.Vec.{vec_capacity}
 use Rattle.pact_operators.specs.PlanOps.{source_place}
-use Rattle.flow_model.specs.Spots.{setting}
+use Rattle.flow_instance.specs.Spots.{setting}
 use Rattle.flow_core.specs.Starting.{AreStarted}
 use Rattle.flow_core.proofs.starting.start_all.Given as goal
 

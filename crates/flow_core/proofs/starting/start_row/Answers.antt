@@ -2,7 +2,7 @@ use Rattle.std.proofs.Common.{◌≡◌, ◌+◌, ◌∷◌, [], ap, arith, leng
 use Rattle.std.proofs.lemmas.Iterator.Adapters.{YieldsList-from_vec}
 use Rattle.std.proofs.lemmas.Iterator.Consumers.{YieldsList-end, YieldsList-turn}
 use Rattle.plan_trees.specs.Sending.{share_from}
-use Rattle.flow_model.specs.Spots.{setting}
+use Rattle.flow_instance.specs.Spots.{setting}
 use Rattle.flow_instance.specs.Starting.{IsShareOf}
 use Rattle.flow_core.specs.Starting.{AreBelow, IsStarted, MayStart}
 use Rattle.flow_core.specs.Worlds.{StationData, no_station}

@@ -1,7 +1,7 @@
 use Rattle.std.proofs.Common.{◌≡◌, ◌≤◌, List, length, vec_len}
 use Rattle.std.specs.Vec.{vec_capacity}
 use Rattle.pact_operators.specs.Allowed.{Bag}
-use Rattle.flow_model.specs.Spots.{setting}
+use Rattle.flow_instance.specs.Spots.{setting}
 use Rattle.flow_core.specs.Starting.{AreBelow, AreOwn}
 use Rattle.flow_core.proofs.starting.start_row.Given as goal
 

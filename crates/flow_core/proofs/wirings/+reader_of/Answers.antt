@@ -1,5 +1,5 @@
 use Rattle.std.proofs.Common.{ap, sym, ◌∙◌}
-use Rattle.flow_model.specs.Worlds.{first_of, reader_of}
+use Rattle.flow_instance.specs.Worlds.{first_of, reader_of}
 use Rattle.flow_core.proofs.ReadersOfEdges.{read_at_left, read_at_right, read_below, read_below_two, read_here}
 use Rattle.flow_core.proofs.wirings.+reader_of.Goals as goal
 

@@ -1,6 +1,6 @@
 use Rattle.std.proofs.Common.{None, rules}
 use Rattle.plan_trees.specs.Plans.{node_limit}
-use Rattle.flow_model.specs.Worlds.{reader_of}
+use Rattle.flow_instance.specs.Worlds.{reader_of}
 use Rattle.flow_core.proofs.TablesByNumber.{all_set, no_reader_beyond, set_next}
 use Rattle.flow_core.proofs.wirings.readers_of.Goals as goal
 

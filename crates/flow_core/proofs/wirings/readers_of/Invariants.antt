@@ -1,6 +1,6 @@
 use Rattle.std.proofs.Common.{◌≡◌, ◌<◌, ℕ, None, get_or, length}
 use Rattle.plan_trees.specs.Plans.{node_limit}
-use Rattle.flow_model.specs.Worlds.{reader_of}
+use Rattle.flow_instance.specs.Worlds.{reader_of}
 use Rattle.flow_core.proofs.wirings.readers_of.Given as goal
 
 abbrev pub invariant-loop-edge : goal.invariant-loop-edge

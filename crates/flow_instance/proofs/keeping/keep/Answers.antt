@@ -5,7 +5,7 @@ use Rattle.std.proofs.lemmas.Iterator.Consumers.{YieldsList-end, YieldsList-turn
 use Rattle.std.proofs.lemmas.List.{map-id}
 use Rattle.pact_operators.specs.Allowed.{Bag}
 use Rattle.pact_record.specs.Widths.{AreBelow, AreWide}
-use Rattle.flow_model.proofs.CarriedBatches.{next_width}
+use Rattle.flow_instance.proofs.CarriedBatches.{next_width}
 use Rattle.flow_instance.specs.Keeping.{IsKept, may_match}
 use Rattle.flow_instance.proofs.KeptRecords.{none_kept, row_kept}
 use Rattle.flow_instance.proofs.keeping.keep.Goals as goal

@@ -1,6 +1,6 @@
 use Rattle.std.proofs.Common.{List, sym, ◌∙◌, arith}
 use Rattle.std.proofs.lemmas.Result.{IfOk-weaker}
-use Rattle.flow_model.proofs.Bags.{is_same}
+use Rattle.flow_instance.proofs.Bags.{is_same}
 use Rattle.pact_operators.specs.Allowed.{Bag}
 use Rattle.pact_record.specs.Record.{key_of}
 use Rattle.pact_record.specs.declared.values.Value.{Value}

@@ -1,7 +1,7 @@
 use Rattle.std.proofs.Common.{◌≡◌, ◌≤◌, ◌<◌, ◌*◌, true, rules, length, ap, arith, subst, sym, ℕ}
 use Rattle.flow_instance.proofs.PartsOfPlans.{number_below}
 use Rattle.plan_trees.specs.Plans.{has}
-use Rattle.flow_model.specs.Spots.{setting}
+use Rattle.flow_instance.specs.Spots.{setting}
 use Rattle.flow_run.specs.Dealing.{AreDealt}
 use Rattle.flow_run.specs.Wires.{AreWired}
 use Rattle.flow_run.proofs.RunsOfWorkers.{are_dealt, few_numbers}

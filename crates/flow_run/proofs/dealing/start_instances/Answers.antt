@@ -3,8 +3,8 @@ use Rattle.std.proofs.lemmas.Result.{IfOk-weaker}
 use Rattle.std.specs.List.{AllByRecursion}
 use Rattle.plan_trees.specs.Physicals.{PhysicalData}
 use Rattle.flow_instance.proofs.PartsOfPlans.{number_below}
-use Rattle.flow_model.specs.Instances.{Instance}
-use Rattle.flow_model.specs.Spots.{setting}
+use Rattle.flow_instance.specs.Instances.{Instance}
+use Rattle.flow_instance.specs.Spots.{setting}
 use Rattle.flow_core.specs.Worlds.{IsWhole}
 use Rattle.flow_run.specs.Remains.{with_columns}
 use Rattle.flow_run.proofs.RunsOfWorkers.{at_start, rows_are}

@@ -2,8 +2,8 @@ use Rattle.std.proofs.Common.{subst, sym}
 use Rattle.std.proofs.lemmas.Result.{IfOk-weaker}
 use Rattle.pact_operators.specs.Programs.{IsPlanOf}
 use Rattle.plan_trees.specs.Physicals.{PhysicalData}
-use Rattle.flow_model.specs.Events.{no_history}
-use Rattle.flow_model.specs.Spots.{setting}
+use Rattle.flow_instance.specs.Events.{no_history}
+use Rattle.flow_instance.specs.Spots.{setting}
 use Rattle.flow_run.proofs.Finished.{counted_from}
 use Rattle.flow_run.proofs.runs.run_on_one.Goals as goal
 

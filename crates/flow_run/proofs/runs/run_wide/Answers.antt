@@ -1,6 +1,6 @@
 use Rattle.std.proofs.Common.{refl, subst, sym, ℕ}
 use Rattle.std.proofs.lemmas.Result.{IfOk-weaker}
-use Rattle.flow_model.specs.Spots.{setting}
+use Rattle.flow_instance.specs.Spots.{setting}
 use Rattle.flow_run.specs.Returns.{all_remains}
 use Rattle.flow_run.specs.Runs.{AreReady, HaveAllLeft}
 use Rattle.flow_run.proofs.runs.run_wide.Goals as goal

@@ -1,6 +1,6 @@
 use Rattle.std.proofs.lemmas.Result.{IfOk-weaker}
-use Rattle.flow_model.specs.Events.{no_history}
-use Rattle.flow_model.specs.Spots.{setting}
+use Rattle.flow_instance.specs.Events.{no_history}
+use Rattle.flow_instance.specs.Spots.{setting}
 use Rattle.pact_top.proofs.RunPlans.{has_run, start_counted}
 use Rattle.pact_top.proofs.tasks.run_with.Goals as goal
 

@@ -1,7 +1,7 @@
 use Rattle.std.proofs.Common.{◌≡◌, ◌<◌, ℕ, ap, arith, get_or, length, ◌∙◌}
 use Rattle.std.proofs.lemmas.List.{get_or_default}
 use Rattle.pact_operators.specs.Allowed.{count_of}
-use Rattle.flow_model.specs.Spread.{sum_below}
+use Rattle.flow_instance.specs.Spread.{sum_below}
 use Rattle.flow_core.specs.Stations.{given_by, total_given}
 use Rattle.flow_core.specs.Worlds.{StationData, no_station}
 use Rattle.flow_core.proofs.PlacedRows.{sum_more}

@@ -1,6 +1,6 @@
 use Rattle.std.proofs.Common.{◌≡◌}
 use Rattle.pact_operators.specs.Allowed.{count_of}
-use Rattle.flow_model.specs.Spread.{sum_below}
+use Rattle.flow_instance.specs.Spread.{sum_below}
 use Rattle.flow_core.specs.Stations.{given_by}
 use Rattle.flow_core.proofs.stations.Row.given.Given as goal
 

@@ -1,5 +1,5 @@
 use Rattle.std.proofs.Common.{ap, ◌∙◌}
-use Rattle.flow_model.specs.Instances.{want}
+use Rattle.flow_instance.specs.Instances.{want}
 use Rattle.flow_core.specs.Worlds.{StationData}
 use Rattle.flow_core.proofs.stations.Station.put.Goals as goal
 

@@ -1,6 +1,6 @@
 use Rattle.std.proofs.Common.{ap, subst}
 use Rattle.std.proofs.lemmas.Result.{on_ok_weaker}
-use Rattle.flow_model.specs.Instances.{Instance}
+use Rattle.flow_instance.specs.Instances.{Instance}
 use Rattle.flow_core.specs.Stations.{TakesNote}
 use Rattle.flow_core.specs.Worlds.{StationData}
 use Rattle.flow_core.proofs.stations.Station.take.Goals as goal

@@ -1,8 +1,8 @@
 use Rattle.std.proofs.Common.{◌≡◌, subst, sym, true}
 use Rattle.std.proofs.lemmas.Result.{on_ok_weaker}
-use Rattle.flow_model.specs.declared.notes.Event.{Event}
-use Rattle.flow_model.specs.Events.{Steps}
-use Rattle.flow_model.specs.Worlds.{enabled}
+use Rattle.flow_instance.specs.declared.notes.Event.{Event}
+use Rattle.flow_instance.specs.Events.{Steps}
+use Rattle.flow_instance.specs.Worlds.{enabled}
 use Rattle.flow_core.specs.Worlds.{seen}
 use Rattle.flow_core.proofs.EventsOfWants.{place_end, place_put, told_end, told_put}
 use Rattle.flow_core.proofs.worlds.World.change.Goals as goal

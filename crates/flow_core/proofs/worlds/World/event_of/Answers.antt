@@ -1,6 +1,6 @@
 use Rattle.std.proofs.Common.{sym, ◌∙◌}
-use Rattle.flow_model.specs.declared.notes.Event.TheVariants as events
-use Rattle.flow_model.specs.Worlds.{enabled}
+use Rattle.flow_instance.specs.declared.notes.Event.TheVariants as events
+use Rattle.flow_instance.specs.Worlds.{enabled}
 use Rattle.flow_core.specs.Worlds.{seen}
 use Rattle.flow_core.proofs.EventsOfWants.{idle_done, idle_end, idle_put, none_if, some_if}
 use Rattle.flow_core.proofs.worlds.World.event_of.Goals as goal

@@ -1,7 +1,7 @@
 use Rattle.std.proofs.Common.{◌<◌, ap, length, subst, sym, ◌∙◌, ℕ, [], get_or, set}
 use Rattle.std.proofs.lemmas.List.{length-set}
-use Rattle.flow_model.specs.Events.{first_note}
-use Rattle.flow_model.specs.Steps.{later}
+use Rattle.flow_instance.specs.Events.{first_note}
+use Rattle.flow_instance.specs.Steps.{later}
 use Rattle.flow_core.specs.Stations.{given}
 use Rattle.flow_core.specs.Worlds.{StationData, WorldData, queue_in}
 use Rattle.flow_core.proofs.ChangedStations.{list_changed, same_instances, whole_after}

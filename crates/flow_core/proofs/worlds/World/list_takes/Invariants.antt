@@ -1,5 +1,5 @@
 use Rattle.std.proofs.Common.{◌≡◌, ◌++◌}
-use Rattle.flow_model.specs.declared.notes.Event.TheVariants.{Take}
+use Rattle.flow_instance.specs.declared.notes.Event.TheVariants.{Take}
 use Rattle.flow_core.specs.Picks.{if_enabled, joined_below}
 use Rattle.flow_core.specs.Worlds.{seen}
 use Rattle.flow_core.proofs.worlds.World.list_takes.Given as goal

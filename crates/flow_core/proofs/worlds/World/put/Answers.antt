@@ -1,7 +1,7 @@
 use Rattle.std.proofs.Common.{◌<◌, ap, length, subst, sym, ◌∙◌, ℕ, set}
 use Rattle.std.proofs.lemmas.List.{length-set}
 use Rattle.std.proofs.lemmas.Result.{on_ok_weaker}
-use Rattle.flow_model.specs.Instances.{want}
+use Rattle.flow_instance.specs.Instances.{want}
 use Rattle.flow_core.specs.Stations.{with_put}
 use Rattle.flow_core.specs.Worlds.{StationData, WorldData}
 use Rattle.flow_core.proofs.ChangedStations.{puts_at, whole_after}

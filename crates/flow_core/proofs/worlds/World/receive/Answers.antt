@@ -1,8 +1,8 @@
 use Rattle.std.proofs.Common.{◌≡◌, ap, length, subst, sym, ◌∙◌, ℕ, set}
 use Rattle.std.proofs.lemmas.Result.{on_ok_weaker}
-use Rattle.flow_model.specs.Instances.{Instance}
-use Rattle.flow_model.specs.Local.{IsLocal}
-use Rattle.flow_model.specs.Steps.{Took}
+use Rattle.flow_instance.specs.Instances.{Instance}
+use Rattle.flow_instance.specs.Local.{IsLocal}
+use Rattle.flow_instance.specs.Steps.{Took}
 use Rattle.flow_core.specs.Stations.{IsReadyFor}
 use Rattle.flow_core.specs.Worlds.{StationData, WorldData, instance_in}
 use Rattle.flow_core.proofs.ChangedStations.{same_queues, whole_after}

@@ -1,6 +1,6 @@
 use Rattle.std.proofs.Common.{◌≤◌, ◌∙◌, ap, length, subst, sym, ℕ}
 use Rattle.plan_trees.specs.Physicals.{PhysicalData}
-use Rattle.flow_model.specs.Worlds.{World}
+use Rattle.flow_instance.specs.Worlds.{World}
 use Rattle.flow_core.specs.Left.{AreAllEmptied, AreFilled}
 use Rattle.flow_core.proofs.LeftWorlds.{left_for_some, left_seen, left_standing}
 use Rattle.flow_core.proofs.WorldLaws.{laws_hold}

@@ -1,6 +1,6 @@
 use Rattle.std.proofs.lemmas.Result.{on_ok_weaker}
-use Rattle.flow_model.proofs.Events.{step_depth}
-use Rattle.flow_model.specs.Spots.{setting}
+use Rattle.flow_instance.proofs.Events.{step_depth}
+use Rattle.flow_instance.specs.Spots.{setting}
 use Rattle.flow_core.specs.Worlds.{seen}
 use Rattle.flow_instance.proofs.OnOkTogether.{on_ok_two}
 use Rattle.flow_core.proofs.WorldLaws.{laws_hold}

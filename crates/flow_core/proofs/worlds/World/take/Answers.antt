@@ -2,10 +2,10 @@ use Rattle.std.proofs.Common.{◌≡◌, ◌<◌, ap, subst, sym, ◌∙◌, tru
 use Rattle.flow_instance.proofs.OnOkTogether.{on_ok_three}
 use Rattle.plan_trees.specs.Physicals.{PhysicalData}
 use Rattle.plan_trees.specs.Plans.{has}
-use Rattle.flow_model.specs.Events.{first_note}
-use Rattle.flow_model.specs.Instances.{Instance}
-use Rattle.flow_model.specs.Worlds.{reader_of}
-use Rattle.flow_model.specs.declared.notes.Note.{Note}
+use Rattle.flow_instance.specs.Events.{first_note}
+use Rattle.flow_instance.specs.Instances.{Instance}
+use Rattle.flow_instance.specs.Worlds.{reader_of}
+use Rattle.flow_instance.specs.declared.notes.Note.{Note}
 use Rattle.flow_core.specs.Stations.{IsReadyFor}
 use Rattle.flow_core.specs.Worlds.{WorldData, instance_in, queue_in}
 use Rattle.flow_core.proofs.EnabledEvents.{can_take_at, not_unread}

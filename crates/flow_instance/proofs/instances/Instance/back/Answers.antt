@@ -1,7 +1,7 @@
 use Rattle.std.proofs.Common.{rules, sym, subst}
-use Rattle.flow_model.proofs.LocalAfterPuts.{returned_local}
-use Rattle.flow_model.specs.Instances.{Instance}
-use Rattle.flow_model.specs.Local.{IsLocal}
+use Rattle.flow_instance.proofs.LocalAfterPuts.{returned_local}
+use Rattle.flow_instance.specs.Instances.{Instance}
+use Rattle.flow_instance.specs.Local.{IsLocal}
 use Rattle.flow_instance.proofs.instances.Instance.back.Goals as goal
 
 pub returns-clause-back : goal.returns-clause-back

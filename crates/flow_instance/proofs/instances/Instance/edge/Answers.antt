@@ -1,6 +1,6 @@
 use Rattle.std.proofs.Common.{◌≡◌, ◌<◌, Some, length, map, sym, subst}
 use Rattle.std.specs.Prelude.{slice_get}
-use Rattle.flow_model.specs.Instances.{Instance}
+use Rattle.flow_instance.specs.Instances.{Instance}
 use Rattle.flow_instance.proofs.WantsOfInstances.{edge_at}
 use Rattle.flow_instance.proofs.instances.Instance.edge.Goals as goal
 

@@ -1,8 +1,8 @@
 use Rattle.std.proofs.Common.{sym, subst}
-use Rattle.flow_model.proofs.LocalAfterPuts.{finish_local}
-use Rattle.flow_model.specs.Instances.{Instance}
-use Rattle.flow_model.specs.Local.{IsLocal}
-use Rattle.flow_model.specs.Steps.{finish}
+use Rattle.flow_instance.proofs.LocalAfterPuts.{finish_local}
+use Rattle.flow_instance.specs.Instances.{Instance}
+use Rattle.flow_instance.specs.Local.{IsLocal}
+use Rattle.flow_instance.specs.Steps.{finish}
 use Rattle.flow_instance.proofs.instances.Instance.end.Goals as goal
 
 pub returns-clause-local : goal.returns-clause-local

@@ -1,6 +1,6 @@
 use Rattle.std.proofs.Common.{rules, sym, subst}
-use Rattle.flow_model.specs.Instances.{Instance}
-use Rattle.flow_model.specs.Local.{IsLocal}
+use Rattle.flow_instance.specs.Instances.{Instance}
+use Rattle.flow_instance.specs.Local.{IsLocal}
 use Rattle.flow_instance.proofs.InstancesOfPlans.{local_offered}
 use Rattle.flow_instance.proofs.instances.Instance.offer.Goals as goal
 

@@ -7,8 +7,8 @@ use Rattle.flow_instance.proofs.instances.Instance.start.Goals as goal
 use Rattle.flow_instance.proofs.SmallBatches.{small_started}
 use Rattle.flow_instance.proofs.Started.{started, whole}
 use Rattle.flow_instance.specs.States.{seen}
-use Rattle.flow_model.proofs.LocalAfterPuts.{started_local}
-use Rattle.flow_model.specs.Spots.{setting, spot}
+use Rattle.flow_instance.proofs.LocalAfterPuts.{started_local}
+use Rattle.flow_instance.specs.Spots.{setting, spot}
 use Rattle.plan_trees.specs.Plans.{subtree_of}
 
 pub invariant_of-result : goal.invariant_of-result

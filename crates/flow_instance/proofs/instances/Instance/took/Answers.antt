@@ -1,8 +1,8 @@
 use Rattle.std.proofs.Common.{ap, subst, ◌∙◌}
 use Rattle.std.specs.Prelude.{slice_get}
-use Rattle.flow_model.specs.Instances.{Instance, want}
-use Rattle.flow_model.specs.Spots.{is_edge}
-use Rattle.flow_model.specs.Steps.{Took}
+use Rattle.flow_instance.specs.Instances.{Instance, want}
+use Rattle.flow_instance.specs.Spots.{is_edge}
+use Rattle.flow_instance.specs.Steps.{Took}
 use Rattle.pact_operators.specs.PlanOps.{PlanOps}
 use Rattle.flow_instance.specs.States.{AreOpsOf, part_of, seen, spot_of}
 use Rattle.flow_instance.proofs.SmallBatches.{small_batches}

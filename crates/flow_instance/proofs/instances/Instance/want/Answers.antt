@@ -1,6 +1,6 @@
 use Rattle.std.proofs.Common.{◌≡◌, [], true, false, ap, ◌∙◌}
-use Rattle.flow_model.specs.Instances.{want}
-use Rattle.flow_model.specs.Sending.{batches_in, marks_in}
+use Rattle.flow_instance.specs.Instances.{want}
+use Rattle.flow_instance.specs.Sending.{batches_in, marks_in}
 use Rattle.flow_instance.specs.States.{seen}
 use Rattle.flow_instance.proofs.WantsOfInstances.{all_flags, empty_queue, wants_end, wants_left, wants_none, wants_right}
 use Rattle.flow_instance.proofs.instances.Instance.want.Goals as goal

@@ -1,5 +1,5 @@
 use Rattle.std.proofs.Common.{◌≡◌, ◌&&◌, true, false, get_or, length, refl, ap, sym, ◌∙◌, length-set}
-use Rattle.flow_model.specs.Instances.{port_ended}
+use Rattle.flow_instance.specs.Instances.{port_ended}
 use Rattle.plan_trees.specs.Senders.{all_below}
 use Rattle.flow_instance.specs.States.{seen}
 use Rattle.flow_instance.proofs.EndMarks.{sound_built, sound_flagged}

@@ -1,6 +1,6 @@
 use Rattle.std.proofs.Common.{rules}
 use Rattle.std.proofs.lemmas.Result.{on_ok_weaker}
-use Rattle.flow_model.proofs.NotesForReceivers.{none_few}
+use Rattle.flow_instance.proofs.NotesForReceivers.{none_few}
 use Rattle.pact_bag.proofs.Widths.{HaveOneWidth-append}
 use Rattle.flow_instance.specs.States.{part_of}
 use Rattle.flow_instance.proofs.RowsSentOrPlaced.{given_placed, given_sent, orderly_given}

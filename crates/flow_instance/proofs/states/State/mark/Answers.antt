@@ -1,6 +1,6 @@
 use Rattle.std.proofs.Common.{List, ap, subst}
-use Rattle.flow_model.specs.Sending.{AreMarked}
-use Rattle.flow_model.specs.declared.parcels.Parcel.{Parcel}
+use Rattle.flow_instance.specs.Sending.{AreMarked}
+use Rattle.flow_instance.specs.declared.parcels.Parcel.{Parcel}
 use Rattle.flow_instance.specs.States.{part_of}
 use Rattle.flow_instance.proofs.RowsSentOrPlaced.{marked_none, marked_some}
 use Rattle.flow_instance.proofs.states.State.mark.Goals as goal

@@ -2,7 +2,7 @@ use Rattle.std.proofs.Common.{ℕ, ◌≡◌, inl, inr, sym, subst, arith}
 use Rattle.std.proofs.lemmas.Result.{on_ok_weaker}
 use Rattle.std.proofs.Math.Path.{transport}
 use Rattle.flow_instance.specs.States.{IsReady}
-use Rattle.flow_instance.specs.Steps.{Takes}
+use Rattle.flow_instance.specs.StateSteps.{Takes}
 use Rattle.flow_instance.proofs.states.State.take.Goals as goal
 
 pub returns-then-port-eq0 : goal.returns-then-port-eq0

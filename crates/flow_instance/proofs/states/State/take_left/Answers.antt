@@ -1,7 +1,7 @@
 use Rattle.std.proofs.Common.{Bool, ap, sym, subst, ◌∙◌}
 use Rattle.std.specs.Prelude.{filter}
 use Rattle.std.proofs.lemmas.Result.{on_ok_weaker}
-use Rattle.flow_model.specs.declared.notes.Note.TheVariants.{Batch}
+use Rattle.flow_instance.specs.declared.notes.Note.TheVariants.{Batch}
 use Rattle.flow_instance.proofs.CallsOfOperators.{has_function}
 use Rattle.pact_operators.specs.Allowed.{Bag}
 use Rattle.flow_instance.specs.Keeping.{IsKept, may_match}

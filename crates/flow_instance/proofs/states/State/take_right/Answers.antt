@@ -1,6 +1,6 @@
 use Rattle.std.proofs.Common.{subst, sym, ◌∙◌}
 use Rattle.std.proofs.lemmas.Result.{on_ok_weaker}
-use Rattle.flow_model.specs.declared.notes.Note.TheVariants.{Batch}
+use Rattle.flow_instance.specs.declared.notes.Note.TheVariants.{Batch}
 use Rattle.pact_operators.specs.Allowed.{Bag}
 use Rattle.flow_instance.specs.Keeping.{IsKept}
 use Rattle.flow_instance.proofs.KeptRecords.{all_chosen}

@@ -1,0 +1,68 @@
+-- Batches that come one by one.
+use Rattle.std.proofs.Common.{◌≡◌, ◌<◌, ◌==◌, ℕ, Bool, cond, List, [], ◌∷◌, ◌++◌, length, map, get_or, refl, ap, sym, ◌∙◌, subst, arith, append_assoc, append-nil}
+use Rattle.std.specs.List.{AllByRecursion}
+use Rattle.std.proofs.lemmas.Bool.{eq-eqb}
+use Rattle.std.proofs.lemmas.List.{map-append, nil_from_length}
+use Rattle.std.proofs.lemmas.List.Elements.{recursion_from_All}
+use Rattle.pact_bag.specs.Rows.{HaveOneWidth}
+use Rattle.pact_operators.specs.Allowed.{Bag}
+use Rattle.pact_record.proofs.Lists.{AllByRecursion-append, AllByRecursion-get_or}
+use Rattle.pact_record.specs.Widths.{AreWide}
+use Rattle.pact_record.specs.declared.values.Value.{Value}
+use Rattle.flow_instance.specs.Sending.{AreCarried, AreCarriedBut, IsBatchFor, batch_parcel}
+use Rattle.flow_instance.specs.declared.parcels.Parcel.{Parcel}
+use Rattle.flow_instance.specs.Local.{rows_for}
+
+pub rows_for-append : (to : ℕ) (a b : List (ℕ × Bag)) → rows_for to (a ++ b) ≡ rows_for to a ++ rows_for to b
+rows_for-append to [] b = refl
+rows_for-append to (w ∷ a) b = ap (λ (l : Bag). cond (w.0 == to) w.1 [] ++ l) (rows_for-append to a b) ∙ sym (append_assoc (cond (w.0 == to) w.1 []) (rows_for to a) (rows_for to b))
+
+-- what is held comes as a batch
+pub stowed : (fields to : ℕ) (done held : Bag) (old before after : List Parcel) → 0 < length held → after ≡ before ++ batch_parcel (to, held) ∷ [] → AreCarriedBut fields to done old before held → AreCarriedBut fields to done old after []
+stowed fields to done held old before after some e c = record {
+  more = c.more ++ (to, held) ∷ [];
+  behind = e ∙ ap (λ (l : List Parcel). l ++ batch_parcel (to, held) ∷ []) c.behind ∙ append_assoc old (map batch_parcel c.more) (batch_parcel (to, held) ∷ [])
+      ∙ ap (λ (l : List Parcel). old ++ l) (sym (map-append batch_parcel c.more ((to, held) ∷ [])));
+  batches = AllByRecursion-append (IsBatchFor fields to) c.more ((to, held) ∷ []) c.batches ((refl, some, c.wide), tt);
+  carried = append-nil (rows_for to (c.more ++ (to, held) ∷ [])) ∙ rows_for-append to c.more ((to, held) ∷ [])
+      ∙ ap (λ (l : Bag). rows_for to c.more ++ l) (ap (λ (b : Bool). cond b held [] ++ []) (eq-eqb to to refl) ∙ append-nil held) ∙ c.carried;
+  wide = tt;
+}
+
+-- all are held
+pub all_held : (fields to : ℕ) (rows : Bag) (old : List Parcel) → AreWide fields rows → AreCarriedBut fields to rows old old rows
+all_held fields to rows old wide = record { more = []; behind = sym (append-nil old); batches = tt; carried = refl; wide = wide }
+
+pub one_more : (fields to : ℕ) (done : Bag) (row : List Value) (old new : List Parcel) (held : Bag) → length row ≡ fields → AreCarriedBut fields to done old new held
+    → AreCarriedBut fields to (done ++ row ∷ []) old new (held ++ row ∷ [])
+one_more fields to done row old new held width c = record {
+  more = c.more;
+  behind = c.behind;
+  batches = c.batches;
+  carried = sym (append_assoc (rows_for to c.more) held (row ∷ [])) ∙ ap (λ (l : Bag). l ++ row ∷ []) c.carried;
+  wide = AllByRecursion-append (λ (r : List Value). length r ≡ fields) held (row ∷ []) c.wide (width, tt);
+}
+
+pub all_carried : (fields to : ℕ) (done : Bag) (old new : List Parcel) (held : Bag) → length held < 1 → AreCarriedBut fields to done old new held → AreCarried fields to done old new
+all_carried fields to done old new held few c = record {
+  more = c.more;
+  behind = c.behind;
+  batches = c.batches;
+  carried = sym (append-nil (rows_for to c.more)) ∙ ap (λ (l : Bag). rows_for to c.more ++ l) (sym (nil_from_length held (omega (arith, few)))) ∙ c.carried;
+}
+
+-- ---- rows that come one by one
+
+-- the row of a turn of a loop over the rows
+abbrev pub IsNext : (done rows : Bag) → List Value → Type 0
+IsNext done rows row = (length done < length rows) × (row ≡ get_or rows (length done) row)
+
+pub next_width : (fields : ℕ) (done rows : Bag) (row : List Value) → AreWide fields rows → IsNext done rows row → length row ≡ fields
+next_width fields done rows row wide n = ap length n.1 ∙ AllByRecursion-get_or (λ (r : List Value). length r ≡ fields) rows (length done) row n.0 wide
+
+-- what is held has the width of the next row
+pub held_width : (to : ℕ) (done rows : Bag) (row : List Value) (old new : List Parcel) (held : Bag) → HaveOneWidth rows → IsNext done rows row
+    → ((fields : ℕ) → AreWide fields rows → AreCarriedBut fields to done old new held) → AllByRecursion (λ r. length r ≡ length row) held
+held_width to done rows row old new held one n c =
+    let wide = recursion_from_All (λ (r : List Value). length r ≡ one.width) rows one.all in
+    subst (λ (w : ℕ). AreWide w held) (sym (next_width one.width done rows row wide n)) (c one.width wide).wide

@@ -1,0 +1,158 @@
+-- Batches and end marks for all receivers.
+use Rattle.std.proofs.Common.{◌≡◌, ◌≢◌, ◌<◌, ◌≤◌, ◌+◌, ◌-◌, ◌==◌, inl, inr, ℕ, Bool, true, false, cond, List, [], ◌∷◌, ◌++◌, length, map, filter, get_or, refl, ap, sym, ◌∙◌, subst, arith, append_assoc, append-nil}
+use Rattle.std.specs.List.{AllByRecursion}
+use Rattle.std.proofs.lemmas.Bool.{cases_eq, cases_lt, eq-eqb, ne_eqb}
+use Rattle.std.proofs.lemmas.List.{map-append}
+use Rattle.flow_instance.specs.Local.{marks_for, one_if, rows_for}
+use Rattle.pact_operators.specs.Allowed.{Bag}
+use Rattle.pact_record.proofs.Lists.{AllByRecursion-append, AllByRecursion-filter}
+use Rattle.pact_record.specs.Widths.{AreWide}
+use Rattle.pact_record.specs.declared.values.Value.{Value}
+use Rattle.plan_trees.specs.Sending.{goes, has_pipe, sent}
+use Rattle.plan_trees.specs.declared.physicals.Ship.{Ship}
+use Rattle.plan_trees.specs.declared.physicals.Ship.TheVariants.{Forward, Partition, Broadcast}
+use Rattle.flow_instance.specs.Sending.{AreCarried, AreFew, AreMarked, AreSent, AreSentSoFar, IsBatchFor, HasPipe, IsSent, IsSplit, IsTurn, batch_parcel, mark_parcel}
+use Rattle.flow_instance.specs.declared.parcels.Parcel.{Parcel}
+use Rattle.flow_instance.proofs.CarriedBatches.{rows_for-append}
+use Rattle.flow_instance.proofs.SplitRows.{read}
+
+others_none : (fields to t : ℕ) (more : List (ℕ × Bag)) → AllByRecursion (IsBatchFor fields to) more → t ≢ to → rows_for t more ≡ []
+others_none fields to t [] h other = refl
+others_none fields to t (w ∷ more) h other = ap (λ (b : Bool). cond b w.1 [] ++ rows_for t more) (ne_eqb w.0 t (λ e. other (sym e ∙ h.0.0))) ∙ others_none fields to t more h.1 other
+
+as_sent : (fields workers to from : ℕ) (ship : Ship) (more : List (ℕ × Bag)) → to < workers → has_pipe ship from to ≡ true → AllByRecursion (IsBatchFor fields to) more → AllByRecursion (IsSent fields workers ship from) more
+as_sent fields workers to from ship [] below pipe h = tt
+as_sent fields workers to from ship (w ∷ more) below pipe h =
+    (((subst (λ (n : ℕ). n < workers) (sym h.0.0) below, subst (λ (n : ℕ). has_pipe ship from n ≡ true) (sym h.0.0) pipe), h.0.1, h.0.2), as_sent fields workers to from ship more below pipe h.1)
+
+pub none_few : (most : ℕ) (queue : List Parcel) → queue ≡ [] → AreFew most queue
+none_few most queue e = subst (AreFew most) (sym e) tt
+
+pub none_sent : (fields workers from : ℕ) (ship : Ship) (rows : Bag) (queue : List Parcel) → queue ≡ [] → AreSentSoFar fields workers ship from 0 rows queue
+none_sent fields workers from ship rows queue e =
+    record { list = []; is = e; batches = tt; each = λ turn t less _ _. absurd (omega (arith, less)); later = λ _ t _ _ _ _. refl; others = λ t above. refl }
+
+-- a receiver has one turn
+one_turn : (workers from a b t u : ℕ) → a < workers → b < workers → t < workers → u < workers → IsTurn workers from a t → IsTurn workers from b u → a ≡ b → t ≡ u
+one_turn workers from a b t u al bl tl ul (inl e) (inl f) s = omega (arith, e, f, s)
+one_turn workers from a b t u al bl tl ul (inl e) (inr f) s = absurd (omega (arith, e, f, s, tl, ul))
+one_turn workers from a b t u al bl tl ul (inr e) (inl f) s = absurd (omega (arith, e, f, s, tl, ul))
+one_turn workers from a b t u al bl tl ul (inr e) (inr f) s = omega (arith, e, f, s)
+
+pub one_receiver : (workers from a b t u : ℕ) → a < workers → b < workers → t < workers → u < workers → IsTurn workers from a t → IsTurn workers from b u → t ≡ u → a ≡ b
+one_receiver workers from a b t u al bl tl ul (inl e) (inl f) s = omega (arith, e, f, s)
+one_receiver workers from a b t u al bl tl ul (inl e) (inr f) s = absurd (omega (arith, e, f, s, al, bl))
+one_receiver workers from a b t u al bl tl ul (inr e) (inl f) s = absurd (omega (arith, e, f, s, al, bl))
+one_receiver workers from a b t u al bl tl ul (inr e) (inr f) s = omega (arith, e, f, s)
+
+-- what isn't this receiver had its turn before
+sooner : (workers from n to m t : ℕ) → n < workers → to < workers → t < workers → IsTurn workers from n to → IsTurn workers from m t → t ≢ to → m < n + 1 → m < n
+sooner workers from n to m t early below tl turn its other less = elim (cases_lt m n) as (λ _. m < n) [
+  | inl before ↦ before
+  | inr after ↦ absurd (other (one_turn workers from m n t to (omega (arith, less, early)) early tl below its turn (omega (arith, less, after))))
+]
+
+-- one receiver more, to which the edge leads
+pub sent_one : (fields workers from n to : ℕ) (ship : Ship) (rows part : Bag) (old new : List Parcel) → n < workers → to < workers → IsTurn workers from n to → has_pipe ship from to ≡ true → part ≡ sent ship workers from to rows
+    → AreCarried fields to part old new → AreSentSoFar fields workers ship from n rows old → AreSentSoFar fields workers ship from (n + 1) rows new
+sent_one fields workers from n to ship rows part old new early below turn pipe part_is c h =
+    let all = h.list ++ c.more in
+    let apart : (t : ℕ) → t ≢ to → rows_for t all ≡ rows_for t h.list = λ t other.
+    rows_for-append t h.list c.more ∙ ap (λ (l : Bag). rows_for t h.list ++ l) (others_none fields to t c.more c.batches other) ∙ append-nil (rows_for t h.list) in
+    let here : rows_for to all ≡ sent ship workers from to rows =
+    rows_for-append to h.list c.more ∙ ap (λ (l : Bag). l ++ rows_for to c.more) (h.later n to (omega arith) early below turn) ∙ c.carried ∙ part_is in
+    record {
+      list = all;
+      is = c.behind ∙ ap (λ (l : List Parcel). l ++ map batch_parcel c.more) h.is ∙ sym (map-append batch_parcel h.list c.more);
+      batches = AllByRecursion-append (IsSent fields workers ship from) h.list c.more h.batches (as_sent fields workers to from ship c.more below pipe c.batches);
+      each = λ m t less tl its. elim (cases_eq t to) as (λ _. rows_for t all ≡ sent ship workers from t rows) [
+        | inl e ↦ subst (λ (k : ℕ). rows_for k all ≡ sent ship workers from k rows) (sym e) here
+        | inr other ↦ apart t other ∙ h.each m t (sooner workers from n to m t early below tl turn its other less) tl its
+      ];
+      later = λ m t above ml tl its. apart t (λ e. omega (arith, above, one_receiver workers from m n t to ml early tl below its turn e)) ∙ h.later m t (omega (arith, above)) ml tl its;
+      others = λ t above. apart t (λ e. omega (arith, e, above, below)) ∙ h.others t above;
+    }
+
+-- all have had their turn
+turn_of : (workers from t : ℕ) → from < workers → t < workers → (turn : ℕ) × (turn < workers) × IsTurn workers from turn t
+turn_of workers from t fl tl = elim (cases_lt t from) as (λ _. (turn : ℕ) × (turn < workers) × IsTurn workers from turn t) [
+  | inl less ↦ (t + workers - from, omega (arith, less, fl, tl), inr (omega (arith, less, fl)))
+  | inr above ↦ (t - from, omega (arith, above, tl), inl (omega (arith, above)))
+]
+
+pub all_sent : (fields workers from : ℕ) (ship : Ship) (rows : Bag) (queue : List Parcel) → from < workers → AreSentSoFar fields workers ship from workers rows queue → AreSent fields workers ship from rows queue
+all_sent fields workers from ship rows queue fl h = record {
+  list = h.list;
+  is = h.is;
+  batches = h.batches;
+  each = λ t tl. let its = turn_of workers from t fl tl in h.each its.0 t its.1 tl its.2;
+  others = h.others;
+}
+
+-- an edge that forwards leads to one worker
+filter-const : {X : Type 0} (b : Bool) (xs : List X) → filter (λ x. b) xs ≡ cond b xs []
+filter-const true [] = refl
+filter-const false [] = refl
+filter-const true (x ∷ xs) = ap (λ (l : List _). x ∷ l) (filter-const true xs)
+filter-const false (x ∷ xs) = filter-const false xs
+
+pub sent_forward : (fields workers from : ℕ) (rows : Bag) (old new : List Parcel) → from < workers → old ≡ [] → AreCarried fields from rows old new → AreSent fields workers Forward from rows new
+sent_forward fields workers from rows old new below none c = record {
+  list = c.more;
+  is = c.behind ∙ ap (λ (l : List Parcel). l ++ map batch_parcel c.more) none;
+  batches = as_sent fields workers from from Forward c.more below (eq-eqb from from refl) c.batches;
+  each = λ t less. elim (cases_eq t from) as (λ _. rows_for t c.more ≡ sent Forward workers from t rows) [
+    | inl e ↦ subst (λ (n : ℕ). rows_for n c.more ≡ sent Forward workers from n rows) (sym e)
+        (c.carried ∙ sym (filter-const (from == from) rows ∙ ap (λ (b : Bool). cond b rows []) (eq-eqb from from refl)))
+    | inr other ↦ others_none fields from t c.more c.batches other ∙ sym (filter-const (from == t) rows ∙ ap (λ (b : Bool). cond b rows []) (ne_eqb from t (λ e. other (sym e))))
+  ];
+  others = λ t above. others_none fields from t c.more c.batches (λ e. omega (arith, e, above, below));
+}
+
+-- one that broadcasts takes all rows to each
+pub sent_broadcast : (workers from to : ℕ) (rows copy : Bag) → copy ≡ rows → copy ≡ sent Broadcast workers from to rows
+sent_broadcast workers from to rows copy e = e ∙ sym (filter-const true rows)
+
+-- a worker's part
+pub sent_part : (keys : List ℕ) (workers from to : ℕ) (rows part : Bag) (parts : List Bag) → IsSplit keys workers rows parts → to < workers → part ≡ get_or parts to part → part ≡ sent (Partition keys) workers from to rows
+sent_part keys workers from to rows part parts split less is = read parts to (sent (Partition keys) workers from to rows) part (split.1 from to less) is
+
+pub part_wide : (fields : ℕ) (keys : List ℕ) (workers from to : ℕ) (rows part : Bag) → AreWide fields rows → part ≡ sent (Partition keys) workers from to rows → AreWide fields part
+part_wide fields keys workers from to rows part wide e =
+    subst (AreWide fields) (sym e) (AllByRecursion-filter (λ (r : List Value). length r ≡ fields) (goes (Partition keys) workers from to) rows wide)
+
+-- ---- end marks
+
+marks_for-last : (to m : ℕ) (marks : List ℕ) → marks_for to (marks ++ m ∷ []) ≡ marks_for to marks + one_if (m == to)
+marks_for-last to m [] = omega arith
+marks_for-last to m (n ∷ marks) = omega (arith, marks_for-last to m marks)
+
+pub marked_one : (workers from to : ℕ) (ship : Ship) (first old new : List Parcel) → new ≡ old ++ mark_parcel to ∷ [] → to < workers → has_pipe ship from to ≡ true → AreMarked workers ship from to first old → AreMarked workers ship from (to + 1) first new
+marked_one workers from to ship first old new e below pipe h =
+    let all = h.list ++ to ∷ [] in
+    let told : (t : ℕ) → marks_for t all ≡ marks_for t h.list + one_if (to == t) = λ t. marks_for-last t to h.list in
+    record {
+      list = all;
+      behind = e ∙ ap (λ (l : List Parcel). l ++ mark_parcel to ∷ []) h.behind ∙ append_assoc first (map mark_parcel h.list) (mark_parcel to ∷ []) ∙ ap (λ (l : List Parcel). first ++ l) (sym (map-append mark_parcel h.list (to ∷ [])));
+      receivers = AllByRecursion-append (HasPipe workers ship from) h.list (to ∷ []) h.receivers ((below, pipe), tt);
+      each = λ t less. elim (cases_eq t to) as (λ _. marks_for t all ≡ one_if (has_pipe ship from t)) [
+        | inl same ↦ omega (arith, told t, h.later t (omega (arith, same)), ap one_if (eq-eqb to t (sym same)), ap one_if (ap (has_pipe ship from) same ∙ pipe))
+        | inr other ↦ omega (arith, told t, h.each t (omega (arith, less)), ap one_if (ne_eqb to t (λ s. other (sym s))))
+      ];
+      later = λ t above. omega (arith, told t, h.later t (omega (arith, above)), ap one_if (ne_eqb to t (λ s. omega (arith, s, above))));
+    }
+
+pub marked_none : (workers from to : ℕ) (ship : Ship) (first old : List Parcel) → has_pipe ship from to ≡ false → AreMarked workers ship from to first old → AreMarked workers ship from (to + 1) first old
+marked_none workers from to ship first old none h = record {
+  list = h.list;
+  behind = h.behind;
+  receivers = h.receivers;
+  each = λ t less. elim (cases_eq t to) as (λ _. marks_for t h.list ≡ one_if (has_pipe ship from t)) [
+    | inl same ↦ omega (arith, h.later t (omega (arith, same)), ap one_if (ap (has_pipe ship from) same ∙ none))
+    | inr other ↦ h.each t (omega (arith, less))
+  ];
+  later = λ t above. h.later t (omega (arith, above));
+}
+
+pub none_marked : (workers from : ℕ) (ship : Ship) (queue : List Parcel) → AreMarked workers ship from 0 queue queue
+none_marked workers from ship queue = record { list = []; behind = sym (append-nil queue); receivers = tt; each = λ t less. absurd (omega (arith, less)); later = λ t above. refl }

@@ -1,0 +1,114 @@
+-- Notes in a queue, each with its receiver.
+use Rattle.std.specs.Prelude.{◌≡◌, ◌<◌, ◌≤◌, ◌+◌, ◌⊎◌, ℕ, true, List, [], ◌∷◌, ◌++◌, length, map, slice_get, Some}
+use Rattle.std.specs.List.{AllByRecursion}
+use Rattle.flow_instance.specs.Local.{marks_for, one_if, rows_for}
+use Rattle.flow_instance.specs.declared.notes.Note.{Note}
+use Rattle.flow_instance.specs.declared.notes.Note.TheVariants.{Batch, End}
+use Rattle.pact_operators.specs.Allowed.{Bag}
+use Rattle.pact_record.specs.Widths.{AreWide}
+use Rattle.plan_trees.specs.Sending.{has_pipe, sent}
+use Rattle.plan_trees.specs.declared.physicals.Ship.{Ship}
+use Rattle.plan_trees.specs.declared.physicals.Ship.TheVariants.{Partition}
+use Rattle.flow_instance.specs.declared.parcels.Parcel.{Parcel}
+
+-- ---- a queue as two lists
+
+abbrev pub with_batch : ℕ → Note → List (ℕ × Bag) → List (ℕ × Bag)
+with_batch to (Batch rows) others = (to, rows) ∷ others
+with_batch to End others = others
+
+abbrev pub with_mark : ℕ → Note → List ℕ → List ℕ
+with_mark to (Batch rows) others = others
+with_mark to End others = to ∷ others
+
+-- the batches with their receivers
+abbrev pub batches_in : List Parcel → List (ℕ × Bag)
+batches_in [] = []
+batches_in (p ∷ queue) = with_batch p.to p.note (batches_in queue)
+
+-- the receivers of the end marks
+abbrev pub marks_in : List Parcel → List ℕ
+marks_in [] = []
+marks_in (p ∷ queue) = with_mark p.to p.note (marks_in queue)
+
+abbrev pub batch_parcel : ℕ × Bag → Parcel
+batch_parcel w = record { to = w.0; note = Batch w.1 }
+
+abbrev pub mark_parcel : ℕ → Parcel
+mark_parcel to = record { to = to; note = End }
+
+-- the batches stand before the end marks
+abbrev pub IsInOrder : List Parcel → Type 0
+IsInOrder queue = queue ≡ map batch_parcel (batches_in queue) ++ map mark_parcel (marks_in queue)
+
+-- a batch of at most so many records, or an end mark
+abbrev pub IsFew : ℕ → Note → Type 0
+IsFew most (Batch rows) = length rows ≤ most
+IsFew most End = Unit {0}
+
+-- each note of a queue is
+abbrev pub AreFew : ℕ → List Parcel → Type 0
+AreFew most queue = AllByRecursion (λ p. IsFew most p.note) queue
+
+-- ---- batches for one receiver
+
+-- a batch for this worker
+abbrev pub IsBatchFor : ℕ → ℕ → ℕ × Bag → Type 0
+IsBatchFor fields to w = (w.0 ≡ to) × (0 < length w.1) × AreWide fields w.1
+
+-- batches that carry these records to the worker came behind the others
+pub record AreCarried (fields to : ℕ) (rows : Bag) (old new : List Parcel) : Type 0 where
+  pub more : List (ℕ × Bag)
+  pub behind : new ≡ old ++ map batch_parcel more
+  pub batches : AllByRecursion (IsBatchFor fields to) more
+  pub carried : rows_for to more ≡ rows
+
+-- some of them have come, and the others are held
+pub record AreCarriedBut (fields to : ℕ) (rows : Bag) (old new : List Parcel) (held : Bag) : Type 0 where
+  pub more : List (ℕ × Bag)
+  pub behind : new ≡ old ++ map batch_parcel more
+  pub batches : AllByRecursion (IsBatchFor fields to) more
+  pub carried : rows_for to more ++ held ≡ rows
+  pub wide : AreWide fields held
+
+-- ---- all receivers
+
+-- a part for each worker, of the rows that their key values send there
+abbrev pub IsSplit : List ℕ → (workers : ℕ) → Bag → List Bag → Type 0
+IsSplit keys workers rows parts = (length parts ≡ workers) × ((from to : ℕ) → to < workers → slice_get parts to ≡ Some (sent (Partition keys) workers from to rows))
+
+-- a worker to which the edge leads
+abbrev pub HasPipe : (workers : ℕ) → Ship → (from to : ℕ) → Type 0
+HasPipe workers ship from to = (to < workers) × (has_pipe ship from to ≡ true)
+
+abbrev pub IsSent : (fields workers : ℕ) → Ship → (from : ℕ) → ℕ × Bag → Type 0
+IsSent fields workers ship from w = HasPipe workers ship from w.0 × (0 < length w.1) × AreWide fields w.1
+
+-- a queue of batches that carry the records to those workers to which they go
+pub record AreSent (fields workers : ℕ) (ship : Ship) (from : ℕ) (rows : Bag) (queue : List Parcel) : Type 0 where
+  pub list : List (ℕ × Bag)
+  pub is : queue ≡ map batch_parcel list
+  pub batches : AllByRecursion (IsSent fields workers ship from) list
+  pub each : (to : ℕ) → to < workers → rows_for to list ≡ sent ship workers from to rows
+  pub others : (to : ℕ) → workers ≤ to → rows_for to list ≡ []
+
+-- the receiver after n others: a sender begins with the worker of its own number and goes around
+abbrev pub IsTurn : (workers from n to : ℕ) → Type 0
+IsTurn workers from n to = (from + n ≡ to) ⊎ (from + n ≡ to + workers)
+
+-- batches for the first n receivers
+pub record AreSentSoFar (fields workers : ℕ) (ship : Ship) (from n : ℕ) (rows : Bag) (queue : List Parcel) : Type 0 where
+  pub list : List (ℕ × Bag)
+  pub is : queue ≡ map batch_parcel list
+  pub batches : AllByRecursion (IsSent fields workers ship from) list
+  pub each : (turn to : ℕ) → turn < n → to < workers → IsTurn workers from turn to → rows_for to list ≡ sent ship workers from to rows
+  pub later : (turn to : ℕ) → n ≤ turn → turn < workers → to < workers → IsTurn workers from turn to → rows_for to list ≡ []
+  pub others : (to : ℕ) → workers ≤ to → rows_for to list ≡ []
+
+-- end marks for those of the first n workers to which the edge leads came behind the others
+pub record AreMarked (workers : ℕ) (ship : Ship) (from n : ℕ) (old new : List Parcel) : Type 0 where
+  pub list : List ℕ
+  pub behind : new ≡ old ++ map mark_parcel list
+  pub receivers : AllByRecursion (HasPipe workers ship from) list
+  pub each : (to : ℕ) → to < n → marks_for to list ≡ one_if (has_pipe ship from to)
+  pub later : (to : ℕ) → n ≤ to → marks_for to list ≡ 0

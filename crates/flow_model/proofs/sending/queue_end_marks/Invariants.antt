@@ -1,5 +1,0 @@
-use Rattle.flow_model.specs.Sending.{AreMarked}
-use Rattle.flow_model.proofs.sending.queue_end_marks.Given as goal
-
-abbrev pub invariant-loop-to : goal.invariant-loop-to
-invariant-loop-to l = AreMarked l.workers l.ship l.from l.to l.fn.queue.items l.marked.items
