@@ -8,10 +8,10 @@ use Rattle.tac_syntax.specs.declared.rules.Rule.TheVariants.{Registers, Operands
 use Rattle.tac_syntax.specs.Valid.{IsValid}
 use Rattle.tac_syntax.specs.Valid as valid
 use Rattle.plan_trees.specs.Plans.{PlanTree, has}
-use Rattle.pact_operators.specs.declared.program_rules.ProgramRule.{ProgramRule}
-use Rattle.pact_operators.specs.declared.program_rules.ProgramRule.TheVariants.{Undeclared, DeclaredTwice, NoSingleSink, TooMany, NotATree, OtherKind, OtherKeyCount, WrongField, NoAttribute, SharedAttribute}
+use Rattle.program_check.specs.declared.program_rules.ProgramRule.{ProgramRule}
+use Rattle.program_check.specs.declared.program_rules.ProgramRule.TheVariants.{Undeclared, DeclaredTwice, NoSingleSink, TooMany, NotATree, OtherKind, OtherKeyCount, WrongField, NoAttribute, SharedAttribute}
 use Rattle.pact_operators.specs.Programs.{AreValidated, IsProgramOf, IsWrittenPlan}
-use Rattle.pact_operators.specs.ProgramRules.{Breaks, Keeps, LacksAttribute, NoneBreaks, SharesAttribute}
+use Rattle.program_check.specs.ProgramRules.{Breaks, Keeps, LacksAttribute, NoneBreaks, SharesAttribute}
 use Rattle.pact_operators.specs.Resolved.{node_names}
 use Rattle.pact_operators.proofs.OnePlan.{same_plan}
 use Rattle.drill_program.specs.Drill.{drill_draft, drill_functions, drill_map, drill_plan, drill_program, drill_reduce, low, total}

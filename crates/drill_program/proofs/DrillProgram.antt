@@ -3,7 +3,7 @@ use Rattle.std.proofs.Common.{◌≤◌, ℕ, pos, FitsSigned, w64, inl, rules, 
 use Rattle.tac_syntax.specs.Drafts.{IsSpelledDraft}
 use Rattle.tac_syntax.specs.Grammar.{IsSpelled}
 use Rattle.pact_operators.specs.Programs.{IsProgram}
-use Rattle.pact_operators.proofs.ProgramsFromRules.{is-program}
+use Rattle.program_check.proofs.ProgramsFromRules.{is-program}
 use Rattle.drill_program.specs.Drill.{drill_draft, drill_functions, drill_program, low, total}
 use Rattle.drill_program.proofs.DrillKept.{are_validated, drill_keeps, is_program}
 

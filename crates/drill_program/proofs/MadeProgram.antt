@@ -3,8 +3,8 @@ use Rattle.std.proofs.Common.{◌≡◌, ◌∙◌, ℕ, List, map, ap, sym, sub
 use Rattle.tac_syntax.specs.declared.functions.Function.{Function}
 use Rattle.tac_syntax.specs.Drafts.{DraftData}
 use Rattle.tac_syntax.specs.Valid.{WithFields}
-use Rattle.pact_operators.specs.declared.program_rules.ProgramRule.{ProgramRule}
-use Rattle.pact_operators.specs.ProgramRules.{Keeps}
+use Rattle.program_check.specs.declared.program_rules.ProgramRule.{ProgramRule}
+use Rattle.program_check.specs.ProgramRules.{Keeps}
 use Rattle.program_text.specs.ProgramTexts.{IsWritableDraft, ProgramText, program_spelling}
 use Rattle.program_text.proofs.WrittenPrograms.{written_text}
 use Rattle.text_lines.specs.TextLines.{lines_of}

@@ -3,13 +3,14 @@
 ghost use Rattle.std.specs.Prelude.{◌≡◌, Err, IfOk, map};
 ghost use Rattle.std.specs.List.{AllByRecursion};
 ghost use Rattle.tac_syntax.specs.Valid.{IsValid};
-ghost use Rattle.pact_operators.specs.declared.checking.NotProgram.TheVariants.{Memory};
+ghost use Rattle.program_check.specs.declared.checking.NotProgram.TheVariants.{Memory};
 ghost use Rattle.program_text.specs.ProgramStates.{GivesDraft};
 ghost use Rattle.drill_program.specs.Drill.{drill_draft, with_fields};
 ghost use Rattle.drill_program.specs.Drill as specs;
 
-use pact_operators::{Draft, NotProgram, Program, ValidList, check_program, functions_of};
+use pact_operators::{Draft, Program, ValidList, functions_of};
 use pact_record::OutOfMemory;
+use program_check::{NotProgram, check_program};
 use program_text::read_program;
 use std::alloc::Global;
 use tac_syntax::{Function, Valid};

@@ -1,6 +1,3 @@
-pub mod AttributeTests
-pub mod Candidates
-pub mod Checks
 pub mod Resolved
 pub mod Programs
 pub mod ProgramCode
@@ -8,10 +5,5 @@ pub mod PlanOps
 pub mod Allowed
 pub mod Divided
 pub mod Inputs
-pub mod ProgramRules
-pub mod RuleTests
-pub mod PlanReads
-pub mod WrittenOps
 pub mod SoundOps
-pub mod NameTables
 pub mod Insertions

@@ -58,7 +58,7 @@ fn own_fields(functions: &[Valid], ops: &[Op], at: u32) -> Fields
 }
 
 // The own fields of all operators and sources of the plan.
-pub(crate) fn attributes_of(functions: &[Valid], ops: &[Op], plan: &Plan) -> Fields
+pub fn attributes_of(functions: &[Valid], ops: &[Op], plan: &Plan) -> Fields
     requires { AllByRecursion (λ k. k < MAX_FIELDS) (source_fields ops.now) }
     ensures { (k : ℕ) → IsTrue (has_field result k) ↔ HasAttribute functions.now ops.now plan.now k }
 {

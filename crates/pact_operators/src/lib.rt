@@ -1,31 +1,17 @@
-//! Programs: what names stand for, the rules of programs, and what plans of them mean.
+//! Programs, and what plans of them mean.
 //!
-//! `check_program` tests the rules of programs on a draft, one after the other, and makes the `Program`,
-//! in which names are resolved to numbers and the plan is a tree. `specs/Allowed` says which records a
-//! plan allows.
+//! In a `Program` names are resolved to numbers, and the plan is a tree; `program_check` makes it of a
+//! draft that keeps the rules of programs. `attrs` and `context` compute which fields records may have
+//! values in at a place of a plan; `insert` and `replace` change a program's operators. `specs/Allowed`
+//! says which records a plan allows.
 #![tactic(auto)]
 
-mod attribute_tests;
 pub mod attributes;
-mod candidates;
-pub mod checking;
-mod counts;
-mod first_breaks;
-mod gathering;
-mod name_lists;
-mod name_tables;
 pub mod operators;
-pub mod program_rules;
 pub mod programs;
-mod reached;
-mod resolving;
-mod rule_tests;
-mod written_plans;
 
-pub use attributes::{attrs, context};
-pub use checking::{NotProgram, check_program};
-pub use operators::Op;
+pub use attributes::{attributes_of, attrs, context};
+pub use operators::{Op, copied_columns};
 pub use plan_trees::{MAX_NODES, Parts, Physical, Plan, Shape, Ship};
-pub use program_rules::ProgramRule;
 pub use programs::{Program, insert, replace};
 pub use tac_syntax::{Decl, Draft, Numbers, OpKind, ValidList, functions_of};

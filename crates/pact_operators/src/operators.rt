@@ -2,7 +2,6 @@
 
 ghost use Rattle.std.specs.Prelude.{◌≡◌, IfOk};
 
-use crate::resolving::copied_columns;
 use pact_record::{Columns, Keys, OutOfMemory, Word};
 use std::alloc::Global;
 use tac_syntax::OpKind;
@@ -36,4 +35,15 @@ impl Op {
             columns: copied_columns(alloc, &self.columns)?,
         })
     }
+}
+
+/// The columns again. Running out of memory is the only error.
+pub fn copied_columns(alloc: Global, columns: &Columns) -> Result<Columns, OutOfMemory>
+    ensures { IfOk result (λ copy. copy ≡ columns.now) }
+{
+    let mut copy = Columns::new(alloc);
+    for column in columns.columns() {
+        copy.push(*column)?;
+    }
+    Ok(copy)
 }

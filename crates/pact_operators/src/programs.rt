@@ -42,8 +42,8 @@ impl Model for Program {
 }
 
 impl Program {
-    // A program of these parts.
-    pub(crate) fn of(
+    /// A program of these parts.
+    pub fn of(
         version: u32,
         fields: u32,
         functions: ValidList,

@@ -9,7 +9,7 @@ use Rattle.pact_operators.specs.declared.operators.Op.{Op}
 use Rattle.pact_operators.specs.PlanOps.{sources_of}
 use Rattle.tac_syntax.specs.Drafts.{DraftData}
 use Rattle.plan_trees.specs.Plans.{PlanTree}
-use Rattle.pact_operators.specs.declared.program_rules.ProgramRule.TheVariants.{DeclaredTwice}
+use Rattle.program_check.specs.declared.program_rules.ProgramRule.TheVariants.{DeclaredTwice}
 use Rattle.pact_operators.specs.Programs.{AreNames, AreValidated, NamesDiffer, ProgramData}
 use Rattle.swap_certificate.specs.declared.certificates.CertFault.{CertFault}
 use Rattle.swap_certificate.specs.declared.certificates.Certificate.{Certificate}
@@ -28,9 +28,9 @@ use Rattle.pact_top.specs.CommandTexts.{AreTextsOf}
 use Rattle.pact_top.specs.Work.{FileEnds, accepted, certificate, certificate_file, certificate_limit, command, draft, file, loaded, program, program_file, program_limit, program_of, ready, ready_for, rechecked, repeated, rows, source_file, source_named, sources, texts_for, valid, valids, work}
 use Rattle.pact_words.specs.Words.{Asked, to_run, to_plan, to_certify, to_tell_sets, to_check, to_generate, to_drill, to_iterate, AreRefused}
 use Rattle.pact_words.proofs.OneAsked.{never_both, not_both, one_asked, one_of}
-use Rattle.pact_operators.proofs.DifferentNames.{kept-NamesDiffer, spelled-AreNames}
+use Rattle.program_check.proofs.DifferentNames.{kept-NamesDiffer, spelled-AreNames}
 use Rattle.pact_operators.proofs.OneProgram.{one_program}
-use Rattle.pact_operators.proofs.RefusedOrKept.{refused_not_kept}
+use Rattle.program_check.proofs.RefusedOrKept.{refused_not_kept}
 use Rattle.pact_top.proofs.MadePrograms.{program_made}
 use Rattle.pact_top.proofs.StageLaws.{AreAlike, Agree, GivesOne, IsDecided, StopsSo, agree_then, decided_then, each_decided, each_one, gave_cons, give_agrees, give_alike, one_then, plain_decided, stops_each, stops_give, stops_then}
 

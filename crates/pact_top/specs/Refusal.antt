@@ -4,8 +4,8 @@ use Rattle.pact_outside.specs.declared.files.NamedFile.{NamedFile}
 use Rattle.pact_outside.specs.Outside.{Feeding, Rose}
 use Rattle.pact_words.specs.declared.commands.Options.{Options}
 use Rattle.pact_words.specs.Words.{Asked, to_run, to_plan, to_certify, to_tell_sets, to_check, to_generate, to_drill, to_iterate, AreRefused, AreUnnamed, IsAsked}
-use Rattle.pact_operators.specs.declared.checking.NotProgram.{NotProgram}
-use Rattle.pact_operators.specs.declared.checking.NotProgram.TheVariants as nots
+use Rattle.program_check.specs.declared.checking.NotProgram.{NotProgram}
+use Rattle.program_check.specs.declared.checking.NotProgram.TheVariants as nots
 use Rattle.text_lines.specs.declared.lines.TextFault.{TextFault}
 use Rattle.text_lines.specs.declared.lines.TextFault.TheVariants as faults
 use Rattle.tac_syntax.specs.Names.{is_file_name}

@@ -2,12 +2,12 @@
 use Rattle.std.specs.Prelude.{◌≡◌, ◌≤◌, ◌<◌, ℕ, List, length, Option, Ok, Err}
 use Rattle.csv_source.specs.CsvRows.{CsvRows, HasBadRow}
 use Rattle.pact_operators.specs.declared.operators.Op.{Op}
-use Rattle.pact_operators.specs.declared.program_rules.ProgramRule.{ProgramRule}
+use Rattle.program_check.specs.declared.program_rules.ProgramRule.{ProgramRule}
 use Rattle.pact_operators.specs.Allowed.{Bag}
 use Rattle.tac_syntax.specs.Drafts.{DraftData}
 use Rattle.pact_operators.specs.PlanOps.{sources_of}
 use Rattle.pact_operators.specs.Programs.{IsProgramOf, ProgramData}
-use Rattle.pact_operators.specs.ProgramRules.{IsRefused, Keeps}
+use Rattle.program_check.specs.ProgramRules.{IsRefused, Keeps}
 use Rattle.pact_outside.specs.declared.files.NamedFile.{NamedFile}
 use Rattle.pact_words.specs.Words.{Asked, to_run, to_plan, to_certify, to_tell_sets, to_check, to_generate, to_drill, to_iterate, AreRefused, IsAsked}
 use Rattle.plan_trees.specs.Plans.{PlanTree}

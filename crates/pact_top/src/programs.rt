@@ -8,8 +8,9 @@ ghost use Rattle.pact_top.specs.Work as work;
 
 use crate::refusal_lines::{bad_function, bad_program, bad_text};
 use crate::refusals::Refusal;
-use pact_operators::{Draft, NotProgram, Program, ValidList, check_program, functions_of};
+use pact_operators::{Draft, Program, ValidList, functions_of};
 use pact_record::OutOfMemory;
+use program_check::{NotProgram, check_program};
 use program_text::read_program;
 use std::alloc::Global;
 use tac_syntax::{Function, Valid};

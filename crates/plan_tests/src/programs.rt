@@ -10,8 +10,9 @@ ghost use Rattle.pact_operators.specs.Programs.{AreNames, AreValidated, NamesDif
 
 use csv_source::read_source;
 use pact_bag::{Inputs, Rows};
-use pact_operators::{Draft, OpKind, Program, ValidList, check_program, functions_of};
+use pact_operators::{Draft, OpKind, Program, ValidList, functions_of};
 use pact_record::Columns;
+use program_check::check_program;
 use program_text::read_program;
 use std::alloc::Global;
 use std::test::Fail;

@@ -1,6 +1,0 @@
-use Rattle.std.proofs.Common.{◌≡◌, take}
-use Rattle.pact_operators.specs.ProgramRules.{all_columns as listed}
-use Rattle.pact_operators.proofs.gathering.all_columns.Given as goal
-
-abbrev pub invariant-loop-decl : goal.invariant-loop-decl
-invariant-loop-decl l = l.fields.items ≡ listed (take l.decl-index l.decls)

@@ -1,6 +1,0 @@
-use Rattle.std.proofs.Common.{◌≡◌, take}
-use Rattle.pact_operators.specs.Resolved.{function_names as listed}
-use Rattle.pact_operators.proofs.gathering.function_names.Given as goal
-
-abbrev pub invariant-loop-function : goal.invariant-loop-function
-invariant-loop-function l = l.names.items ≡ listed (take l.function-index l.functions)

@@ -1,6 +1,0 @@
-use Rattle.std.proofs.Common.{◌≡◌, ◌≤◌, ◌+◌, drop}
-use Rattle.pact_operators.specs.ProgramRules.{times_in as times_of}
-use Rattle.pact_operators.proofs.name_lists.times_in.Given as goal
-
-abbrev pub invariant-loop-other : goal.invariant-loop-other
-invariant-loop-other l = (l.times ≤ l.other-index) × (times_of l.field (drop l.other-index l.fields) + l.times ≡ times_of l.field l.fields)

@@ -1,7 +1,0 @@
-use Rattle.std.proofs.Common.{take}
-use Rattle.pact_operators.specs.NameTables.{IsTableOf}
-use Rattle.pact_operators.specs.Resolved.{function_names}
-use Rattle.pact_operators.proofs.name_tables.function_table.Given as goal
-
-abbrev pub invariant-loop-function : goal.invariant-loop-function
-invariant-loop-function l = IsTableOf (function_names (take l.function-index l.functions)) l.table.marks

@@ -1,6 +1,0 @@
-use Rattle.std.proofs.Common.{◌≡◌, drop}
-use Rattle.pact_operators.specs.RuleTests.{is_reached_reader}
-use Rattle.pact_operators.proofs.reached.is_read_by_reached.Given as goal
-
-abbrev pub invariant-loop-n : goal.invariant-loop-n
-invariant-loop-n l = is_reached_reader l.name (drop l.n l.decls) (drop l.n l.reached) ≡ is_reached_reader l.name l.decls l.reached

@@ -1,4 +1,0 @@
-use Rattle.pact_operators.proofs.written_plans.+tree_at.Given as goal
-
-abbrev pub decreases-tree_at : goal.decreases-tree_at
-decreases-tree_at l = l.count

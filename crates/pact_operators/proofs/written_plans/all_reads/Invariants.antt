@@ -1,7 +1,0 @@
-use Rattle.std.proofs.Common.{◌≡◌, map, take}
-use Rattle.pact_operators.specs.PlanReads.{inputs_as}
-use Rattle.pact_operators.specs.Resolved.{inputs_of}
-use Rattle.pact_operators.proofs.written_plans.all_reads.Given as goal
-
-abbrev pub invariant-loop-decl : goal.invariant-loop-decl
-invariant-loop-decl l = map inputs_as l.reads.items ≡ inputs_of l.nodes (take l.decl-index l.decls)
