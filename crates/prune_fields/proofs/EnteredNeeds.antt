@@ -1,5 +1,5 @@
 -- A walk over a plan enters what is needed at each of its numbers.
-use Rattle.std.proofs.Common.{◌≡◌, ◌==◌, ◌||◌, ◌∙◌, inl, inr, ℕ, true, false, refl, sym, ap, subst}
+use Rattle.std.proofs.Common.{◌≡◌, ◌==◌, ◌∙◌, inl, inr, ℕ, true, false, refl, sym, ap, subst}
 use Rattle.std.proofs.lemmas.Bool.{cases_Bool, or_parts}
 use Rattle.tac_syntax.specs.Contexts.{FieldSet}
 use Rattle.plan_trees.specs.Plans.{PlanTree, leaf, over, both, has}

@@ -1,4 +1,4 @@
-use Rattle.std.proofs.Common.{ℕ, List, ◌∙◌, ap}
+use Rattle.std.proofs.Common.{ℕ, ◌∙◌, ap}
 use Rattle.pact_record.specs.FieldSets.{has_field}
 use Rattle.pact_record.specs.Keys.{is_listed}
 use Rattle.tac_syntax.specs.Contexts.{FieldSet}
