@@ -87,7 +87,7 @@ pub fn need(program: &Program, plan: &Plan, at: u32) -> Fields
     need_from(program, plan, listed(program.sink()), at)
 }
 
-// Enters what is needed of each number of a tree, where this much is needed of its root. Each operator is analysed once.
+// Enters what is needed of each number of a tree, if this much is needed of its root.
 fn enter(program: &Program, tree: &Plan, above: Fields, table: &mut NeedTable)
     requires arity { HasArity program.now.ops tree.now }
     ensures { needs_in table.new ≡ entered program.now (has_field above) tree.now (needs_in table.old) }
@@ -108,8 +108,8 @@ fn enter(program: &Program, tree: &Plan, above: Fields, table: &mut NeedTable)
     }
 }
 
-/// What is needed of each source and operator of the plan. Each operator is analysed once, where `need` analyses those
-/// above the one that it is asked for.
+/// What is needed of each source and operator of the plan. Each operator is analysed once. Calls of `need` for all numbers
+/// would analyse an operator once for each number below it.
 pub(crate) fn needs_of_all(program: &Program, plan: &Plan) -> NeedTable
     requires { IsPlanOf program.now.functions program.now.ops plan.now }
     ensures { AreNeedsOf program.now plan.now (needs_in result) }
