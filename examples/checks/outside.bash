@@ -484,6 +484,38 @@ count ends_within 8 plan cogroup.pact --plans 1000
 slow_cogroup 2 'each x1 of left\nv30 = int 1\nv30 = get x1 @v30\nend' >"$outside/numbered.pact"
 count ends_within 16 plan numbered.pact --plans 1000
 
+# Fifteen such CoGroups in a row, with room for one Map more. Each of the sources is shipped, and all their fields are needed, so pruning asks for what
+# is needed of each of them, but analyses each CoGroup only once.
+{
+    awk -v operators=15 -v branches=150 'BEGIN {
+        print "pact 1\nfields 64\nsource s none.csv int:0 int:1 int:2"
+        for (g = 0; g < operators; g++) {
+            print "source t" g " none.csv int:" g + 20 "\nfunction f" g " cogroup 1"
+            print "each x1 of left\nv0 = get x1 0\neach x2 of right\nr0 = copy x2\nset r0 " g + 20 " v0\nend\nend"
+            print "each x1 of left"
+            for (r = 0; r < 8; r++) print "r" r " = copy x1"
+            for (loop = 1; loop <= 2; loop++) {
+                last = loop * 12
+                first = last - 11
+                print "v0 = get x1 " loop
+                for (v = first; v <= last; v++) print "v" v " = mov v0"
+                for (r = 0; r < 8; r++) print "set r" r " " loop " v0"
+                print "repeat 2"
+                for (r = 7; r > 0; r--) print "v0 = get r" r - 1 " " loop "\nset r" r " " loop " v0"
+                print "set r0 " loop " v" last
+                for (v = last; v > first; v--) print "v" v " = mov v" v - 1
+                print "v0 = get r7 " loop "\nv" first " = not v0"
+            }
+            for (b = 0; b < branches; b++) print "if v31\nend"
+            print "end\nend\nr0 = copy x1\nemit r0\nend\nend"
+            print "cogroup g" g " f" g " " (g ? "g" g - 1 : "s") " t" g " by 0 = " g + 20
+            sink = sink " " g + 20
+        }
+        print "sink g" operators - 1 " 0 1 2" sink
+    }'
+} >"$outside/fifteen.pact"
+count ends_within 8 run fifteen.pact --plans 1 --prune
+
 # Certificates of thousands of steps: one that exchanges two slow maps there and back, and one that leads on to other orders of sixteen maps, in which
 # nearly each operator stands over others than before.
 steps_over() { # maps, steps, and the factor by which the place of the next step is drawn

@@ -2,6 +2,7 @@ pub mod BesideLists
 pub mod Members
 pub mod NeedsByEdge
 pub mod NeedsFound
+pub mod EnteredNeeds
 pub mod SameOperators
 pub mod TwinBags
 pub mod TwinPlans

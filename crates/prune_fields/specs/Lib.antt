@@ -1,4 +1,5 @@
 pub mod Needs
+pub mod NeedTables
 pub mod KeepFunctions
 pub mod Insertions
 pub mod PrunedPlans

@@ -1,6 +1,6 @@
 -- Which fields of what each source and operator of a plan gives are needed: the sink's of what the root gives, and of every other what its consumer reads
 -- or hands on, among the attributes there.
-use Rattle.std.specs.Prelude.{◌==◌, ◌&&◌, ◌||◌, not, ℕ, if◌then◌else◌}
+use Rattle.std.specs.Prelude.{◌≡◌, ◌==◌, ◌&&◌, ◌||◌, not, true, ℕ, if◌then◌else◌}
 use Rattle.pact_record.specs.Keys.{is_listed}
 use Rattle.tac_syntax.specs.Contexts.{FieldSet}
 use Rattle.tac_flow.specs.Results.{FoundSets}
@@ -35,3 +35,22 @@ needs_from p above (both n t u) at =
 
 abbrev pub need : ProgramData → PlanTree → ℕ → FieldSet
 need p tree at = needs_from p (is_listed p.sink) tree at
+
+-- ---- all of them, in one walk
+
+-- with what is needed of one number
+abbrev pub put : ℕ → FieldSet → (ℕ → FieldSet) → ℕ → FieldSet
+put at set old k = if k == at then set else old k
+
+-- what a walk over a tree enters for each of its numbers, where `above` is needed of its root
+abbrev pub entered : ProgramData → FieldSet → PlanTree → (ℕ → FieldSet) → ℕ → FieldSet
+entered p above (leaf n) old = put n above old
+entered p above (over n t) old = put n above (entered p (within (wants_of p (over n t) above) (attribute p t)) t old)
+entered p above (both n t u) old =
+    put n above
+    (entered p (within (wants_of p (both n t u) above) (attribute p t)) t
+    (entered p (within (wants_of p (both n t u) above) (attribute p u)) u old))
+
+-- At each number of a plan they are what is needed of it.
+abbrev pub AreNeedsOf : ProgramData → PlanTree → (ℕ → FieldSet) → Type 0
+AreNeedsOf p tree needs = (n : ℕ) → has n tree ≡ true → needs n ≡ need p tree n

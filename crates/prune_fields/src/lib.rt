@@ -7,6 +7,7 @@
 #![tactic(auto)]
 
 mod keeping;
+mod need_tables;
 mod needs;
 mod pruning;
 

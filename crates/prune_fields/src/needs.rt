@@ -11,8 +11,10 @@ ghost use Rattle.pact_operators.specs.PlanOps.{kind_at};
 ghost use Rattle.pact_operators.specs.Programs.{HasArity, IsPlanOf};
 ghost use Rattle.ship_strategy.specs.PlanFacts.{left_attribute, right_attribute};
 ghost use Rattle.prune_fields.specs.Needs as needs;
-ghost use Rattle.prune_fields.specs.Needs.{needs_from, wants_of, within};
+ghost use Rattle.prune_fields.specs.Needs.{AreNeedsOf, entered, needs_from, wants_of, within};
+ghost use Rattle.prune_fields.specs.NeedTables.{needs_in};
 
+use crate::need_tables::NeedTable;
 use pact_operators::{Program, context};
 use pact_record::Fields;
 use plan_trees::{Parts, Plan};
@@ -83,4 +85,36 @@ pub fn need(program: &Program, plan: &Plan, at: u32) -> Fields
     ensures { has_field result ≡ needs.need program.now plan.now at }
 {
     need_from(program, plan, listed(program.sink()), at)
+}
+
+// Enters what is needed of each number of a tree, if this much is needed of its root.
+fn enter(program: &Program, tree: &Plan, above: Fields, table: &mut NeedTable)
+    requires arity { HasArity program.now.ops tree.now }
+    ensures { needs_in table.new ≡ entered program.now (has_field above) tree.now (needs_in table.old) }
+{
+    match tree.parts() {
+        Parts::Alone { at } => table.set(at, above),
+        Parts::OverOne { at, input } => {
+            let (only, _) = needs_of_inputs(program, tree, above);
+            enter(program, &input, only, table);
+            table.set(at, above);
+        }
+        Parts::OverTwo { at, left, right } => {
+            let (on_left, on_right) = needs_of_inputs(program, tree, above);
+            enter(program, &right, on_right, table);
+            enter(program, &left, on_left, table);
+            table.set(at, above);
+        }
+    }
+}
+
+/// What is needed of each source and operator of the plan. Each operator is analysed once. Calls of `need` for all numbers
+/// would analyse an operator once for each number below it.
+pub(crate) fn needs_of_all(program: &Program, plan: &Plan) -> NeedTable
+    requires { IsPlanOf program.now.functions program.now.ops plan.now }
+    ensures { AreNeedsOf program.now plan.now (needs_in result) }
+{
+    let mut table = NeedTable::blank();
+    enter(program, plan, listed(program.sink()), &mut table);
+    table
 }

@@ -1,6 +1,6 @@
 //! The pruned program and physical plan.
 
-ghost use Rattle.std.specs.Prelude.{◌≡◌, ◌<◌, ◌+◌, ◌↔◌, ◌&&◌, not, List, IfOk, IsTrue, get_or, length, true};
+ghost use Rattle.std.specs.Prelude.{◌≡◌, ◌<◌, ◌+◌, ◌↔◌, ◌&&◌, not, List, IfOk, IfSome, IsTrue, get_or, length, true};
 ghost use Rattle.pact_record.specs.FieldSets.{has_field};
 ghost use Rattle.plan_trees.specs.declared.physicals.Ship.TheVariants.{Forward};
 ghost use Rattle.plan_trees.specs.Physicals.{IsPhysical, has_edge};
@@ -11,13 +11,16 @@ ghost use Rattle.pact_operators.specs.Programs.{IsPlanOf, IsProgram, function_li
 ghost use Rattle.ship_strategy.specs.PlanFacts.{facts_of};
 ghost use Rattle.ship_strategy.specs.Ships.{LegalShip};
 ghost use Rattle.prune_fields.specs.Needs as needs;
+ghost use Rattle.prune_fields.specs.Needs.{AreNeedsOf};
+ghost use Rattle.prune_fields.specs.NeedTables.{needs_in};
 ghost use Rattle.prune_fields.specs.PrunedPlans as specs;
 ghost use Rattle.prune_fields.specs.PrunedPlans.{IsPruned, IsPrunedBelow, is_forward};
 ghost use Rattle.prune_fields.specs.SameAnswers.{AnswersSame, RunsAnswer};
 
 use crate::keeping::keep_at;
-use crate::needs::need;
-use pact_operators::{Op, OpKind, Program, attrs};
+use crate::need_tables::NeedTable;
+use crate::needs::needs_of_all;
+use pact_operators::{Op, OpKind, Plan, Program, attrs};
 use pact_record::{Fields, OutOfMemory};
 use plan_trees::{Physical, Ship};
 use std::alloc::Global;
@@ -88,12 +91,38 @@ fn has_spare(program: &Program, physical: &Physical, at: u32, needed: Fields) ->
     !attributes.is_subset(needed)
 }
 
+// The table of what is needed, filled if it isn't known yet.
+fn table_of(program: &Program, plan: &Plan, known: Option<NeedTable>) -> NeedTable
+    requires plan { IsPlanOf program.now.functions program.now.ops plan.now }
+    requires known { IfSome known (λ t. AreNeedsOf program.now plan.now (needs_in t)) }
+    ensures { AreNeedsOf program.now plan.now (needs_in result) }
+{
+    match known {
+        Some(table) => table,
+        None => needs_of_all(program, plan),
+    }
+}
+
+// What is needed of a number. The first one that is asked for fills the table.
+fn needed_at(program: &Program, plan: &Plan, known: &mut Option<NeedTable>, at: u32) -> Fields
+    requires plan { IsPlanOf program.now.functions program.now.ops plan.now }
+    requires there { has at plan.now ≡ true }
+    requires known { IfSome known.old (λ t. AreNeedsOf program.now plan.now (needs_in t)) }
+    ensures needed { has_field result ≡ needs.need program.now plan.now at }
+    ensures known { IfSome known.new (λ t. AreNeedsOf program.now plan.now (needs_in t)) }
+{
+    let table = table_of(program, plan, *known);
+    *known = Some(table);
+    table.at(at)
+}
+
 // With a Map on the edge of the number, where one is to stand there.
 fn pruned_at(
     alloc: Global,
     program: &Program,
     physical: &Physical,
     so_far: Pruned,
+    known: &mut Option<NeedTable>,
     at: u32,
 ) -> Result<Pruned, OutOfMemory>
     requires program { IsProgram program.now }
@@ -101,7 +130,9 @@ fn pruned_at(
     requires there { at < length program.now.ops }
     requires plan { IsPlanOf program.now.functions program.now.ops physical.now.tree }
     requires so_far { IsPrunedBelow program.now physical.now at so_far.program so_far.physical so_far.kept.items }
-    ensures { IfOk result (λ c. IsPrunedBelow program.now physical.now (at + 1) c.program c.physical c.kept.items) }
+    requires known { IfSome known.old (λ t. AreNeedsOf program.now physical.now.tree (needs_in t)) }
+    ensures pruned { IfOk result (λ c. IsPrunedBelow program.now physical.now (at + 1) c.program c.physical c.kept.items) }
+    ensures known { IfSome known.new (λ t. AreNeedsOf program.now physical.now.tree (needs_in t)) }
 {
     if !is_shipped(physical, at) {
         return Ok(so_far);
@@ -109,8 +140,8 @@ fn pruned_at(
     if !has_room(&so_far.program) {
         return Ok(so_far);
     }
-    // Only behind these: it analyses each operator above.
-    let needed = need(program, physical.plan(), at);
+    // Only after these two: the first time it analyses every operator.
+    let needed = needed_at(program, physical.plan(), known, at);
     if !has_spare(program, physical, at, needed) {
         return Ok(so_far);
     }
@@ -141,8 +172,9 @@ fn all_pruned(alloc: Global, program: &Program, physical: &Physical) -> Result<P
         physical: *physical,
         kept: Vec::new(alloc),
     };
+    let mut known = None;
     for at in 0..program.ops().len() as u32 {
-        pruned = pruned_at(alloc, program, physical, pruned, at)?;
+        pruned = pruned_at(alloc, program, physical, pruned, &mut known, at)?;
     }
     Ok(pruned)
 }

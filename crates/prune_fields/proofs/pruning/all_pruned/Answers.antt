@@ -14,4 +14,4 @@ overflow_cast-at-end c =
 pub loop-at-init : goal.loop-at-init
 loop-at-init c =
     let x = c.args.physical.now in
-    none_pruned c.args.program.now c.in_ok-copy.field-0 x x c.new.result.items c.in_ok-copy.ensures refl c.new.ensures.items
+    (none_pruned c.args.program.now c.in_ok-copy.field-0 x x c.new.result.items c.in_ok-copy.ensures refl c.new.ensures.items, tt)

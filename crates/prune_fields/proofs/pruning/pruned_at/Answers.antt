@@ -8,20 +8,20 @@ use Rattle.prune_fields.proofs.CutsFound.{both_cut, none_spare, not_shipped}
 use Rattle.prune_fields.proofs.PrunedSteps.{may_insert, no_room, not_cut, put_in}
 use Rattle.prune_fields.proofs.pruning.pruned_at.Goals as goal
 
-pub returns-then-not-is_shipped : goal.returns-then-not-is_shipped
-returns-then-not-is_shipped c =
+pub returns-then-not-is_shipped-clause-pruned : goal.returns-then-not-is_shipped-clause-pruned
+returns-then-not-is_shipped-clause-pruned c =
     let r = c.requires in
     not_cut r.program r.plan r.physical r.there r.so_far
     (not_shipped c.args.physical.now c.args.at c.args.program.now (sym c.if-not-is_shipped.true ∙ c.is_shipped.ensures))
 
-pub returns-then-not-has_room : goal.returns-then-not-has_room
-returns-then-not-has_room c =
+pub returns-then-not-has_room-clause-pruned : goal.returns-then-not-has_room-clause-pruned
+returns-then-not-has_room-clause-pruned c =
     let r = c.requires in
     no_room r.program r.plan r.physical r.there r.so_far
     (λ some. both_ways c.has_room.result c.if-not-has_room.true (c.has_room.ensures.1 some))
 
-pub returns-then-not-has_spare : goal.returns-then-not-has_spare
-returns-then-not-has_spare c =
+pub returns-then-not-has_spare-clause-pruned : goal.returns-then-not-has_spare-clause-pruned
+returns-then-not-has_spare-clause-pruned c =
     let r = c.requires in
     not_cut r.program r.plan r.physical r.there r.so_far
     (none_spare c.args.physical.now c.args.at c.args.program.now (sym c.if-not-has_spare.true ∙ c.has_spare.ensures))
@@ -33,20 +33,20 @@ keep_at-requires c =
     both_cut c.args.physical.now c.args.at c.args.program.now (sym c.if-not-is_shipped.false ∙ c.is_shipped.ensures)
     (sym c.if-not-has_spare.false ∙ c.has_spare.ensures) in
     let some = c.has_room.ensures.0 c.if-not-has_room.false in
-    let needs = c.need-needed.ensures ∙ ap (λ (t : PlanTree). need c.args.program.now t c.args.at) c.plan.ensures in
-    may_insert r.program r.plan r.physical r.there r.so_far cut some c.need-needed.result needs
+    let needs = c.needed_at-needed.ensures.needed ∙ ap (λ (t : PlanTree). need c.args.program.now t c.args.at) c.plan.ensures in
+    may_insert r.program r.plan r.physical r.there r.so_far cut some c.needed_at-needed.result needs
 
-pub returns : goal.returns
-returns c =
+pub returns-clause-pruned : goal.returns-clause-pruned
+returns-clause-pruned c =
     let r = c.requires in
     let cut =
     both_cut c.args.physical.now c.args.at c.args.program.now (sym c.if-not-is_shipped.false ∙ c.is_shipped.ensures)
     (sym c.if-not-has_spare.false ∙ c.has_spare.ensures) in
     let some = c.has_room.ensures.0 c.if-not-has_room.false in
-    let needs = c.need-needed.ensures ∙ ap (λ (t : PlanTree). need c.args.program.now t c.args.at) c.plan.ensures in
-    let k : Kept = record { at = c.args.at; fields = c.need-needed.result } in
+    let needs = c.needed_at-needed.ensures.needed ∙ ap (λ (t : PlanTree). need c.args.program.now t c.args.at) c.plan.ensures in
+    let k : Kept = record { at = c.args.at; fields = c.needed_at-needed.result } in
     let q = c.in_ok-program.program in
     let y = c.in_ok-program.physical in
     let of = c.in_ok-program.ensures in
     subst (λ (l : List Kept). IsPrunedBelow c.args.program.now c.args.physical.now (c.args.at + 1) q y l) (sym c.in_ok-push.ensures.items)
-    (put_in r.program r.plan r.physical r.there r.so_far cut some c.need-needed.result needs q y k of.program of.physical refl refl)
+    (put_in r.program r.plan r.physical r.there r.so_far cut some c.needed_at-needed.result needs q y k of.program of.physical refl refl)
