@@ -12,6 +12,8 @@ mod example_tests;
 #[cfg(test)]
 mod gate_tests;
 #[cfg(test)]
+mod lines_tests;
+#[cfg(test)]
 mod outcomes;
 #[cfg(test)]
 mod pipe_tests;
