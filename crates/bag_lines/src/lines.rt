@@ -88,8 +88,10 @@ pub fn sorted_lines_on_threads<R: Threads + Sync>(
     text_in_parts(rt, alloc, rows.into_records(), fields, parts)
 }
 
-// A thread takes time to start and to join.
-const PART_ROWS: usize = 4096;
+// Making the text of a short row and freeing the row takes 605 instructions, so a part of this length takes as many as a
+// part of the reader (`PART_BYTES` of `csv_parts`). That length was measured: below it a thread costs more than it
+// saves.
+const PART_ROWS: usize = 12_500;
 
 /// In how many parts to make the text of that number of rows: one for each full `PART_ROWS`, at most `threads` and at
 /// least one.

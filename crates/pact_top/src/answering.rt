@@ -388,8 +388,8 @@ fn texts_for<
     }
 }
 
-/// The texts that the words ask for, or the first refusal that stands, one stage after the other. `read` is called for the rows of each source's bytes, and
-/// `run` for each run of a plan.
+/// The texts that the words ask for, or the first refusal that holds, one stage after the other. `read` is called for the
+/// rows of each source's bytes, `run` for each run of a plan, and `format` for the lines of an answer.
 pub fn answer<
     F: Feed,
     D: Fn(&[u8], &Columns, u32) -> Result<Rows, BadRow>,

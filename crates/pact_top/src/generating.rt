@@ -8,6 +8,7 @@ ghost use Rattle.pact_top.specs.CommandTexts.{IsDrillText, IsGeneratedText, IsSu
 ghost use Rattle.pact_top.specs.Formatters.{IsFormatter};
 ghost use Rattle.pact_top.specs.Runs.{IsRunner};
 
+use crate::lines::lines_of;
 use crate::loaded::{Loaded, push_rows};
 use crate::running::{FinishedRun, run_chosen};
 use crate::tasks::Task;
@@ -59,7 +60,7 @@ fn summary<W: Fn(Rows, &[u32]) -> Result<Bytes, OutOfMemory>>(
     } = run;
     let Outcome { rows: bag, .. } = outcome;
     let out = bag.len() as u64;
-    let lines = format(bag, program.sink())?;
+    let lines = lines_of(bag, program.sink(), format)?;
     summary_text(alloc, u64::from(rows), out, lines.bytes())
 }
 

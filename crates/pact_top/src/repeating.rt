@@ -17,6 +17,7 @@ ghost use Rattle.pact_top.specs.Formatters.{IsFormatter};
 ghost use Rattle.pact_top.specs.Runs.{IsRunner};
 
 use crate::choosing::{Picked, choose_listed};
+use crate::lines::lines_of;
 use crate::loaded::{Loaded, is_source};
 use crate::running::run_plan;
 use crate::tasks::Task;
@@ -182,7 +183,7 @@ fn texts_of_rounds<W: Fn(Rows, &[u32]) -> Result<Bytes, OutOfMemory>>(
     ensures told { IfOk result (λ texts. texts.told ≡ specs.told_rounds stable iterated.rounds) }
 {
     let Iterated { rows, rounds } = iterated;
-    let out = format(rows, program.sink())?;
+    let out = lines_of(rows, program.sink(), format)?;
     let told = told_rounds(alloc, rounds, stable)?;
     Ok(Texts { out, told })
 }

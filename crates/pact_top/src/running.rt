@@ -18,6 +18,7 @@ ghost use Rattle.pact_top.specs.Formatters.{IsFormatter};
 ghost use Rattle.pact_top.specs.Runs.{IsRunner};
 
 use crate::choosing::{Choice, choose_plan};
+use crate::lines::lines_of;
 use crate::loaded::Loaded;
 use crate::pruned_runs::{RunOutcome, run_task_as};
 use crate::tasks::Task;
@@ -210,7 +211,7 @@ fn texts_of_run<W: Fn(Rows, &[u32]) -> Result<Bytes, OutOfMemory>>(
         rows,
         counts: given,
     } = outcome;
-    let out = format(rows, program.sink())?;
+    let out = lines_of(rows, program.sink(), format)?;
     let told = told_counts(alloc, &program, &choice, &given, &kept, &combined, counts)?;
     Ok(Texts { out, told })
 }

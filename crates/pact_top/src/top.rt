@@ -63,8 +63,8 @@ fn write_texts<O: Sink, E: Sink>(out: &mut O, err: &mut E, texts: &Texts) -> u8
 
 /// Does what the command line's words ask for on the calling thread, and answers the exit status.
 ///
-/// It does what `pact_main` does, with the same clauses and statuses, and starts no thread: sources are read by the calling thread,
-/// and the instances of all workers are stepped in turn. So it waits for nobody, and always returns.
+/// It does what `pact_main` does, with the same clauses and statuses, and starts no thread: the calling thread reads the
+/// sources, steps the instances of all workers in turn, and makes the text of the answer. So it waits for nobody, and always returns.
 pub fn pact_alone<F: Feed, O: Sink, E: Sink>(
     alloc: Global,
     words: &[&str],
@@ -155,7 +155,8 @@ fn threads_asked(alloc: Global, words: &[&str]) -> u32
 ///
 /// A run, a drill or an iteration with two workers or more has a thread for each, as far as the system
 /// gives them, and `gate` is called there before each event of the worker's instances. Long sources are
-/// read on at most as many threads, one source after the other (`csv_parts`). The workers wait
+/// read on at most as many threads, one source after the other (`csv_parts`), and the text of a long
+/// answer is made on at most as many (`bag_lines`). The workers wait
 /// for one another's notes, so the call may wait, and what is promised holds if it returns. With one
 /// worker, and for every other command, it is `pact_alone`, which waits for nobody; that is how it is
 /// built, and no clause tells it.

@@ -25,7 +25,7 @@ fn row_of(alloc: Global, number: i64, text: &[u8]) -> Result<Record, Fail>
 
 // This number of unsorted rows. Each is equal to the row ten places after it.
 fn rows_of(alloc: Global, count: u32) -> Result<Rows, Fail>
-    ensures { IfOk result (λ rows. AllByRecursion (λ row. AllByRecursion (λ field. field < length row) (0 ∷ 1 ∷ [])) rows) }
+    ensures { IfOk result (AllByRecursion (λ row. AllByRecursion (λ field. field < length row) (0 ∷ 1 ∷ []))) }
 {
     let mut rows = Rows::new(alloc);
     for n in 0..count {
