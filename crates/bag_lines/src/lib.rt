@@ -1,5 +1,5 @@
-//! The lines of a bag: its records cut to listed fields, sorted, as CSV text. One thread makes the text, or several make
-//! a part each.
+//! The lines of a bag: its records cut to listed fields, sorted, as CSV text. One thread makes the text, or several
+//! make a part each.
 #![tactic(auto)]
 
 mod lines;

@@ -88,8 +88,8 @@ pub fn sorted_lines_on_threads<R: Threads + Sync>(
     text_in_parts(rt, alloc, rows.into_records(), fields, parts)
 }
 
-// Making the text of a short row and freeing the row takes 605 instructions, so a part of this length takes as many as a
-// part of the reader (`PART_BYTES` of `csv_parts`). That length was measured: below it a thread costs more than it
+// Making the text of a short row and freeing the row takes 605 instructions, so a part of this length takes as many as
+// a part of the reader (`PART_BYTES` of `csv_parts`). That length was measured: below it a thread costs more than it
 // saves.
 const PART_ROWS: usize = 12_500;
 
