@@ -60,6 +60,7 @@ fn lines_in_parts_are_those_of_one_thread(rt: HostRuntime) -> Result<(), Fail> {
     assert!(rt; same_in_parts(&rt, rt.alloc(), 50)?);
     assert!(rt; same_in_parts(&rt, rt.alloc(), 1000)?);
     let lines = sorted_lines_on_threads(&rt, rt.alloc(), rows_of(rt.alloc(), 6)?, &[0, 1], 4)?;
-    assert!(rt; lines.bytes() == b"0,\"a,b\"\n1,c\n2,\"a,b\"\n3,c\n4,\"a,b\"\n4,c\n");
+    let text: &[u8] = b"0,\"a,b\"\n1,c\n2,\"a,b\"\n3,c\n4,\"a,b\"\n4,c\n";
+    assert!(rt; lines.bytes() == text);
     Ok(())
 }
