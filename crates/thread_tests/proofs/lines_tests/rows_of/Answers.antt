@@ -8,5 +8,6 @@ pub returns : goal.returns
 returns c =
     let wide : List Value → Type 0 = λ row. length row ≡ 2 in
     let within : List Value → Type 0 = λ row. AllByRecursion (λ field. field < length row) (0 ∷ 1 ∷ []) in
-    let narrow = λ (row : List Value) (e : length row ≡ 2). (omega (arith, e), (omega (arith, e), tt)) in
-    AllByRecursion-weaker wide within c.loop-n.rows narrow c.loop-n.invariant
+    AllByRecursion-weaker wide within c.loop-n.rows
+    (λ row e. (omega (arith, e), (omega (arith, e), tt)))
+    c.loop-n.invariant
