@@ -25,3 +25,25 @@ for program in *.pact; do
         done
     done
 done
+
+# An answer of more rows than one part, whose text several threads make. Many of its rows are equal.
+"$pact" gen 7 60000 >"$scratch/many.csv"
+cat >"$scratch/many.pact" <<'END'
+pact 1
+fields 3
+source s many.csv int:0 int:1 text:2
+function all map
+  r0 = copy in
+  emit r0
+end
+map m all s
+sink m 2 0
+END
+(cd "$scratch" && "$pact" run many.pact --workers 1 >by_one)
+has_lines_of_one_thread() {
+    (cd "$scratch" && "$pact" run many.pact --workers "$1" >in_parts 2>err) && [ ! -s "$scratch/err" ] &&
+        [ "$(wc -l <"$scratch/in_parts")" = 60000 ] && cmp "$scratch/by_one" "$scratch/in_parts"
+}
+for workers in 2 3 4 16; do
+    count has_lines_of_one_thread "$workers"
+done

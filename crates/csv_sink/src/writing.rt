@@ -11,20 +11,19 @@ ghost use Rattle.csv_sink.specs.RowsWritten.{HasTexts, IsBetweenRows};
 
 use csv::{Writer, WriterBuilder};
 use itoa::Buffer;
-use pact_bag::Rows;
 use pact_record::{Bytes, OutOfMemory, Record, Value};
 use std::alloc::Global;
 use std::io::Write;
 
 /// The CSV text of the listed fields of rows, one row after the other, in their order. A field is empty
 /// where the value is Null, or a text without bytes. Want of memory is the only error.
-pub fn write_rows(alloc: Global, rows: &Rows, fields: &[u32]) -> Result<Bytes, OutOfMemory>
+pub fn write_rows(alloc: Global, rows: &[Record], fields: &[u32]) -> Result<Bytes, OutOfMemory>
     requires few { length fields.now ≤ MAX_FIELDS }
     requires within { AllByRecursion (λ row. AllByRecursion (λ field. field < length row) fields.now) rows.now }
     ensures { IfOk result (λ text. text ≡ csv_text (map (cut fields.now) rows.now)) }
 {
     let mut writer = WriterBuilder::new().from_writer(Vec::new(alloc));
-    for row in rows.rows() {
+    for row in rows {
         write_row(&mut writer, row, fields)?;
     }
     let text = writer.into_inner().map_err(|_| OutOfMemory)?;

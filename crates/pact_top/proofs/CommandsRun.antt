@@ -8,7 +8,7 @@ use Rattle.pact_outside.specs.Outside.{Feeding}
 use Rattle.plan_trees.specs.Plans.{PlanTree}
 use Rattle.swap_certificate.specs.declared.certificates.Certificate.{Certificate}
 use Rattle.pact_top.specs.CommandTexts.{Accepted, AllowsWritten, AreCounts, AreTextsOf, IsAcceptance, IsAnswerOf, IsOutAlone, Ready, to_accept, to_analyse, to_evaluate, to_justify, to_make, to_repeat, to_show, to_sum_up}
-use Rattle.pact_top.specs.Lines.{AreLines}
+use Rattle.bag_lines.specs.Lines.{AreLines}
 use Rattle.pact_top.specs.declared.loaded.Loaded.{Loaded}
 use Rattle.pact_top.specs.declared.refusals.Refusal.{Refusal}
 use Rattle.pact_top.specs.declared.refusals.Refusal.TheVariants.{OutOfMemory, Usage, CannotRead, CannotWrite, Decided}

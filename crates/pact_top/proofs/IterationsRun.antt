@@ -20,7 +20,7 @@ use Rattle.pact_top.specs.declared.refusals.Refusal.{Refusal}
 use Rattle.pact_top.specs.declared.repeating.Repeated.{Repeated}
 use Rattle.pact_top.specs.declared.texts.Texts.{Texts}
 use Rattle.pact_top.specs.Iterations.{HasSource, IsIterationOf, IsIterationText, columns_at, columns_in, told_rounds}
-use Rattle.pact_top.specs.Lines.{AreLines}
+use Rattle.bag_lines.specs.Lines.{AreLines}
 use Rattle.pact_top.specs.OrderFreePrograms.{AreGroupsFree}
 use Rattle.pact_top.specs.Refusal.{Comes, Decides}
 use Rattle.pact_top.specs.Stages.{Reading, Stage, and_then, give, gives}

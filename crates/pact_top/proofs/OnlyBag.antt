@@ -26,7 +26,7 @@ use Rattle.pact_operators.specs.SoundOps.{function_kind}
 use Rattle.pact_operators.proofs.CalledFunctions.{called_at}
 use Rattle.pact_operators.proofs.SoundPrograms.{function_kind-for}
 use Rattle.reorder_group.proofs.OneBag.{AllPermute, PermutesAt, one_bag}
-use Rattle.pact_top.specs.Lines.{AreLines}
+use Rattle.bag_lines.specs.Lines.{AreLines}
 use Rattle.pact_top.specs.OrderFreePrograms.{AreGroupsFree, IsGrouping}
 
 -- ---- one bag

@@ -32,7 +32,7 @@ use Rattle.pact_top.specs.declared.pruned_runs.RunOutcome.{RunOutcome}
 use Rattle.pact_top.specs.declared.tasks.Task.{Task}
 use Rattle.pact_top.specs.declared.texts.Texts.{Texts}
 use Rattle.pact_top.specs.CommandTexts.{AreToldCounts, IsAnswerOf, IsChoice, IsOutcome, IsRun, laid}
-use Rattle.pact_top.specs.Lines.{AreLines}
+use Rattle.bag_lines.specs.Lines.{AreLines}
 use Rattle.pact_top.specs.Runs.{CanRun, HasRun, IsCombinedTask, IsGroupedLeft, IsPlainRun, IsPrunedTask, IsRunLeft, IsRunOf, IsRunWith}
 use Rattle.pact_top.proofs.ChosenTexts.{told-AreCounts}
 use Rattle.pact_top.proofs.CommandsRun.{is_answer}

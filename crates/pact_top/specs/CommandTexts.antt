@@ -34,7 +34,7 @@ use Rattle.swap_certificate.specs.Checks.{Checks, certificate_of}
 use Rattle.swap_certificate.specs.PlanLines.{line_of}
 use Rattle.swap_certificate.specs.Shape.{IsCertificateText, certificate_data}
 use Rattle.pact_top.specs.Iterations.{IsIterationText}
-use Rattle.pact_top.specs.Lines.{AreLines}
+use Rattle.bag_lines.specs.Lines.{AreLines}
 use Rattle.pact_top.specs.OrderFreePrograms.{AreGroupsFree}
 use Rattle.prune_fields.specs.declared.pruning.Kept.{Kept}
 use Rattle.prune_fields.specs.SameAnswers.{HaveSameRows}

@@ -9,7 +9,7 @@ use Rattle.pact_operators.specs.Inputs.{AreInputsOf}
 use Rattle.pact_operators.specs.PlanOps.{is_source_kind, source_place}
 use Rattle.pact_operators.specs.Programs.{ProgramData}
 use Rattle.pact_record.specs.declared.columns.Column.{Column}
-use Rattle.pact_top.specs.Lines.{AreLines}
+use Rattle.bag_lines.specs.Lines.{AreLines}
 use Rattle.pact_top.specs.OrderFreePrograms.{AreGroupsFree}
 use Rattle.pact_top.specs.declared.repeating.Repeated.{Repeated}
 use Rattle.pact_top.specs.declared.texts.Texts.{Texts}

@@ -1,7 +1,7 @@
 pub mod CommandTexts
+pub mod Formatters
 pub mod Headline
 pub mod Iterations
-pub mod Lines
 pub mod OrderFreePrograms
 pub mod Readers
 pub mod Readings

@@ -6,6 +6,7 @@ ghost use Rattle.pact_gen.specs.Generated.{seed_limit};
 ghost use Rattle.plan_enumerate.specs.Listing.{entry_limit};
 ghost use Rattle.plan_trees.specs.Physicals.{worker_limit};
 ghost use Rattle.pact_top.specs.CommandTexts.{to_make, to_sum_up};
+ghost use Rattle.pact_top.specs.Formatters.{IsFormatter};
 ghost use Rattle.pact_top.specs.Readers.{IsReader};
 ghost use Rattle.pact_top.specs.Refusal.{Comes, Decides, IsAnswered, RowRefused};
 ghost use Rattle.pact_top.specs.Runs.{IsRunner};
@@ -146,6 +147,7 @@ fn run_program<
     F: Feed,
     D: Fn(&[u8], &Columns, u32) -> Result<Rows, BadRow>,
     T: Fn(&Program, &Task, Inputs) -> Result<Outcome, OutOfMemory>,
+    W: Fn(Rows, &[u32]) -> Result<Bytes, OutOfMemory>,
 >(
     alloc: Global,
     feed: &mut F,
@@ -154,14 +156,16 @@ fn run_program<
     counts: bool,
     read: &D,
     run: &T,
+    format: &W,
 ) -> Result<Texts, Refusal>
     requires options { AreOptionsInRange options }
     requires reads { IsReader (D.pre read.now) (D.post read.now) }
     requires runs { IsRunner (T.pre run.now) (T.post run.now) }
+    requires formats { IsFormatter (W.pre format.now) (W.post format.now) }
     ensures { Comes (λ files. work.texts_for files (to_run name.now options counts)) (F.shows feed.old) (F.shows feed.new) result }
 {
     let loaded = load(alloc, feed, name, read)?;
-    let texts = run_texts(alloc, loaded, options, counts, run)?;
+    let texts = run_texts(alloc, loaded, options, counts, run, format)?;
     Ok(texts)
 }
 
@@ -257,6 +261,7 @@ fn iterate<
     F: Feed,
     D: Fn(&[u8], &Columns, u32) -> Result<Rows, BadRow>,
     T: Fn(&Program, &Task, Inputs) -> Result<Outcome, OutOfMemory>,
+    W: Fn(Rows, &[u32]) -> Result<Bytes, OutOfMemory>,
 >(
     alloc: Global,
     feed: &mut F,
@@ -267,15 +272,17 @@ fn iterate<
     stable: bool,
     read: &D,
     run: &T,
+    format: &W,
 ) -> Result<Texts, Refusal>
     requires options { AreOptionsInRange options }
     requires rounds { 1 ≤ rounds }
     requires reads { IsReader (D.pre read.now) (D.post read.now) }
     requires runs { IsRunner (T.pre run.now) (T.post run.now) }
+    requires formats { IsFormatter (W.pre format.now) (W.post format.now) }
     ensures { Comes (λ files. work.texts_for files (to_iterate name.now source.now rounds options stable)) (F.shows feed.old) (F.shows feed.new) result }
 {
     let repeated = load_repeated(alloc, feed, name, source, read)?;
-    let texts = iteration_texts(alloc, repeated, rounds, options, stable, run)?;
+    let texts = iteration_texts(alloc, repeated, rounds, options, stable, run, format)?;
     Ok(texts)
 }
 
@@ -289,19 +296,24 @@ fn generate(alloc: Global, seed: u32, rows: u32) -> Result<Texts, Refusal>
 }
 
 // `drill SEED ROWS`, which reads no file either.
-fn drill<T: Fn(&Program, &Task, Inputs) -> Result<Outcome, OutOfMemory>>(
+fn drill<
+    T: Fn(&Program, &Task, Inputs) -> Result<Outcome, OutOfMemory>,
+    W: Fn(Rows, &[u32]) -> Result<Bytes, OutOfMemory>,
+>(
     alloc: Global,
     seed: u32,
     rows: u32,
     options: Options,
     run: &T,
+    format: &W,
 ) -> Result<Texts, Refusal>
     requires seed { seed ≤ seed_limit }
     requires options { AreOptionsInRange options }
     requires runs { IsRunner (T.pre run.now) (T.post run.now) }
+    requires formats { IsFormatter (W.pre format.now) (W.post format.now) }
     ensures { Decides (work.at_once (to_sum_up seed rows)) result }
 {
-    let text = drill_text(alloc, seed, rows, options, run)?;
+    let text = drill_text(alloc, seed, rows, options, run, format)?;
     Ok(Texts::out_alone(text))
 }
 
@@ -310,10 +322,19 @@ fn texts_for<
     F: Feed,
     D: Fn(&[u8], &Columns, u32) -> Result<Rows, BadRow>,
     T: Fn(&Program, &Task, Inputs) -> Result<Outcome, OutOfMemory>,
->(alloc: Global, command: Command, feed: &mut F, read: &D, run: &T) -> Result<Texts, Refusal>
+    W: Fn(Rows, &[u32]) -> Result<Bytes, OutOfMemory>,
+>(
+    alloc: Global,
+    command: Command,
+    feed: &mut F,
+    read: &D,
+    run: &T,
+    format: &W,
+) -> Result<Texts, Refusal>
     requires range { IsInRange (asked command) }
     requires reads { IsReader (D.pre read.now) (D.post read.now) }
     requires runs { IsRunner (T.pre run.now) (T.post run.now) }
+    requires formats { IsFormatter (W.pre format.now) (W.post format.now) }
     ensures { Comes (λ files. work.texts_for files (asked command.entry)) (F.shows feed.old) (F.shows feed.new) result }
 {
     match command {
@@ -321,7 +342,16 @@ fn texts_for<
             program,
             options,
             counts,
-        } => run_program(alloc, feed, program.as_bytes(), options, counts, read, run),
+        } => run_program(
+            alloc,
+            feed,
+            program.as_bytes(),
+            options,
+            counts,
+            read,
+            run,
+            format,
+        ),
         Command::Plan {
             program,
             workers,
@@ -342,7 +372,7 @@ fn texts_for<
             seed,
             rows,
             options,
-        } => drill(alloc, seed, rows, options, run),
+        } => drill(alloc, seed, rows, options, run, format),
         Command::Iterate {
             program,
             source,
@@ -352,25 +382,34 @@ fn texts_for<
         } => {
             let (name, source) = (program.as_bytes(), source.as_bytes());
             iterate(
-                alloc, feed, name, source, rounds, options, stable, read, run,
+                alloc, feed, name, source, rounds, options, stable, read, run, format,
             )
         }
     }
 }
 
-/// The texts that the words ask for, or the first refusal that stands, one stage after the other. `read` is called for the rows of each source's bytes, and
-/// `run` for each run of a plan.
+/// The texts that the words ask for, or the first refusal that holds, one stage after the other. `read` is called for the
+/// rows of each source's bytes, `run` for each run of a plan, and `format` for the lines of an answer.
 pub fn answer<
     F: Feed,
     D: Fn(&[u8], &Columns, u32) -> Result<Rows, BadRow>,
     T: Fn(&Program, &Task, Inputs) -> Result<Outcome, OutOfMemory>,
->(alloc: Global, words: &[&str], feed: &mut F, read: &D, run: &T) -> Result<Texts, Refusal>
+    W: Fn(Rows, &[u32]) -> Result<Bytes, OutOfMemory>,
+>(
+    alloc: Global,
+    words: &[&str],
+    feed: &mut F,
+    read: &D,
+    run: &T,
+    format: &W,
+) -> Result<Texts, Refusal>
     requires reads { IsReader (D.pre read.now) (D.post read.now) }
     requires runs { IsRunner (T.pre run.now) (T.post run.now) }
+    requires formats { IsFormatter (W.pre format.now) (W.post format.now) }
     ensures { IsAnswered (texts_of words.now) (feed.new ≡ feed.old) (F.shows feed.old) (F.shows feed.new) result }
 {
     match read_words(alloc, words) {
-        Ok(command) => texts_for(alloc, command, feed, read, run),
+        Ok(command) => texts_for(alloc, command, feed, read, run, format),
         Err(Refused::Usage) => Err(Refusal::Usage),
         Err(Refused::OutOfMemory) => Err(Refusal::OutOfMemory),
     }

@@ -5,15 +5,16 @@ ghost use Rattle.pact_gen.specs.Generated.{seed_limit};
 ghost use Rattle.pact_record.specs.Widths.{AreWide};
 ghost use Rattle.pact_words.specs.Words.{AreOptionsInRange};
 ghost use Rattle.pact_top.specs.CommandTexts.{IsDrillText, IsGeneratedText, IsSummary, drilled};
+ghost use Rattle.pact_top.specs.Formatters.{IsFormatter};
 ghost use Rattle.pact_top.specs.Runs.{IsRunner};
 
-use crate::lines::sorted_lines;
+use crate::lines::lines_of;
 use crate::loaded::{Loaded, push_rows};
 use crate::running::{FinishedRun, run_chosen};
 use crate::tasks::Task;
 use csv_sink::write_rows;
 use drill_program::{drill_program, summary_text};
-use pact_bag::{Inputs, Outcome};
+use pact_bag::{Inputs, Outcome, Rows};
 use pact_gen::make_input;
 use pact_operators::Program;
 use pact_record::{Bytes, OutOfMemory};
@@ -26,7 +27,7 @@ pub fn generated_text(alloc: Global, seed: u32, rows: u32) -> Result<Bytes, OutO
     ensures { IfOk result (IsGeneratedText seed rows) }
 {
     let made = make_input(alloc, seed, rows)?;
-    write_rows(alloc, &made, &[0, 1, 2])
+    write_rows(alloc, made.rows(), &[0, 1, 2])
 }
 
 // The program of a drill with the generated rows, as if they had been read.
@@ -42,8 +43,14 @@ fn load_drill(alloc: Global, seed: u32, rows: u32) -> Result<Loaded, OutOfMemory
 }
 
 // What is told of a run on so many rows.
-fn summary(alloc: Global, rows: u32, run: FinishedRun) -> Result<Bytes, OutOfMemory>
-    requires { AreWide run.program.fields run.outcome.rows }
+fn summary<W: Fn(Rows, &[u32]) -> Result<Bytes, OutOfMemory>>(
+    alloc: Global,
+    rows: u32,
+    run: FinishedRun,
+    format: &W,
+) -> Result<Bytes, OutOfMemory>
+    requires widths { AreWide run.program.fields run.outcome.rows }
+    requires formats { IsFormatter (W.pre format.now) (W.post format.now) }
     ensures { IfOk result (IsSummary rows run.program.sink run.outcome.rows) }
 {
     let FinishedRun {
@@ -53,24 +60,29 @@ fn summary(alloc: Global, rows: u32, run: FinishedRun) -> Result<Bytes, OutOfMem
     } = run;
     let Outcome { rows: bag, .. } = outcome;
     let out = bag.len() as u64;
-    let lines = sorted_lines(alloc, bag, program.sink())?;
+    let lines = lines_of(bag, program.sink(), format)?;
     summary_text(alloc, u64::from(rows), out, lines.bytes())
 }
 
 /// Runs the program of a drill on so many generated rows, and tells of the run.
-pub fn drill_text<F: Fn(&Program, &Task, Inputs) -> Result<Outcome, OutOfMemory>>(
+pub fn drill_text<
+    F: Fn(&Program, &Task, Inputs) -> Result<Outcome, OutOfMemory>,
+    W: Fn(Rows, &[u32]) -> Result<Bytes, OutOfMemory>,
+>(
     alloc: Global,
     seed: u32,
     rows: u32,
     options: Options,
     run: &F,
+    format: &W,
 ) -> Result<Bytes, OutOfMemory>
     requires seed { seed ≤ seed_limit }
     requires options { AreOptionsInRange options }
     requires runs { IsRunner (F.pre run.now) (F.post run.now) }
+    requires formats { IsFormatter (W.pre format.now) (W.post format.now) }
     ensures { IfOk result (IsDrillText seed rows) }
 {
     let loaded = load_drill(alloc, seed, rows)?;
     let finished = run_chosen(alloc, loaded, options, run)?;
-    summary(alloc, rows, finished)
+    summary(alloc, rows, finished, format)
 }

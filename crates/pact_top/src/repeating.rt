@@ -12,11 +12,12 @@ ghost use Rattle.pact_words.specs.Words.{AreOptionsInRange};
 ghost use Rattle.pact_top.specs.CommandTexts.{ArePlansOf};
 ghost use Rattle.pact_top.specs.Iterations as specs;
 ghost use Rattle.pact_top.specs.Iterations.{HasSource, IsCallOf, IsIterationText, columns_at};
-ghost use Rattle.pact_top.specs.Lines.{AreLines};
+ghost use Rattle.bag_lines.specs.Lines.{AreLines};
+ghost use Rattle.pact_top.specs.Formatters.{IsFormatter};
 ghost use Rattle.pact_top.specs.Runs.{IsRunner};
 
 use crate::choosing::{Picked, choose_listed};
-use crate::lines::sorted_lines;
+use crate::lines::lines_of;
 use crate::loaded::{Loaded, is_source};
 use crate::running::run_plan;
 use crate::tasks::Task;
@@ -169,18 +170,20 @@ fn told_rounds(alloc: Global, rounds: u32, stable: bool) -> Result<Option<Bytes>
 }
 
 // The sorted rows of the last round, and how many rounds there were.
-fn texts_of_rounds(
+fn texts_of_rounds<W: Fn(Rows, &[u32]) -> Result<Bytes, OutOfMemory>>(
     alloc: Global,
     program: &Program,
     iterated: Iterated,
     stable: bool,
+    format: &W,
 ) -> Result<Texts, OutOfMemory>
     requires widths { AreWide program.now.fields iterated.rows }
+    requires formats { IsFormatter (W.pre format.now) (W.post format.now) }
     ensures lines { IfOk result (λ texts. AreLines program.now.sink iterated.rows texts.out) }
     ensures told { IfOk result (λ texts. texts.told ≡ specs.told_rounds stable iterated.rounds) }
 {
     let Iterated { rows, rounds } = iterated;
-    let out = sorted_lines(alloc, rows, program.sink())?;
+    let out = lines_of(rows, program.sink(), format)?;
     let told = told_rounds(alloc, rounds, stable)?;
     Ok(Texts { out, told })
 }
@@ -188,19 +191,24 @@ fn texts_of_rounds(
 /// The sorted rows of the last of so many rounds. With `stable` an iteration ends behind the first round that gives back the rows with which it began, and
 /// how many rounds there were is told. The plans of the program are listed and their operators analysed once, and one
 /// plan is chosen for the rows of each round.
-pub fn iteration_texts<F: Fn(&Program, &Task, Inputs) -> Result<Outcome, OutOfMemory>>(
+pub fn iteration_texts<
+    F: Fn(&Program, &Task, Inputs) -> Result<Outcome, OutOfMemory>,
+    W: Fn(Rows, &[u32]) -> Result<Bytes, OutOfMemory>,
+>(
     alloc: Global,
     repeated: Repeated,
     rounds: u32,
     options: Options,
     stable: bool,
     run: &F,
+    format: &W,
 ) -> Result<Texts, OutOfMemory>
     requires inputs { AreInputsOf repeated.loaded.program repeated.loaded.inputs }
     requires source { HasSource repeated.loaded.program repeated.at }
     requires options { AreOptionsInRange options }
     requires rounds { 1 ≤ rounds }
     requires runs { IsRunner (F.pre run.now) (F.post run.now) }
+    requires formats { IsFormatter (W.pre format.now) (W.post format.now) }
     ensures { IfOk result (IsIterationText repeated rounds stable) }
 {
     let Repeated { loaded, at } = repeated;
@@ -212,5 +220,5 @@ pub fn iteration_texts<F: Fn(&Program, &Task, Inputs) -> Result<Outcome, OutOfMe
     let iterated = run_rounds(
         alloc, &program, &listed, &known, inputs, at, options, extent, run,
     )?;
-    texts_of_rounds(alloc, &program, iterated, stable)
+    texts_of_rounds(alloc, &program, iterated, stable, format)
 }

@@ -8,21 +8,22 @@ ghost use Rattle.pact_operators.specs.Programs.{IsPlanOf, IsProgram};
 ghost use Rattle.pact_record.specs.Widths.{AreWide};
 ghost use Rattle.pact_words.specs.Words.{AreOptionsInRange};
 ghost use Rattle.reorder_pair.specs.Legal.{KeepAnswers};
-ghost use Rattle.pact_top.specs.Lines.{AreLines};
+ghost use Rattle.bag_lines.specs.Lines.{AreLines};
 ghost use Rattle.ship_strategy.specs.Layouts.{layout_count, layout_of};
 ghost use Rattle.ship_strategy.specs.PlanFacts.{facts_of};
 ghost use Rattle.ship_strategy.specs.Ships.{LegalShip};
 ghost use Rattle.ship_strategy.specs.Views.{facts_in};
 ghost use Rattle.pact_top.specs.CommandTexts.{AreToldCounts, IsAnswerOf, IsOutcome, IsRun, keeps_text};
+ghost use Rattle.pact_top.specs.Formatters.{IsFormatter};
 ghost use Rattle.pact_top.specs.Runs.{IsRunner};
 
 use crate::choosing::{Choice, choose_plan};
-use crate::lines::sorted_lines;
+use crate::lines::lines_of;
 use crate::loaded::Loaded;
 use crate::pruned_runs::{RunOutcome, run_task_as};
 use crate::tasks::Task;
 use crate::texts::Texts;
-use pact_bag::{Counts, Inputs, Outcome};
+use pact_bag::{Counts, Inputs, Outcome, Rows};
 use pact_operators::{Plan, Program};
 use pact_record::{Bytes, OutOfMemory};
 use pact_words::Options;
@@ -186,9 +187,15 @@ pub fn run_chosen<F: Fn(&Program, &Task, Inputs) -> Result<Outcome, OutOfMemory>
 }
 
 // The sorted rows that a run of the chosen plan gave, and its counts where they are asked for.
-fn texts_of_run(alloc: Global, run: FinishedRun, counts: bool) -> Result<Texts, OutOfMemory>
+fn texts_of_run<W: Fn(Rows, &[u32]) -> Result<Bytes, OutOfMemory>>(
+    alloc: Global,
+    run: FinishedRun,
+    counts: bool,
+    format: &W,
+) -> Result<Texts, OutOfMemory>
     requires plan { IsPlanOf run.program.functions run.program.ops run.choice.plan }
     requires widths { AreWide run.program.fields run.outcome.rows }
+    requires formats { IsFormatter (W.pre format.now) (W.post format.now) }
     ensures lines { IfOk result (λ texts. AreLines run.program.sink run.outcome.rows texts.out) }
     ensures counts { IfOk result (λ texts. AreToldCounts run.program run.choice.plan run.outcome.counts run.kept.items run.combined.items counts texts.told) }
     ensures program { IsProgram run.program }
@@ -204,24 +211,29 @@ fn texts_of_run(alloc: Global, run: FinishedRun, counts: bool) -> Result<Texts, 
         rows,
         counts: given,
     } = outcome;
-    let out = sorted_lines(alloc, rows, program.sink())?;
+    let out = lines_of(rows, program.sink(), format)?;
     let told = told_counts(alloc, &program, &choice, &given, &kept, &combined, counts)?;
     Ok(Texts { out, told })
 }
 
 /// The sorted rows of a run of the chosen plan, and its counts where they are asked for.
-pub fn run_texts<F: Fn(&Program, &Task, Inputs) -> Result<Outcome, OutOfMemory>>(
+pub fn run_texts<
+    F: Fn(&Program, &Task, Inputs) -> Result<Outcome, OutOfMemory>,
+    W: Fn(Rows, &[u32]) -> Result<Bytes, OutOfMemory>,
+>(
     alloc: Global,
     loaded: Loaded,
     options: Options,
     counts: bool,
     run: &F,
+    format: &W,
 ) -> Result<Texts, OutOfMemory>
     requires inputs { AreInputsOf loaded.program loaded.inputs }
     requires options { AreOptionsInRange options }
     requires runs { IsRunner (F.pre run.now) (F.post run.now) }
+    requires formats { IsFormatter (W.pre format.now) (W.post format.now) }
     ensures { IfOk result (IsAnswerOf loaded options.workers options.plans counts options.prune options.combine) }
 {
     let finished = run_chosen(alloc, loaded, options, run)?;
-    texts_of_run(alloc, finished, counts)
+    texts_of_run(alloc, finished, counts, format)
 }

@@ -2,6 +2,7 @@
 
 ghost use Rattle.std.specs.Prelude.{◌≡◌, ◌≢◌, ◌≤◌, false, IfOk};
 ghost use Rattle.pact_outside.specs.Outside.{Rose};
+ghost use Rattle.bag_lines.specs.Lines.{AreLines, CanFormat};
 ghost use Rattle.pact_top.specs.Headline.{Answered, AnsweredQuietly, Complete, MissingFile, NoOther, NothingWritten, Refused, RefusedAlways, Told, UnreadName, UnreadOpened, Unwritten, UnwrittenCause, Usage, UsageAlways, UsageUnnamed};
 ghost use Rattle.pact_top.specs.Readers.{CanRead, IsRead};
 ghost use Rattle.pact_top.specs.Refusal.{AskForThreads, status_of, refusal_line};
@@ -15,6 +16,7 @@ use crate::refusals::{Refusal, tell};
 use crate::tasks::{Task, run_task, run_task_on_threads};
 use crate::texts::Texts;
 use crate::transfer::write_all;
+use bag_lines::{parts_for_rows, sorted_lines, sorted_lines_on_threads};
 use csv_parts::{parts_for, read_source_on_threads};
 use csv_source::{BadRow, read_source};
 use pact_bag::{Inputs, Outcome, Rows};
@@ -61,8 +63,8 @@ fn write_texts<O: Sink, E: Sink>(out: &mut O, err: &mut E, texts: &Texts) -> u8
 
 /// Does what the command line's words ask for on the calling thread, and answers the exit status.
 ///
-/// It does what `pact_main` does, with the same clauses and statuses, and starts no thread: sources are read by the calling thread,
-/// and the instances of all workers are stepped in turn. So it waits for nobody, and always returns.
+/// It does what `pact_main` does, with the same clauses and statuses, and starts no thread: the calling thread reads the
+/// sources, steps the instances of all workers in turn, and makes the text of the answer. So it waits for nobody, and always returns.
 pub fn pact_alone<F: Feed, O: Sink, E: Sink>(
     alloc: Global,
     words: &[&str],
@@ -104,7 +106,11 @@ pub fn pact_alone<F: Feed, O: Sink, E: Sink>(
         requires { CanRun program.now task.now inputs }
         ensures { IfOk result (HasRun program.now task.now inputs) }
     { run_task(alloc, program, task, inputs) };
-    match answer(alloc, words, feed, &read, &run) {
+    let format = |bag: Rows, fields: &[u32]| -> Result<Bytes, OutOfMemory>
+        requires { CanFormat fields.now bag }
+        ensures { IfOk result (AreLines fields.now bag) }
+    { sorted_lines(alloc, bag, fields) };
+    match answer(alloc, words, feed, &read, &run, &format) {
         Ok(texts) => write_texts(out, err, &texts),
         Err(refusal) => refuse(err, &refusal),
     }
@@ -149,7 +155,8 @@ fn threads_asked(alloc: Global, words: &[&str]) -> u32
 ///
 /// A run, a drill or an iteration with two workers or more has a thread for each, as far as the system
 /// gives them, and `gate` is called there before each event of the worker's instances. Long sources are
-/// read on at most as many threads, one source after the other (`csv_parts`). The workers wait
+/// read on at most as many threads, one source after the other (`csv_parts`), and the text of a long
+/// answer is made on at most as many (`bag_lines`). The workers wait
 /// for one another's notes, so the call may wait, and what is promised holds if it returns. With one
 /// worker, and for every other command, it is `pact_alone`, which waits for nobody; that is how it is
 /// built, and no clause tells it.
@@ -209,7 +216,14 @@ pub fn pact_main<R: Threads + Wait + Sync, F: Feed, O: Sink, E: Sink, G: Gate>(
         requires { CanRun program.now task.now inputs }
         ensures { IfOk result (HasRun program.now task.now inputs) }
     { run_task_on_threads(rt, alloc, program, task, inputs, gate) };
-    match answer(alloc, words, feed, &read, &run) {
+    let format = |bag: Rows, fields: &[u32]| -> Result<Bytes, OutOfMemory>
+        requires { CanFormat fields.now bag }
+        ensures { IfOk result (AreLines fields.now bag) }
+    {
+        let parts = parts_for_rows(bag.len(), workers);
+        sorted_lines_on_threads(rt, alloc, bag, fields, parts)
+    };
+    match answer(alloc, words, feed, &read, &run, &format) {
         Ok(texts) => write_texts(out, err, &texts),
         Err(refusal) => refuse(err, &refusal),
     }

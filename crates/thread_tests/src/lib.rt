@@ -1,6 +1,7 @@
-//! Tests of pipes, gates, runs on threads and reads on threads, over what the libraries make public: what a pipe holds and in which order it gives it,
-//! what gates and flags answer, that a run on threads gives what the run on one thread and the plain evaluation give, and that a source read in parts has
-//! the rows, or the first bad row, that a read by one thread reports.
+//! Tests of pipes, gates, runs, reads and lines on threads, over what the libraries make public: what a pipe holds and in
+//! which order it gives it, what gates and flags answer, that a run on threads gives what the run on one thread and the
+//! plain evaluation give, that a source read in parts has the rows, or the first bad row, that a read by one thread
+//! reports, and that lines made in parts are those that one thread makes.
 //!
 //! `programs` makes programs and the rows of their sources of texts, and `outcomes` compares what runs gave.
 #![tactic(auto)]
@@ -11,6 +12,8 @@ mod csv_tests;
 mod example_tests;
 #[cfg(test)]
 mod gate_tests;
+#[cfg(test)]
+mod lines_tests;
 #[cfg(test)]
 mod outcomes;
 #[cfg(test)]

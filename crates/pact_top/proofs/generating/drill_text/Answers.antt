@@ -11,8 +11,8 @@ use Rattle.pact_top.proofs.generating.drill_text.Goals as goal
 pub run_chosen-requires-clause-inputs : goal.run_chosen-requires-clause-inputs
 run_chosen-requires-clause-inputs g c = subst (λ (l : Loaded). AreInputsOf l.program l.inputs) (sym c.in_ok-loaded.ensures) (are_inputs c.args.seed c.args.rows)
 
-pub summary-requires : goal.summary-requires
-summary-requires g c = run-AreWide c.in_ok-loaded.loaded c.args.options.workers c.args.options.plans c.args.options.prune c.args.options.combine c.in_ok-finished.finished c.in_ok-finished.ensures
+pub summary-requires-clause-widths : goal.summary-requires-clause-widths
+summary-requires-clause-widths g c = run-AreWide c.in_ok-loaded.loaded c.args.options.workers c.args.options.plans c.args.options.prune c.args.options.combine c.in_ok-finished.finished c.in_ok-finished.ensures
 
 pub returns : goal.returns
 returns g c =

@@ -1,10 +1,10 @@
 use Rattle.pact_top.proofs.IterationsRun.{iterated_wide, iteration_made}
 use Rattle.pact_top.proofs.repeating.iteration_texts.Goals as goal
 
-pub texts_of_rounds-requires : goal.texts_of_rounds-requires
-texts_of_rounds-requires g c =
+pub texts_of_rounds-requires-clause-widths : goal.texts_of_rounds-requires-clause-widths
+texts_of_rounds-requires-clause-widths g c =
     let i = c.in_ok-iterated.iterated in
-    record { widths = iterated_wide c.args.repeated c.args.rounds c.args.stable i.rows i.rounds c.fields-fields.ensures.keeps c.requires.inputs c.requires.source c.in_ok-iterated.ensures }
+    iterated_wide c.args.repeated c.args.rounds c.args.stable i.rows i.rounds c.fields-fields.ensures.keeps c.requires.inputs c.requires.source c.in_ok-iterated.ensures
 
 pub returns : goal.returns
 returns g c =
