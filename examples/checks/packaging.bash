@@ -1,11 +1,11 @@
-# The man page and the completions have each command with its options, as docs/language.md lists them; the version is the same in all places; and
+# The man page and the completions have each command with its options, as docs/commands.md lists them; the version is the same in all places; and
 # each library that crates.txt names is listed with its licence.
 
 manual=../docs/pact.1
 completions=../completions/pact.bash
 
 # A line `COMMAND OPTION OPTION ..` for each command.
-commands_of_language() {
+commands_of_page() {
     awk -F'|' '/^## / { exit } /^\| `[a-z]+ [A-Z]/ {
         text = $2
         gsub(/[`\[\]]/, "", text)
@@ -13,7 +13,7 @@ commands_of_language() {
         line = words[1]
         for (i = 2; i <= count; i++) if (words[i] ~ /^--/) line = line " " words[i]
         print line
-    }' ../docs/language.md | sort
+    }' ../docs/commands.md | sort
 }
 commands_of_manual() {
     sed -n '/^\.SH SYNOPSIS/,/^\.SH DESCRIPTION/p' "$manual" | tr -d '\\[]' | awk '
@@ -34,9 +34,9 @@ commands_of_completions() (
     done | sort
 )
 same_commands() {
-    diff <(commands_of_language) <("$1")
+    diff <(commands_of_page) <("$1")
 }
-count test "$(commands_of_language | wc -l)" -eq 8
+count test "$(commands_of_page | wc -l)" -eq 8
 count same_commands commands_of_manual
 count same_commands commands_of_completions
 
