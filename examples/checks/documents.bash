@@ -112,11 +112,19 @@ is_of_a_program() {
 }
 # What stands behind a shell block is what that writes.
 awk -v to="$shown/idiom" '
-    /^## / { idioms = /^## Idioms/ }
+    /^## Pitfalls/ { exit }
     /^```/ && inside { inside = 0; close(name); next }
-    /^```/ { inside = 1; name = "/dev/null"; if (idioms && $0 == "```" && !is_shown) name = to "." FNR; is_shown = $0 == "```sh"; next }
-    inside { print >name }' ../docs/language.md
+    /^```/ { inside = 1; name = "/dev/null"; if ($0 == "```" && !is_shown) name = to "." FNR; is_shown = $0 == "```sh"; next }
+    inside { print >name }' ../docs/idioms.md
 for piece in "$shown"/idiom.*; do
     bare_lines "$piece" >"$piece.lines"
     count is_of_a_program "$piece.lines"
+done
+
+# Each program that the idioms name is there, and each one with a query in its comment is named by them.
+while read -r program; do
+    count test -f "$program"
+done < <(grep -o '`[a-z_0-9]*\.pact`' ../docs/idioms.md | tr -d '`' | sort -u)
+for program in $(grep -l '^# SQL: ' ./*.pact); do
+    [ "$program" = ./discount.pact ] || count grep -q "\`${program#./}\`" ../docs/idioms.md
 done

@@ -151,7 +151,7 @@ for number in {1..9} 127; do count has_section "Status $number"; done
 for number in {1..6}; do count has_section "Certificate fault C$number"; done
 count has_section 'Certificate: the shape'
 
-# The commands and options of status 2 are those of docs/language.md.
+# The commands and options of status 2 are those of docs/commands.md.
 while IFS= read -r line; do
     case $line in
     *': no value') row="| \`${line%%:*}\` | none |" ;;
@@ -161,5 +161,5 @@ while IFS= read -r line; do
         ;;
     *) row="| \`$line\` |" ;;
     esac
-    count grep -qF "$row" ../docs/language.md
+    count grep -qF "$row" ../docs/commands.md
 done < <(awk '/^### / { inside = $0 == "### Status 2" } /^```/ { fenced = !fenced; next } inside && fenced' ../docs/faults.md)

@@ -1,4 +1,4 @@
-# What docs/language.md says of programs that no rule refuses and that seldom do what was meant.
+# What docs/idioms.md says of programs that no rule refuses and that seldom do what was meant.
 
 printf '1,5\n1,3\n' >"$scratch/s.csv"
 

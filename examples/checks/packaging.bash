@@ -1,0 +1,57 @@
+# The man page and the completions have each command with its options, as docs/commands.md lists them; the version is the same in all places; and
+# each library that crates.txt names is listed with its licence.
+
+manual=../docs/pact.1
+completions=../completions/pact.bash
+
+# A line `COMMAND OPTION OPTION ..` for each command.
+commands_of_page() {
+    awk -F'|' '/^## / { exit } /^\| `[a-z]+ [A-Z]/ {
+        text = $2
+        gsub(/[`\[\]]/, "", text)
+        count = split(text, words, " ")
+        line = words[1]
+        for (i = 2; i <= count; i++) if (words[i] ~ /^--/) line = line " " words[i]
+        print line
+    }' ../docs/commands.md | sort
+}
+commands_of_manual() {
+    sed -n '/^\.SH SYNOPSIS/,/^\.SH DESCRIPTION/p' "$manual" | tr -d '\\[]' | awk '
+        /^\.B pact / { if (line != "") print line; line = $3 }
+        / --/ { for (i = 1; i <= NF; i++) if ($i ~ /^--/) line = line " " $i }
+        END { print line }' | sort
+}
+# What the completions offer behind each command.
+commands_of_completions() (
+    # shellcheck source=/dev/null
+    . "$completions" || exit 1
+    COMP_WORDS=(pact '') COMP_CWORD=1
+    _pact
+    for command in "${COMPREPLY[@]}"; do
+        COMP_WORDS=(pact "$command" --) COMP_CWORD=2
+        _pact
+        echo "$command" "${COMPREPLY[@]}"
+    done | sort
+)
+same_commands() {
+    diff <(commands_of_page) <("$1")
+}
+count test "$(commands_of_page | wc -l)" -eq 8
+count same_commands commands_of_manual
+count same_commands commands_of_completions
+
+version=$(cat ../VERSION)
+count grep -q "^\.TH PACT 1 \".*\" \"pact $version\"" "$manual"
+count grep -q "^## $version " ../CHANGELOG.md
+
+# If `man` is there, it shows the page without a warning.
+if command -v man >/dev/null && command -v groff >/dev/null; then
+    shows_without_warning() { [ -z "$(LC_ALL=C.UTF-8 MANWIDTH=80 man --warnings -l "$manual" 2>&1 >/dev/null)" ]; }
+    count shows_without_warning
+fi
+
+# Of each statement's crate, the libraries that aren't of this repository.
+while read -r library; do
+    count grep -q "^| \`$library\`" ../release/THIRD-PARTY.md
+done < <(awk -F: '!/^#/ && NF > 1 { split($1, head, " "); own[head[1]]; names = names " " $2 }
+    END { count = split(names, all, " "); for (i = 1; i <= count; i++) if (!(all[i] in own)) print all[i] }' ../crates.txt | sort -u)
