@@ -4,6 +4,7 @@ mod EnabledEvents
 mod WorldsAfterEvents
 pub mod SharesOfRows
 mod StartStands
+pub mod StartedRows
 mod ReplayedEvents
 mod EventsOfWants
 mod PlacedRows

@@ -19,7 +19,7 @@ use Rattle.pact_record.specs.declared.values.Value.{Value}
 use Rattle.pact_record.proofs.Lists.{AllByRecursion-cond, AllByRecursion-get_or}
 use Rattle.plan_trees.specs.Sending.{share_from}
 use Rattle.flow_instance.proofs.CarriedBatches.{IsNext, next_width}
-use Rattle.flow_core.specs.Starting.{AreDealt, AreOwn, MayStart, TakesOwn}
+use Rattle.flow_core.specs.Starting.{AreDealt, AreOwn, TakesOwn}
 
 -- ---- shares
 
@@ -77,7 +77,13 @@ own_share workers worker rows share shares handed dealt here less is =
     let below : worker < workers = omega (arith, less, here, dealt.long) in
     record { below = below; is = share_is workers worker rows share shares below (subst (λ (n : ℕ). share ≡ get_or shares n share) (sym here) is) dealt }
 
--- Each share has the width of the rows, and is empty where they are.
+-- Rows that an instance on a worker may start with: an operator has none.
+pub record MayStart (p : ProgramData) (at workers worker : ℕ) (share : Bag) : Type 0 where
+  pub below : worker < workers
+  pub wide : AreWide p.fields share
+  pub none : is_source_kind (kind_at p.ops at) ≡ false → share ≡ []
+
+-- Each share has the width of the rows, and is empty if they are.
 pub own_may_start : (p : ProgramData) (at workers worker : ℕ) (rows share : Bag) → IsOwnShare workers worker rows share → AreWide p.fields rows → (is_source_kind (kind_at p.ops at) ≡ false → rows ≡ [])
     → MayStart p at workers worker share
 own_may_start p at workers worker rows share own wide none = record {

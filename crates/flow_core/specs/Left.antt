@@ -1,5 +1,5 @@
 -- What a run has left: instances, and notes on pipes.
-use Rattle.std.specs.Prelude.{◌≡◌, ◌<◌, ◌++◌, ℕ, true, cond, List, [], ◌∷◌, get_or, length, map, set}
+use Rattle.std.specs.Prelude.{◌≡◌, ◌<◌, ◌++◌, ℕ, true, cond, List, [], ◌∷◌, get_or, length, set}
 use Rattle.std.specs.List.{AllByRecursion}
 use Rattle.plan_trees.specs.Physicals.{PhysicalData}
 use Rattle.plan_trees.specs.Plans.{has}
@@ -83,11 +83,3 @@ pub record AreFilled (p : PhysicalData) (old : List (List StationData)) (lists :
 -- notes behind those of one pipe
 abbrev pub refilled : StationData → (to : ℕ) → List Note → StationData
 refilled s to notes = record { instance = s.instance; queues = set s.queues to (get_or s.queues to [] ++ notes) }
-
--- ---- instances without their pipes
-
-abbrev pub unstationed : List StationData → List Instance
-unstationed row = map (λ (s : StationData). s.instance) row
-
-abbrev pub all_unstationed : List (List StationData) → List (List Instance)
-all_unstationed stations = map unstationed stations

@@ -1,16 +1,20 @@
--- Stations at their start.
-use Rattle.std.specs.Prelude.{◌≡◌, ◌<◌, ℕ, Bool, true, false, List, [], ◌∷◌, get_or, length}
+-- Instances at their start, and stations of them.
+use Rattle.std.specs.Prelude.{◌≡◌, ◌<◌, ◌+◌, ℕ, Bool, true, false, List, [], ◌∷◌, get_or, length}
 use Rattle.std.specs.List.{AllByRecursion}
 use Rattle.pact_operators.specs.Allowed.{Bag}
-use Rattle.pact_operators.specs.PlanOps.{is_source_kind, kind_at, plan_ops}
+use Rattle.pact_operators.specs.PlanOps.{kind_at, plan_ops}
 use Rattle.pact_operators.specs.Programs.{ProgramData}
-use Rattle.pact_record.specs.Widths.{AreWide}
+use Rattle.plan_trees.specs.Physicals.{PhysicalData}
 use Rattle.plan_trees.specs.Plans.{subtree_of}
 use Rattle.plan_trees.specs.Sending.{share_from}
 use Rattle.tac_syntax.specs.declared.declarations.OpKind.TheVariants.{Source}
-use Rattle.flow_instance.specs.Spots.{Setting, spot}
+use Rattle.flow_instance.specs.Spots.{Setting, setting, spot}
 use Rattle.flow_instance.specs.Steps.{Started}
-use Rattle.flow_core.specs.Worlds.{StationData, no_station}
+use Rattle.flow_instance.specs.Instances.{Instance}
+use Rattle.flow_instance.specs.declared.before_start.Unstarted.{Unstarted}
+use Rattle.flow_instance.specs.Starting.{CanStart, IsStartedFrom, IsUnstarted}
+use Rattle.flow_core.specs.declared.starting.UnstartedRow.{UnstartedRow}
+use Rattle.flow_core.specs.Worlds.{StationData, no_instance, no_station}
 
 -- of the rows that are left, a source takes those of the first one, and an operator none
 abbrev pub TakesOwn : Bool → (old : List Bag) → (own : Bag) → (new : List Bag) → Type 0
@@ -26,11 +30,82 @@ pub record AreDealt (workers : ℕ) (rows : Bag) (shares : List Bag) : Type 0 wh
   pub long : length shares ≡ workers
   pub each : (worker : ℕ) → worker < workers → get_or shares worker [] ≡ share_from 0 workers worker rows
 
--- rows that an instance on a worker may start with: an operator has none
-pub record MayStart (p : ProgramData) (at workers worker : ℕ) (share : Bag) : Type 0 where
-  pub below : worker < workers
-  pub wide : AreWide p.fields share
-  pub none : is_source_kind (kind_at p.ops at) ≡ false → share ≡ []
+-- ---- before the start
+
+-- what the instance of a number on a worker starts from, with its share of the rows
+pub record IsUnstartedOn (p : ProgramData) (physical : PhysicalData) (size at : ℕ) (rows : Bag) (worker : ℕ) (u : Unstarted) : Type 0 where
+  pub share : Bag
+  pub is_share : share ≡ share_from 0 physical.workers worker rows
+  pub is : IsUnstarted p physical at worker size share u
+
+-- those of the workers from one number on
+abbrev pub AreUnstartedFrom : ProgramData → PhysicalData → (size at : ℕ) → Bag → (from : ℕ) → List Unstarted → Type 0
+AreUnstartedFrom p physical size at rows from [] = Unit {0}
+AreUnstartedFrom p physical size at rows from (u ∷ row) = IsUnstartedOn p physical size at rows from u × AreUnstartedFrom p physical size at rows (from + 1) row
+
+-- so many, from the first worker on
+pub record AreUnstarted (p : ProgramData) (physical : PhysicalData) (size at : ℕ) (rows : Bag) (count : ℕ) (row : List Unstarted) : Type 0 where
+  pub long : length row ≡ count
+  pub each : AreUnstartedFrom p physical size at rows 0 row
+
+-- each instance is started from what is at its place
+abbrev pub StartFrom : List Unstarted → List Instance → Type 0
+StartFrom [] [] = Unit {0}
+StartFrom (u ∷ row) (i ∷ own) = IsStartedFrom u i × StartFrom row own
+StartFrom [] (i ∷ own) = ⊥
+StartFrom (u ∷ row) [] = ⊥
+
+-- each row of instances is started from the row at its place
+abbrev pub StartAllFrom : List UnstartedRow → List (List Instance) → Type 0
+StartAllFrom [] [] = Unit {0}
+StartAllFrom (row ∷ rows) (own ∷ all) = StartFrom row.held.items own × StartAllFrom rows all
+StartAllFrom [] (own ∷ all) = ⊥
+StartAllFrom (row ∷ rows) [] = ⊥
+
+-- each of a row can start
+abbrev pub CanStartRow : UnstartedRow → Type 0
+CanStartRow row = AllByRecursion CanStart row.held.items
+
+-- the row of one number, whose rows are those of the source in the program
+pub record IsRowUnstarted (p : ProgramData) (physical : PhysicalData) (inputs : List Bag) (size at : ℕ) (row : UnstartedRow) : Type 0 where
+  pub own : Bag
+  pub own_are : AreOwn p inputs at own
+  pub are : AreUnstarted p physical size at own physical.workers row.held.items
+
+-- those of the numbers from one on
+abbrev pub AreRowsFrom : ProgramData → PhysicalData → List Bag → (size from : ℕ) → List UnstartedRow → Type 0
+AreRowsFrom p physical inputs size from [] = Unit {0}
+AreRowsFrom p physical inputs size from (row ∷ rows) = IsRowUnstarted p physical inputs size from row × AreRowsFrom p physical inputs size (from + 1) rows
+
+-- those of the first numbers
+pub record AreAllUnstarted (p : ProgramData) (physical : PhysicalData) (inputs : List Bag) (size count : ℕ) (rows : List UnstartedRow) : Type 0 where
+  pub long : length rows ≡ count
+  pub each : AreRowsFrom p physical inputs size 0 rows
+
+-- ---- at the start
+
+-- the instance of a number on a worker, with batches of at most so many records
+pub record IsStartedOn (g : Setting) (size at worker : ℕ) (i : Instance) : Type 0 where
+  pub started : Started (spot g (subtree_of at g.physical.tree)) worker i
+  pub batch : i.part.batch ≡ size
+
+-- one on each worker
+pub record AreStartedOn (g : Setting) (size at : ℕ) (own : List Instance) : Type 0 where
+  pub long : length own ≡ g.physical.workers
+  pub each : (worker : ℕ) → worker < g.physical.workers → IsStartedOn g size at worker (get_or own worker no_instance)
+
+-- those of the first numbers
+pub record AreAllStarted (g : Setting) (size count : ℕ) (all : List (List Instance)) : Type 0 where
+  pub long : length all ≡ count
+  pub each : (at : ℕ) → at < count → AreStartedOn g size at (get_or all at [])
+
+-- for some rows of the program's sources
+pub record AreStartedForSome (p : ProgramData) (physical : PhysicalData) (all : List (List Instance)) : Type 0 where
+  pub inputs : List Bag
+  pub size : ℕ
+  pub started : AreAllStarted (setting p inputs physical) size (length p.ops) all
+
+-- ---- as stations
 
 -- an instance at its start, with empty pipes, and batches of at most so many records
 pub record IsStarted (g : Setting) (size at worker : ℕ) (s : StationData) : Type 0 where

@@ -1,10 +1,7 @@
 //! What a run has left: instances, and notes on pipes.
 
 ghost use Rattle.std.specs.Prelude.{◌≡◌, ◌<◌, ◌++◌, ◌∷◌, [], get_or, length, replicate, set, IfOk, OnErr, OnOk};
-ghost use Rattle.flow_core.specs.Left.{all_unstationed, unstationed};
 
-use crate::stations::{Row, Station};
-use crate::worlds::World;
 use flow_instance::{Instance, Note, PipeId};
 use local_strategy::Local;
 use pact_record::OutOfMemory;
@@ -15,7 +12,7 @@ use std::mem;
 
 /// The instances of one source or operator, by worker.
 #[derive(Drop)]
-pub(crate) struct Instances<L: Local> {
+pub struct Instances<L: Local> {
     pub(crate) held: Vec<Instance<L>>,
 }
 
@@ -29,6 +26,15 @@ impl<L: Local> Model for Instances<L> {
     ghost coded = { coded_instances };
 
     ghost view = { λ i. i.held.items };
+}
+
+impl<L: Local> Instances<L> {
+    /// The instances of one source or operator, in the order of their workers.
+    pub fn from_vec(held: Vec<Instance<L>>) -> Instances<L>
+        ensures { result ≡ held.items }
+    {
+        Instances { held }
+    }
 }
 
 /// Instances by the number of their source or operator, and then by worker.
@@ -50,6 +56,13 @@ impl<L: Local> Model for InstanceList<L> {
 }
 
 impl<L: Local> InstanceList<L> {
+    /// The instances of all sources and operators, in the order of their numbers.
+    pub fn from_rows(rows: Vec<Instances<L>>) -> InstanceList<L>
+        ensures { result ≡ rows.items }
+    {
+        InstanceList { rows }
+    }
+
     /// For so many sources and operators, with room for so many workers; no instance is listed yet.
     pub fn new(alloc: Global, ops: usize, workers: usize) -> Result<InstanceList<L>, OutOfMemory>
         ensures { IfOk result (λ list. list ≡ replicate ops []) }
@@ -80,44 +93,6 @@ impl<L: Local> InstanceList<L> {
         ensures left { self.new ≡ set self.old at [] }
     {
         mem::replace(&mut self.rows[at].held, Vec::new(alloc))
-    }
-}
-
-// The instances of a row of stations.
-fn unstation<L: Local>(alloc: Global, row: Row<L>) -> Result<Instances<L>, OutOfMemory>
-    ensures { IfOk result (λ own. own ≡ unstationed row) }
-{
-    let mut held = Vec::new(alloc);
-    for station in row.held {
-        let Station {
-            instance,
-            queues: _,
-        } = station;
-        held.push(instance)?;
-    }
-    Ok(Instances { held })
-}
-
-// The instances of all rows.
-fn unstation_all<L: Local>(
-    alloc: Global,
-    stations: Vec<Row<L>>,
-) -> Result<InstanceList<L>, OutOfMemory>
-    ensures { IfOk result (λ list. list ≡ all_unstationed stations.items) }
-{
-    let mut rows = Vec::new(alloc);
-    for row in stations {
-        rows.push(unstation(alloc, row)?)?;
-    }
-    Ok(InstanceList { rows })
-}
-
-impl<L: Local> World<L> {
-    /// The instances of a world, by the number of their source or operator, and then by worker. The notes on its pipes are gone.
-    pub fn into_instances(self) -> Result<InstanceList<L>, OutOfMemory>
-        ensures { IfOk result (λ list. list ≡ all_unstationed self.stations) }
-    {
-        unstation_all(self.alloc, self.stations)
     }
 }
 

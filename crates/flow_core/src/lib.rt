@@ -3,8 +3,8 @@
 //! A `World` has an instance of each source and operator on each worker, each with the notes on the pipes that leave it. `enabled` tells whether an event
 //! can happen, and `step` lets it happen; `replay` goes through a list of events, `run_alone` picks its own until every instance is done, and
 //! `run_picked` has them picked by numbers. What is promised of all five is said of histories: a world stands for the notes that were put and taken so
-//! far. `World::into_instances` gives the instances away, and `World::resume` makes a world of instances and of notes that stand for some history,
-//! whoever let the events happen.
+//! far. `unstarted_rows` has what the instances of a plan start from, so that a caller may start them on threads.
+//! `World::resume` makes a world of instances and of notes that stand for some history, whoever let the events happen.
 #![tactic(auto)]
 
 pub mod alone;
@@ -14,7 +14,7 @@ mod ready;
 pub mod replays;
 mod resuming;
 mod searching;
-mod starting;
+pub mod starting;
 mod stations;
 pub mod stops;
 mod wirings;
@@ -22,8 +22,9 @@ pub mod worlds;
 
 pub use alone::run_alone;
 pub use flow_instance::{Event, PipeId};
-pub use lefts::{InstanceList, NoteLists};
+pub use lefts::{InstanceList, Instances, NoteLists};
 pub use picks::run_picked;
 pub use replays::replay;
+pub use starting::{UnstartedRow, start_in_turn, start_rows, unstarted_rows};
 pub use stops::Replay;
 pub use worlds::World;

@@ -37,7 +37,7 @@ fn empty_row<L: Local>(
 }
 
 // Those of all sources and operators.
-fn empty_rows<L: Local>(
+pub(crate) fn empty_rows<L: Local>(
     alloc: Global,
     workers: u32,
     instances: InstanceList<L>,

@@ -1,4 +1,4 @@
-//! The stations of a plan at their start.
+//! The instances of a plan at their start.
 
 ghost use Rattle.std.specs.Prelude.{◌≡◌, ◌≤◌, ◌<◌, [], List, true, false, length, IfOk};
 ghost use Rattle.std.specs.List.{AllByRecursion};
@@ -9,17 +9,40 @@ ghost use Rattle.pact_operators.specs.Programs.{IsPlanOf};
 ghost use Rattle.pact_record.specs.Widths.{AreWide};
 ghost use Rattle.flow_instance.specs.Limits.{batch_limit};
 ghost use Rattle.flow_instance.specs.Spots.{setting};
-ghost use Rattle.flow_instance.specs.Starting.{IsShareOf};
-ghost use Rattle.flow_core.specs.Starting.{AreDealt, AreOwn, AreStarted, AreStartedAt, IsStarted, MayStart, TakesOwn};
+ghost use Rattle.flow_core.specs.Starting.{AreAllUnstarted, AreDealt, AreUnstarted, CanStartRow, StartAllFrom, StartFrom, TakesOwn};
 
-use crate::stations::{Queue, Row, Station};
-use flow_instance::Instance;
+use crate::lefts::{InstanceList, Instances};
+use crate::stations::Queue;
+use flow_instance::{Instance, Unstarted};
 use local_strategy::Local;
 use pact_bag::{Inputs, Rows};
 use pact_operators::{Op, OpKind, Physical, Program};
 use pact_record::OutOfMemory;
 use std::alloc::Global;
 use std::collections::VecDeque;
+
+/// What the instances of one source or operator start from, by worker.
+#[derive(Drop)]
+pub struct UnstartedRow {
+    pub(crate) held: Vec<Unstarted>,
+}
+
+impl UnstartedRow {
+    /// How many rows the first worker has of its own; no worker has more.
+    pub fn share_len(&self) -> usize {
+        match self.held.first() {
+            Some(unstarted) => unstarted.share_len(),
+            None => 0,
+        }
+    }
+
+    /// What the instances start from, in the order of their workers.
+    pub fn into_vec(self) -> Vec<Unstarted>
+        ensures { result.items ≡ self.held.items }
+    {
+        self.held
+    }
+}
 
 // The rows of the next source, where this is one. An operator has no rows.
 fn own_rows(alloc: Global, op: &Op, left: &mut Inputs) -> Rows
@@ -78,77 +101,87 @@ pub(crate) fn empty_queues(alloc: Global, workers: u32) -> Result<Vec<Queue>, Ou
     Ok(queues)
 }
 
-// The station of a source or operator on a worker, with that worker's share of the rows.
-fn start_station<L: Local>(
-    alloc: Global,
-    program: &Program,
-    physical: &Physical,
-    share: Rows,
-    batch: u32,
-    at: u32,
-    worker: u32,
-) -> Result<Station<L>, OutOfMemory>
-    requires plan { IsPlanOf program.now.functions program.now.ops physical.now.tree }
-    requires share { MayStart program.now at physical.now.workers worker share }
-    requires batch { (1 ≤ batch) × (batch ≤ batch_limit) }
-    requires at { at < length program.now.ops }
-    ensures { IfOk result (λ s. (inputs : List Bag) → IsShareOf program.now inputs at physical.now.workers worker share → IsStarted (setting program.now inputs physical.now) batch at worker s) }
-{
-    let instance = Instance::start(alloc, program, physical, at, worker, batch, share)?;
-    let queues = empty_queues(alloc, physical.workers())?;
-    Ok(Station { instance, queues })
-}
-
-// The stations of a source or operator, with the rows that are its own.
-fn start_row<L: Local>(
+// What the instances of a source or operator start from, each with its share of the rows.
+fn unstarted_row(
     alloc: Global,
     program: &Program,
     physical: &Physical,
     rows: Rows,
     batch: u32,
     at: u32,
-) -> Result<Row<L>, OutOfMemory>
+) -> Result<UnstartedRow, OutOfMemory>
     requires plan { IsPlanOf program.now.functions program.now.ops physical.now.tree }
     requires wide { AreWide program.now.fields rows }
     requires none { is_source_kind (kind_at program.now.ops at) ≡ false → rows ≡ [] }
-    requires batch { (1 ≤ batch) × (batch ≤ batch_limit) }
+    requires batch { 1 ≤ batch }
     requires at { at < length program.now.ops }
-    ensures { IfOk result (λ row. (inputs : List Bag) → AreOwn program.now inputs at rows → AreStartedAt (setting program.now inputs physical.now) batch at row) }
+    ensures { IfOk result (λ row. AreUnstarted program.now physical.now batch at rows physical.now.workers row.held.items) }
 {
     let workers = physical.workers();
     let mut held = Vec::with_capacity(alloc, workers as usize)?;
     let mut worker = 0;
     let shares = deal(alloc, rows, workers)?;
     for share in shares {
-        let station = start_station(alloc, program, physical, share, batch, at, worker)?;
-        held.push_reserved(station);
+        let unstarted = Unstarted::new(alloc, program, physical, at, worker, batch, share)?;
+        held.push_reserved(unstarted);
         worker += 1;
     }
-    Ok(Row { held })
+    Ok(UnstartedRow { held })
 }
 
-/// The stations of all sources and operators, by their numbers. Each row of a source moves to its worker.
-pub(crate) fn start_all<L: Local>(
+/// What the instances of all sources and operators start from, by their numbers. Each row of a source moves to its worker.
+/// An instance gives batches of at most `batch` records.
+pub fn unstarted_rows(
     alloc: Global,
     program: &Program,
     physical: &Physical,
     inputs: Inputs,
     batch: u32,
-) -> Result<Vec<Row<L>>, OutOfMemory>
+) -> Result<Vec<UnstartedRow>, OutOfMemory>
     requires plan { IsPlanOf program.now.functions program.now.ops physical.now.tree }
     requires inputs { AreInputsOf program.now inputs }
     requires batch { (1 ≤ batch) × (batch ≤ batch_limit) }
-    ensures { IfOk result (λ rows. AreStarted (setting program.now inputs physical.now) batch (length program.now.ops) rows.items) }
+    ensures { IfOk result (λ rows. AreAllUnstarted program.now physical.now inputs batch (length program.now.ops) rows.items) }
 {
     let ops = program.ops();
-    // a physical plan tells that it has few numbers
+    // The call states that a physical plan has few numbers.
     let _workers = physical.workers();
     let mut left = inputs;
     let mut rows = Vec::with_capacity(alloc, ops.len())?;
     for (at, op) in ops.iter().enumerate() {
         let own = own_rows(alloc, op, &mut left);
-        let row = start_row(alloc, program, physical, own, batch, at as u32)?;
+        let row = unstarted_row(alloc, program, physical, own, batch, at as u32)?;
         rows.push_reserved(row);
     }
     Ok(rows)
+}
+
+/// The instances of a row, started one after the other.
+pub fn start_in_turn<L: Local>(
+    alloc: Global,
+    row: UnstartedRow,
+) -> Result<Instances<L>, OutOfMemory>
+    requires may { CanStartRow row }
+    ensures { IfOk result (StartFrom row.held.items) }
+{
+    let mut held = Vec::with_capacity(alloc, row.held.len())?;
+    for unstarted in row.held {
+        held.push_reserved(Instance::start_from(alloc, unstarted)?);
+    }
+    Ok(Instances { held })
+}
+
+/// The instances of all rows, started one after the other.
+pub fn start_rows<L: Local>(
+    alloc: Global,
+    rows: Vec<UnstartedRow>,
+) -> Result<InstanceList<L>, OutOfMemory>
+    requires may { AllByRecursion CanStartRow rows.items }
+    ensures { IfOk result (StartAllFrom rows.items) }
+{
+    let mut all = Vec::with_capacity(alloc, rows.len())?;
+    for row in rows {
+        all.push_reserved(start_in_turn(alloc, row)?);
+    }
+    Ok(InstanceList { rows: all })
 }

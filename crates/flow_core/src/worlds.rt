@@ -19,7 +19,8 @@ ghost use Rattle.flow_core.specs.Outcomes.{IsOutcome};
 ghost use Rattle.flow_core.specs.Laws.{ObeysLaws};
 ghost use Rattle.flow_core.specs.Worlds.{HasBatchSize, IsStanding, IsWhole, StandsForSome, depth_limit, instance_in, no_station, queue_in, seen, station_in};
 
-use crate::starting::start_all;
+use crate::resuming::empty_rows;
+use crate::starting::{start_rows, unstarted_rows};
 use crate::stations::{Row, Station};
 use crate::wirings::Wiring;
 use flow_instance::{Event, Note, PipeId, Want};
@@ -96,9 +97,11 @@ impl<L: Local> World<L> {
         ensures depth { IfOk result (λ w. w.depth ≡ depth) }
         ensures batch { IfOk result (λ w. HasBatchSize w batch) }
     {
-        // a program tells that it is one, and a physical plan too
-        let (_fields, _workers) = (program.fields(), physical.workers());
-        let stations = start_all(alloc, program, physical, inputs, batch)?;
+        // The calls state that these are a program and a physical plan.
+        let (_fields, workers) = (program.fields(), physical.workers());
+        let rows = unstarted_rows(alloc, program, physical, inputs, batch)?;
+        let instances = start_rows(alloc, rows)?;
+        let stations = empty_rows(alloc, workers, instances)?;
         Ok(World {
             alloc,
             wiring: Wiring::new(physical),

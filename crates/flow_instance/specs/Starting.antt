@@ -1,17 +1,21 @@
 -- What an instance keeps of a program and a physical plan, and instances at their start.
-use Rattle.std.specs.Prelude.{◌≡◌, ℕ, Option, Some, None, List, map, slice_get}
-use Rattle.flow_instance.specs.Spots.{ports_of}
+use Rattle.std.specs.Prelude.{◌≡◌, ◌≤◌, ◌<◌, ℕ, true, false, Option, Some, None, List, [], map, slice_get}
+use Rattle.flow_instance.specs.Instances.{Instance}
+use Rattle.flow_instance.specs.Local.{IsLocal}
+use Rattle.flow_instance.specs.Spots.{ports_of, setting, spot}
+use Rattle.flow_instance.specs.Steps.{Started}
 use Rattle.pact_operators.specs.Allowed.{Bag}
-use Rattle.pact_operators.specs.PlanOps.{body_at, kind_at, left_keys_in, plan_ops, right_keys_in}
-use Rattle.pact_operators.specs.Programs.{HasKeyLists, IsKindFor, ProgramData, nulls_match}
-use Rattle.pact_record.specs.Widths.{AreBelow}
+use Rattle.pact_operators.specs.PlanOps.{body_at, is_source_kind, kind_at, left_keys_in, plan_ops, right_keys_in}
+use Rattle.pact_operators.specs.Programs.{HasArity, HasKeyLists, IsKindFor, ProgramData, nulls_match}
+use Rattle.pact_record.specs.Widths.{AreBelow, AreWide}
 use Rattle.plan_trees.specs.Sending.{share_from}
 use Rattle.plan_trees.specs.Physicals.{PhysicalData, ship_at}
-use Rattle.plan_trees.specs.Plans.{subtree_of}
+use Rattle.plan_trees.specs.Plans.{has, subtree_of}
 use Rattle.tac_syntax.specs.Valid.{WithFields}
 use Rattle.tac_syntax.specs.declared.declarations.OpKind.TheVariants.{Source}
 use Rattle.flow_instance.specs.States.{port_of}
 use Rattle.flow_instance.specs.declared.parts.Part.{Part}
+use Rattle.flow_instance.specs.declared.before_start.Unstarted.{Unstarted}
 
 -- ---- of the program
 
@@ -47,3 +51,39 @@ pub record IsPartAt (p : ProgramData) (physical : PhysicalData) (number worker_n
   pub batch : part.batch ≡ size
   pub ports : map port_of part.ports.items ≡ ports_of physical (subtree_of number physical.tree)
   pub out : part.out ≡ ship_at physical number
+
+-- ---- before the start
+
+-- What the instance of a source or operator on a worker starts from; only a source has rows of its own.
+pub record IsUnstarted (p : ProgramData) (physical : PhysicalData) (at worker size : ℕ) (share : Bag) (u : Unstarted) : Type 0 where
+  pub part : IsPartAt p physical at worker size u.part
+  pub rows : u.rows ≡ share
+  pub here : has at physical.tree ≡ true
+  pub arity : HasArity p.ops physical.tree
+  pub below : worker < physical.workers
+  pub some : 1 ≤ size
+  pub wide : AreWide p.fields share
+  pub none : is_source_kind (kind_at p.ops at) ≡ false → share ≡ []
+
+-- it is that of some program's plan
+pub record CanStart (u : Unstarted) : Type 0 where
+  pub program : ProgramData
+  pub physical : PhysicalData
+  pub number : ℕ
+  pub worker : ℕ
+  pub size : ℕ
+  pub share : Bag
+  pub is : IsUnstarted program physical number worker size share u
+
+-- an instance at its start: nothing was taken or put
+pub record IsStartedAt (p : ProgramData) (physical : PhysicalData) (number worker_number size : ℕ) (share : Bag) (i : Instance) : Type 0 where
+  pub at : i.part.at ≡ number
+  pub worker : i.part.worker ≡ worker_number
+  pub batch : i.part.batch ≡ size
+  pub started : (inputs : List Bag) → IsShareOf p inputs number physical.workers worker_number share → Started (spot (setting p inputs physical) (subtree_of number physical.tree)) worker_number i
+  pub local : (inputs : List Bag) → IsShareOf p inputs number physical.workers worker_number share
+      → IsLocal (spot (setting p inputs physical) (subtree_of number physical.tree)) worker_number i (λ port from. []) (λ to. [])
+
+-- It starts as the plan says from which this is.
+abbrev pub IsStartedFrom : Unstarted → Instance → Type 0
+IsStartedFrom u i = (p : ProgramData) (physical : PhysicalData) (at worker size : ℕ) (share : Bag) → IsUnstarted p physical at worker size share u → IsStartedAt p physical at worker size share i

@@ -13,11 +13,11 @@ ghost use Rattle.pact_operators.specs.Programs.{IsPlanOf};
 ghost use Rattle.pact_record.specs.Widths.{AreWide};
 ghost use Rattle.plan_trees.specs.Plans.{has, subtree_of};
 ghost use Rattle.flow_instance.specs.Limits.{batch_limit};
-ghost use Rattle.flow_instance.specs.Starting.{IsShareOf};
+ghost use Rattle.flow_instance.specs.Starting.{CanStart, IsShareOf, IsStartedFrom};
 
+use crate::before_start::Unstarted;
 use crate::notes::{Note, Want};
 use crate::parcels::Parcel;
-use crate::starting::part_at;
 use crate::states::State;
 use local_strategy::Local;
 use pact_bag::Rows;
@@ -76,7 +76,18 @@ impl<L: Local> Instance<L> {
         ensures local { IfOk result (λ i. (inputs : List Bag) → IsShareOf program.now inputs at physical.now.workers worker rows
             → IsLocal (spot (setting program.now inputs physical.now) (subtree_of at physical.now.tree)) worker i (λ port from. []) (λ to. [])) }
     {
-        let part = part_at(alloc, program, physical, at, worker, batch)?;
+        let unstarted = Unstarted::new(alloc, program, physical, at, worker, batch, rows)?;
+        Instance::start_from(alloc, unstarted)
+    }
+
+    /// Starts an instance. The rows of a source are cut into batches for their receivers here, so this may be called on
+    /// the thread of the worker. Out of memory is the only error.
+    pub fn start_from(alloc: Global, unstarted: Unstarted) -> Result<Instance<L>, OutOfMemory>
+        requires may { CanStart unstarted }
+        ensures small { IfOk result HasSmallBatches }
+        ensures started { IfOk result (IsStartedFrom unstarted) }
+    {
+        let Unstarted { part, rows } = unstarted;
         let mut state = State::fresh(alloc, part)?;
         state.begin(rows)?;
         Ok(Instance { state })

@@ -7,13 +7,14 @@
 //! events, are in `proofs/`: each event keeps a world standing for its history, no world is stuck before it is done, and
 //! the number of events is bounded.
 //!
-//! An `Instance` is the machine that meets it. It wants to take a note at a port, to put one for a worker, to end, or
+//! An `Instance` is the machine that meets it. It starts from an `Unstarted`, which can move to another thread. It wants to take a note at a port, to put one for a worker, to end, or
 //! nothing. It takes and gives notes by calls, and knows neither pipes nor threads; each call keeps `IsLocal`. `states`
 //! has its fields, and `specs/StateSteps` what a step does to them; `taking` and `ending` are what batches and end marks
 //! do; `matching` and `grouping` call the operator's function for kept records, which the trait `Local` finds; `sending`
 //! makes notes of what is given: batches, each for a worker to which an edge takes it, and end marks after them.
 #![tactic(auto)]
 
+pub mod before_start;
 mod ending;
 mod grouping;
 pub mod instances;
@@ -29,6 +30,7 @@ mod states;
 mod taking;
 mod targets;
 
+pub use before_start::Unstarted;
 pub use instances::{Instance, MAX_BATCH};
 pub use notes::{Event, Note, PipeId, Want};
 pub use parcels::Parcel;

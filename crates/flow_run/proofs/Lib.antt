@@ -12,3 +12,4 @@ mod Finished
 mod Sendable
 mod RunsOfWorkers
 mod SlotsInTurn
+mod StartedJobs

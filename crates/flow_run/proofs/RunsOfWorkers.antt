@@ -1,21 +1,18 @@
 -- Workers at their start, and what they have left.
 use Rattle.std.proofs.Common.{◌≡◌, ◌<◌, ◌≤◌, ◌+◌, ◌*◌, inl, inr, ℕ, zero, suc, true, false, List, [], ◌∷◌, ◌++◌, get_or, length, length-append, map, replicate, set, drop, refl, ap, sym, ◌∙◌, subst, arith}
-use Rattle.std.specs.Prelude.{Option, Some, None, slice_index_or, slice_get}
+use Rattle.std.specs.Prelude.{slice_index_or}
 use Rattle.std.specs.List.{All, AllByRecursion}
-use Rattle.std.proofs.lemmas.Bool.{cases_lt}
 use Rattle.std.proofs.lemmas.List.{get_or-set_other, length-map, length-replicate, length-set}
 use Rattle.pact_record.proofs.Lists.{AllByRecursion-get_or}
 use Rattle.plan_trees.specs.Physicals.{IsPhysical, PhysicalData}
 use Rattle.plan_trees.specs.Plans.{has, subtree_of}
 use Rattle.plan_trees.proofs.Ships.{below_limit}
-use Rattle.flow_instance.specs.declared.notes.Note.{Note}
-use Rattle.flow_instance.specs.Events.{no_history}
 use Rattle.flow_instance.specs.Instances.{Instance}
 use Rattle.flow_instance.specs.Local.{IsLocal}
-use Rattle.flow_instance.specs.Spots.{Port, Setting, ports_of, spot}
-use Rattle.flow_instance.specs.Worlds.{lists_at}
-use Rattle.flow_core.specs.Left.{all_unstationed, unstationed}
-use Rattle.flow_core.specs.Worlds.{IsStanding, IsWhole, StationData, WorldData, instance_in, no_instance, no_station}
+use Rattle.flow_instance.specs.Spots.{Setting, spot}
+use Rattle.flow_core.specs.Starting.{AreAllStarted}
+use Rattle.flow_core.specs.Worlds.{no_instance}
+use Rattle.flow_instance.proofs.LocalAfterPuts.{started_local}
 use Rattle.flow_core.proofs.SharesOfRows.{each_last}
 use Rattle.flow_run.specs.Benches.{AllLocal, IsReady, IsReadyFor, Works, bench}
 use Rattle.flow_run.specs.Dealing.{AreDealt}
@@ -130,73 +127,42 @@ module _ {L W : Type 0} (pipes : PipeTables) (all : List (List Instance)) (puts 
 
 -- ---- instances at their start
 
-over_rows : (n : ℕ) (stations : List (List StationData)) → ((at : ℕ) → at < length stations → length (get_or stations at []) ≡ n) → AllByRecursion (λ (row : List Instance). length row ≡ n) (all_unstationed stations)
-over_rows n [] h = tt
-over_rows n (row ∷ rows) h = (length-map row (λ (s : StationData). s.instance) ∙ h 0 (omega arith), over_rows n rows (λ at less. h (suc at) (omega (arith, less))))
-
-pub rows_long : (p : PhysicalData) (stations : List (List StationData)) → IsWhole p stations → AllByRecursion (λ (row : List Instance). length row ≡ p.workers) (all_unstationed stations)
-rows_long p stations w = over_rows p.workers stations w.workers
+all_rows : (n : ℕ) (rows : List (List Instance)) → ((at : ℕ) → at < length rows → length (get_or rows at []) ≡ n) → AllByRecursion (λ (row : List Instance). length row ≡ n) rows
+all_rows n [] h = tt
+all_rows n (row ∷ rows) h = (h 0 (omega arith), all_rows n rows (λ at less. h (suc at) (omega (arith, less))))
 
 map_at : {X Y : Type 0} (f : X → Y) (xs : List X) (k : ℕ) (d : X) (e : Y) → k < length xs → get_or (map f xs) k e ≡ f (get_or xs k d)
 map_at f [] k d e less = absurd (omega (arith, less))
 map_at f (x ∷ xs) zero d e less = refl
 map_at f (x ∷ xs) (suc k) d e less = map_at f xs k d e (omega (arith, less))
 
--- the numbers of a plan are those of its stations
-pub count_of_stations : (p : PhysicalData) (ops : ℕ) (stations : List (List StationData)) → IsWhole p stations → ((at : ℕ) → at < ops → has at p.tree ≡ true) → ((at : ℕ) → has at p.tree ≡ true → at < ops) → length stations ≡ ops
-count_of_stations p ops stations w all only = elim (cases_lt (length stations) ops) as (λ _. length stations ≡ ops) [
-  | inl less ↦ absurd (let bad = w.each (length stations) (all (length stations) less) in omega (arith, bad))
-  | inr more ↦ elim (cases_lt ops (length stations)) as (λ _. length stations ≡ ops) [
-    | inl less ↦ absurd (let bad = only ops (w.only ops less) in omega (arith, bad))
-    | inr less ↦ omega (arith, more, less)
-  ]
-]
+module _ (g : Setting) (size ops : ℕ) (list : List (List Instance)) (started : AreAllStarted g size ops list) where
+  -- one on each worker
+  pub rows_long : AllByRecursion (λ (row : List Instance). length row ≡ g.physical.workers) list
+  rows_long = all_rows g.physical.workers list (λ at less. (started.each at (omega (arith, less, started.long))).long)
 
--- the instances of a world are those of the plan's numbers, one on each worker
-pub rows_are : (p : PhysicalData) (ops : ℕ) (stations : List (List StationData)) (list : List (List Instance)) → list ≡ all_unstationed stations → IsWhole p stations → ((at : ℕ) → at < ops → has at p.tree ≡ true)
-    → ((at : ℕ) → has at p.tree ≡ true → at < ops) → (length list ≡ ops) × AllByRecursion (λ (row : List Instance). length row ≡ p.workers) list
-rows_are p ops stations list is w all only = (
-  ap length is ∙ length-map stations unstationed ∙ count_of_stations p ops stations w all only,
-  subst (AllByRecursion (λ (row : List Instance). length row ≡ p.workers)) (sym is) (rows_long p stations w),
-)
+  module _ (only : (at : ℕ) → has at g.physical.tree ≡ true → at < ops) (all : List (List Instance)) (all_is : all ≡ with_columns (replicate g.physical.workers []) list) where
+    own_is : (worker : ℕ) → worker < g.physical.workers → get_or all worker [] ≡ map (λ own. get_or own worker no_instance) list
+    own_is worker below =
+        ap (λ (l : List (List Instance)). get_or l worker []) all_is
+        ∙ columns_at g.physical.workers (replicate g.physical.workers []) list worker (length-replicate g.physical.workers []) below rows_long
+        ∙ ap (λ (r : List Instance). r ++ map (λ own. get_or own worker no_instance) list) (blank g.physical.workers worker [] refl)
 
-none_taken : (o : Option Port) (from worker : ℕ) → lists_at no_history.taken o from worker ≡ []
-none_taken None from worker = refl
-none_taken (Some q) from worker = refl
+    instance_is : (at worker : ℕ) → at < ops → worker < g.physical.workers → get_or (get_or all worker []) at no_instance ≡ get_or (get_or list at []) worker no_instance
+    instance_is at worker less below =
+        ap (λ (l : List Instance). get_or l at no_instance) (own_is worker below)
+        ∙ map_at (λ (own : List Instance). get_or own worker no_instance) list at [] no_instance (omega (arith, less, started.long))
 
-module _ (g : Setting) (ops : ℕ) (w : WorldData) (stand : IsStanding g w no_history) (all_ops : (at : ℕ) → at < ops → has at g.physical.tree ≡ true) (only : (at : ℕ) → has at g.physical.tree ≡ true → at < ops)
-    (all : List (List Instance)) (all_is : all ≡ with_columns (replicate g.physical.workers []) (all_unstationed w.stations)) where
-  whole : IsWhole g.physical w.stations
-  whole = subst (λ (p : PhysicalData). IsWhole p w.stations) stand.physical stand.whole
-
-  count : length w.stations ≡ ops
-  count = count_of_stations g.physical ops w.stations whole all_ops only
-
-  own_is : (worker : ℕ) → worker < g.physical.workers → get_or all worker [] ≡ map (λ own. get_or own worker no_instance) (all_unstationed w.stations)
-  own_is worker below =
-      ap (λ (l : List (List Instance)). get_or l worker []) all_is
-      ∙ columns_at g.physical.workers (replicate g.physical.workers []) (all_unstationed w.stations) worker (length-replicate g.physical.workers []) below (rows_long g.physical w.stations whole)
-      ∙ ap (λ (r : List Instance). r ++ map (λ own. get_or own worker no_instance) (all_unstationed w.stations)) (blank g.physical.workers worker [] refl)
-
-  instance_is : (at worker : ℕ) → at < ops → worker < g.physical.workers → get_or (get_or all worker []) at no_instance ≡ instance_in w.stations at worker
-  instance_is at worker less below =
-      let there : at < length w.stations = omega (arith, less, count) in
-      let there_too : at < length (all_unstationed w.stations) = omega (arith, there, length-map w.stations unstationed) in
-      let on_worker : worker < length (get_or w.stations at []) = omega (arith, below, whole.workers at there) in
-      ap (λ (l : List Instance). get_or l at no_instance) (own_is worker below)
-      ∙ map_at (λ (own : List Instance). get_or own worker no_instance) (all_unstationed w.stations) at [] no_instance there_too
-      ∙ ap (λ (l : List Instance). get_or l worker no_instance) (map_at unstationed w.stations at [] [] there)
-      ∙ map_at (λ (s : StationData). s.instance) (get_or w.stations at []) worker no_station no_instance on_worker
-
-  pub at_start : AreAtStart g ops all
-  at_start = record {
-    long = ap length all_is ∙ length_columns (replicate g.physical.workers []) (all_unstationed w.stations) ∙ length-replicate g.physical.workers [];
-    each = λ worker below. ap length (own_is worker below) ∙ length-map (all_unstationed w.stations) (λ (own : List Instance). get_or own worker no_instance) ∙ length-map w.stations unstationed ∙ count;
-    local = λ at worker there below.
-        let t = subtree_of at g.physical.tree in
-        subst (λ (x : Instance × (ℕ → ℕ → List Note)). IsLocal (spot g t) worker x.0 x.1 (λ to. []))
-        (λ i. (sym (instance_is at worker (only at there) below) i, λ port from. none_taken (slice_get (ports_of g.physical t) port) from worker i)) (stand.stands.instances at worker there below);
-  }
+    pub at_start : AreAtStart g ops all
+    at_start = record {
+      long = ap length all_is ∙ length_columns (replicate g.physical.workers []) list ∙ length-replicate g.physical.workers [];
+      each = λ worker below. ap length (own_is worker below) ∙ length-map list (λ (own : List Instance). get_or own worker no_instance) ∙ started.long;
+      local = λ at worker there below.
+          let s = spot g (subtree_of at g.physical.tree) in
+          let less = only at there in
+          subst (λ (i : Instance). IsLocal s worker i (λ port from. []) (λ to. [])) (sym (instance_is at worker less below))
+          (started_local s worker (get_or (get_or list at []) worker no_instance) ((started.each at less).each worker below).started);
+    }
 
 -- ---- from the start to what is left
 

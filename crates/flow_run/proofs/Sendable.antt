@@ -36,6 +36,7 @@ use Rattle.tac_syntax.specs.contracts.statements.Body as Body
 use Rattle.tac_syntax.specs.contracts.functions.Function as Function
 use Rattle.tac_syntax.specs.contracts.valids.Valid as Valid
 use Rattle.tac_syntax.specs.contracts.valids.Valid.TheInside as Inside
+use Rattle.flow_instance.specs.contracts.before_start.Unstarted as Unstarted
 use Rattle.flow_instance.specs.contracts.parts.Part as Part
 use Rattle.flow_instance.specs.contracts.states.State as State
 use Rattle.flow_instance.specs.contracts.instances.Instance as Instance
@@ -80,6 +81,9 @@ valid_send = view_send Inside.the_row _ _ _ _ (declared_send Inside.the_type (se
 
 part_send : IsSend Part.the_row
 part_send = search (sendable, crosses, ship_sends, keys_sends, port_sends, valid_send) depth 20
+
+pub unstarted_send : IsSend Unstarted.the_row
+unstarted_send = search (sendable, crosses, part_send, rows_send) depth 20
 
 module _ (L : RattleType) where
   state_fields : IsSend L → FieldsHave IsSend (State.the_type L).parts

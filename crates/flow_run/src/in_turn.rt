@@ -18,6 +18,7 @@ use crate::dealing::{Prepared, deal};
 use crate::finishing::finish;
 use crate::options::Options;
 use batch_channel::Width;
+use flow_core::{start_rows, unstarted_rows};
 use local_strategy::Local;
 use pact_bag::{Inputs, Outcome};
 use pact_operators::{Physical, Program};
@@ -48,7 +49,9 @@ fn run_each<L: Local, W: Width, R: Wait, G: Gate>(
     ensures counts { IfOk result (λ o. length o.counts ≡ length program.now.ops) }
 {
     let workers = physical.workers();
-    let prepared = deal::<L, W, R>(rt, alloc, program, physical, inputs, options)?;
+    let rows = unstarted_rows(alloc, program, physical, inputs, options.batch)?;
+    let list = start_rows(alloc, rows)?;
+    let prepared = deal::<L, W, R>(rt, alloc, program, physical, list, options.depth)?;
     let Prepared { dealt, pipes } = prepared;
     let returned = work_each(rt, alloc, gate, workers, dealt, &pipes)?;
     finish(rt, alloc, program, physical, pipes, returned, options)

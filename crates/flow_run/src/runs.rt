@@ -14,11 +14,12 @@ ghost use Rattle.flow_instance.specs.Spread.{Spread};
 ghost use Rattle.flow_core.specs.Worlds.{depth_limit};
 
 use crate::assembling::work_all;
+use crate::begins::start_on_threads;
 use crate::dealing::{Prepared, deal};
 use crate::finishing::finish;
 use crate::options::Options;
 use batch_channel::Width;
-use flow_core::{World, run_alone};
+use flow_core::{World, run_alone, unstarted_rows};
 use local_strategy::Local;
 use pact_bag::{Inputs, Outcome};
 use pact_operators::{Physical, Program};
@@ -74,7 +75,9 @@ fn run_wide<L: Local, W: Width + Sync + Send, R: Threads + Wait + Sync, G: Gate>
     ensures counts { IfOk result (λ o. length o.counts ≡ length program.now.ops) }
 {
     let workers = physical.workers();
-    let prepared = deal::<L, W, R>(rt, alloc, program, physical, inputs, options)?;
+    let rows = unstarted_rows(alloc, program, physical, inputs, options.batch)?;
+    let list = start_on_threads(rt, alloc, rows)?;
+    let prepared = deal::<L, W, R>(rt, alloc, program, physical, list, options.depth)?;
     let Prepared { dealt, pipes } = prepared;
     let returned = work_all(rt, alloc, gate, workers, dealt, &pipes)?;
     finish(rt, alloc, program, physical, pipes, returned, options)

@@ -1,10 +1,13 @@
-use Rattle.std.proofs.Common.{◌≡◌, ◌≤◌, ◌<◌, ◌*◌, true, rules, length, ap, arith, subst, sym, ℕ}
+use Rattle.std.proofs.Common.{◌≡◌, ◌≤◌, ◌<◌, ◌*◌, ◌∙◌, true, rules, List, [], length, replicate, ap, arith, subst, sym, ℕ}
 use Rattle.flow_instance.proofs.PartsOfPlans.{number_below}
 use Rattle.plan_trees.specs.Plans.{has}
 use Rattle.flow_instance.specs.Spots.{setting}
 use Rattle.flow_run.specs.Dealing.{AreDealt}
 use Rattle.flow_run.specs.Wires.{AreWired}
-use Rattle.flow_run.proofs.RunsOfWorkers.{are_dealt, few_numbers}
+use Rattle.std.specs.List.{AllByRecursion}
+use Rattle.flow_instance.specs.Instances.{Instance}
+use Rattle.flow_run.specs.Remains.{with_columns}
+use Rattle.flow_run.proofs.RunsOfWorkers.{are_dealt, at_start, few_numbers, rows_long}
 use Rattle.flow_run.proofs.dealing.deal.Goals as goal
 
 pub overflow_cast-count : goal.overflow_cast-count
@@ -23,13 +26,25 @@ wire-requires-clause-count g c =
 pub wire-requires-clause-only : goal.wire-requires-clause-only
 wire-requires-clause-only g c at less = let same = ap length c.ops-ops.ensures.ops in c.requires.plan.all at (omega (arith, less, same))
 
+pub by_worker-requires-clause-long : goal.by_worker-requires-clause-long
+by_worker-requires-clause-long g c κs within = c.requires.started.started.long ∙ sym (ap length c.ops-ops.ensures.ops)
+
+pub by_worker-requires-clause-rows : goal.by_worker-requires-clause-rows
+by_worker-requires-clause-rows g c κs within =
+    let p = c.args.program.now in
+    let first = c.requires.started in
+    subst (λ (n : ℕ). AllByRecursion (λ (row : List Instance). length row ≡ n) c.args.list) (sym c.workers-workers.ensures.workers)
+    (rows_long (setting p first.inputs c.args.physical.now) first.size (length p.ops) c.args.list first.started)
+
 pub returns : goal.returns
-returns g c =
+returns g c = λ inputs size started.
     let p = c.args.program.now in
     let q = c.args.physical.now in
-    let s = setting p c.args.inputs q in
+    let s = setting p inputs q in
     let v = c.in_ok-wired.wired in
+    let all = c.in_ok-instances.instances in
     let only : (at : ℕ) → has at q.tree ≡ true → at < length p.ops = λ at there. number_below p.ops at q.tree there c.requires.plan.arity in
-    let wired = subst (λ (n : ℕ). AreWired q n c.args.options.depth (256 * n) v.pipes v.puts v.takes) (ap length c.ops-ops.ensures.ops) c.in_ok-wired.ensures in
-    subst (λ (n : ℕ). AreDealt s (length p.ops) n v.pipes c.in_ok-instances.instances v.puts v.takes) (sym c.requires.width)
-    (are_dealt s (length p.ops) c.args.options.depth v.pipes v.puts v.takes c.in_ok-instances.instances c.workers-workers.ensures.physical c.requires.plan.all only c.requires.depth.1 c.in_ok-instances.ensures wired)
+    let wired = subst (λ (n : ℕ). AreWired q n c.args.depth (256 * n) v.pipes v.puts v.takes) (ap length c.ops-ops.ensures.ops) c.in_ok-wired.ensures in
+    let start = at_start s size (length p.ops) c.args.list started only all (c.in_ok-instances.ensures ∙ (λ i. with_columns (replicate (c.workers-workers.ensures.workers i) []) c.args.list)) in
+    subst (λ (n : ℕ). AreDealt s (length p.ops) n v.pipes all v.puts v.takes) (sym c.requires.width)
+    (are_dealt s (length p.ops) c.args.depth v.pipes v.puts v.takes all c.workers-workers.ensures.physical c.requires.plan.all only c.requires.depth.1 start wired)

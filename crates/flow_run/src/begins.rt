@@ -1,0 +1,83 @@
+//! Instances that start on threads.
+
+ghost use Rattle.std.specs.Prelude.{◌≡◌, Ok, IfOk, map};
+ghost use Rattle.std.specs.List.{AllByRecursion};
+ghost use Rattle.flow_core.specs.Starting.{CanStartRow, StartAllFrom, StartFrom};
+ghost use Rattle.flow_instance.specs.Starting.{CanStart, IsStartedFrom};
+
+use flow_core::{InstanceList, Instances, UnstartedRow, start_in_turn};
+use flow_instance::{Instance, Unstarted};
+use local_strategy::Local;
+use pact_record::OutOfMemory;
+use std::alloc::Global;
+use std::thread;
+use std::thread::Threads;
+
+// If the workers have fewer rows of a source than this, starting threads takes longer than cutting the rows into batches.
+const LONG_SHARE: usize = 2048;
+
+// The instances of a row, if each of them could be started.
+fn all_started<L: Local>(
+    alloc: Global,
+    started: Vec<Result<Instance<L>, OutOfMemory>>,
+) -> Result<Instances<L>, OutOfMemory>
+    ensures { IfOk result (λ own. started.items ≡ map Ok own) }
+{
+    let mut held = Vec::new(alloc);
+    for one in started {
+        held.push(one?)?;
+    }
+    Ok(Instances::from_vec(held))
+}
+
+// The instances of a row, each started on a thread of its own if the system provides one.
+fn start_side_by_side<L: Local, R: Threads + Sync>(
+    rt: &R,
+    alloc: Global,
+    row: UnstartedRow,
+) -> Result<Instances<L>, OutOfMemory>
+    requires may { CanStartRow row }
+    ensures { IfOk result (StartFrom row.held.items) }
+{
+    let jobs = row.into_vec();
+    let started = thread::map_vec(
+        rt,
+        jobs,
+        &|unstarted: Unstarted| -> Result<Instance<L>, OutOfMemory>
+            requires { CanStart unstarted }
+            ensures { IfOk result (IsStartedFrom unstarted) }
+        { Instance::start_from(alloc, unstarted) },
+    )?;
+    all_started(alloc, started)
+}
+
+// The instances of a row. Those of a source with many rows are started on threads, since each cuts its rows into batches.
+fn start_row<L: Local, R: Threads + Sync>(
+    rt: &R,
+    alloc: Global,
+    row: UnstartedRow,
+) -> Result<Instances<L>, OutOfMemory>
+    requires may { CanStartRow row }
+    ensures { IfOk result (StartFrom row.held.items) }
+{
+    if row.share_len() < LONG_SHARE {
+        return start_in_turn(alloc, row);
+    }
+    start_side_by_side(rt, alloc, row)
+}
+
+/// The instances of all rows at their start.
+pub(crate) fn start_on_threads<L: Local, R: Threads + Sync>(
+    rt: &R,
+    alloc: Global,
+    rows: Vec<UnstartedRow>,
+) -> Result<InstanceList<L>, OutOfMemory>
+    requires may { AllByRecursion CanStartRow rows.items }
+    ensures { IfOk result (StartAllFrom rows.items) }
+{
+    let mut all = Vec::with_capacity(alloc, rows.len())?;
+    for row in rows {
+        all.push_reserved(start_row(rt, alloc, row)?);
+    }
+    Ok(InstanceList::from_rows(all))
+}
