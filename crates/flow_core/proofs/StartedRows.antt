@@ -16,6 +16,9 @@ use Rattle.flow_core.specs.declared.starting.UnstartedRow.{UnstartedRow}
 use Rattle.flow_core.specs.Starting.{AreAllStarted, AreAllUnstarted, AreOwn, AreRowsFrom, AreStarted, AreStartedOn, AreUnstarted, AreUnstartedFrom, CanStartRow, IsRowUnstarted, IsStartedOn, IsUnstartedOn, StartAllFrom, StartFrom}
 use Rattle.flow_core.specs.Worlds.{StationData, no_instance}
 
+zero_plus : (n : ℕ) → n ≡ 0 + n
+zero_plus n = omega arith
+
 -- ---- one more
 
 module _ (p : ProgramData) (q : PhysicalData) (size at : ℕ) (rows : Bag) where
@@ -26,7 +29,7 @@ module _ (p : ProgramData) (q : PhysicalData) (size at : ℕ) (rows : Bag) where
   pub unstarted_more : (n : ℕ) (row new : List Unstarted) (u : Unstarted) → new ≡ row ++ u ∷ [] → AreUnstarted p q size at rows n row → IsUnstartedOn p q size at rows n u → AreUnstarted p q size at rows (n + 1) new
   unstarted_more n row new u is h last = subst (AreUnstarted p q size at rows (n + 1)) (sym is) (record {
     long = length-append row (u ∷ []) ∙ ap (λ (k : ℕ). k + 1) h.long;
-    each = from_last 0 row u h.each (subst (λ (k : ℕ). IsUnstartedOn p q size at rows k u) (sym h.long) last);
+    each = from_last 0 row u h.each (subst (λ (k : ℕ). IsUnstartedOn p q size at rows k u) (sym h.long ∙ zero_plus (length row)) last);
   })
 
   pub can_start : (from : ℕ) (row : List Unstarted) → AreUnstartedFrom p q size at rows from row → AllByRecursion CanStart row
@@ -67,7 +70,7 @@ module _ (p : ProgramData) (q : PhysicalData) (inputs : List Bag) (size at : ℕ
       let long : length own ≡ q.workers = as_many row own s ∙ u.long in
       record {
         long = long;
-        each = λ worker below. started_at 0 row own u.each s owned worker (omega (arith, below, long));
+        each = λ worker below. subst (λ (n : ℕ). IsStartedOn (setting p inputs q) size at n (get_or own worker no_instance)) (sym (zero_plus worker)) (started_at 0 row own u.each s owned worker (omega (arith, below, long)));
       }
 
 -- ---- all rows
@@ -80,7 +83,7 @@ module _ (p : ProgramData) (q : PhysicalData) (inputs : List Bag) (size : ℕ) w
   pub rows_more : (n : ℕ) (rows new : List UnstartedRow) (row : UnstartedRow) → new ≡ rows ++ row ∷ [] → AreAllUnstarted p q inputs size n rows → IsRowUnstarted p q inputs size n row → AreAllUnstarted p q inputs size (n + 1) new
   rows_more n rows new row is h last = subst (AreAllUnstarted p q inputs size (n + 1)) (sym is) (record {
     long = length-append rows (row ∷ []) ∙ ap (λ (k : ℕ). k + 1) h.long;
-    each = rows_last 0 rows row h.each (subst (λ (k : ℕ). IsRowUnstarted p q inputs size k row) (sym h.long) last);
+    each = rows_last 0 rows row h.each (subst (λ (k : ℕ). IsRowUnstarted p q inputs size k row) (sym h.long ∙ zero_plus (length rows)) last);
   })
 
   pub can_start_rows : (from : ℕ) (rows : List UnstartedRow) → AreRowsFrom p q inputs size from rows → AllByRecursion CanStartRow rows
@@ -105,7 +108,7 @@ module _ (p : ProgramData) (q : PhysicalData) (inputs : List Bag) (size : ℕ) w
   pub all_started : (count : ℕ) (rows : List UnstartedRow) (all : List (List Instance)) → AreAllUnstarted p q inputs size count rows → StartAllFrom rows all → AreAllStarted (setting p inputs q) size count all
   all_started count rows all h s =
       let long : length all ≡ count = rows_as_many rows all s ∙ h.long in
-      record { long = long; each = λ at less. row_at 0 rows all h.each s at (omega (arith, less, long)) }
+      record { long = long; each = λ at less. subst (λ (n : ℕ). AreStartedOn (setting p inputs q) size n (get_or all at [])) (sym (zero_plus at)) (row_at 0 rows all h.each s at (omega (arith, less, long))) }
 
 pub start_all_more : (rows : List UnstartedRow) (row : UnstartedRow) (all : List (List Instance)) (own : List Instance) → StartAllFrom rows all → StartFrom row.held.items own → StartAllFrom (rows ++ row ∷ []) (all ++ own ∷ [])
 start_all_more [] row [] own h last = (last, tt)

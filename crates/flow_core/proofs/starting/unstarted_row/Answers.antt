@@ -15,7 +15,7 @@ new-requires-clause-worker c =
     c.in-Some.share c.in-Some.is c.next.ensures.steps in
     let own = own_share c.workers-workers.result c.loop-share.worker c.args.rows c.in-Some.share shares.items c.loop-share.yielded c.in_ok-shares.ensures c.loop-share.invariant.0 t.0 t.1 in
     let may = own_may_start c.args.program.now c.args.at c.workers-workers.result c.loop-share.worker c.args.rows c.in-Some.share own c.requires.wide c.requires.none in
-    λ _ _. subst (λ (n : ℕ). c.loop-share.worker < n) c.workers-workers.ensures.workers may.below
+    subst (λ (n : ℕ). c.loop-share.worker < n) c.workers-workers.ensures.workers may.below
 
 pub new-requires-clause-widths : goal.new-requires-clause-widths
 new-requires-clause-widths c =
@@ -25,7 +25,7 @@ new-requires-clause-widths c =
     c.in-Some.share c.in-Some.is c.next.ensures.steps in
     let own = own_share c.workers-workers.result c.loop-share.worker c.args.rows c.in-Some.share shares.items c.loop-share.yielded c.in_ok-shares.ensures c.loop-share.invariant.0 t.0 t.1 in
     let may = own_may_start c.args.program.now c.args.at c.workers-workers.result c.loop-share.worker c.args.rows c.in-Some.share own c.requires.wide c.requires.none in
-    λ _ _. may.wide
+    may.wide
 
 pub new-requires-clause-no_rows : goal.new-requires-clause-no_rows
 new-requires-clause-no_rows c =
@@ -35,7 +35,7 @@ new-requires-clause-no_rows c =
     c.in-Some.share c.in-Some.is c.next.ensures.steps in
     let own = own_share c.workers-workers.result c.loop-share.worker c.args.rows c.in-Some.share shares.items c.loop-share.yielded c.in_ok-shares.ensures c.loop-share.invariant.0 t.0 t.1 in
     let may = own_may_start c.args.program.now c.args.at c.workers-workers.result c.loop-share.worker c.args.rows c.in-Some.share own c.requires.wide c.requires.none in
-    λ _ _. may.none
+    may.none
 
 pub push_reserved-requires : goal.push_reserved-requires
 push_reserved-requires c =
@@ -86,10 +86,10 @@ returns c =
     subst (λ (n : ℕ). AreUnstarted c.args.program.now c.args.physical.now c.args.batch c.args.at c.args.rows n c.loop-share.held.items) whole i.3
 
 pub new-requires-clause-plan : goal.new-requires-clause-plan
-new-requires-clause-plan c = λ _ _. c.requires.plan
+new-requires-clause-plan c = c.requires.plan
 
 pub new-requires-clause-some : goal.new-requires-clause-some
-new-requires-clause-some c = λ _ _. c.requires.batch
+new-requires-clause-some c = c.requires.batch
 
 pub new-requires-clause-has : goal.new-requires-clause-has
-new-requires-clause-has c = λ _ _. c.requires.plan.all c.args.at c.requires.at
+new-requires-clause-has c = c.requires.plan.all c.args.at c.requires.at

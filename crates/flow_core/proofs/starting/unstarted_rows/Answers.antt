@@ -20,18 +20,18 @@ pub unstarted_row-requires-clause-wide : goal.unstarted_row-requires-clause-wide
 unstarted_row-requires-clause-wide c =
     let at = op_at c.args.program.now c.ops-ops.result.now c.loop-at.at c.index-ops-at.result c.ops-ops.ensures.ops c.loop-at-test.true c.index-ops-at.is in
     let taken = has_taken c.args.program.now c.args.inputs c.loop-at.left c.loop-at.at c.index-ops-at.result c.own_rows-own.result c.own_rows-own.new.left c.requires.inputs at c.loop-at.invariant.0 c.own_rows-own.ensures in
-    λ _ _. taken.wide
+    taken.wide
 
 pub unstarted_row-requires-clause-none : goal.unstarted_row-requires-clause-none
 unstarted_row-requires-clause-none c =
     let at = op_at c.args.program.now c.ops-ops.result.now c.loop-at.at c.index-ops-at.result c.ops-ops.ensures.ops c.loop-at-test.true c.index-ops-at.is in
     let taken = has_taken c.args.program.now c.args.inputs c.loop-at.left c.loop-at.at c.index-ops-at.result c.own_rows-own.result c.own_rows-own.new.left c.requires.inputs at c.loop-at.invariant.0 c.own_rows-own.ensures in
-    λ _ _. taken.none
+    taken.none
 
 pub unstarted_row-requires-clause-at : goal.unstarted_row-requires-clause-at
 unstarted_row-requires-clause-at c =
     let at = op_at c.args.program.now c.ops-ops.result.now c.loop-at.at c.index-ops-at.result c.ops-ops.ensures.ops c.loop-at-test.true c.index-ops-at.is in
-    λ _ _. at.less
+    at.less
 
 pub loop-at-preserved : goal.loop-at-preserved
 loop-at-preserved c =
@@ -51,10 +51,10 @@ pub push_reserved-requires : goal.push_reserved-requires
 push_reserved-requires c = omega (arith, c.loop-at-test.true, c.loop-at.invariant.1, c.loop-at.invariant.2)
 
 pub unstarted_row-requires-clause-plan : goal.unstarted_row-requires-clause-plan
-unstarted_row-requires-clause-plan c = λ _ _. c.requires.plan
+unstarted_row-requires-clause-plan c = c.requires.plan
 
 pub unstarted_row-requires-clause-batch : goal.unstarted_row-requires-clause-batch
-unstarted_row-requires-clause-batch c = λ _ _. c.requires.batch.0
+unstarted_row-requires-clause-batch c = c.requires.batch.0
 
 pub returns : goal.returns
 returns c =
