@@ -83,7 +83,13 @@ part_send : IsSend Part.the_row
 part_send = search (sendable, crosses, ship_sends, keys_sends, port_sends, valid_send) depth 20
 
 pub unstarted_send : IsSend Unstarted.the_row
-unstarted_send = search (sendable, crosses, part_send, rows_send) depth 20
+unstarted_send = declared_send Unstarted.the_type (
+  search (sendable, crosses, as_row_send, part_send) depth 20,
+  (
+    search (sendable, crosses, as_row_send, rows_send) depth 20,
+    tt,
+  ),
+)
 
 module _ (L : RattleType) where
   state_fields : IsSend L → FieldsHave IsSend (State.the_type L).parts

@@ -43,4 +43,4 @@ returns g c =
     let rows = c.args.rows in
     let done = c.loop-row.yielded in
     let all = YieldsList-end (YieldsList-from_vec {s = c.into_iter-row-iterator.result} rows.items gives.0 (gives.1 ∙ rows.ok.0)) done c.loop-row.row-iterator c.loop-row.yielded_by c.next.result c.next.new.self c.in-None.is c.next.ensures.steps in
-    subst (λ (l : List UnstartedRow). StartAllFrom l c.loop-row.all.items) (sym (map-id done) ∙ all.0) c.loop-row.invariant.2
+    subst (StartAllFrom rows.items) (sym c.from_rows.ensures) (subst (λ (l : List UnstartedRow). StartAllFrom l c.loop-row.all.items) (sym (map-id done) ∙ all.0) c.loop-row.invariant.2)
