@@ -300,7 +300,7 @@ ignoring_at_limit() {
 count ignoring_at_limit
 count front_of_rows
 
-# The stack: the deepest programs and certificates, on what is usual, on a quarter of it, and on what docs/language.md tells.
+# The stack: the deepest programs and certificates, on what is usual, on a quarter of it, and on what README.md names.
 deepest() { # 16 Reduces in a row, each with three loops and eight branches, one in the other
     local number before=s
     printf 'pact 1\nfields 20\nsource s s.csv int:0 int:1\n'
@@ -331,6 +331,21 @@ nested() { awk -v times="$1" -v word="$2" 'BEGIN { for (i = 0; i < times; i++) p
     echo "sink $before 0"
 } >"$outside/maps.pact"
 : >"$outside/none.csv"
+# Fifteen CoGroups in a row, each with three loops and eight branches, one in the other: what is pruned is found by a walk down all of them.
+{
+    printf 'pact 1\nfields 64\nsource s none.csv int:0 int:1 int:2\n'
+    before=s
+    for ((number = 0; number < 15; number++)); do
+        printf 'source t%d none.csv int:%d\nfunction f%d cogroup 1\neach x1 of left\nr0 = copy x1\n' "$number" $((number + 20)) "$number"
+        printf 'each x%d of left\n' 2 3
+        printf '%s\n' if\ v0{,,,,,,,}
+        echo 'v1 = addw v1 v0'
+        printf 'else\nv3 = null\nend\n%.0s' 1 2 3 4 5 6 7 8
+        printf 'end\nend\nemit r0\nend\nend\ncogroup g%d f%d %s t%d by 0 = %d\n' "$number" "$number" "$before" "$number" $((number + 20))
+        before=g$number
+    done
+    echo "sink $before 0"
+} >"$outside/cogroups.pact"
 # Twenty loops inside one, each with a loop inside it: 41 loops, of which the 20 innermost have no room and start anew each time.
 {
     printf 'pact 1\nfields 64\nsource s none.csv int:0\nfunction f map\n'
@@ -374,6 +389,7 @@ for kilobytes in 8192 2048 192; do
         count on_a_stack "$kilobytes" 0 "$command" twenty.pact
     done
     count on_a_stack "$kilobytes" 0 plan maps.pact --plans 1000
+    count on_a_stack "$kilobytes" 0 run cogroups.pact --plans 1 --prune
     count on_a_stack "$kilobytes" 6 sets nested.pact
     count on_a_stack "$kilobytes" 9 check push.pact objects.json
     count on_a_stack "$kilobytes" 9 check push.pact lists.json
@@ -400,7 +416,7 @@ rm "$outside/large.csv"
 # ---- Limits of time
 
 # Programs and certificates that are made to keep pact busy. Each row has a limit in seconds of the processor, since a clock goes on while others have
-# the machine. The limits are some twenty times what was measured.
+# the machine. The limits are 3 to 40 times what was measured.
 ends_within() { # seconds, and words; what is written is long
     (cd "$outside" && limited -t "$1" "${@:2}" >"$scratch/out" 2>"$scratch/err")
 }
