@@ -25,7 +25,7 @@ use pact_record::{Fields, OutOfMemory};
 use plan_trees::{Physical, Ship};
 use std::alloc::Global;
 
-// A Map is put in while there are fewer operators and functions than these.
+// A Map is inserted while there are fewer operators and functions than these.
 const MAX_OPERATORS: usize = 16;
 
 const MAX_FUNCTIONS: usize = 64;
@@ -59,7 +59,7 @@ fn operators(ops: &[Op]) -> usize
     count
 }
 
-// Whether a Map may still be put in.
+// Whether a Map may still be inserted.
 fn has_room(program: &Program) -> bool
     ensures { IsTrue result ↔ (times_of_kind is_operator_kind program.now.ops < operator_limit) × (length program.now.functions < function_limit) }
 {
@@ -116,7 +116,7 @@ fn needed_at(program: &Program, plan: &Plan, known: &mut Option<NeedTable>, at: 
     table.at(at)
 }
 
-// With a Map on the edge of the number, where one is to stand there.
+// Inserts a Map on this number's edge, if the edge gets one.
 fn pruned_at(
     alloc: Global,
     program: &Program,
@@ -160,7 +160,7 @@ fn pruned_at(
     })
 }
 
-// With all of them.
+// Inserts all Maps, in the order of numbers.
 fn all_pruned(alloc: Global, program: &Program, physical: &Physical) -> Result<Pruned, OutOfMemory>
     requires program { IsProgram program.now }
     requires physical { IsPhysical physical.now }
@@ -182,7 +182,7 @@ fn all_pruned(alloc: Global, program: &Program, physical: &Physical) -> Result<P
 /// The pruned plan: in the order of numbers, each source and operator gets a Map on its edge that keeps what is needed of
 /// its records, while there are fewer than 16 operators and fewer than 64 functions. The root gets none, nor does one that
 /// ships Forward, nor one all of whose attributes are needed. Both plans give the same records, cut to the sink's fields,
-/// with the same counts at the program's operators. Want of memory is the only error.
+/// with the same counts at the program's operators. The only error is out of memory.
 pub fn prune(alloc: Global, program: &Program, physical: &Physical) -> Result<Pruned, OutOfMemory>
     requires plan { IsPlanOf program.now.functions program.now.ops physical.now.tree }
     requires legal { LegalShip (facts_of program.now physical.now.tree) physical.now }
