@@ -47,3 +47,33 @@ has_lines_of_one_thread() {
 for workers in 2 3 4 16; do
     count has_lines_of_one_thread "$workers"
 done
+
+# Every source of the programs here, repeated until it fills eight parts of 64 KiB, which as many threads read as there are workers.
+long_source() {
+    local file=$1 columns=${*:2} fields
+    fields=$(tr ' ' '\n' <<<"$columns" | sed 's/.*://')
+    awk 1 "$file" >"$scratch/eight.csv"
+    while [ "$(wc -c <"$scratch/eight.csv")" -lt $((8 * 65536)) ]; do
+        cp "$scratch/eight.csv" "$scratch/half.csv" && cat "$scratch/half.csv" >>"$scratch/eight.csv"
+    done
+    printf 'pact 2\nfields %d\nsource s eight.csv %s\nsink s %s\n' $(($(sort -n <<<"$fields" | tail -n 1) + 1)) "$columns" "${fields//$'\n'/ }"
+}
+# What a run of the long source writes, on both streams, and its status.
+reads_it() {
+    (cd "$scratch" && "$pact" run eight.pact --workers "$1" 2>&1; echo "$?") >"$scratch/$2"
+}
+read_in_as_many_parts() {
+    reads_it "$1" in_parts && cmp "$scratch/by_one" "$scratch/in_parts"
+}
+sources=0
+while read -r file columns; do
+    [ -s "$file" ] || continue
+    # shellcheck disable=SC2086
+    long_source "$file" $columns >"$scratch/eight.pact"
+    reads_it 1 by_one
+    sources=$((sources + 1))
+    for workers in 2 3 4 5 6 7 8; do
+        count read_in_as_many_parts "$workers"
+    done
+done < <(sed -n 's/#.*//; s/^source  *[^ ]*  *//p' ./*.pact | sort -u)
+count [ "$sources" -gt 30 ]
