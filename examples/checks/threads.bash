@@ -48,6 +48,24 @@ for workers in 2 3 4 16; do
     count has_lines_of_one_thread "$workers"
 done
 
+# Numbers of rows on both sides of those from which four workers start on threads, and of those that give a text of two and three parts; then a
+# source that is just too short to be read in two parts, and one that is not.
+is_the_same_on_four() {
+    (cd "$scratch" && "$pact" run edge.pact --workers 1 >by_one 2>err && "$pact" run edge.pact --workers 4 >in_parts 2>>err) &&
+        [ ! -s "$scratch/err" ] && cmp "$scratch/by_one" "$scratch/in_parts" && [ "$(wc -l <"$scratch/in_parts")" = "$1" ]
+}
+sed 's/many\.csv/edge.csv/' "$scratch/many.pact" >"$scratch/edge.pact"
+for rows in 8188 8191 8192 8193 24999 25000 25001 37499 37500; do
+    head -n "$rows" "$scratch/many.csv" >"$scratch/edge.csv"
+    count is_the_same_on_four "$rows"
+done
+for bytes in 65535 65536 131071 131072 131073; do
+    # Six bytes a row, and in the last one a longer text.
+    awk -v bytes="$bytes" 'BEGIN { for (; bytes > 14; bytes -= 6) print "1,2,a"; printf "3,4,%*s\n", bytes - 5, "b" }' >"$scratch/edge.csv"
+    count [ "$(wc -c <"$scratch/edge.csv")" = "$bytes" ]
+    count is_the_same_on_four "$(wc -l <"$scratch/edge.csv")"
+done
+
 # Every source of the programs here, repeated until it fills eight parts of 64 KiB, which as many threads read as there are workers.
 long_source() {
     local file=$1 columns=${*:2} fields
