@@ -9,8 +9,8 @@ ghost use Rattle.csv_sink.specs.CsvText.{csv_text};
 ghost use Rattle.bag_lines.specs.Lines.{AreLines, CanFormat};
 ghost use Rattle.bag_lines.specs.declared.lines.TheConstants.{PART_ROWS};
 
-use csv_sink::write_rows;
-use pact_bag::{Rows, sort_rows};
+use csv_sink::write_fields;
+use pact_bag::{Rows, sort_rows_by};
 use pact_record::{Bytes, OutOfMemory, Record};
 use std::alloc::Global;
 use std::thread::{Threads, join};
@@ -38,7 +38,7 @@ fn text_in_parts<R: Threads + Sync>(
     ensures { IfOk result (λ text. text ≡ csv_text (map (cut fields.now) records.items)) }
 {
     if parts < 2 {
-        return write_rows(alloc, &records, fields);
+        return write_fields(alloc, &records, fields);
     }
     let prefix_parts = parts / 2;
     let rest_parts = parts - prefix_parts;
@@ -67,8 +67,8 @@ pub fn sorted_lines(alloc: Global, bag: Rows, fields: &[u32]) -> Result<Bytes, O
     requires within { AllByRecursion (λ row. AllByRecursion (λ field. field < length row) fields.now) bag }
     ensures { IfOk result (λ text. AreLines fields.now bag text) }
 {
-    let rows = sort_rows(bag, fields)?;
-    write_rows(alloc, rows.rows(), fields)
+    let rows = sort_rows_by(bag, fields)?;
+    write_fields(alloc, rows.rows(), fields)
 }
 
 /// The same lines. The sorted records are cut into `parts` parts of about the same length. The text of each part is
@@ -84,13 +84,12 @@ pub fn sorted_lines_on_threads<R: Threads + Sync>(
     requires within { AllByRecursion (λ row. AllByRecursion (λ field. field < length row) fields.now) bag }
     ensures { IfOk result (λ text. AreLines fields.now bag text) }
 {
-    let rows = sort_rows(bag, fields)?;
+    let rows = sort_rows_by(bag, fields)?;
     text_in_parts(rt, alloc, rows.into_records(), fields, parts)
 }
 
-// Making the text of a short row and freeing the row takes 605 instructions, so a part of this length takes as many as
-// a part of the reader (`PART_BYTES` of `csv_parts`). That length was measured: below it a thread costs more than it
-// saves.
+// A thread takes time to start and to join: 25,000 short rows took as long in two parts as in one with two threads, and a
+// thirtieth less with four.
 const PART_ROWS: usize = 12_500;
 
 /// In how many parts to make the text of that number of rows: one for each full `PART_ROWS`, at most `threads` and at

@@ -1,4 +1,4 @@
-//! Lists of items in one vector.
+//! Many lists of items that share one vector.
 
 ghost use Rattle.std.specs.Prelude.{◌≡◌, ◌≢◌, ◌≤◌, ◌<◌, ◌+◌, ◌^◌, ◌++◌, ◌∷◌, [], get_or, length, slice_set, OnErr, OnOk, IfOk};
 ghost use Rattle.chain_arena.specs.Arenas.{IsPushed, IsTaken, concatenated};

@@ -1,4 +1,5 @@
-//! An arena of linked lists: many lists of items in one vector, linked by index.
+//! An arena of linked lists: many lists share one vector of items, and are linked by index in
+//! another one.
 //!
 //! A `Chains<T>` means a list of lists, each told by its number, and `spare`, for how many more items there is room. Only
 //! two calls take memory: `reserve` makes room, and `new_chain` adds a list. Within that room an item is put behind a list,

@@ -33,3 +33,5 @@ pub mod CombinedPhysicals
 pub mod CombinedClauses
 pub mod CombinedReduces
 pub mod SentOnce
+pub mod InsertedEdges
+pub mod OnePerKey

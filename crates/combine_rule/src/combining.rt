@@ -6,7 +6,7 @@ ghost use Rattle.pact_operators.specs.Inputs.{AreInputsOf};
 ghost use Rattle.pact_operators.specs.Programs.{IsPlanOf, is_operator_kind, times_of_kind};
 ghost use Rattle.tac_syntax.specs.declared.declarations.OpKind.TheVariants.{Reduce};
 ghost use Rattle.combine_rule.specs.CombinedPrograms.{CanCombine, combined_at, planned, IsCombinedFrom, IsCombinedPlan};
-ghost use Rattle.combine_rule.specs.CombinedRuns.{IsCountedFor, AreSentOnce};
+ghost use Rattle.combine_rule.specs.CombinedRuns.{IsCountedFor, AreSentOnce, AllPutOnePerKey};
 
 use crate::deciding::combinable;
 use crate::halves::partial;
@@ -178,6 +178,7 @@ pub fn combine(
     ensures inputs { IfOk result (λ c. (inputs : List Bag) → AreInputsOf program.now inputs → AreInputsOf c.program inputs) }
     ensures counted { IfOk result (λ c. IsCountedFor (planned program.now physical.now) (planned c.program c.physical)) }
     ensures once { IfOk result (λ c. AreSentOnce (planned program.now physical.now) (planned c.program c.physical) c.of.items) }
+    ensures sent_once { IfOk result (λ c. AllPutOnePerKey (planned c.program c.physical) c.of.items) }
 {
     // Its clause says that the program keeps every rule.
     let _fields = program.fields();

@@ -1,6 +1,6 @@
 //! A text in parts, each read on a thread of its own.
 
-ghost use Rattle.std.specs.Prelude.{◌≡◌, ◌≤◌, ◌<◌, ◌++◌, ◌/◌, ℕ, List, length, max, min, IfErr, IfOk};
+ghost use Rattle.std.specs.Prelude.{◌≡◌, ◌≤◌, ◌<◌, ◌++◌, ◌*◌, ◌/◌, ℕ, List, length, max, min, IfErr, IfOk};
 ghost use Rattle.std.specs.List.{AllByRecursion};
 ghost use Rattle.std.specs.Thread.{IsSync};
 ghost use Rattle.pact_bag.specs.Rows.{HaveOneWidth};
@@ -48,8 +48,11 @@ fn joined(mut prefix: Rows, rest: Result<Rows, BadRow>) -> Result<Rows, BadRow>
 // Where the first `count` of a text's parts end, if all `parts` have the same length.
 fn end_of_parts(len: usize, count: u32, parts: u32) -> usize
     requires { 0 < parts }
+    ensures { result ≡ min (len / parts * count) len }
 {
-    (len / parts as usize).saturating_mul(count as usize)
+    (len / parts as usize)
+        .saturating_mul(count as usize)
+        .min(len)
 }
 
 // It cuts the text near its middle and reads both parts at the same time, each in half of the parts.

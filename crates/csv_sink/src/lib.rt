@@ -3,4 +3,4 @@
 
 mod writing;
 
-pub use writing::write_rows;
+pub use writing::{write_fields, write_rows};

@@ -11,27 +11,57 @@ ghost use Rattle.csv_sink.specs.RowsWritten.{HasTexts, IsBetweenRows};
 
 use csv::{Writer, WriterBuilder};
 use itoa::Buffer;
+use pact_bag::Rows;
 use pact_record::{Bytes, OutOfMemory, Record, Value};
 use std::alloc::Global;
 use std::io::Write;
 
-/// The CSV text of the listed fields of rows, one row after the other, in their order. A field is empty
-/// where the value is Null, or a text without bytes. Want of memory is the only error.
-pub fn write_rows(alloc: Global, rows: &[Record], fields: &[u32]) -> Result<Bytes, OutOfMemory>
+/// The CSV text of rows, one after the other, in their order. A field is empty where the value is Null, or a text
+/// without bytes. Want of memory is the only error.
+pub fn write_rows(alloc: Global, rows: &Rows) -> Result<Bytes, OutOfMemory>
+    ensures { IfOk result (λ text. text ≡ csv_text rows.now) }
+{
+    let mut writer = WriterBuilder::new().from_writer(Vec::new(alloc));
+    for row in rows.rows() {
+        write_row(&mut writer, row)?;
+    }
+    let text = writer.into_inner().map_err(|_| OutOfMemory)?;
+    Ok(Bytes::from_vec(text))
+}
+
+/// The CSV text of the listed fields of rows, written as `write_rows` writes all fields. No row is copied.
+pub fn write_fields(alloc: Global, rows: &[Record], fields: &[u32]) -> Result<Bytes, OutOfMemory>
     requires few { length fields.now ≤ MAX_FIELDS }
     requires within { AllByRecursion (λ row. AllByRecursion (λ field. field < length row) fields.now) rows.now }
     ensures { IfOk result (λ text. text ≡ csv_text (map (cut fields.now) rows.now)) }
 {
     let mut writer = WriterBuilder::new().from_writer(Vec::new(alloc));
     for row in rows {
-        write_row(&mut writer, row, fields)?;
+        write_row_fields(&mut writer, row, fields)?;
     }
     let text = writer.into_inner().map_err(|_| OutOfMemory)?;
     Ok(Bytes::from_vec(text))
 }
 
 // Rows have one width, so that a writer to memory has no other reason than want of memory.
-fn write_row<W: Write + Drop>(
+fn write_row<W: Write + Drop>(writer: &mut Writer<W>, row: &Record) -> Result<(), OutOfMemory>
+    requires { IsBetweenRows writer.old }
+    ensures text { OnOk result (Appends (text_written W.contents writer.old) (text_written W.contents writer.new) (row_text default_writer (map value_text row.now))) }
+    ensures between { OnOk result (IsBetweenRows writer.new) }
+{
+    // a record has few fields
+    let _few = row.len();
+    for value in row.values() {
+        write_value(writer, value)?;
+    }
+    let Ok(()) = writer.end_record() else {
+        return Err(OutOfMemory);
+    };
+    Ok(())
+}
+
+// The listed fields alone.
+fn write_row_fields<W: Write + Drop>(
     writer: &mut Writer<W>,
     row: &Record,
     fields: &[u32],

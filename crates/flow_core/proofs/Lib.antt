@@ -5,6 +5,7 @@ mod WorldsAfterEvents
 pub mod SharesOfRows
 mod StartStands
 pub mod StartedRows
+mod LongestShares
 mod ReplayedEvents
 mod EventsOfWants
 mod PlacedRows

@@ -1,5 +1,5 @@
 -- Instances at their start, and stations of them.
-use Rattle.std.specs.Prelude.{◌≡◌, ◌<◌, ◌+◌, ℕ, Bool, true, false, List, [], ◌∷◌, get_or, length}
+use Rattle.std.specs.Prelude.{◌≡◌, ◌≤◌, ◌<◌, ◌+◌, ℕ, Bool, true, false, List, [], ◌∷◌, get_or, length}
 use Rattle.std.specs.List.{AllByRecursion}
 use Rattle.pact_operators.specs.Allowed.{Bag}
 use Rattle.pact_operators.specs.PlanOps.{kind_at, plan_ops}
@@ -47,6 +47,15 @@ AreUnstartedFrom p physical size at rows from (u ∷ row) = IsUnstartedOn p phys
 pub record AreUnstarted (p : ProgramData) (physical : PhysicalData) (size at : ℕ) (rows : Bag) (count : ℕ) (row : List Unstarted) : Type 0 where
   pub long : length row ≡ count
   pub each : AreUnstartedFrom p physical size at rows 0 row
+
+-- how many rows the first worker has of its own, and none where there is no worker
+abbrev pub first_share : List Unstarted → ℕ
+first_share [] = 0
+first_share (u ∷ row) = length u.rows
+
+-- no worker has more than so many
+abbrev pub HaveAtMost : (most : ℕ) → List Unstarted → Type 0
+HaveAtMost most row = AllByRecursion (λ (u : Unstarted). length u.rows ≤ most) row
 
 -- each instance is started from what is at its place
 abbrev pub StartFrom : List Unstarted → List Instance → Type 0

@@ -1,15 +1,16 @@
 //! The instances of a plan at their start.
 
-ghost use Rattle.std.specs.Prelude.{◌≡◌, ◌≤◌, ◌<◌, [], List, true, false, length, IfOk};
+ghost use Rattle.std.specs.Prelude.{◌≡◌, ◌≤◌, ◌<◌, ℕ, [], List, true, false, length, IfOk};
 ghost use Rattle.std.specs.List.{AllByRecursion};
 ghost use Rattle.pact_operators.specs.Allowed.{Bag};
 ghost use Rattle.pact_operators.specs.Inputs.{AreInputsOf};
 ghost use Rattle.pact_operators.specs.PlanOps.{is_source_kind, kind_at};
-ghost use Rattle.pact_operators.specs.Programs.{IsPlanOf};
+ghost use Rattle.pact_operators.specs.Programs.{IsPlanOf, ProgramData};
+ghost use Rattle.plan_trees.specs.Physicals.{PhysicalData};
 ghost use Rattle.pact_record.specs.Widths.{AreWide};
 ghost use Rattle.flow_instance.specs.Limits.{batch_limit};
 ghost use Rattle.flow_instance.specs.Spots.{setting};
-ghost use Rattle.flow_core.specs.Starting.{AreAllUnstarted, AreDealt, AreUnstarted, CanStartRow, StartAllFrom, StartFrom, TakesOwn};
+ghost use Rattle.flow_core.specs.Starting.{AreAllUnstarted, AreDealt, AreUnstarted, CanStartRow, HaveAtMost, StartAllFrom, StartFrom, TakesOwn, first_share};
 
 use crate::lefts::{InstanceList, Instances};
 use crate::stations::Queue;
@@ -28,8 +29,11 @@ pub struct UnstartedRow {
 }
 
 impl UnstartedRow {
-    /// How many rows the first worker has of its own; no worker has more.
-    pub fn share_len(&self) -> usize {
+    /// How many rows the first worker has of its own. Rows are dealt from the first worker on, so no worker has more.
+    pub fn share_len(&self) -> usize
+        ensures first { result ≡ first_share self.now.held.items }
+        ensures most { (p : ProgramData) (physical : PhysicalData) (size at : ℕ) (rows : Bag) → AreUnstarted p physical size at rows physical.workers self.now.held.items → HaveAtMost result self.now.held.items }
+    {
         match self.held.first() {
             Some(unstarted) => unstarted.share_len(),
             None => 0,

@@ -1,6 +1,6 @@
 //! Instances before their start.
 
-ghost use Rattle.std.specs.Prelude.{◌≡◌, ◌≤◌, ◌<◌, [], true, false, IfOk};
+ghost use Rattle.std.specs.Prelude.{◌≡◌, ◌≤◌, ◌<◌, [], true, false, length, IfOk};
 ghost use Rattle.pact_operators.specs.PlanOps.{is_source_kind, kind_at};
 ghost use Rattle.pact_operators.specs.Programs.{IsPlanOf};
 ghost use Rattle.pact_record.specs.Widths.{AreWide};
@@ -45,8 +45,11 @@ impl Unstarted {
         let part = part_at(alloc, program, physical, at, worker, batch)?;
         Ok(Unstarted { part, rows })
     }
+
     /// How many rows it has of its own.
-    pub fn share_len(&self) -> usize {
+    pub fn share_len(&self) -> usize
+        ensures { result ≡ length self.now.rows }
+    {
         self.rows.len()
     }
 }

@@ -40,7 +40,7 @@ fn reduce_one<L: Local>(
     ensures given { OnOk result (IsAppended (λ part. IfSome (slice_get (L.order kept.now) n) (λ key. IsCalled (λ k group. Out f.now.fields f.now.function.body (of_group k group)) keys.now (L.rows kept.now) key part)) out.old out.new) }
     ensures widths { OnOk result (AreWide f.now.fields out.new) }
 {
-    let group = kept.group_at(n);
+    let group = kept.borrow_group_at(n);
     group_into(alloc, f, keys, group, scratch, out)
 }
 
@@ -93,8 +93,8 @@ fn groups_at<'a, L: Local>(keys: &Keys, own: &'a L, others: &'a L, n: usize) -> 
     requires order { IsPermutation (keys_in (L.key_fields own.now) (L.rows own.now)) (L.order own.now) }
     ensures { AreGroupsAt keys.now (L.key_fields others.now) (L.rows own.now) (L.rows others.now) (L.order own.now) n result.own.now result.other.now }
 {
-    let own_group = own.group_at(n);
-    let other = others.group_of(own_group.at(0), keys);
+    let own_group = own.borrow_group_at(n);
+    let other = others.borrow_group_of(own_group.at(0), keys);
     Groups {
         own: own_group,
         other,

@@ -62,7 +62,7 @@ fn append_matches<L: Local>(
     if !may_match(nulls, right_keys, right) {
         return Ok(());
     }
-    let lefts = kept.group_of(right, right_keys);
+    let lefts = kept.borrow_group_of(right, right_keys);
     append_pairs(alloc, f, lefts, right, scratch, out)
 }
 
@@ -119,6 +119,6 @@ pub(crate) fn cross_kept<L: Local>(
     if rights.len() == 0 {
         return Ok(Rows::new(alloc));
     }
-    let lefts = kept.group_of(rights.at(0), &Keys::new());
+    let lefts = kept.borrow_group_of(rights.at(0), &Keys::new());
     cross_rows(alloc, f, lefts, rights)
 }

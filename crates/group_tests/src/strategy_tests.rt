@@ -37,7 +37,7 @@ fn are_same(alloc: Global, found: &Rows, wanted: &Rows) -> Result<bool, Fail> {
     Ok(found == wanted)
 }
 
-// Whether both find the same records for the key values of each of these.
+// Whether both lend the same records for the key values of each of these, and give copies of them.
 fn find_same<L: Local, M: Local>(
     alloc: Global,
     local: &L,
@@ -53,7 +53,11 @@ fn find_same<L: Local, M: Local>(
     requires below { AreBelow 2 keys.now }
 {
     for row in rows.rows() {
-        if !are_same(alloc, local.group_of(row, keys), other.group_of(row, keys))? {
+        let lent = local.borrow_group_of(row, keys);
+        if local.group_of(alloc, row, keys)?.rows() != lent.rows() {
+            return Ok(false);
+        }
+        if !are_same(alloc, lent, other.borrow_group_of(row, keys))? {
             return Ok(false);
         }
     }
@@ -74,26 +78,26 @@ fn has_groups<L: Local>(
     requires below { AreBelow 2 keys.now }
 {
     for row in asked.rows() {
-        if !are_same(alloc, local.group_of(row, keys), wanted)? {
+        if !are_same(alloc, local.borrow_group_of(row, keys), wanted)? {
             return Ok(false);
         }
     }
     Ok(true)
 }
 
-// How many records the groups have together, if each has one.
-fn grouped<L: Local>(local: &L) -> Option<usize>
+// How many records the groups have together, if each has one and a copy of it has the same.
+fn grouped<L: Local>(alloc: Global, local: &L) -> Result<Option<usize>, Fail>
     requires { L.is_sealed local.now ≡ true }
 {
     let mut count: usize = 0;
     for n in 0..local.key_count() {
-        let own = local.group_at(n).len();
-        if own == 0 {
-            return None;
+        let own = local.borrow_group_at(n);
+        if own.len() == 0 || local.group_at(alloc, n)?.rows() != own.rows() {
+            return Ok(None);
         }
-        count = count.wrapping_add(own);
+        count = count.wrapping_add(own.len());
     }
-    Some(count)
+    Ok(Some(count))
 }
 
 // Whether a strategy groups the records by these keys as the plain one does, and finds for each record, and for each of the others, what that finds.
@@ -104,7 +108,7 @@ fn agrees<L: Local>(alloc: Global, keys: &Keys, rows: &Rows, others: &Rows) -> R
 {
     let local: L = kept(alloc, keys, rows)?;
     let list: ListLocal = kept(alloc, keys, rows)?;
-    if local.key_count() != list.key_count() || grouped(&local) != Some(rows.len()) {
+    if local.key_count() != list.key_count() || grouped(alloc, &local)? != Some(rows.len()) {
         return Ok(false);
     }
     if !find_same(alloc, &local, &list, keys, rows)? {

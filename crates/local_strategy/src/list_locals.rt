@@ -61,11 +61,11 @@ impl Local for ListLocal {
         self.groups.len()
     }
 
-    fn group_at(&self, n: usize) -> &Rows {
+    fn borrow_group_at(&self, n: usize) -> &Rows {
         self.groups.at(n)
     }
 
-    fn group_of(&self, row: &Record, keys: &Keys) -> &Rows {
+    fn borrow_group_of(&self, row: &Record, keys: &Keys) -> &Rows {
         self.groups.of(find(&self.groups, row, keys))
     }
 }

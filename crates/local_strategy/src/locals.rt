@@ -51,16 +51,36 @@ pub trait Local: Sized + Send + Drop {
         ensures count { result ≡ length (order self.now) }
         ensures order { IsPermutation (distinct_keys (map (key_of (key_fields self.now)) (rows self.now))) (order self.now) };
 
-    /// The records of the key values with this number, in any order. It takes no memory.
-    fn group_at(&self, n: usize) -> &Rows
+    /// Lends the records of the key values with this number, in any order. It takes no memory.
+    fn borrow_group_at(&self, n: usize) -> &Rows
         requires sealed { is_sealed self.now ≡ true }
         requires below { n < length (order self.now) }
         ensures { IfSome (slice_get (order self.now) n) (λ key. IsPermutation (group_of_key (key_fields self.now) (rows self.now) key) result.now) };
 
-    /// The records with the key values that the row has at these fields, in any order; none where there is none. It takes no memory.
-    fn group_of(&self, row: &Record, keys: &Keys) -> &Rows
+    /// Lends the records with the key values that the row has at these fields, in any order; none where there is none. It takes
+    /// no memory.
+    fn borrow_group_of(&self, row: &Record, keys: &Keys) -> &Rows
         requires sealed { is_sealed self.now ≡ true }
         requires length { length keys.now ≡ length (key_fields self.now) }
         requires below { AreBelow (length row.now) keys.now }
         ensures { IsPermutation (group_of_key (key_fields self.now) (rows self.now) (key_of keys.now row.now)) result.now };
+
+    /// A copy of what `borrow_group_at` lends. Want of memory is the only error.
+    fn group_at(&self, alloc: Global, n: usize) -> Result<Rows, OutOfMemory>
+        requires sealed { is_sealed self.now ≡ true }
+        requires below { n < length (order self.now) }
+        ensures { IfOk result (λ group. IfSome (slice_get (order self.now) n) (λ key. IsPermutation (group_of_key (key_fields self.now) (rows self.now) key) group)) }
+    {
+        self.borrow_group_at(n).copy(alloc)
+    }
+
+    /// A copy of what `borrow_group_of` lends. Want of memory is the only error.
+    fn group_of(&self, alloc: Global, row: &Record, keys: &Keys) -> Result<Rows, OutOfMemory>
+        requires sealed { is_sealed self.now ≡ true }
+        requires length { length keys.now ≡ length (key_fields self.now) }
+        requires below { AreBelow (length row.now) keys.now }
+        ensures { IfOk result (IsPermutation (group_of_key (key_fields self.now) (rows self.now) (key_of keys.now row.now))) }
+    {
+        self.borrow_group_of(row, keys).copy(alloc)
+    }
 }

@@ -3,7 +3,7 @@
 
 pub mod counts;
 mod null_keys;
-pub mod orders;
+mod orders;
 pub mod outcomes;
 mod prefixes;
 pub mod rows;
@@ -12,6 +12,5 @@ mod sorting;
 
 pub use counts::Counts;
 pub use null_keys::has_null;
-pub use orders::compare_at;
 pub use outcomes::Outcome;
-pub use rows::{Inputs, NoRoom, Rows, sort_rows};
+pub use rows::{Inputs, NoRoom, Rows, project, sort_rows, sort_rows_by};

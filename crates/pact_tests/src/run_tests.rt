@@ -1,3 +1,5 @@
+ghost use Rattle.std.specs.Prelude.{◌<◌};
+
 use crate::calls::{NotingFeed, Outcome, add_file, answer, call, fail_at, sink};
 use pact_outside::{FailList, MemFeed, MemFiles, MemSink};
 use pact_record::{Bytes, OutOfMemory};
@@ -242,40 +244,76 @@ reduce r sum s by 0
 sink r 0 2
 ";
 
-// Of the feed and of the two sinks each call fails in turn, up to the run in which none does: what was written is nothing, then a front of the rows, then
-// all of them.
+// The run of SUM in which these calls of the feed and of the two sinks fail; 0 for none.
+fn sum_with_faults<R: Threads + Wait + Sync>(
+    rt: &R,
+    on_threads: bool,
+    alloc: Global,
+    words: &[&str],
+    fails: [u64; 3],
+) -> Result<Outcome, OutOfMemory> {
+    let mut files = MemFiles::new(alloc);
+    add_file(alloc, &mut files, "sum.pact", SUM.as_bytes())?;
+    add_file(alloc, &mut files, "s.csv", b"1,5\n2,-3\n1,7\n")?;
+    call(rt, on_threads, alloc, words, files, fails)
+}
+
+const SUMS: &[u8] = b"1,12\n2,-3\n";
+
+// Whether each of these calls of the feed, of out or of err fails with that status, and what was written is a front of
+// the rows with so many bytes; and whether later ones aren't made.
+fn each_call_fails<R: Threads + Wait + Sync>(
+    rt: &R,
+    alloc: Global,
+    on_threads: bool,
+    words: &[&str],
+    failing: usize,
+    expected: (u8, usize, usize, u64),
+) -> Result<bool, OutOfMemory>
+    requires { failing < 3 }
+{
+    let (status, least, most, calls) = expected;
+    for number in 1..8u64 {
+        let mut fails = [0; 3];
+        fails[failing] = number;
+        let outcome = sum_with_faults(rt, on_threads, alloc, words, fails)?;
+        let taken = outcome.out.taken();
+        let as_expected = if number > calls {
+            outcome.status == 0 && taken == SUMS
+        } else {
+            outcome.status == status && least <= taken.len() && taken.len() <= most
+        };
+        if !as_expected || !SUMS.starts_with(taken) {
+            return Ok(false);
+        }
+    }
+    Ok(true)
+}
+
+// Of the feed and of the two sinks each call fails in turn, up to the run in which none does: what was written is nothing,
+// then a front of the rows, then all of them. If no counts are asked for, nothing is written on err.
 #[test]
 fn each_call_outside_fails_in_turn(rt: HostRuntime) -> Result<(), Fail> {
     let alloc = rt.alloc();
-    let words = ["run", "sum.pact", "--workers", "1", "--counts"];
-    let rows = "1,12\n2,-3\n".as_bytes();
-    for (failing, status, least, most, calls) in [
-        (0, 3, 0, 0, 6),
-        (1, 4, 0, 8, 3),
-        (2, 4, 10, 10, 6),
-    ] {
-        for number in 1..8 {
-            let fails = match failing {
-                0 => [number, 0, 0],
-                1 => [0, number, 0],
-                _ => [0, 0, number],
-            };
-            let mut files = MemFiles::new(alloc);
-            add_file(alloc, &mut files, "sum.pact", SUM.as_bytes())?;
-            add_file(alloc, &mut files, "s.csv", b"1,5\n2,-3\n1,7\n")?;
-            let outcome = call(&rt, false, alloc, &words, files, fails)?;
-            let taken = outcome.out.taken();
-            assert!(rt; rows.starts_with(taken), "call {number} of {failing}");
-            if number > calls {
-                assert!(rt; outcome.status == 0 && taken == rows, "{failing}");
-            } else {
-                assert!(rt; outcome.status == status, "call {number} of {failing}");
-                assert!(rt;
-                    least <= taken.len() && taken.len() <= most,
-                    "call {number} of {failing}"
-                );
-            }
+    let counted: &[&str] = &["run", "sum.pact", "--workers", "1", "--counts"];
+    let plain: &[&str] = &["run", "sum.pact"];
+    for on_threads in [false, true] {
+        for (words, told) in [(counted, 6), (plain, 0)] {
+            assert!(rt;
+                each_call_fails(&rt, alloc, on_threads, words, 0, (3, 0, 0, 6))?,
+                "feed"
+            );
+            assert!(rt;
+                each_call_fails(&rt, alloc, on_threads, words, 1, (4, 0, 8, 3))?,
+                "out"
+            );
+            assert!(rt;
+                each_call_fails(&rt, alloc, on_threads, words, 2, (4, 10, 10, told))?,
+                "err"
+            );
         }
+        let outcome = sum_with_faults(&rt, on_threads, alloc, plain, [0, 0, 0])?;
+        assert!(rt; outcome.is(0, "1,12\n2,-3\n", ""));
     }
     Ok(())
 }

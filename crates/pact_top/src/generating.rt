@@ -12,7 +12,7 @@ use crate::lines::lines_of;
 use crate::loaded::{Loaded, push_rows};
 use crate::running::{FinishedRun, run_chosen};
 use crate::tasks::Task;
-use csv_sink::write_rows;
+use csv_sink::write_fields;
 use drill_program::{drill_program, summary_text};
 use pact_bag::{Inputs, Outcome, Rows};
 use pact_gen::make_input;
@@ -27,7 +27,7 @@ pub fn generated_text(alloc: Global, seed: u32, rows: u32) -> Result<Bytes, OutO
     ensures { IfOk result (IsGeneratedText seed rows) }
 {
     let made = make_input(alloc, seed, rows)?;
-    write_rows(alloc, made.rows(), &[0, 1, 2])
+    write_fields(alloc, made.rows(), &[0, 1, 2])
 }
 
 // The program of a drill with the generated rows, as if they had been read.

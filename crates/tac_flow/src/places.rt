@@ -9,7 +9,7 @@ use tac_syntax::{Body, Stmt};
 
 /// How many places there are. The table lies on the stack, at 2 KB a place, and `pact` is to need less than 192 KB of stack
 /// in all. If a function has more loops than this, only the largest have a place. With 20 places the worst function found
-/// took five times as long.
+/// took three times as long.
 pub(crate) const PLACES: usize = 40;
 
 // `least_size` tries multiples of this size.

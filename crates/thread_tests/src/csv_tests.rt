@@ -61,7 +61,7 @@ fn compare(one: &Result<Rows, BadRow>, other: &Result<Rows, BadRow>) -> Outcome 
     }
 }
 
-// What all reads of the text came to, by one thread and in up to `most` parts.
+// What all reads of the text came to, by one thread and in each number of parts from 0 to `most`.
 fn outcome_of<R: Threads + Sync>(
     rt: &R,
     alloc: Global,
@@ -71,8 +71,8 @@ fn outcome_of<R: Threads + Sync>(
     let columns = columns_of(alloc)?;
     let by_one = read_source(alloc, text, &columns, 2);
     let outcome = compare(&by_one, &by_one);
-    for parts in 0..most {
-        let in_parts = read_source_on_threads(rt, alloc, text, &columns, 2, parts + 1);
+    for parts in 0..=most {
+        let in_parts = read_source_on_threads(rt, alloc, text, &columns, 2, parts);
         if compare(&by_one, &in_parts) != outcome {
             return Ok(Outcome::Other);
         }
@@ -158,14 +158,14 @@ const INSERTED: &[&[u8]] = &[
     b"\xEF\xBB\xBF",
 ];
 
-// Whether parts have what the whole text has, wherever in the text these bytes are inserted.
+// Whether parts have what the whole text has, wherever these bytes are inserted, at the text's end too.
 fn same_everywhere<R: Threads + Sync>(
     rt: &R,
     alloc: Global,
     text: &[u8],
     bytes: &[u8],
 ) -> Result<bool, Fail> {
-    for at in 0..text.len() {
+    for at in 0..=text.len() {
         let made = inserted(alloc, text, at, bytes)?;
         if outcome_of(rt, alloc, &made, 4)? == Outcome::Other {
             return Ok(false);
@@ -224,7 +224,7 @@ fn bad_row_of<R: Threads + Sync>(
 fn a_bad_row_has_its_number_in_the_whole(rt: HostRuntime) -> Result<(), Fail> {
     for bad in 0..ROWS {
         let text = with_bad_row(rt.alloc(), bad + 1)?;
-        for parts in 1..9u32 {
+        for parts in 0..9u32 {
             assert_eq!(rt; bad_row_of(&rt, rt.alloc(), &text, parts)?, bad + 1);
         }
     }

@@ -1,9 +1,11 @@
 //! Gates and flags, of which no contract says what they answer.
 
+use std::sync::Wait;
 use std::test::Fail;
 use std::thread;
+use std::thread::Threads;
 use std::time::Duration;
-use worker_gate::{Act, Flags, Gate, MeetGate};
+use worker_gate::{Act, Flags, Gate, HoldGate, MeetGate};
 
 #[test]
 fn workers_meet_on_threads_of_their_own_alone(rt: HostRuntime) -> Result<(), Fail> {
@@ -32,5 +34,52 @@ fn flags_tell_who_has_started_and_left(rt: HostRuntime) -> Result<(), Fail> {
     // a nap ends when a worker leaves
     flags.nap(&rt, Duration::from_secs(1000));
     assert!(rt; flags.all_started() && flags.left());
+    Ok(())
+}
+
+// How often a thread naps for a tenth of a millisecond while worker 0 is before its event at this gate.
+fn naps_beside<R: Threads + Wait + Sync>(rt: &R, gate: &HoldGate) -> u32 {
+    let meeting = MeetGate::new(2, 10_000_000);
+    let flags = Flags::new(2);
+    let ((), naps) = thread::join(
+        rt,
+        || {
+            meeting.before(0, Act::Put);
+            gate.before(0, Act::Put);
+            flags.leave();
+        },
+        || {
+            meeting.before(1, Act::Put);
+            let mut naps = 0;
+            for _ in 0..1_000u32 {
+                if flags.left() {
+                    break;
+                }
+                flags.nap(rt, Duration::from_micros(100));
+                naps += 1;
+            }
+            naps
+        },
+    );
+    naps
+}
+
+// In how many of ten tries it naps twenty times at least.
+fn long_waits<R: Threads + Wait + Sync>(rt: &R, gate: &HoldGate) -> u32 {
+    let mut long = 0;
+    for _ in 0..10u32 {
+        if naps_beside(rt, gate) >= 20 {
+            long += 1;
+        }
+    }
+    long
+}
+
+// Fifty million turns take a tenth of a second at least. A machine that is busy may hold back a thread that isn't to be
+// held, or one that is to nap, but not most times.
+#[test]
+fn a_gate_holds_its_own_worker_alone(rt: HostRuntime) -> Result<(), Fail> {
+    assert!(rt; long_waits(&rt, &HoldGate::new(0, 50_000_000)) > 5);
+    assert!(rt; long_waits(&rt, &HoldGate::new(1, 50_000_000)) < 5);
     Ok(())
 }

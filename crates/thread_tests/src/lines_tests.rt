@@ -1,10 +1,11 @@
-//! Lines made in parts, beside those that one thread makes.
+//! Lines made in parts, beside those that one thread makes; and rows that are sorted, projected and written whole.
 
 ghost use Rattle.std.specs.Prelude.{◌≡◌, ◌<◌, ◌∷◌, [], length, IfOk};
 ghost use Rattle.std.specs.List.{AllByRecursion};
 
 use bag_lines::{sorted_lines, sorted_lines_on_threads};
-use pact_bag::Rows;
+use csv_sink::write_rows;
+use pact_bag::{Rows, project, sort_rows};
 use pact_record::{Record, Text, Value};
 use std::alloc::Global;
 use std::test::Fail;
@@ -62,5 +63,27 @@ fn lines_in_parts_are_those_of_one_thread(rt: HostRuntime) -> Result<(), Fail> {
     let lines = sorted_lines_on_threads(&rt, rt.alloc(), rows_of(rt.alloc(), 6)?, &[0, 1], 4)?;
     let text: &[u8] = b"0,\"a,b\"\n1,c\n2,\"a,b\"\n3,c\n4,\"a,b\"\n4,c\n";
     assert!(rt; lines.bytes() == text);
+    Ok(())
+}
+
+fn two_rows(alloc: Global) -> Result<Rows, Fail>
+    ensures { IfOk result (AllByRecursion (λ row. AllByRecursion (λ field. field < length row) (1 ∷ 0 ∷ 1 ∷ []))) }
+{
+    let mut rows = Rows::new(alloc);
+    rows.push(row_of(alloc, 7, b"a,b")?)?;
+    rows.push(row_of(alloc, -7, b"")?)?;
+    Ok(rows)
+}
+
+#[test]
+fn rows_are_sorted_and_projected(rt: HostRuntime) -> Result<(), Fail> {
+    let sorted = sort_rows(rows_of(rt.alloc(), 12)?)?;
+    let lines = sorted_lines(rt.alloc(), rows_of(rt.alloc(), 12)?, &[0, 1])?;
+    assert!(rt; write_rows(rt.alloc(), &sorted)?.bytes() == lines.bytes());
+    let projected = project(rt.alloc(), &two_rows(rt.alloc())?, &[1, 0, 1])?;
+    let text: &[u8] = b"\"a,b\",7,\"a,b\"\n,-7,\n";
+    assert!(rt; write_rows(rt.alloc(), &projected)?.bytes() == text);
+    let none = project(rt.alloc(), &Rows::new(rt.alloc()), &[1, 0, 1])?;
+    assert!(rt; write_rows(rt.alloc(), &none)?.bytes().is_empty());
     Ok(())
 }

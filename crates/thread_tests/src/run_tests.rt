@@ -275,6 +275,16 @@ fn repeated(alloc: Global, number: u32, count: usize) -> Result<Vec<u32>, Fail> 
     Ok(vec![in alloc; number; count]?)
 }
 
+// Numbers that pick events: none, the first event each time, the last one, and any.
+fn schedules(alloc: Global) -> Result<[Vec<u32>; 4], Fail> {
+    Ok([
+        Vec::new(alloc),
+        repeated(alloc, 0, 10_000)?,
+        repeated(alloc, u32::MAX, 10_000)?,
+        numbers(alloc, 1, 10_000)?,
+    ])
+}
+
 // A thousand rows of one key, with the numbers from 0 on.
 fn thousand(alloc: Global) -> Result<String, Fail> {
     let mut text = String::new(alloc);
@@ -325,13 +335,9 @@ fn every_schedule_gives_one_sum(rt: HostRuntime) -> Result<(), Fail> {
     assert!(rt; sums_thousand(&rt, alloc, &OpenGate, Way::Threads)?);
     assert!(rt; sums_thousand(&rt, alloc, &HoldGate::new(1, 1000), Way::Threads)?);
     assert!(rt; sums_thousand(&rt, alloc, &OpenGate, Way::InTurn)?);
-    assert!(rt; sums_thousand(&rt, alloc, &OpenGate, Way::Picks(&[]))?);
-    let first = repeated(alloc, 0, 10_000)?;
-    assert!(rt; sums_thousand(&rt, alloc, &OpenGate, Way::Picks(&first))?);
-    let last = repeated(alloc, u32::MAX, 10_000)?;
-    assert!(rt; sums_thousand(&rt, alloc, &OpenGate, Way::Picks(&last))?);
-    let random = numbers(alloc, 1, 10_000)?;
-    assert!(rt; sums_thousand(&rt, alloc, &OpenGate, Way::Picks(&random))?);
+    for picks in &schedules(alloc)? {
+        assert!(rt; sums_thousand(&rt, alloc, &OpenGate, Way::Picks(picks))?);
+    }
     Ok(())
 }
 
@@ -360,8 +366,9 @@ fn both_strategies_sum_by_every_schedule(rt: HostRuntime) -> Result<(), Fail> {
     assert!(rt; sums_three(&rt, alloc, &OpenGate, Way::Threads)?);
     assert!(rt; sums_three(&rt, alloc, &HoldGate::new(1, 1000), Way::Threads)?);
     assert!(rt; sums_three(&rt, alloc, &OpenGate, Way::InTurn)?);
-    let random = numbers(alloc, 1, 1_000)?;
-    assert!(rt; sums_three(&rt, alloc, &OpenGate, Way::Picks(&random))?);
+    for picks in &schedules(alloc)? {
+        assert!(rt; sums_three(&rt, alloc, &OpenGate, Way::Picks(picks))?);
+    }
     Ok(())
 }
 
@@ -473,5 +480,51 @@ fn a_worker_that_is_held_back_changes_no_answer(rt: HostRuntime) -> Result<(), F
             )?
         );
     }
+    Ok(())
+}
+
+// Notes which workers had an event, and whether one had an event after a later worker's.
+#[derive(Drop)]
+struct OrderGate {
+    last: AtomicU64,
+    seen: AtomicU64,
+    mixed: AtomicU64,
+}
+
+impl Gate for OrderGate {
+    fn before(&self, worker: u32, _act: Act) {
+        let worker = u64::from(worker);
+        if self.last.swap(worker, Ordering::SeqCst) > worker {
+            self.mixed.store(1, Ordering::SeqCst);
+        }
+        self.seen.fetch_or(1 << (worker & 15), Ordering::SeqCst);
+    }
+}
+
+#[test]
+fn workers_in_turn_work_one_after_the_other(rt: HostRuntime) -> Result<(), Fail> {
+    let options = Options {
+        workers: 3,
+        batch: 1,
+        depth: 64,
+    };
+    let gate = OrderGate {
+        last: AtomicU64::new(0),
+        seen: AtomicU64::new(0),
+        mixed: AtomicU64::new(0),
+    };
+    assert!(rt;
+        agrees::<GroupTable, HostRuntime, OrderGate>(
+            &rt,
+            rt.alloc(),
+            PAIRS,
+            &PAIRED,
+            options,
+            &gate,
+            Way::InTurn
+        )?
+    );
+    assert_eq!(rt; gate.seen.load(Ordering::SeqCst), 7);
+    assert_eq!(rt; gate.mixed.load(Ordering::SeqCst), 0);
     Ok(())
 }

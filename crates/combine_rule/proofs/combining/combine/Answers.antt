@@ -3,6 +3,7 @@ use Rattle.std.proofs.lemmas.Result.{IfOk-weaker}
 use Rattle.combine_rule.specs.CombinedPrograms.{planned}
 use Rattle.combine_rule.proofs.AllCombined.{all_program}
 use Rattle.combine_rule.proofs.CombinedClauses.{counted_for, kept_inputs, same_rest}
+use Rattle.combine_rule.proofs.OnePerKey.{put_one_per_key}
 use Rattle.combine_rule.proofs.SentOnce.{sent_once}
 use Rattle.combine_rule.proofs.combining.combine.Goals as goal
 
@@ -53,3 +54,9 @@ returns-clause-once c =
     let p = c.args.program.now in
     let q = c.args.physical.now in
     IfOk-weaker c.all_combined.result _ _ (λ r h. sent_once (planned p q) (planned r.program r.physical) r.of.items h c.fields-fields.ensures.keeps c.workers-workers.ensures.physical c.requires) c.all_combined.ensures
+
+pub returns-clause-sent_once : goal.returns-clause-sent_once
+returns-clause-sent_once c =
+    let p = c.args.program.now in
+    let q = c.args.physical.now in
+    IfOk-weaker c.all_combined.result _ _ (λ r h. put_one_per_key (planned p q) (planned r.program r.physical) r.of.items h c.fields-fields.ensures.keeps c.workers-workers.ensures.physical c.requires) c.all_combined.ensures

@@ -1,4 +1,4 @@
-use Rattle.std.proofs.Common.{◌∷◌, ◌++◌, [], arith, length, length-append, rules, subst, sym, ◌∙◌, List}
+use Rattle.std.proofs.Common.{◌∷◌, ◌++◌, [], arith, length-append, rules, subst, sym, ◌∙◌, List}
 use Rattle.std.proofs.lemmas.Iterator.Adapters.{YieldsList-from_vec}
 use Rattle.std.proofs.lemmas.Iterator.Consumers.{YieldsList-end, YieldsList-turn}
 use Rattle.std.proofs.lemmas.List.{map-id}

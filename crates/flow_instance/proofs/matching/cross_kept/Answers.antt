@@ -16,12 +16,12 @@ returns-then-len-eq0-clause-given g c =
 
 pub cross_rows-requires-clause-left_widths : goal.cross_rows-requires-clause-left_widths
 cross_rows-requires-clause-left_widths g c =
-    group_wide c.args.f.now.fields (g.L.Local.key_fields c.args.kept.now) (g.L.Local.rows c.args.kept.now) c.group_of-lefts.result.now _ c.requires.left_widths c.group_of-lefts.ensures
+    group_wide c.args.f.now.fields (g.L.Local.key_fields c.args.kept.now) (g.L.Local.rows c.args.kept.now) c.borrow_group_of-lefts.result.now _ c.requires.left_widths c.borrow_group_of-lefts.ensures
 
 pub returns-clause-given : goal.returns-clause-given
 returns-clause-given g c =
     let f = c.args.f.now in
     let calls : List Value → List Value → Bag = λ l r. Out f.fields f.function.body (of_pair l r) in
     IfOk-weaker c.cross_rows.result _ _ (λ out o.
-    crossed_kept calls (g.L.Local.key_fields c.args.kept.now) (g.L.Local.rows c.args.kept.now) c.group_of-lefts.result.now c.args.rights.now out _ c.requires.no_keys (λ i. key_of (c.new-2.ensures i) c.at.result.now) c.group_of-lefts.ensures o)
+    crossed_kept calls (g.L.Local.key_fields c.args.kept.now) (g.L.Local.rows c.args.kept.now) c.borrow_group_of-lefts.result.now c.args.rights.now out _ c.requires.no_keys (λ i. key_of (c.new-2.ensures i) c.at.result.now) c.borrow_group_of-lefts.ensures o)
     c.cross_rows.ensures.given
