@@ -50,7 +50,7 @@ for told in expected/*.plan "$scratch/odd.plan"; do
     count test "$(grep -c ' -> ' "$scratch/out")" = "$operators"
     count test "$(grep '^  "[^"]*" \[label=' "$scratch/out" | grep -vc '^  "Exchanges"')" = $((operators + 1))
 done
-if command -v dot >/dev/null; then
+if have dot 'whether graphviz reads what is drawn'; then
     count test "$(dot -Tcanon "$scratch/all.dot" 2>"$scratch/err" | grep -c '^digraph ')" = "$plans"
 fi
 
@@ -200,7 +200,7 @@ stands_in_docs() {
     "$pact" plan "${@:2}" | ../draw --svg >"$scratch/out" 2>"$scratch/err" && [ ! -s "$scratch/err" ] &&
         [ "$(texts_of "$scratch/out")" = "$(texts_of "../docs/$1")" ] && [ -n "$(texts_of "../docs/$1")" ]
 }
-if command -v dot >/dev/null; then
+if have dot 'the pictures in docs/'; then
     count stands_in_docs shop-before.svg shop.pact --plans 1
     count stands_in_docs shop-after.svg shop.pact
     count draws_not 'standard input holds no plan' '' --svg

@@ -66,7 +66,8 @@ if does 0 "$sum" '' by_somebody run sum.pact; then
     count does 3 '' 'cannot read closed\n' by_somebody run of_closed.pact
     count does 3 '' 'cannot read closed\n' by_somebody check push.pact closed
 else
-    echo 'outside: files without permission are left out: root reads them all, and there is no setpriv to be somebody else'
+    skipped=$((skipped + 1))
+    echo 'skipped: files without permission: root reads them all, and there is no setpriv to be somebody else'
 fi
 chmod 644 "$in_the_open/closed"
 rm -r "$in_the_open"
@@ -270,6 +271,27 @@ done
 
 # No room for the stack of a thread: one does the work of all.
 count does 0 "$sum" '' limited -v "$((least + 2000))" run sum.pact --workers 16
+# Stacks that are larger than the memory, so there is room for no thread, and others of which two have room: the threads that there are read a long
+# source in parts, start the instances and print a long answer. Two stacks may leave too little memory.
+with_large_stacks() { ulimit -S -v 1000000 && ulimit -S -s "$1" && exec "$program" "${@:2}"; }
+(cd "$outside" && "$program" run generated.pact >sorted)
+has_rows_with_large_stacks() { # kilobytes of a stack, the greatest status, the program's name, its rows, and workers
+    (cd "$outside" && with_large_stacks "$1" run "$3" --workers "$5" >"$scratch/out" 2>"$scratch/err")
+    case $? in
+    0) cmp -s "$scratch/out" "$4" && [ ! -s "$scratch/err" ] ;;
+    "$2") [ ! -s "$scratch/out" ] && [ "$(cat "$scratch/err")" = 'out of memory' ] ;;
+    *) false ;;
+    esac
+}
+for workers in 2 4 16; do
+    for limits in '2000000 0' '300000 1'; do
+        # shellcheck disable=SC2086
+        count has_rows_with_large_stacks $limits generated.pact "$outside/sorted" "$workers"
+        # shellcheck disable=SC2086
+        count has_rows_with_large_stacks $limits grouped.pact "$scratch/grouped" "$workers"
+    done
+    count does 7 '' 'source s: row 30001 column 2: why 2\n' with_large_stacks 2000000 run last_bad.pact --workers "$workers"
+done
 # Few open files: beside the streams one file is open at a time, since each is closed before the next one is opened.
 with_few_files() { ulimit -S -n "$1" && exec "$program" "${@:2}" 3>&- 4>&-; }
 count does 0 "$(cat expected/join3.stdout)\n" '' with_few_files 4 run join3.pact
@@ -277,7 +299,6 @@ count does 0 "$(cat expected/join3.stdout)\n" '' with_few_files 4 run join3.pact
 # A file that may not grow: the program is ended by the signal for that, unless whoever starts it, as the launcher does, has it ignore that. Either may
 # be where this shell was started so, since it can't undo that.
 front_of_rows() { cmp -s -n 10240 "$outside/cut" "$outside/sorted" && [ "$(stat -c %s "$outside/cut")" = 10240 ]; }
-(cd "$outside" && "$program" run generated.pact >sorted)
 is_ignored() { # the signal with this name, by this shell
     local name value
     while read -r name value; do
@@ -496,6 +517,9 @@ slow_cogroup() { # the version, and further statements
     }'
 }
 slow_cogroup 1 '' >"$outside/cogroup.pact"
+for kilobytes in 8192 192; do
+    count on_a_stack "$kilobytes" 0 plan cogroup.pact --plans 1
+done
 count ends_within 8 plan cogroup.pact --plans 1000
 slow_cogroup 2 'each x1 of left\nv30 = int 1\nv30 = get x1 @v30\nend' >"$outside/numbered.pact"
 count ends_within 16 plan numbered.pact --plans 1000
@@ -622,10 +646,11 @@ END
 bench_passes() { # a script of ../bench, and its words
     PROGRAM=$program KEPT=$scratch/kept bash "../bench/$1" "${@:2}" >"$scratch/told" 2>&1 || { cat "$scratch/told"; return 1; }
 }
-if command -v cc >/dev/null; then
-    count bench_passes memory --alone 'run sum.pact --workers 2' 'check push.pact push.good.json' 'check push.pact push.c3.json' 'run shop.pact --prune' \
-        'plan shop.pact' 'run twice.pact --workers 2' 'sets twice.pact' 'gen 1 1' 'run sum.pact --workers 2 --combine --counts' \
-        'iterate label.pact v 2 --stable --workers 2'
+certificates=(push.{good,c1,c2,c3,c5,shape}.json)
+if have cc 'requests for memory that are refused, and edits and functions that are made at random'; then
+    count bench_passes memory --alone 'run sum.pact' 'sets sum.pact' 'cert push.pact --workers 2' 'run shop.pact' 'plan shop.pact' \
+        "${certificates[@]/#/check push.pact }" 'run shop.pact --prune' 'run twice.pact --workers 2' 'sets twice.pact' 'gen 1 1' \
+        'run sum.pact --workers 2 --combine --counts' 'iterate label.pact v 2 --stable --workers 2'
     edited=(
         {anti_join,average,bad_row,cogroup,cond,count,count_all,counted,cross,decimals,distinct,drill,faulty,filter,first,five,flag,full_join}.pact
         {greet,join,join3,minimum,missing,no_sink,notes,null,odd,outer_join,pivot,push,revenue,running_total,self_join,semi_join,shop,sum}.pact
@@ -636,6 +661,4 @@ if command -v cc >/dev/null; then
     # Functions are made at random; where less than was found is taken to be true, that is told.
     count bench_passes agree 300 2
     FORGOTTEN='reads writes control order number' count bench_passes agree 150 2
-else
-    echo 'outside: requests for memory are not refused, and no edit and no function is made at random: there is no C compiler, cc'
 fi

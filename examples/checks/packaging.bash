@@ -44,8 +44,8 @@ version=$(cat ../VERSION)
 count grep -q "^\.TH PACT 1 \".*\" \"pact $version\"" "$manual"
 count grep -q "^## $version " ../CHANGELOG.md
 
-# If `man` is there, it shows the page without a warning.
-if command -v man >/dev/null && command -v groff >/dev/null; then
+# `man` shows the page without a warning.
+if have man 'how the manual page is shown' && have groff 'how the manual page is shown'; then
     shows_without_warning() { [ -z "$(LC_ALL=C.UTF-8 MANWIDTH=80 man --warnings -l "$manual" 2>&1 >/dev/null)" ]; }
     count shows_without_warning
 fi

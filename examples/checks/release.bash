@@ -1,6 +1,9 @@
 # What release/make writes and release/check says, over the tree and the stand-in for the toolchain of the launcher's part. A program of this
 # machine stands for the one that was linked.
 
+# shellcheck source=/dev/null
+. checks/tree.sh
+
 fresh
 linked=$scratch/linked_program
 cat "$(command -v grep)" >"$linked"   # which ends with 2 where it has no words, as pact does

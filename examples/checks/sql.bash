@@ -14,7 +14,7 @@ gives_rows() {
 }
 
 # An empty cell is Null.
-if command -v sqlite3 >/dev/null; then
+if have sqlite3 'queries that say the same as programs'; then
     sqlite3 -batch -csv "$tables" <<'END'
 create table members(id int, name text);
 create table visits(member int, day int);

@@ -48,22 +48,23 @@ for workers in 2 3 4 16; do
     count has_lines_of_one_thread "$workers"
 done
 
-# Numbers of rows on both sides of those from which four workers start on threads, and of those that give a text of two and three parts; then a
+# Numbers of rows on both sides of those from which workers start on threads, and of those that give a text of two and three parts; then a
 # source that is just too short to be read in two parts, and one that is not.
-is_the_same_on_four() {
-    (cd "$scratch" && "$pact" run edge.pact --workers 1 >by_one 2>err && "$pact" run edge.pact --workers 4 >in_parts 2>>err) &&
-        [ ! -s "$scratch/err" ] && cmp "$scratch/by_one" "$scratch/in_parts" && [ "$(wc -l <"$scratch/in_parts")" = "$1" ]
+is_the_same_on() { # workers, rows
+    (cd "$scratch" && "$pact" run edge.pact --workers 1 >by_one 2>err && "$pact" run edge.pact --workers "$1" >in_parts 2>>err) &&
+        [ ! -s "$scratch/err" ] && cmp "$scratch/by_one" "$scratch/in_parts" && [ "$(wc -l <"$scratch/in_parts")" = "$2" ]
 }
 sed 's/many\.csv/edge.csv/' "$scratch/many.pact" >"$scratch/edge.pact"
-for rows in 8188 8191 8192 8193 24999 25000 25001 37499 37500; do
+for limit in '2 4095' '2 4096' '4 8188' '4 8191' '4 8192' '4 8193' '16 32767' '16 32768' '4 24999' '4 25000' '4 25001' '4 37499' '4 37500'; do
+    read -r workers rows <<<"$limit"
     head -n "$rows" "$scratch/many.csv" >"$scratch/edge.csv"
-    count is_the_same_on_four "$rows"
+    count is_the_same_on "$workers" "$rows"
 done
 for bytes in 65535 65536 131071 131072 131073; do
     # Six bytes a row, and in the last one a longer text.
     awk -v bytes="$bytes" 'BEGIN { for (; bytes > 14; bytes -= 6) print "1,2,a"; printf "3,4,%*s\n", bytes - 5, "b" }' >"$scratch/edge.csv"
     count [ "$(wc -c <"$scratch/edge.csv")" = "$bytes" ]
-    count is_the_same_on_four "$(wc -l <"$scratch/edge.csv")"
+    count is_the_same_on 4 "$(wc -l <"$scratch/edge.csv")"
 done
 
 # Every source of the programs here, repeated until it fills eight parts of 64 KiB, which as many threads read as there are workers.
@@ -78,20 +79,32 @@ long_source() {
 }
 # What a run of the long source writes, on both streams, and its status.
 reads_it() {
-    (cd "$scratch" && "$pact" run eight.pact --workers "$1" 2>&1; echo "$?") >"$scratch/$2"
+    (cd "$scratch" && "$pact" run eight.pact --workers "$1" 2>&1; echo "status $?") >"$scratch/$2"
 }
+# Rows, or the fault of a row: what the sources of programs end with that show a bad row.
+ends_well() { tail -n 1 "$scratch/$1" | grep -q '^status [07]$'; }
 read_in_as_many_parts() {
     reads_it "$1" in_parts && cmp "$scratch/by_one" "$scratch/in_parts"
 }
+# The sources of shop/ are its files without their header lines, with cents and with decimals.
+mkdir "$scratch/shop"
+tail -n +2 shop/customers.csv >"$scratch/shop/customers_rows.csv"
+tail -n +2 shop/orders.csv >"$scratch/shop/decimal_rows.csv"
+awk -F, -v OFS=, '$NF != "" { $NF = sprintf("%.0f", $NF * 100) } 1' "$scratch/shop/decimal_rows.csv" >"$scratch/shop/orders_rows.csv"
 sources=0
 while read -r file columns; do
     [ -s "$file" ] || continue
     # shellcheck disable=SC2086
     long_source "$file" $columns >"$scratch/eight.pact"
     reads_it 1 by_one
+    count ends_well by_one
     sources=$((sources + 1))
     for workers in 2 3 4 5 6 7 8; do
         count read_in_as_many_parts "$workers"
     done
-done < <(sed -n 's/#.*//; s/^source  *[^ ]*  *//p' ./*.pact | sort -u)
-count [ "$sources" -gt 30 ]
+done < <(
+    source_lines() { sed -n 's/#.*//; s/^source  *[^ ]*  *//p' "$@" | sort -u; }
+    source_lines ./*.pact
+    source_lines shop/*.pact | sed "s:^:$scratch/shop/:"
+)
+count [ "$sources" -gt 32 ]

@@ -1,4 +1,4 @@
-# Exchanges of a Reduce and a Match: where they are legal and lead, each cause that refuses them, and rows before and after. How a step is judged is in exchanges.bash.
+# Exchanges of a Reduce and a Match: where they are legal and lead, each cause that refuses them, and rows before and after. How a step is judged is in judging.sh.
 
 # The functions: `best` gives each key once, so does `pairs` of two, `many` each record, `own` writes its key; `cnt` counts a group, `cnts` by two keys, `sum` in a record made anew with the
 # key, `third` in field 3, `anew` loses all fields, `seen` reads field 3; `jn` gives each pair, `some` those with less than 6 in field 1; `high` asks for more than 8 in field 3.
@@ -141,6 +141,8 @@ function all cross
   emit r0
 end
 END
+# shellcheck source=/dev/null
+. checks/judging.sh
 
 # Operators in which the Reduce `r` stands over the Match `g`, or on a side of it; `B` stands for what makes the other side, which is named `b`, or `t` where nothing is made.
 # The words are over or under, the side, the functions of the Reduce and of the Match, the Match's key on the side of the move, and what makes the other side.
