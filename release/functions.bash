@@ -75,7 +75,8 @@ number_at() {
     read -r number < <(od -An -t "u$2" -j "$3" -N "$2" "$1") && echo "$number"
 }
 
-# The linked program up to the end of what is loaded when it runs. What lies behind that serves debuggers alone.
+# The linked program up to the end of what is loaded when it runs. What comes after that serves debuggers only. The table
+# of sections is part of it, so the header says that there is none: tools such as objdump refuse a table beyond the end.
 loaded_part() {
     local program=$1 headers size count i at end=0 last=0
     # the four bytes with which such a file begins
@@ -86,7 +87,8 @@ loaded_part() {
         end=$(($(number_at "$program" 8 $((at + 8))) + $(number_at "$program" 8 $((at + 32)))))
         [ "$end" -le "$last" ] || last=$end
     done
-    head -c "$last" "$program"
+    head -c 40 "$program" && printf '\0\0\0\0\0\0\0\0' && tail -c +49 "$program" | head -c 12 && printf '\0\0\0\0' &&
+        tail -c +65 "$program" | head -c $((last - 64))
 }
 
 # Whether this machine can start the program, which without words tells the usage and ends with 2.
