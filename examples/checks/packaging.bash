@@ -57,7 +57,7 @@ done < <(awk -F: '!/^#/ && NF > 1 { split($1, head, " "); own[head[1]]; names = 
     END { count = split(names, all, " "); for (i = 1; i <= count; i++) if (!(all[i] in own)) print all[i] }' ../crates.txt | sort -u)
 
 # The released program is a file that tools for programs can read: packagers ask it for the libraries that it needs.
-needs_the_c_library() { objdump -p ../release/pact_program 2>/dev/null | grep -q 'NEEDED .*libc\.so\.6'; }
+needs_the_c_library() { objdump -f ../release/pact_program >/dev/null 2>&1 && readelf -d ../release/pact_program | grep -q '(NEEDED).*\[libc\.so\.6\]'; }
 if have objdump 'what the released program needs'; then
     count needs_the_c_library
 fi

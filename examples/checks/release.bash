@@ -16,7 +16,10 @@ checked() {
 line_of() { sed -n "s/^$1 //p" "$tree/release/built_of"; }
 
 count make_release "$linked"
-count cmp -n "$(line_of size)" "$linked" "$tree/release/pact_program"
+# the released program is the linked one up to the end of what is loaded, but for the place and the number of its sections, which are 0
+differ_at() { cmp -l -n "$(line_of size)" "$linked" "$tree/release/pact_program" | awk '{ print $1 }'; }
+differ_in_sections_only() { [ -n "$(differ_at)" ] && ! differ_at | grep -qvxE '4[1-8]|6[1-4]'; }
+count differ_in_sections_only
 count test "$(line_of size)" = "$(stat -c %s "$tree/release/pact_program")"
 count test "$(line_of program)" = "$(sha256sum <"$tree/release/pact_program" | cut -d ' ' -f 1)"
 count test "$(line_of toolchain)" = 'kit one'
