@@ -50,15 +50,13 @@ fn naps_beside<R: Threads + Wait + Sync>(rt: &R, gate: &HoldGate) -> u32 {
         },
         || {
             meeting.before(1, Act::Put);
-            let mut naps = 0;
-            for _ in 0..1_000u32 {
+            for naps in 0..1_000u32 {
                 if flags.left() {
-                    break;
+                    return naps;
                 }
                 flags.nap(rt, Duration::from_micros(100));
-                naps += 1;
             }
-            naps
+            1_000
         },
     );
     naps
@@ -66,10 +64,10 @@ fn naps_beside<R: Threads + Wait + Sync>(rt: &R, gate: &HoldGate) -> u32 {
 
 // In how many of ten tries it naps twenty times at least.
 fn long_waits<R: Threads + Wait + Sync>(rt: &R, gate: &HoldGate) -> u32 {
-    let mut long = 0;
+    let mut long = 0u32;
     for _ in 0..10u32 {
         if naps_beside(rt, gate) >= 20 {
-            long += 1;
+            long = long.saturating_add(1);
         }
     }
     long
