@@ -1,3 +1,4 @@
+# SQL: select color || ' cup', size from colors cross join sizes
 pact 1
 fields 3
 source c colors.csv text:0

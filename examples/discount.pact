@@ -1,7 +1,9 @@
 # What each shop but the second would have taken with 30 and with 10 percent off. Each side of each operator has fields below and above the 64th.
-# SQL: select shops.city, sizes.size, sum(sold.quantity * prices.price * (100 - sizes.size)) / 100
-#   from sold join prices on sold.shop = prices.shop and sold.item = prices.item join sizes join shops on sold.shop = shops.id
-#   where sold.quantity > 0 and sold.shop <> 2 group by sold.shop, sizes.size
+# SQL: select shops.city, taken.size, taken.total
+#   from (select sold.shop, sizes.size, coalesce(sum(sold.quantity * prices.price * (100 - sizes.size)), 0) / 100 as total
+#     from sold join prices on sold.shop = prices.shop and sold.item = prices.item cross join sizes
+#     where sold.quantity > 0 group by sold.shop, sizes.size) as taken
+#   join shops on taken.shop = shops.id where taken.shop <> 2
 pact 2
 fields 128
 source sold sold.csv int:65 text:3 int:127

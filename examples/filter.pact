@@ -1,3 +1,4 @@
+# SQL: select key, value from s where value > 0
 pact 1
 fields 4
 source s s.csv int:0 int:1

@@ -1,8 +1,8 @@
 # What each shop in Oslo has taken, at the prices that it asks itself.
-# SQL: select shops.id, sum(sold.quantity * prices.price)
+# SQL: select shops.id, coalesce(sum(sold.quantity * prices.price), 0)
 #   from sold join prices on sold.shop = prices.shop and sold.item = prices.item join shops on sold.shop = shops.id
 #   where shops.city = 'Oslo' and sold.quantity > 0 group by shops.id
-pact 1
+pact 2
 fields 10
 source sold sold.csv int:0 text:1 int:2
 source prices prices.csv int:3 text:4 int:5

@@ -1,6 +1,6 @@
 # Each person with who leads them. One file is named twice: as those who are led, and as those who lead.
 # SQL: select person.name, lead.name from staff as person join staff as lead on person.leader = lead.id
-pact 1
+pact 2
 fields 6
 source person staff.csv int:0 text:1 int:2
 source leader staff.csv int:3 text:4 int:5

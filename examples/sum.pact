@@ -1,3 +1,4 @@
+# SQL: select key, sum(coalesce(value, 0)) from s group by key
 pact 1
 fields 4
 source s s.csv int:0 int:1

@@ -1,6 +1,6 @@
 # The three best scores, and all that are as good as the third.
 # SQL: select score, name from scores
-#      where (select count(*) from scores as better where better.score > scores.score) < 3
+#      where (select count(*) from scores as better where better.score > scores.score) < 3 and score is not null
 pact 1
 fields 3
 source score scores.csv text:0 int:1
@@ -21,6 +21,9 @@ function best reduce 1
       v2 = addw v2 v4
     end
     v5 = lt v2 v0
+    v6 = isnull v1
+    v6 = not v6
+    v5 = and v5 v6
     if v5
       r0 = copy x1
       emit r0

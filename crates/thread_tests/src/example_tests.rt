@@ -1,4 +1,4 @@
-//! The programs of `examples/`, each by many lists of picked events. `examples/as_tests` writes this file.
+//! The programs of `examples/`, each by many lists of picked events. `tests/as_tests` writes this file.
 
 use crate::run_tests::picked_alike;
 use std::test::Fail;
@@ -211,6 +211,9 @@ Bob,,1
 \"Cruz, Eva\",ES,3
 ";
 
+const ONE_CSV: &str = "1
+";
+
 const ORDERS_CSV: &str = "10,1,250
 11,1,50
 12,2,75
@@ -391,6 +394,68 @@ reduce means mean sale by 0
 sink means 0 3 4 5
 ";
 
+const BEST_OF_GROUP_PACT: &str = "pact 1
+fields 3
+source sale sales.csv text:0 int:1 int:2
+function best reduce 1
+  each x1 of group
+    v1 = get x1 2
+    v0 = max v0 v1
+  end
+  v3 = isnull v0
+  v4 = key 0
+  v4 = isnull v4
+  v3 = or v3 v4
+  v3 = not v3             # none is the best if no row has an amount, or the region is Null
+  each x1 of group
+    v1 = get x1 2
+    v2 = eq v1 v0
+    v2 = and v2 v3
+    if v2
+      r0 = copy x1
+      emit r0
+    end
+  end
+end
+reduce greatest best sale by 0
+sink greatest 0 1 2
+";
+
+const CITY_COUNT_PACT: &str = "pact 1
+fields 7
+source shop shops.csv int:0 text:1
+source sale sold.csv int:2 text:3 int:4
+function count cogroup 1
+  v0 = int 0
+  v1 = key 0
+  v1 = isnull v1
+  v1 = not v1
+  each x1 of right
+    v0 = addw v0 v1
+  end
+  each x1 of left
+    r0 = copy x1
+    set r0 5 v0
+    emit r0
+  end
+end
+function add_up reduce 1
+  v0 = int 0
+  each x1 of group
+    v1 = get x1 5
+    v0 = addw v0 v1
+  end
+  r0 = new
+  v2 = key 0
+  set r0 1 v2
+  set r0 6 v0
+  emit r0
+end
+cogroup counted count shop sale by 0 = 2
+reduce cities add_up counted by 1
+sink cities 1 6
+";
+
 const COGROUP_PACT: &str = "pact 1
 fields 6
 source s s.csv int:0 int:1
@@ -496,6 +561,91 @@ end
 map all same s
 reduce total count all by 2
 sink total 3
+";
+
+const COUNT_COLUMN_PACT: &str = "pact 1
+fields 5
+source sale sales.csv text:0 int:1 int:2
+function count reduce 1
+  v0 = int 0
+  v1 = int 0
+  v2 = int 1
+  each x1 of group
+    v0 = addw v0 v2
+    v3 = get x1 2
+    v3 = isnull v3
+    v3 = not v3
+    v1 = addw v1 v3
+  end
+  r0 = new
+  v4 = key 0
+  set r0 0 v4
+  set r0 3 v0
+  set r0 4 v1
+  emit r0
+end
+reduce counts count sale by 0
+sink counts 0 3 4
+";
+
+const COUNT_DISTINCT_PACT: &str = "pact 1
+fields 4
+source sale sales.csv text:0 int:1 int:2
+function once reduce 2
+  r0 = new
+  v0 = key 0
+  set r0 0 v0
+  v0 = key 1
+  set r0 2 v0
+  emit r0
+end
+function count reduce 1
+  v0 = int 0
+  each x1 of group
+    v1 = get x1 2
+    v1 = isnull v1
+    v1 = not v1
+    v0 = addw v0 v1
+  end
+  r0 = new
+  v2 = key 0
+  set r0 0 v2
+  set r0 3 v0
+  emit r0
+end
+reduce amounts once sale by 0 2
+reduce counts count amounts by 0
+sink counts 0 3
+";
+
+const COUNT_OR_ZERO_PACT: &str = "pact 1
+fields 5
+source s s.csv int:0 int:1
+source one one.csv int:2
+function above map
+  v0 = get in 1
+  v1 = int 100
+  v2 = lt v1 v0
+  if v2
+    r0 = copy in
+    v3 = int 1
+    set r0 3 v3
+    emit r0
+  end
+end
+function count cogroup 1
+  v0 = int 0
+  v1 = int 1
+  each x1 of left
+    v0 = addw v0 v1
+  end
+  r0 = new
+  set r0 4 v0
+  emit r0
+end
+map large above s
+cogroup total count large one by 3 = 2
+sink total 4
 ";
 
 const COUNTED_PACT: &str = "pact 1
@@ -871,6 +1021,29 @@ map g greet people
 sink g 3 0 1
 ";
 
+const HAVING_PACT: &str = "pact 1
+fields 4
+source sale sales.csv text:0 int:1 int:2
+function add_up reduce 1
+  v0 = int 0
+  each x1 of group
+    v1 = get x1 2
+    v0 = addw v0 v1
+  end
+  v1 = int 0
+  v2 = lt v1 v0
+  if v2
+    r0 = new
+    v3 = key 0
+    set r0 0 v3
+    set r0 3 v0
+    emit r0
+  end
+end
+reduce sums add_up sale by 0
+sink sums 0 3
+";
+
 const INNER_JOIN_PACT: &str = "pact 2
 fields 4
 source member members.csv int:0 text:1
@@ -1159,7 +1332,7 @@ map mine of_ann picked
 sink mine 5 6 8
 ";
 
-const REVENUE_PACT: &str = "pact 1
+const REVENUE_PACT: &str = "pact 2
 fields 10
 source sold sold.csv int:0 text:1 int:2
 source prices prices.csv int:3 text:4 int:5
@@ -1239,7 +1412,7 @@ reduce totals running sale by 0
 sink totals 0 1 2 3
 ";
 
-const SELF_JOIN_PACT: &str = "pact 1
+const SELF_JOIN_PACT: &str = "pact 2
 fields 6
 source person staff.csv int:0 text:1 int:2
 source leader staff.csv int:3 text:4 int:5
@@ -1311,6 +1484,28 @@ reduce r tot d by 0 1
 sink r 1 6
 ";
 
+const SQL_SUM_PACT: &str = "pact 1
+fields 4
+source sale sales.csv text:0 int:1 int:2
+function add_up reduce 1
+  each x1 of group
+    v1 = get x1 2
+    v2 = isnull v1
+    if v2
+    else
+      v0 = addw v0 v1     # the first amount takes the place of Null
+    end
+  end
+  r0 = new
+  v3 = key 0
+  set r0 0 v3
+  set r0 3 v0
+  emit r0
+end
+reduce sums add_up sale by 0
+sink sums 0 3
+";
+
 const SUM_PACT: &str = "pact 1
 fields 4
 source s s.csv int:0 int:1
@@ -1364,6 +1559,9 @@ function best reduce 1
       v2 = addw v2 v4
     end
     v5 = lt v2 v0
+    v6 = isnull v1
+    v6 = not v6
+    v5 = and v5 v6
     if v5
       r0 = copy x1
       emit r0
@@ -1462,6 +1660,28 @@ reduce r cnt g by 0
 sink r 0 1 2 3 4
 ";
 
+const VISIT_COUNT_PACT: &str = "pact 1
+fields 5
+source member members.csv int:0 text:1
+source visit visits.csv int:2 int:3
+function count cogroup 1
+  v0 = int 0
+  v1 = key 0
+  v1 = isnull v1
+  v1 = not v1             # Null has a group, but no partner
+  each x1 of right
+    v0 = addw v0 v1
+  end
+  each x1 of left
+    r0 = copy x1
+    set r0 4 v0
+    emit r0
+  end
+end
+cogroup counted count member visit by 0 = 2
+sink counted 0 1 4
+";
+
 const WIDE_PACT: &str = "pact 2
 fields 128
 source s s.csv int:0 int:127
@@ -1480,24 +1700,35 @@ fn programs_from_anti_join(rt: HostRuntime) -> Result<(), Fail> {
     let alloc = rt.alloc();
     assert!(rt; picked_alike(alloc, ANTI_JOIN_PACT, &[MEMBERS_CSV, VISITS_CSV])?);
     assert!(rt; picked_alike(alloc, AVERAGE_PACT, &[SALES_CSV])?);
+    assert!(rt; picked_alike(alloc, BEST_OF_GROUP_PACT, &[SALES_CSV])?);
+    assert!(rt; picked_alike(alloc, CITY_COUNT_PACT, &[SHOPS_CSV, SOLD_CSV])?);
+    Ok(())
+}
+
+#[test]
+fn programs_from_cogroup(rt: HostRuntime) -> Result<(), Fail> {
+    let alloc = rt.alloc();
     assert!(rt; picked_alike(alloc, COGROUP_PACT, &[S_CSV, T3_CSV])?);
     assert!(rt; picked_alike(alloc, COND_PACT, &[S_CSV])?);
-    Ok(())
-}
-
-#[test]
-fn programs_from_count(rt: HostRuntime) -> Result<(), Fail> {
-    let alloc = rt.alloc();
     assert!(rt; picked_alike(alloc, COUNT_PACT, &[E_CSV])?);
     assert!(rt; picked_alike(alloc, COUNT_ALL_PACT, &[S_CSV])?);
-    assert!(rt; picked_alike(alloc, COUNTED_PACT, &[S_CSV, T3_CSV])?);
-    assert!(rt; picked_alike(alloc, CROSS_PACT, &[COLORS_CSV, SIZES_CSV])?);
     Ok(())
 }
 
 #[test]
-fn programs_from_decimals(rt: HostRuntime) -> Result<(), Fail> {
+fn programs_from_count_column(rt: HostRuntime) -> Result<(), Fail> {
     let alloc = rt.alloc();
+    assert!(rt; picked_alike(alloc, COUNT_COLUMN_PACT, &[SALES_CSV])?);
+    assert!(rt; picked_alike(alloc, COUNT_DISTINCT_PACT, &[SALES_CSV])?);
+    assert!(rt; picked_alike(alloc, COUNT_OR_ZERO_PACT, &[S_CSV, ONE_CSV])?);
+    assert!(rt; picked_alike(alloc, COUNTED_PACT, &[S_CSV, T3_CSV])?);
+    Ok(())
+}
+
+#[test]
+fn programs_from_cross(rt: HostRuntime) -> Result<(), Fail> {
+    let alloc = rt.alloc();
+    assert!(rt; picked_alike(alloc, CROSS_PACT, &[COLORS_CSV, SIZES_CSV])?);
     assert!(rt; picked_alike(alloc, DECIMALS_PACT, &[BASKET_CSV])?);
     assert!(rt;
         picked_alike(
@@ -1507,87 +1738,96 @@ fn programs_from_decimals(rt: HostRuntime) -> Result<(), Fail> {
         )?
     );
     assert!(rt; picked_alike(alloc, DISTANCES_PACT, &[KNOWN_CSV, ROADS_CSV])?);
-    assert!(rt; picked_alike(alloc, DISTINCT_PACT, &[SALES_CSV])?);
     Ok(())
 }
 
 #[test]
-fn programs_from_drill(rt: HostRuntime) -> Result<(), Fail> {
+fn programs_from_distinct(rt: HostRuntime) -> Result<(), Fail> {
     let alloc = rt.alloc();
+    assert!(rt; picked_alike(alloc, DISTINCT_PACT, &[SALES_CSV])?);
     assert!(rt; picked_alike(alloc, DRILL_PACT, &[DRILL_CSV])?);
     assert!(rt; picked_alike(alloc, EXTREMES_PACT, &[SALES_CSV])?);
     assert!(rt; picked_alike(alloc, FILTER_PACT, &[S_CSV])?);
-    assert!(rt; picked_alike(alloc, FIVE_PACT, &[S_CSV, T_CSV])?);
     Ok(())
 }
 
 #[test]
-fn programs_from_flag(rt: HostRuntime) -> Result<(), Fail> {
+fn programs_from_five(rt: HostRuntime) -> Result<(), Fail> {
     let alloc = rt.alloc();
+    assert!(rt; picked_alike(alloc, FIVE_PACT, &[S_CSV, T_CSV])?);
     assert!(rt; picked_alike(alloc, FLAG_PACT, &[S_CSV])?);
     assert!(rt; picked_alike(alloc, FULL_JOIN_PACT, &[MEMBERS_CSV, VISITS_CSV])?);
     assert!(rt; picked_alike(alloc, GREET_PACT, &[NAMES_CSV])?);
-    assert!(rt; picked_alike(alloc, INNER_JOIN_PACT, &[MEMBERS_CSV, VISITS_CSV])?);
     Ok(())
 }
 
 #[test]
-fn programs_from_join(rt: HostRuntime) -> Result<(), Fail> {
+fn programs_from_having(rt: HostRuntime) -> Result<(), Fail> {
     let alloc = rt.alloc();
+    assert!(rt; picked_alike(alloc, HAVING_PACT, &[SALES_CSV])?);
+    assert!(rt; picked_alike(alloc, INNER_JOIN_PACT, &[MEMBERS_CSV, VISITS_CSV])?);
     assert!(rt; picked_alike(alloc, JOIN_PACT, &[S1_CSV, T_CSV])?);
     assert!(rt; picked_alike(alloc, JOIN3_PACT, &[S1_CSV, T_CSV, U_CSV])?);
+    Ok(())
+}
+
+#[test]
+fn programs_from_label(rt: HostRuntime) -> Result<(), Fail> {
+    let alloc = rt.alloc();
     assert!(rt; picked_alike(alloc, LABEL_PACT, &[V_CSV, G_CSV])?);
     assert!(rt; picked_alike(alloc, MINIMUM_PACT, &[SALES_CSV])?);
-    Ok(())
-}
-
-#[test]
-fn programs_from_notes(rt: HostRuntime) -> Result<(), Fail> {
-    let alloc = rt.alloc();
     assert!(rt; picked_alike(alloc, NOTES_PACT, &[S_CSV])?);
     assert!(rt; picked_alike(alloc, NULL_PACT, &[N_CSV, M_CSV])?);
+    Ok(())
+}
+
+#[test]
+fn programs_from_null2(rt: HostRuntime) -> Result<(), Fail> {
+    let alloc = rt.alloc();
     assert!(rt; picked_alike(alloc, NULL2_PACT, &[N_CSV, N_CSV])?);
     assert!(rt; picked_alike(alloc, ODD_PACT, &[S1_CSV])?);
-    Ok(())
-}
-
-#[test]
-fn programs_from_outer_join(rt: HostRuntime) -> Result<(), Fail> {
-    let alloc = rt.alloc();
     assert!(rt; picked_alike(alloc, OUTER_JOIN_PACT, &[MEMBERS_CSV, VISITS_CSV])?);
     assert!(rt; picked_alike(alloc, PIVOT_PACT, &[SALES_CSV])?);
+    Ok(())
+}
+
+#[test]
+fn programs_from_push(rt: HostRuntime) -> Result<(), Fail> {
+    let alloc = rt.alloc();
     assert!(rt; picked_alike(alloc, PUSH_PACT, &[H_CSV])?);
     assert!(rt; picked_alike(alloc, QUARTER_PACT, &[QUARTERS_CSV, ASKED_CSV])?);
-    Ok(())
-}
-
-#[test]
-fn programs_from_revenue(rt: HostRuntime) -> Result<(), Fail> {
-    let alloc = rt.alloc();
     assert!(rt; picked_alike(alloc, REVENUE_PACT, &[SOLD_CSV, PRICES_CSV, SHOPS_CSV])?);
     assert!(rt; picked_alike(alloc, RUNNING_TOTAL_PACT, &[SALES_CSV])?);
-    assert!(rt; picked_alike(alloc, SELF_JOIN_PACT, &[STAFF_CSV, STAFF_CSV])?);
-    assert!(rt; picked_alike(alloc, SEMI_JOIN_PACT, &[MEMBERS_CSV, VISITS_CSV])?);
     Ok(())
 }
 
 #[test]
-fn programs_from_shop(rt: HostRuntime) -> Result<(), Fail> {
+fn programs_from_self_join(rt: HostRuntime) -> Result<(), Fail> {
     let alloc = rt.alloc();
+    assert!(rt; picked_alike(alloc, SELF_JOIN_PACT, &[STAFF_CSV, STAFF_CSV])?);
+    assert!(rt; picked_alike(alloc, SEMI_JOIN_PACT, &[MEMBERS_CSV, VISITS_CSV])?);
     assert!(rt; picked_alike(alloc, SHOP_PACT, &[CUSTOMERS_CSV, ORDERS_CSV])?);
+    assert!(rt; picked_alike(alloc, SQL_SUM_PACT, &[SALES_CSV])?);
+    Ok(())
+}
+
+#[test]
+fn programs_from_sum(rt: HostRuntime) -> Result<(), Fail> {
+    let alloc = rt.alloc();
     assert!(rt; picked_alike(alloc, SUM_PACT, &[S_CSV])?);
     assert!(rt; picked_alike(alloc, SWAP_PACT, &[S_CSV])?);
     assert!(rt; picked_alike(alloc, TOP_PACT, &[SCORES_CSV])?);
+    assert!(rt; picked_alike(alloc, TOTAL_PACT, &[S_CSV])?);
     Ok(())
 }
 
 #[test]
-fn programs_from_total(rt: HostRuntime) -> Result<(), Fail> {
+fn programs_from_twice(rt: HostRuntime) -> Result<(), Fail> {
     let alloc = rt.alloc();
-    assert!(rt; picked_alike(alloc, TOTAL_PACT, &[S_CSV])?);
     assert!(rt; picked_alike(alloc, TWICE_PACT, &[D_CSV])?);
     assert!(rt; picked_alike(alloc, UNION_PACT, &[MEMBERS_CSV, GUESTS_CSV])?);
     assert!(rt; picked_alike(alloc, UNIQ_PACT, &[S_CSV, T3_CSV])?);
+    assert!(rt; picked_alike(alloc, VISIT_COUNT_PACT, &[MEMBERS_CSV, VISITS_CSV])?);
     Ok(())
 }
 

@@ -30,6 +30,7 @@ create table sold(shop int, item text, quantity int);
 create table prices(shop int, item text, price int);
 create table shops(id int, city text);
 create table sizes(size int);
+create table colors(color text);
 .import members.csv members
 .import visits.csv visits
 .import guests.csv guests
@@ -44,6 +45,7 @@ create table sizes(size int);
 .import prices.csv prices
 .import shops.csv shops
 .import sizes.csv sizes
+.import colors.csv colors
 update members set id = null where id = '';
 update visits set member = null where member = '';
 update sales set amount = null where amount = '';
@@ -55,5 +57,26 @@ END
     for program in *.pact; do
         query=$(query_of "$program")
         [ -z "$query" ] || count gives_rows "$query" "expected/${program%.pact}.stdout"
+    done
+
+    # The pieces of docs/idioms.md that have a query too: a function, its operator and the sink. The page has the sources that a program needs besides.
+    awk -v to="$scratch/piece" '
+        /^```pact/ { name = to "." FNR; next }
+        /^```/ { name = ""; next }
+        name != "" { print >name }' ../docs/idioms.md
+    cat "$scratch"/piece.* | grep '^source ' >"$scratch/sources"
+    for piece in $(grep -l '^# SQL: ' "$scratch"/piece.*); do
+        {
+            grep '^#' "$piece"
+            printf 'pact 2\nfields 6\n'
+            while read -r word name rest; do
+                ! grep -qE "^(map|reduce|cogroup) .* $name( |\$)" "$piece" || echo "$word $name $rest"
+            done <"$scratch/sources"
+            grep -v '^#' "$piece"
+        } >"$piece.pact"
+        "$pact" run "$piece.pact" >"$piece.rows"
+        count test -s "$piece.rows"
+        count gives_rows "$(query_of "$piece.pact")" "$piece.rows"
+        count grep -q 'order yes$' <("$pact" sets "$piece.pact")
     done
 fi

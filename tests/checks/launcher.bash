@@ -1,7 +1,7 @@
 # Which program the launcher runs, and when it builds one: over a tree of two crates and one of tests, by a stand-in for the toolchain that counts
 # its builds and makes a program of that number.
 # shellcheck source=/dev/null
-. checks/tree.sh
+. "$checks/tree.sh"
 
 # The released program is run at once, with the toolchain and without; a link, another folder and no place for what is found out change nothing.
 fresh

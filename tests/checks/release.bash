@@ -2,7 +2,7 @@
 # machine stands for the one that was linked.
 
 # shellcheck source=/dev/null
-. checks/tree.sh
+. "$checks/tree.sh"
 
 fresh
 linked=$scratch/linked_program

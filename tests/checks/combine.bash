@@ -53,7 +53,8 @@ cp ./*.pact ./*.csv "$combined/all"
 # How many Reduces of a program are combined as it is written, and as it is chosen for four workers: none, where it isn't named. In the chosen plan of
 # shop.pact the join has brought together what its Reduce groups.
 declare -A splits=(
-    [average]='1 1' [count_all]='1 1' [discount]='1 1' [distances]='1 1' [drill]='1 1' [extremes]='1 1' [label]='1 1' [push]='1 1' [revenue]='1 1' [shop]='1 0' [sum]='1 1' [uniq]='1 1'
+    [average]='1 1' [city_count]='1 1' [count_all]='1 1' [count_column]='1 1' [count_distinct]='1 1' [discount]='1 1' [distances]='1 1' [drill]='1 1' [extremes]='1 1' [having]='1 1'
+    [label]='1 1' [push]='1 1' [revenue]='1 1' [shop]='1 0' [sum]='1 1' [uniq]='1 1'
 )
 for program in *.pact; do
     # Not those that are refused, or allow several answers.

@@ -36,7 +36,7 @@ is_as_shown() {
 take_blocks ../README.md ../docs/*.md
 for block in "$shown"/*.sh; do
     # other scripts have checks of their own
-    if ! grep -qvE '^(cd examples && )?\.\./pact ' "$block" && ! grep -q '|' "$block"; then
+    if ! grep -qvE '^(cd examples && )?(\.\./pact|split|sed) ' "$block" && ! grep -q '|' "$block"; then
         count is_as_shown "$(basename "$block" .sh)"
     fi
 done
@@ -84,7 +84,7 @@ done < <(sed -n 's/^\([a-z0-9_]*\)[^#]*:.*/\1/p' ../crates.txt | grep -v '_tests
 has_short_lines() {
     awk '/^```/ { inside = !inside } !inside && !/^\|/ && length($0) > 120 { long = 1 } END { exit long }' "$1"
 }
-for document in ../README.md ../docs/*.md ../bench/README.md README.md; do
+for document in ../README.md ../docs/*.md ../bench/README.md ../fuzz/README.md ../tests/README.md README.md; do
     count has_short_lines "$document"
 done
 
@@ -128,3 +128,11 @@ done < <(grep -o '`[a-z_0-9]*\.pact`' ../docs/idioms.md | tr -d '`' | sort -u)
 for program in $(grep -l '^# SQL: ' ./*.pact); do
     [ "$program" = ./discount.pact ] || count grep -q "\`${program#./}\`" ../docs/idioms.md
 done
+
+# Each row of their table has a program with such a query, and ../README.md says how many rows there are.
+queries=0
+while read -r program; do
+    queries=$((queries + 1))
+    count grep -q '^# SQL: ' "$program"
+done < <(sed -n 's/^| .* | `\([a-z_0-9]*\.pact\)` | .* |$/\1/p' ../docs/idioms.md)
+count grep -q "has $queries SQL queries" ../README.md

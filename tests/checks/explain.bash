@@ -104,13 +104,25 @@ program|function a filter|m.pact:5: text fault 9|    function a filter|the word 
 map|if v0\nemit r0|m.pact:8: text fault 3|m.pact line 8:|its ends so far: line 7 closes the if in line 5
 map|v0 = gt v1 v2|m.pact:5: text fault 9|m.pact line 5:|greater is lt with its operands exchanged
 map|v0 = "a b"|m.pact:5: text fault 9|m.pact line 5:|a text is: v0 = text "a b"
+map|emit in|m.pact:5: text fault 8|the word in : wanted is a record register|a copy of it can be changed and emitted: r0 = copy in
+cross|emit join|m.pact:6: text fault 8|the word join : wanted is a record register|a copy of it can be changed and emitted: r0 = copy join
+reduce|each x1 of group\nemit x1|m.pact:6: text fault 8|the word x1 : wanted is a record register|a copy of it can be changed and emitted: r0 = copy x1
+map|if v0\nelse if v1|m.pact:6: text fault 5|the word if : wanted is no further word|an if inside the else stands on a line below it, and has an end of its own
+map|r0 2 = v1|m.pact:5: text fault 8|the word 2 : wanted is the word =|a field of a record is set by: set r0 2 v1
+map|set r0 v1 2|m.pact:5: text fault 7|the word v1 : wanted is a field, 0 to 3|the record stands first, then the field, and the value last: set r0 2 v1
+map2|set 2 r0 v1|m.pact:5: text fault 8|the word 2 : wanted is a record register|the record stands first, then the field, and the value last: set r0 2 v1
+map|set v1 2 r0|m.pact:5: text fault 8|the word v1 : wanted is a record register|the record stands first, then the field, and the value last: set r0 2 v1
+map|emit r0 -- done|m.pact:5: text fault 5|the word -- : wanted is no further word|a comment begins with #
+map|v0 = get in 1 //amount|m.pact:5: text fault 5|the word //amount : wanted is no further word|a comment begins with #
+program|source u u.csv int:4 // more|m.pact:5: text fault 8|the word // : wanted is a column|a comment begins with #
 map|Emit r0|m.pact:5: text fault 3|m.pact line 5:|words of the language are written small: emit
 text|pact 1\nfields 4\nfunction a map\nif v0\nrepeat 2\nend\n# the end\n|m.pact:7: text fault 10|m.pact line 7:|the text ends inside function a, which begins in line 3; its open blocks: if in line 4
 text|pact 1\nfields 4\nfunction a map|m.pact:3: text fault 10|    function a map|the text ends inside function a, which begins in line 3, and lacks its end
 map|if v0\nrepeat 2\nelse|m.pact:7: text fault 10|    else|the word else: the innermost open block is repeat in line 6
 map|if v0\nelse\nelse|m.pact:7: text fault 10|    else|the word else: the if in line 5 has one already
 map|end|m.pact:6: text fault 10|    end|the word end: nothing is open here; the end in line 5 ended the function above
-reduce|each x1 of group\neach x1 of group|m.pact:6: text fault 11|    each x1 of group|the word x1 : wanted is the loop's record, here x2
+reduce|each x1 of group\neach x1 of group|m.pact:6: text fault 11|    each x1 of group|the word x1 : wanted is the loop's record, here x2, or the each of line 5 lacks its end
+reduce|if v0\neach x1 of group\neach x2 of group\nif v1\nelse\nend\neach x2 of group|m.pact:11: text fault 11|m.pact line 11:|the word x2 : wanted is the loop's record, here x3, or the each of line 7 lacks its end
 text|# no version\n\nfields 4\n|m.pact:3: text fault 12|    fields 4|this line has to be: pact 1
 text|pact 3\nfields 4\n|m.pact:1: text fault 12|    pact 3|this line has to be: pact 1, or pact 2
 text|pact 2|m.pact:1: text fault 12|m.pact line 1:|the text ends here without a line that begins with fields
@@ -141,6 +153,7 @@ text|pact 2\nfields 4\nsource s s.csv int:0 int:1\nsource t t.csv int:2\nfunctio
 program|function a map\nset r0 2 v0\nend\nmap m a s\ncross x c m t\nsink x 0|x: P6|m.pact line 9:|its inputs m and t have in common: 2
 program|sink s 0|t: P7|    source t t.csv int:2 int:3|t is no operator's input, nor the sink's
 program|map m f s\ncross x c s t\nsink x 0|s: P7|m.pact line 3:|s is an input 2 times, in the lines 5, 6
+program|map m f s\ncross x c s t\nsink x 0|s: P7|If you need a source twice, declare it twice,|write the operator twice, over such sources,
 program|cross x c s t\nsink x 0\nsink x 1|program: P9|m.pact: it has 2 sinks, in the lines 6, 7|docs/faults.md, "P9"
 program|cross x c s t|program: P9|m.pact: no line of it is a sink; one is missing|docs/faults.md, "P9"
 program|source u s.csv int:0\ncross x c s u\ncross y c x t\nsink y 0|s: P10|m.pact line 3:|field 0 is a column's of source u too, in line 5
@@ -149,6 +162,9 @@ rows|1,a\n\n\n2\n|source s: row 2 column 0: why 1|s.csv line 4, where row 2 begi
 rows|1;a\n|source s: row 1 column 0: why 1|    1;a|fields are separated by commas alone, not by semicolons
 rows|1,a\n"2,b\n3,c\n|source s: row 2 column 0: why 1|s.csv line 2, where row 2 begins:|the quote in line 2 is never closed
 rows|1,a,\n|source s: row 1 column 0: why 1|s.csv line 1,|the comma at its end begins one more field
+rows|1,a\n2,b,"x\n,y"\n\n3,"c""\n,",z\n|source s: row 2 column 0: why 1|s.csv line 2,|or give the source 3 columns (int:N or text:N), since row 3 has 3 fields too
+rows|1,a,x\r2,b\r3,c,x|source s: row 1 column 0: why 1|s.csv line 1,|or give the source 3 columns (int:N or text:N), since row 3 has 3 fields too
+rows|1\n2\n|source s: row 1 column 0: why 1|s.csv line 1,|or give the source 1 column (int:N or text:N), since row 2 has 1 field too
 rows|1,a\n2,Doe, Ann\n|source s: row 2 column 0: why 1|s.csv line 2,|a comma inside a field needs double quotes
 rows|id,name\n1,a\n|source s: row 1 column 1: why 2|    id|it looks like a header row
 rows|1,"a\nb"\r\n\r\n2,"c ""d"", e"\r\n5.0,f\r\n|source s: row 3 column 1: why 2|s.csv line 5, where row 3 begins:|column 1 is int:0, and this says no number: it has a point
@@ -161,6 +177,25 @@ rows|1,a\r2,b\rx,c\r|source s: row 3 column 1: why 2|s.csv line 3,|column 1 is i
 rows|1,"a\rb\r\nc"\nx,d\n|source s: row 2 column 1: why 2|s.csv line 4, where row 2 begins:|column 1 is int:0
 rows|\xEF\xBB\xBF1,a\n"x"1,b\n|source s: row 2 column 1: why 2|    x1|column 1 is int:0
 rows|1,a\n2,caf\xE9\n|source s: row 2 column 2: why 3|    caf\xE9|byte 4 of it, \xE9, is no character of UTF-8
+END
+
+# The source's own number of columns may be wrong, but only if a further row has that number of fields too, and isn't cut by another sign.
+# Each row has the rows of a file whose first one has too many or too few fields, and yes or no.
+while IFS='|' read -r lines answer; do
+    make_told rows "$lines"
+    said=
+    keep_said "$(cd "$mistakes" && "$pact" run m.pact 2>&1 | "$explain" | grep '^explain: ')"
+    if [ "$answer" = yes ]; then count is_said 'or give the source'; else count test "${said/or give the source/}" = "$said"; fi
+    count is_said 'it has '
+done <<'END'
+1,a,x\n2,b,y\n|yes
+1,a,x\n2,b\n3\n|no
+1,a,x\n2,"b,y"\n|no
+1,a,x\n2,"b,\n,y\n|no
+1,a,x\n"2","b",y|yes
+1;a\n2;b\n|no
+1\ta\n2\tb\n|no
+1,a,\n2,b,\n|yes
 END
 
 # Whether of a line as the argument, in a folder with these programs, this is said.

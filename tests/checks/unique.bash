@@ -142,7 +142,7 @@ function all cross
 end
 END
 # shellcheck source=/dev/null
-. checks/judging.sh
+. "$checks/judging.sh"
 
 # Operators in which the Reduce `r` stands over the Match `g`, or on a side of it; `B` stands for what makes the other side, which is named `b`, or `t` where nothing is made.
 # The words are over or under, the side, the functions of the Reduce and of the Match, the Match's key on the side of the move, and what makes the other side.

@@ -643,12 +643,12 @@ END
 
 # Each request for memory of some commands is refused in turn; programs and certificates are edited at random, always in the same way: the files that
 # are edited are listed, so that another example changes nothing in that; and what is found of functions is held against what calls of them give.
-bench_passes() { # a script of ../bench, and its words
-    PROGRAM=$program KEPT=$scratch/kept bash "../bench/$1" "${@:2}" >"$scratch/told" 2>&1 || { cat "$scratch/told"; return 1; }
+fuzz_passes() { # a script of ../fuzz, and its words
+    PROGRAM=$program KEPT=$scratch/kept bash "../fuzz/$1" "${@:2}" >"$scratch/told" 2>&1 || { cat "$scratch/told"; return 1; }
 }
 certificates=(push.{good,c1,c2,c3,c5,shape}.json)
 if have cc 'requests for memory that are refused, and edits and functions that are made at random'; then
-    count bench_passes memory --alone 'run sum.pact' 'sets sum.pact' 'cert push.pact --workers 2' 'run shop.pact' 'plan shop.pact' \
+    count fuzz_passes memory --alone 'run sum.pact' 'sets sum.pact' 'cert push.pact --workers 2' 'run shop.pact' 'plan shop.pact' \
         "${certificates[@]/#/check push.pact }" 'run shop.pact --prune' 'run twice.pact --workers 2' 'sets twice.pact' 'gen 1 1' \
         'run sum.pact --workers 2 --combine --counts' 'iterate label.pact v 2 --stable --workers 2'
     edited=(
@@ -657,8 +657,8 @@ if have cc 'requests for memory that are refused, and edits and functions that a
         {swap,too_wide,top,total,twice,union,wrong_key}.pact
         certificates/{{cond,push,shop}.good,{count,five,shop}.c4,push.c{1,2,3,5},push.{shape,spread}}.json
     )
-    count bench_passes edits 300 1 0 "${edited[@]}"
+    count fuzz_passes edits 300 1 0 "${edited[@]}"
     # Functions are made at random; where less than was found is taken to be true, that is told.
-    count bench_passes agree 300 2
-    FORGOTTEN='reads writes control order number' count bench_passes agree 150 2
+    count fuzz_passes agree 300 2
+    FORGOTTEN='reads writes control order number' count fuzz_passes agree 150 2
 fi

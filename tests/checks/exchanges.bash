@@ -80,7 +80,7 @@ two=$one'source t t.csv int:2 int:3\n'
 three=$two'source u u.csv int:4 int:5\n'
 
 # shellcheck source=/dev/null
-. checks/judging.sh
+. "$checks/judging.sh"
 
 # ---- neighbouring Maps
 count refused 'C4 conflict read-write 6' "${one}map a mark s\nmap b tell a\nsink b 7\n" b map-map

@@ -25,6 +25,20 @@ END
 make_pitfall 'map\nr0 = copy in' 'map m f s\nsink m 0'
 count gives 0 'm map reads {} writes {} control {} touched {} emit 0..0 anchor none order yes\n' '' sets pitfall.pact
 
+# Null is less than every other value and equal to itself: a filter keeps empty cells and a join pairs them, unless `isnull` is asked.
+printf '1,\n2,-3\n3,4\n' >"$scratch/s.csv"
+while IFS='|' read -r function operator rows; do
+    make_pitfall "$function" "$operator"
+    count gives 0 "$rows" '' run pitfall.pact
+done <<'END'
+map\nv0 = get in 1\nv1 = int 0\nv2 = lt v0 v1\nif v2\nr0 = copy in\nemit r0\nend|map m f s\nsink m 0 1|1,\n2,-3\n
+map\nv0 = get in 1\nv1 = int 0\nv2 = lt v0 v1\nv3 = isnull v0\nv3 = not v3\nv2 = and v2 v3\nif v2\nr0 = copy in\nemit r0\nend|map m f s\nsink m 0 1|2,-3\n
+map\nv0 = get in 1\nv1 = int 0\nv2 = lt v1 v0\nif v2\nr0 = copy in\nemit r0\nend|map m f s\nsink m 0 1|3,4\n
+cross\nv0 = get left 1\nv1 = get right 3\nv2 = lt v0 v1\nif v2\nr0 = copy join\nemit r0\nend|source t s.csv int:2 int:3\ncross m f s t\nsink m 1 3|,-3\n,4\n-3,4\n
+cross\nv0 = get left 1\nv1 = get right 3\nv2 = eq v0 v1\nif v2\nr0 = copy join\nemit r0\nend|source t s.csv int:2 int:3\ncross m f s t\nsink m 1 3|,\n-3,-3\n4,4\n
+END
+printf '1,5\n1,3\n' >"$scratch/s.csv"
+
 # A text isn't a number, and none of their digits counts.
 printf '01,2\n1,3\n' >"$scratch/t.csv"
 while IFS='|' read -r left right rows; do
