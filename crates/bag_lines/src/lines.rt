@@ -71,8 +71,8 @@ pub fn sorted_lines(alloc: Global, bag: Rows, fields: &[u32]) -> Result<Bytes, O
     write_fields(alloc, rows.rows(), fields)
 }
 
-/// The same lines. The sorted records are cut into `parts` parts of about the same length. The text of each part is
-/// made, and its records are freed, on a thread of its own if the system provides one.
+/// The lines that `sorted_lines` returns. The sorted records are cut into `parts` parts of about the same length. The
+/// text of each part is made, and its records are freed, on a separate thread if the system provides one.
 pub fn sorted_lines_on_threads<R: Threads + Sync>(
     rt: &R,
     alloc: Global,

@@ -19,7 +19,7 @@ at_end [] a b (suc j) n e = absurd (some-ne-none b (sym e))
 at_end (x ∷ xs) a b zero n e = absurd (n e)
 at_end (x ∷ xs) a b (suc j) n e = ap suc (at_end xs a b j n e)
 
--- what is told of each view, by its pass
+-- what is known of each view, by its pass
 abbrev Knows : (ℕ → View → Type 0) → List View → Type 0
 Knows F views = (pass : ℕ) (v : View) → get_elem? views pass ≡ some v → F pass v
 
@@ -59,7 +59,7 @@ puts fields n pass v x may wide items views _ h at =
       refl,
     )
 
--- the rule after the front is taken
+-- the rule still holds after the oldest note is taken
 takes_front : (fields pass : ℕ) (v : View) (x : Note) (items : List Note) (views : List View) → v.takes ≡ true → IsPiped fields (x ∷ items) views → get_elem? views pass ≡ some v
     → IsPiped fields items (set views pass (view_of v.puts v.takes v.put (v.taken ++ x ∷ [])))
 takes_front fields pass v x items views may h at =
@@ -79,7 +79,7 @@ takes_front fields pass v x items views may h at =
 pub takes : (fields pass : ℕ) (v : View) → v.takes ≡ true → Pops (IsPiped fields) pass v (λ x w. IsNote fields x × (w ≡ view_of v.puts v.takes v.put (v.taken ++ x ∷ [])))
 takes fields pass v may x items views h at = (view_of v.puts v.takes v.put (v.taken ++ x ∷ []), takes_front fields pass v x items views may h at, (h.notes.0, refl))
 
--- what is known once both ends are one
+-- what is known once both ends are joined
 pub totals : (fields pass : ℕ) (v : View) → v.puts ≡ true → v.takes ≡ true → Learns (IsPiped fields) pass v (λ items. v.put ≡ v.taken ++ items)
 totals fields pass v a b items views h at = let mine = h.knows pass v at in (mine.puts a).1 ∙ h.whole ∙ ap (λ l. l ++ items) (sym (mine.takes b).1)
 

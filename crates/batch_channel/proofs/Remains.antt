@@ -9,11 +9,11 @@ use Rattle.batch_channel.specs.Rule.{view_of}
 use Rattle.flow_instance.specs.declared.notes.Note.{Note}
 use Rattle.batch_channel.specs.declared.rules.View.{View}
 
--- a view of both ends, which knows what is left
+-- a view of both ends, by which it is known what is left
 abbrev pub IsJoined : View → Type 0
 IsJoined v = (v.puts ≡ true) × (v.takes ≡ true) × (v.put ≡ v.taken ++ drop (length v.taken) v.put)
 
--- what a pop from the joined ends tells
+-- what is known after a pop from the joined ends
 abbrev pub Popped : ℕ → Option Note → View → View → Type 0
 Popped fields r v w =
     MatchOption r ((w ≡ v) × Held 0 (λ items. v.put ≡ v.taken ++ items))

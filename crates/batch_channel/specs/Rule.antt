@@ -7,20 +7,21 @@ use Rattle.batch_channel.specs.declared.rules.View.{View}
 use Rattle.std.specs.List.{AllByRecursion}
 use Rattle.flow_instance.specs.Notes.{IsNote}
 
--- each record of the notes has so many values
+-- each record of the notes has this number of values
 abbrev pub HoldsNotes : ℕ → List Note → Type 0
 HoldsNotes fields notes = AllByRecursion (IsNote fields) notes
 
--- what a pass knows, from its parts
+-- what a pass knows, made from its parts
 abbrev pub view_of : Bool → Bool → List Note → List Note → View
 view_of puts takes put taken = record { puts = puts; takes = takes; put = put; taken = taken }
 
--- The view that may put is of one pass, the writer, and knows the notes put; the view that may take is of one pass and knows those taken.
+-- Only one pass, the writer, has a view that may put, and that view knows the notes put. Only one pass, the reader, has
+-- a view that may take, and that view knows the notes taken.
 pub record IsView (writer reader : ℕ) (put taken : List Note) (pass : ℕ) (v : View) : Type 0 where
   pub puts : v.puts ≡ true → (pass ≡ writer) × (v.put ≡ put)
   pub takes : v.takes ≡ true → (pass ≡ reader) × (v.taken ≡ taken)
 
--- Of the queue's notes, the oldest first, and of the view of each pass.
+-- The rule, for the queue's notes, the oldest first, and the view of each pass.
 pub record IsPiped (fields : ℕ) (items : List Note) (views : List View) : Type 0 where
   pub writer : ℕ
   pub reader : ℕ

@@ -6,7 +6,7 @@ use crate::rules::NotePass;
 use crate::widths::Width;
 use std::marker::{Model, PhantomData};
 
-/// The end that puts. Contracts see which pipe it is of, and the notes that it has put.
+/// The end that puts. Contracts see the identity of its pipe, and the notes that it has put.
 #[derive(Drop)]
 pub struct PutEnd<W: Width> {
     pub(crate) pass: NotePass,
@@ -27,7 +27,7 @@ impl<W: Width> Model for PutEnd<W> {
 }
 
 impl<W: Width> PutEnd<W> {
-    /// How many notes the end has put. One that was handed back isn't counted.
+    /// How many notes the end has put. A note that was handed back doesn't count.
     pub fn len(&self) -> u64
         ensures { result ≡ length self.now.notes }
     {
@@ -35,7 +35,7 @@ impl<W: Width> PutEnd<W> {
     }
 }
 
-/// The end that takes. Contracts see which pipe it is of, and the notes that it has taken.
+/// The end that takes. Contracts see the identity of its pipe, and the notes that it has taken.
 #[derive(Drop)]
 pub struct TakeEnd<W: Width> {
     pub(crate) pass: NotePass,

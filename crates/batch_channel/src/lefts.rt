@@ -11,7 +11,7 @@ use flow_instance::Note;
 use std::marker::Model;
 use std::sync::Wait;
 
-/// The notes that were put and not taken. Contracts see them as a list, from the front.
+/// The notes that were put and not taken. Contracts see them as a list, the oldest first.
 #[derive(Drop)]
 pub struct Left<W: Width> {
     queue: Queue<W>,
@@ -44,7 +44,7 @@ pub fn close<W: Width, R: Wait>(_rt: &R, pipe: Pipe<W>, put: PutEnd<W>, take: Ta
 }
 
 impl<W: Width> Left<W> {
-    /// The next of the notes that are left. None comes where none is, and again at each later call.
+    /// The next of the notes that are left. It returns None if none is left, and does so again at each later call.
     pub fn next<R: Wait>(&mut self, rt: &R) -> Option<Note>
         ensures next { MatchOption result (self.old ≡ []) (λ note. self.old ≡ note ∷ self.new) }
         ensures note { IfSome result (λ note. IsNote W.fields note) }

@@ -1,12 +1,14 @@
 //! A bounded pipe of notes between two threads.
 //!
-//! `pipe` makes a `Pipe`, which threads share, and its two ends, each for one thread. `Pipe::put` appends a note and `Pipe::take` takes the front, where
-//! they don't find the pipe full or empty. `close` joins the ends again, and the `Left` that it gives has the notes that were put and not taken.
+//! `pipe` makes a `Pipe`, which threads share, and its two ends, each for one thread. `Pipe::put` appends a note unless
+//! it finds the pipe full. `Pipe::take` takes the oldest note unless it finds the pipe empty. `close` joins the ends
+//! again and returns a `Left`, which has the notes that were put and not taken.
 //!
-//! What a shared queue holds at some moment no contract can say, so contracts speak of the ends: a `PutEnd` means the list of the notes that it has put, a
-//! `TakeEnd` the list of those that it has taken. `rules` ties the two by a rule of the queue (`specs/Rule`): what was put is what was taken, followed by
-//! what the queue holds. `proofs/Keeps` has that every step keeps it. How many values each record has is a number behind the trait `Width`, which
-//! contracts alone see.
+//! No contract can say what a shared queue holds at some moment, so contracts speak of the ends: the model of a
+//! `PutEnd` is the list of the notes that it has put, that of a `TakeEnd` the list of those that it has taken. `rules`
+//! ties the two by a rule of the queue (`specs/Rule`): the notes put are the notes taken, followed by what the queue
+//! holds. `proofs/Keeps` shows that every step keeps the rule. The trait `Width` has the number of values of each
+//! record, which only contracts see.
 #![tactic(auto)]
 
 mod ends;

@@ -11,8 +11,8 @@ use std::alloc::Global;
 use std::marker::PhantomData;
 use std::sync::Wait;
 
-/// An empty pipe that holds at most `depth` notes, and its two ends. Want of memory is the only error. No call on the pipe, its ends or what is left in it
-/// takes memory after this one.
+/// An empty pipe that holds at most `depth` notes, and its two ends. Out of memory is the only error. After this call
+/// no call on the pipe, its ends or what is left in it takes memory.
 pub fn pipe<W: Width, R: Wait>(
     _rt: &R,
     alloc: Global,

@@ -1,4 +1,4 @@
-//! Pipes, to which notes are put and from which they are taken.
+//! Pipes, into which notes are put and from which they are taken.
 
 ghost use Rattle.std.specs.Prelude.{◌≡◌, ◌≤◌, ◌<◌, ◌^◌, ◌++◌, ◌∷◌, [], length, OnOk, IfErr, OnErr, IfSome, IfNone};
 ghost use Rattle.flow_instance.specs.Notes.{IsNote};
@@ -10,7 +10,7 @@ use flow_instance::Note;
 use std::marker::Model;
 use std::sync::Wait;
 
-/// A pipe, which threads share. Contracts see which one it is, and how many notes it holds at most.
+/// A pipe, which threads share. Contracts see its identity, and how many notes it holds at most.
 #[derive(Drop)]
 pub struct Pipe<W: Width> {
     pub(crate) queue: Queue<W>,
@@ -26,8 +26,8 @@ impl<W: Width> Model for Pipe<W> {
 }
 
 impl<W: Width> Pipe<W> {
-    /// Appends the note in one step, or hands it back where it found the pipe full. It never waits for a note to be taken, but may spin while another thread
-    /// is amid a step of its own on this pipe.
+    /// Appends the note in one step, or hands it back if it found the pipe full. It never waits for a note to be taken,
+    /// but it may spin while another thread is in the middle of its own step on this pipe.
     pub fn put<R: Wait>(&self, rt: &R, end: &mut PutEnd<W>, note: Note) -> Result<(), Note>
         requires pipe { end.old.name ≡ self.now.name }
         requires room { length end.old.notes < 2 ^ 61 }
@@ -43,7 +43,8 @@ impl<W: Width> Pipe<W> {
         Ok(())
     }
 
-    /// Takes the front in one step, or answers None where it found the pipe empty. It never waits for a note to be put, but may spin as `put` does.
+    /// Takes the oldest note in one step, or returns None if it found the pipe empty. It never waits for a note to be
+    /// put, but it may spin as `put` does.
     pub fn take<R: Wait>(&self, rt: &R, end: &mut TakeEnd<W>) -> Option<Note>
         requires pipe { end.old.name ≡ self.now.name }
         ensures pipe { end.new.name ≡ end.old.name }

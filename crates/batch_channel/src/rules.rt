@@ -1,4 +1,4 @@
-//! The rule of a pipe's queue, and what each step tells the end that takes it.
+//! The rule of a pipe's queue, and what becomes known to the end that takes each step.
 
 use crate::widths::Width;
 use crossbeam_queue::protocol::{Join, Lesson, Outcome, Protocol, Split};
@@ -7,7 +7,8 @@ use flow_instance::Note;
 use std::collections::LinkedList;
 use std::marker::PhantomData;
 
-/// What a pass knows: whether it may put and take, the notes put and the notes taken. It exists in contracts alone; no value of it is made.
+/// What a pass knows: whether it may put and take, the notes put and the notes taken. It exists only in contracts; no
+/// value of it is made.
 pub struct View {
     pub puts: bool,
     pub takes: bool,
@@ -15,7 +16,7 @@ pub struct View {
     pub taken: LinkedList<Note>,
 }
 
-/// The rule, for records with so many values.
+/// The rule, for records with this number of values.
 pub struct Piped<W: Width> {
     width: PhantomData<W>,
 }
@@ -29,7 +30,7 @@ impl<W: Width> Protocol<Note, View> for Piped<W> {
     ghost first = { view_of true true [] [] };
 }
 
-/// The first pass is cut into those of the two ends, and they are joined again.
+/// The first pass is split into those of the two ends, and they are joined again.
 pub struct BothEnds;
 
 impl Split<View> for BothEnds {
@@ -50,7 +51,7 @@ impl Join<View> for BothEnds {
     ghost spent = { view_of false false [] [] };
 }
 
-/// One note more is put. Where the queue is full, what it holds is the last of the notes put.
+/// One more note is put. If the queue is full, it holds the last of the notes put.
 pub struct Puts;
 
 impl Outcome<Note, View> for Puts {
@@ -66,7 +67,8 @@ impl Lesson<Note, View> for Puts {
     ghost fact = { IsBehind };
 }
 
-/// One note more is taken, and its records have the pipe's number of values. Where the queue is empty, nothing is learned.
+/// One more note is taken, and its records have the pipe's number of values. If the queue is empty, nothing becomes
+/// known.
 pub struct Takes<W: Width> {
     width: PhantomData<W>,
 }
@@ -85,7 +87,8 @@ impl<W: Width> Lesson<Note, View> for Takes<W> {
     ghost fact = { λ v items. ⊤ };
 }
 
-/// After the ends are joined, a note that is taken is the next of those put, and what the queue holds is all of them that weren't taken.
+/// After the ends are joined, a note that is taken is the next of those put, and the queue holds all notes put that
+/// weren't taken.
 pub struct Leaves<W: Width> {
     width: PhantomData<W>,
 }

@@ -1,4 +1,4 @@
--- The items at nodes, and what the calls of an arena do to them.
+-- The items at nodes, and the effect of an arena's calls on them.
 use Rattle.std.proofs.Common.{◌≡◌, ◌≢◌, ◌<◌, ◌+◌, ◌==◌, ℕ, zero, suc, true, false, List, [], ◌∷◌, ◌++◌, length, map, get_or, refl, ap, sym, ◌∙◌, subst, arith, append_assoc, Option, Some, None}
 use Rattle.std.specs.Prelude.{is_some, option_to_list, slice_set}
 use Rattle.std.proofs.lemmas.Bool.{or_parts}
@@ -36,7 +36,7 @@ items-append : {T : Type 0} (items : List (Option T)) (ns ms : List ℕ) → ite
 items-append items [] ms = refl
 items-append items (n ∷ ns) ms = ap (λ l. option_to_list (get_or items n None) ++ l) (items-append items ns ms) ∙ sym (append_assoc (option_to_list (get_or items n None)) (items_of items ns) (items_of items ms))
 
--- as a list, one item
+-- an item is a list of length 1
 one-item : {T : Type 0} (o : Option T) → is_some o ≡ true → length (option_to_list o) ≡ 1
 one-item None h = cc
 one-item (Some x) h = refl

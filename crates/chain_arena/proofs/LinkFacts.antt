@@ -1,4 +1,4 @@
--- The calls of links, as their goals stand.
+-- The facts about the calls of `Links`, in the form of their proof goals.
 use Rattle.std.proofs.Common.{◌≡◌, ◌≢◌, ◌<◌, ◌≤◌, ◌+◌, ℕ, zero, suc, List, [], ◌∷◌, ◌++◌, length, map, get_or, refl, ap, sym, ◌∙◌, subst, arith}
 use Rattle.std.specs.Prelude.{slice_set}
 use Rattle.std.proofs.lemmas.List.{get_or-map, get_or-set_same, get_or_default, length-append, length-map}
@@ -55,7 +55,7 @@ counts_in next free chains a b x y h la lb ne ex ey =
     let t = two_fit next free chains a b h la ne in
     omega (arith, s, r, t)
 
--- a chain's nodes are its first one and those of the chain without it
+-- the nodes of a chain are its first node and the nodes of the chain without it
 cut_first : (next : List ℕ) (it rest : Chain) → 0 < it.count → rest ≡ without_first_of next it → nodes_of next it ≡ it.first ∷ nodes_of next rest
 cut_first next it rest some r = by it.count some refl where
   by : (m : ℕ) → 0 < m → m ≡ it.count → nodes_from (next_of next) it.first m ≡ it.first ∷ nodes_of next rest

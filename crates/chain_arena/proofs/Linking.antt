@@ -1,4 +1,4 @@
--- What the calls of links do to the lists of nodes.
+-- The effect of the calls of `Links` on the lists of nodes.
 use Rattle.std.proofs.Common.{◌≡◌, ◌≢◌, inl, inr, ◌<◌, ◌≤◌, ◌+◌, ℕ, zero, suc, false, List, [], ◌∷◌, ◌++◌, length, map, get_or, refl, ap, sym, ◌∙◌, subst, arith}
 use Rattle.std.specs.Prelude.{slice_set}
 use Rattle.std.proofs.lemmas.Bool.{cases_eq}
@@ -32,7 +32,7 @@ joined_next-front next x y none = grind (arith, nat_tests)
 joined_next-behind : (next : List ℕ) (x y : Chain) → x.count ≡ 0 → joined_next next x y ≡ next
 joined_next-behind next x y none = grind (arith, nat_tests)
 
--- by cases of which chains have nodes
+-- by cases: both chains have nodes, or one of them has none
 by_counts : (P : Type 0) (n m : ℕ) → (0 < n → 0 < m → P) → (n ≡ 0 → 0 < m → P) → (m ≡ 0 → P) → P
 by_counts P n zero both behind front = front refl
 by_counts P zero (suc m) both behind front = behind refl (omega arith)
@@ -113,7 +113,7 @@ pub total-last : (chains : List Chain) → total (chains ++ empty_chain ∷ []) 
 total-last [] = refl
 total-last (c ∷ chains) = ap (λ n. c.count + n) (total-last chains)
 
--- ---- lists of chains that agree elsewhere
+-- ---- lists of chains that agree except at one place
 
 map-agree : (f g : Chain → List ℕ) (cs : List Chain) → ((m : ℕ) → m < length cs → f (get_or cs m empty_chain) ≡ g (get_or cs m empty_chain)) → map f cs ≡ map g cs
 map-agree f g [] h = refl
@@ -123,7 +123,7 @@ map-off : (f g : Chain → List ℕ) (cs : List Chain) (n : ℕ) (v : List ℕ) 
 map-off f g cs n v h = agree_off (map f cs) (map g cs) n v [] (length-map cs f ∙ sym (length-map cs g))
     (λ m lt ne. let within = subst (λ l. m < l) (length-map cs f) lt in get_or-map f cs m empty_chain [] within ∙ h m ne ∙ sym (get_or-map g cs m empty_chain [] within))
 
--- ---- what stands after a call
+-- ---- the state after a call
 
 pub record Stands (next : List ℕ) (free : Chain) (chains : List Chain) (size : ℕ) (frees : List ℕ) (lists : List (List ℕ)) : Type 0 where
   pub linked : AreLinked next empty_chain free chains
@@ -131,7 +131,7 @@ pub record Stands (next : List ℕ) (free : Chain) (chains : List Chain) (size :
   pub free_is : nodes_of next free ≡ frees
   pub lists_are : map (nodes_of next) chains ≡ lists
 
--- a node more at the end of the free list
+-- one more node at the end of the free list
 pub grown_law : (next : List ℕ) (free : Chain) (chains : List Chain) → AreLinked next empty_chain free chains
     → Stands (joined_next (next ++ 0 ∷ []) free (single_of (length next))) (joined free (single_of (length next))) chains (length next + 1) (nodes_of next free ++ length next ∷ []) (map (nodes_of next) chains)
 grown_law next free chains h = record {
@@ -181,7 +181,7 @@ grown_law next free chains h = record {
   same : (c : ℕ) → c ≢ 0 → nodes_of more (table one free chains c) ≡ nodes_of next (table empty_chain free chains c)
   same c ne = grown-others h.placed g c ne ∙ ap (nodes_of next) (table-one empty_chain empty_chain free chains c ne)
 
--- the first node of the free list at the end of a list
+-- the first node of the free list moves to the end of a list
 pub taken_law : (next : List ℕ) (free : Chain) (chains : List Chain) (n : ℕ) → AreLinked next empty_chain free chains → n < length chains → 0 < free.count
     → (rest x : Chain) (after : List ℕ) → rest ≡ without_first_of next free → x ≡ joined (get_or chains n empty_chain) (single_of free.first) → after ≡ joined_next next (get_or chains n empty_chain) (single_of free.first)
     → Stands after rest (slice_set chains n x) (length next) (nodes_of next rest) (slice_set (map (nodes_of next) chains) n (nodes_of next (get_or chains n empty_chain) ++ free.first ∷ []))
@@ -244,7 +244,7 @@ taken_law next free chains n h lt some rest x after rest_is x_is after_is = reco
       let r = s.count in
       omega (arith, f, t, c, r, long)
 
--- the first node of a list at the end of the free list
+-- the first node of a list moves to the end of the free list
 pub freed_law : (next : List ℕ) (free : Chain) (chains : List Chain) (n : ℕ) → AreLinked next empty_chain free chains → n < length chains → 0 < (get_or chains n empty_chain).count
     → (rest x : Chain) (after : List ℕ) → rest ≡ without_first_of next (get_or chains n empty_chain) → x ≡ joined free (single_of (get_or chains n empty_chain).first) → after ≡ joined_next next free (single_of (get_or chains n empty_chain).first)
     → Stands after x (slice_set chains n rest) (length next) (nodes_of next free ++ (get_or chains n empty_chain).first ∷ []) (slice_set (map (nodes_of next) chains) n (nodes_of next rest))
@@ -307,7 +307,7 @@ freed_law next free chains n h lt some rest x after rest_is x_is after_is = reco
       let r = ap (λ (c : Chain). c.count) rest_is in
       omega (arith, f, t, c, r, long, some)
 
--- the nodes of a list at the end of another one
+-- the nodes of a list move to the end of another one
 pub concat_law : (next : List ℕ) (free : Chain) (chains : List Chain) (a b : ℕ) → AreLinked next empty_chain free chains → a < length chains → b < length chains → a ≢ b
     → (x : Chain) (after : List ℕ) → x ≡ joined (get_or chains a empty_chain) (get_or chains b empty_chain) → after ≡ joined_next next (get_or chains a empty_chain) (get_or chains b empty_chain)
     → Stands after free (slice_set (slice_set chains a x) b empty_chain) (length next) (nodes_of next free)
@@ -388,7 +388,7 @@ concat_law next free chains a b h a_lt b_lt ne x after x_is after_is = record {
       let c = ap (λ (c : Chain). c.count) x_is ∙ joined-count (get_or chains a empty_chain) (get_or chains b empty_chain) in
       omega (arith, f, t, u, g, c, long)
 
--- two chains together have no more nodes than there are
+-- two chains together have at most as many nodes as there are
 pub two_fit : (next : List ℕ) (free : Chain) (chains : List Chain) (a b : ℕ) → AreLinked next empty_chain free chains → a < length chains → a ≢ b → (get_or chains a empty_chain).count + (get_or chains b empty_chain).count ≤ length next
 two_fit next free chains a b h a_lt ne =
     let f = h.fits in

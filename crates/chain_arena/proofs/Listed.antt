@@ -25,7 +25,7 @@ listed-split f k (suc n) m zero e = absurd (omega (arith, e))
 listed-split f k (suc n) m (suc t) e =
     ap (λ l. f k ∷ l) (listed-split f (k + 1) n m t (omega (arith, e)) ∙ ap (λ j. listed f (k + 1) n ++ listed f j m) (let g : (k + 1) + n ≡ k + suc n = omega arith in g))
 
--- functions that agree so far give the same list
+-- functions that agree below k + n give the same list
 listed-pointwise : (f g : ℕ → ℕ) (k n : ℕ) → ((i : ℕ) → i < k + n → f i ≡ g i) → listed f k n ≡ listed g k n
 listed-pointwise f g k zero h = refl
 listed-pointwise f g k (suc n) h = λ p. h k (omega arith) p ∷ listed-pointwise f g (k + 1) n (λ i lt. h i (omega (arith, lt))) p
@@ -46,7 +46,7 @@ nodes-listed {next = next} {chain = chain} p c = by (chain c).count refl where
   by zero e = refl
   by (suc n) e = ap (λ i. nodes_from next i (suc n)) (p.first c (omega (arith, e))) ∙ nodes_from-listed p c 0 (suc n) (omega (arith, e))
 
--- the nodes of a chain are among those that there are
+-- the nodes of a chain are below the number of nodes
 listed-within : (f : ℕ → ℕ) (count k n : ℕ) → ((i : ℕ) → i < k + n → f i < count) → AreWithin count (listed f k n)
 listed-within f count k zero h = tt
 listed-within f count k (suc n) h = (h k (omega arith), listed-within f count (k + 1) n (λ i lt. h i (omega (arith, lt))))
@@ -54,7 +54,7 @@ listed-within f count k (suc n) h = (h k (omega arith), listed-within f count (k
 pub nodes-within : {n : ℕ} {next : ℕ → ℕ} {chain : ℕ → Chain} (p : ArePlaced n next chain) (c : ℕ) → AreWithin n (nodes next (chain c))
 nodes-within {n = n} {chain = chain} p c = subst (AreWithin n) (sym (nodes-listed p c)) (listed-within (p.at c) n 0 (chain c).count (λ i lt. p.within c i (omega (arith, lt))))
 
--- ---- what joining and splitting do to the lists
+-- ---- the effect of joining and splitting on the lists
 
 pub joined-nodes : {n : ℕ} {next next_after : ℕ → ℕ} {chain chain_after : ℕ → Chain} {a b : ℕ} (p : ArePlaced n next chain) (j : AreJoined next next_after chain chain_after a b)
     → nodes next_after (chain_after a) ≡ nodes next (chain a) ++ nodes next (chain b)
@@ -85,7 +85,7 @@ is_in-listed f i k (suc n) h =
     let rest = is_in-listed f i (k + 1) n (λ m le lt. h m (omega (arith, le)) (omega (arith, lt))) in
     (let e : (f k == i) ≡ false = grind (arith, nat_tests) in ap (λ (b : Bool). b || is_in (listed f (k + 1) n) i) e) ∙ rest
 
--- a chain's first node is in no other one
+-- the first node of a chain isn't in any other chain
 pub first_elsewhere : {n : ℕ} {next : ℕ → ℕ} {chain : ℕ → Chain} (p : ArePlaced n next chain) (a c : ℕ) → a ≢ c → 0 < (chain a).count → is_in (nodes next (chain c)) (chain a).first ≡ false
 first_elsewhere {chain = chain} p a c ne some =
     ap (λ l. is_in l (chain a).first) (nodes-listed p c)
@@ -104,7 +104,7 @@ grown-others {n = n} {chain = chain} {chain_after = chain_after} {b = b} p j c n
     let q = grown-placed (n + 1) refl p j in
     nodes-listed q c ∙ listed-pointwise (q.at c) (p.at c) 0 (chain_after c).count (λ k lt. at_grown-other p.at n b c k ne) ∙ ap (listed (p.at c) 0) (ap (λ (x : Chain). x.count) (j.others c ne)) ∙ sym (nodes-listed p c)
 
--- nor is its last node
+-- the last node of a chain isn't in any other chain
 pub last_elsewhere : {n : ℕ} {next : ℕ → ℕ} {chain : ℕ → Chain} (p : ArePlaced n next chain) (a c : ℕ) → a ≢ c → 0 < (chain a).count → is_in (nodes next (chain c)) (chain a).last ≡ false
 last_elsewhere {chain = chain} p a c ne some =
     let k = (chain a).count - 1 in

@@ -5,20 +5,20 @@ use Rattle.std.specs.List.{AllByRecursion}
 
 -- ---- one place
 
--- the default behind the end reads as if it weren't there
+-- appending the default changes no read
 pub get_or-last : {X : Type 0} (xs : List X) (d : X) (n : ℕ) → get_or (xs ++ d ∷ []) n d ≡ get_or xs n d
 get_or-last [] d zero = refl
 get_or-last [] d (suc n) = refl
 get_or-last (x ∷ xs) d zero = refl
 get_or-last (x ∷ xs) d (suc n) = get_or-last xs d n
 
--- a place set twice has what was set last
+-- a place that is set twice has the value that was set last
 pub set_twice : {X : Type 0} (xs : List X) (n : ℕ) (x y : X) → slice_set (slice_set xs n x) n y ≡ slice_set xs n y
 set_twice [] n x y = refl
 set_twice (z ∷ xs) zero x y = refl
 set_twice (z ∷ xs) (suc n) x y = ap (λ l. z ∷ l) (set_twice xs n x y)
 
--- lists that agree elsewhere
+-- lists that agree except at one place
 pub agree_off : {A : Type 0} (xs ys : List A) (n : ℕ) (v d : A) → length xs ≡ length ys → ((m : ℕ) → m < length xs → m ≢ n → get_or xs m d ≡ get_or ys m d) → slice_set xs n v ≡ slice_set ys n v
 agree_off [] [] n v d e h = refl
 agree_off [] (y ∷ ys) n v d e h = absurd (omega (arith, e))
@@ -31,7 +31,7 @@ agree_off (x ∷ xs) (y ∷ ys) zero v d e h = λ i. v ∷ agree xs ys d (omega 
   agree (x ∷ xs) (y ∷ ys) d e h = λ i. h 0 (omega arith) i ∷ agree xs ys d (omega (arith, e)) (λ m lt. h (suc m) (omega (arith, lt))) i
 agree_off (x ∷ xs) (y ∷ ys) (suc n) v d e h = λ i. h 0 (omega arith) (λ s. omega (arith, s)) i ∷ agree_off xs ys n v d (omega (arith, e)) (λ m lt ne. h (suc m) (omega (arith, lt)) (λ s. ne (omega (arith, s)))) i
 
--- ---- what holds of each item
+-- ---- properties of each item
 
 pub all-set : {X : Type 0} (P : X → Type 0) (xs : List X) (n : ℕ) (x : X) → AllByRecursion P xs → P x → AllByRecursion P (slice_set xs n x)
 all-set P [] n x h p = tt

@@ -5,7 +5,7 @@ use Rattle.std.proofs.lemmas.List.{get_or-set_same, length-append}
 use Rattle.chain_arena.proofs.Lists.{set_twice}
 use Rattle.chain_arena.specs.Arenas.{ArenaData, IsPushed, IsTaken}
 
--- Some items were moved: those moved and those left are those that were there.
+-- Some items were moved. Those moved and those left are the original items.
 pub record IsMoving {T : Type 0} (into chain : ℕ) (self from now left : ArenaData T) : Type 0 where
   pub moved : List T
   pub all : get_or from.lists chain [] ≡ moved ++ get_or left.lists chain []

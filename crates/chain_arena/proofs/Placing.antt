@@ -8,7 +8,7 @@ use Rattle.chain_arena.specs.Placed.{ArePlaced}
 
 -- ---- two chains as one
 
--- What joining the chains of the numbers a and b does to a table of chains.
+-- The effect on a table of chains of joining the chains with numbers a and b.
 pub record AreJoined (next next_after : ℕ → ℕ) (chain chain_after : ℕ → Chain) (a b : ℕ) : Type 0 where
   pub differ : a ≢ b
   pub link : 0 < (chain a).count → 0 < (chain b).count → next_after (chain a).last ≡ (chain b).first
@@ -39,7 +39,7 @@ owner_joined owner a b i = cond (owner i == b) a (owner i)
 abbrev pub rank_joined : (ℕ → ℕ) → (ℕ → ℕ) → ℕ → ℕ → ℕ → ℕ
 rank_joined owner rank b n i = cond (owner i == b) (n + rank i) (rank i)
 
--- what holds of both numbers and of all others holds of any
+-- a property of both numbers and of all others holds for any number
 pub by_number : (P : ℕ → Type 0) (a b : ℕ) → P a → P b → ((c : ℕ) → c ≢ a → c ≢ b → P c) → (c : ℕ) → P c
 by_number P a b at_a at_b at_others c = elim (cases_eq c a) as (λ _. P c) [
   | inl e ↦ subst P (sym e) at_a
@@ -49,11 +49,11 @@ by_number P a b at_a at_b at_others c = elim (cases_eq c a) as (λ _. P c) [
   ]
 ]
 
--- of a chain's places those in front and those behind
+-- the places of a chain below n, and those from n on
 pub by_part : (P : ℕ → Type 0) (n : ℕ) → ((k : ℕ) → k < n → P k) → ((k : ℕ) → n ≤ k → P k) → (k : ℕ) → P k
 by_part P n front back k = elim (cases_lt k n) as (λ _. P k) [ inl lt ↦ front k lt | inr le ↦ back k le ]
 
--- what holds of each node at its place in the joined chain and of all others holds of all
+-- a property of each node at its place in the joined chain, and of all other nodes, holds for all nodes
 pub each_joined : {next next_after : ℕ → ℕ} {chain chain_after : ℕ → Chain} {a b : ℕ} (at : ℕ → ℕ → ℕ) (Q : ℕ → ℕ → ℕ → Type 0) → AreJoined next next_after chain chain_after a b
     → ((k : ℕ) → k < (chain a).count → Q a k (at a k))
     → ((k : ℕ) → (chain a).count ≤ k → k - (chain a).count < (chain b).count → Q a k (at b (k - (chain a).count)))
@@ -147,7 +147,7 @@ joined-placed {n = n} {next = next} {next_after = next_after} {chain = chain} {c
       (λ c not_a not_b some. ap (λ (x : Chain). x.first) (j.others c not_a not_b) ∙ p.first c (subst (λ (x : Chain). 0 < x.count) (j.others c not_a not_b) some) ∙ sym (at_joined-other p.at a b m c 0 not_a))
       c some
 
-  -- a node that isn't the last one of the front leads where it led
+  -- only the last node of the first chain leads to another node than before
   same_link : (i : ℕ) → (0 < m → 0 < (chain b).count → i ≢ p.at a l) → next_after i ≡ next i
   same_link i ne = j.other_links i (λ some more e. ne some more (e ∙ end some))
 
@@ -275,7 +275,7 @@ split-placed {n = n} {next = next} {chain = chain} {chain_after = chain_after} {
   elsewhere : (c k : ℕ) → c ≢ a → k < (chain c).count → p.at c k ≢ node
   elsewhere c k not_a lt = not_owned p c a k 0 not_a lt j.some
 
--- ---- one node more
+-- ---- one more node
 
 pub record IsGrown (n : ℕ) (next next_after : ℕ → ℕ) (chain chain_after : ℕ → Chain) (b : ℕ) : Type 0 where
   pub none : (chain b).count ≡ 0

@@ -3,7 +3,7 @@ use Rattle.std.specs.Prelude.{◌≡◌, ◌+◌, ℕ, true, List, [], ◌∷◌
 use Rattle.std.specs.List.{AllByRecursion}
 use Rattle.std.specs.Coded.{Coded, code_by, coded_list, coded_ℕ, coded×}
 
--- the lists by number, and for how many more items there is a free node
+-- the lists by number, and the number of free nodes
 pub record ArenaData (T : Type 0) : Type 0 where
   pub lists : List (List T)
   pub spare : ℕ
@@ -25,19 +25,19 @@ HaveItems items nodes = AllByRecursion (λ n. is_some (get_or items n None) ≡ 
 abbrev pub AreOccupied : {T : Type 0} → List (Option T) → List (List ℕ) → Type 0
 AreOccupied items lists = AllByRecursion (λ nodes. HaveItems items nodes) lists
 
--- ---- what the calls do
+-- ---- the effect of the calls
 
--- An item goes to the end of a list, and takes a free node. The other lists stay.
+-- An item is added at the end of a list, and uses a free node. The other lists don't change.
 pub record IsPushed {T : Type 0} (list : ℕ) (item : T) (old new : ArenaData T) : Type 0 where
   pub lists : new.lists ≡ slice_set old.lists list (get_or old.lists list [] ++ item ∷ [])
   pub spare : new.spare + 1 ≡ old.spare
 
--- The first item of a list goes, and leaves a free node. The other lists stay.
+-- The first item of a list is removed, and its node becomes free. The other lists don't change.
 pub record IsTaken {T : Type 0} (list : ℕ) (item : T) (old new : ArenaData T) : Type 0 where
   pub listed : get_or old.lists list [] ≡ item ∷ get_or new.lists list []
   pub lists : new.lists ≡ slice_set old.lists list (get_or new.lists list [])
   pub spare : new.spare ≡ old.spare + 1
 
--- List a has its items and then those of list b, which has none. The other lists and the room stay.
+-- List a has its own items followed by those of list b, and list b is empty. The other lists and the room don't change.
 abbrev pub concatenated : {T : Type 0} → ℕ → ℕ → ArenaData T → ArenaData T
 concatenated a b old = record old { lists = slice_set (slice_set old.lists a (get_or old.lists a [] ++ get_or old.lists b [])) b [] }

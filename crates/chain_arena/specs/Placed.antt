@@ -1,9 +1,10 @@
--- Chains whose nodes each stand at one place.
+-- Chains in which each node is at one place.
 use Rattle.std.specs.Prelude.{◌≡◌, ◌<◌, ◌+◌, ℕ}
 use Rattle.chain_arena.specs.declared.joins.Chain.{Chain}
 
--- A table of chains, by number, over so many nodes, of which each leads to a next one. The node of a chain at a place leads to the one at the place
--- behind it. Each node tells its chain and its place there (owner and rank), so no node stands at two places.
+-- A table of chains by number, over `nodes` nodes, each of which leads to a next one. The node at a place of a chain
+-- leads to the node at the following place. Each node determines its chain and its place there (`owner` and `rank`), so
+-- no node is at two places.
 pub record ArePlaced (nodes : ℕ) (next : ℕ → ℕ) (chain : ℕ → Chain) : Type 0 where
   pub at : ℕ → ℕ → ℕ
   pub owner : ℕ → ℕ

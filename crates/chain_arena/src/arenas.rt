@@ -10,17 +10,17 @@ use std::marker::Model;
 
 /// An arena of linked lists.
 ///
-/// It means `lists`, a list of lists, and `spare`, for how many more items there is room. A list is told by its number:
-/// lists are numbered from 0 in the order in which `new_chain` added them, none ever goes, and each number that a call
-/// takes has to be below `count`.
+/// Its value is `lists`, a list of lists, and `spare`, the number of further items for which there is room. Lists are
+/// numbered from 0 in the order in which `new_chain` added them, and none is ever removed. Each list number passed to a
+/// call must be below `count`.
 ///
-/// `reserve` and `new_chain` alone take memory, and answer `AllocError` where it is wanting. All lists share the room: an
-/// item that is put or moved in takes room for one, an item that is taken or moved out gives it back, and `concat` needs
-/// none. So memory stays with the arena until it is dropped.
+/// Only `reserve` and `new_chain` allocate memory, and they return `AllocError` if it runs out. All lists share the
+/// room. An item that is added or moved in uses room for one item; an item that is removed or moved out frees it.
+/// `concat` needs no room. The arena keeps its memory until it is dropped.
 #[derive(Drop)]
 pub struct Chains<T> {
     links: Links,
-    // The item at each node: none at a free one.
+    // The item at each node; `None` at a free node.
     items: Vec<Option<T>>,
 }
 
@@ -40,7 +40,7 @@ impl<T> Model for Chains<T> {
 }
 
 impl<T: Drop> Chains<T> {
-    /// An arena without lists and without room. It takes no memory yet.
+    /// An arena without lists and without room. It doesn't allocate memory.
     pub fn new(alloc: Global) -> Chains<T>
         ensures { result ≡ record { lists = []; spare = 0 } }
     {
@@ -50,7 +50,7 @@ impl<T: Drop> Chains<T> {
         }
     }
 
-    // Room for one more item.
+    // Makes room for one more item.
     fn grow(&mut self) -> Result<(), AllocError>
         ensures ok { OnOk result (self.new ≡ record self.old { spare = self.old.spare + 1 }) }
         ensures err { OnErr result (self.new ≡ self.old) }
@@ -61,10 +61,10 @@ impl<T: Drop> Chains<T> {
         Ok(())
     }
 
-    /// Makes room for at least `items` more items in all, the room that there is already counted in.
+    /// Makes room for at least `items` more items in all; room that exists already counts.
     ///
-    /// An `AllocError` comes where memory for that many is wanting. Then there may be more room than before, and never
-    /// less, and the lists stay as they are in any case.
+    /// It returns `AllocError` if memory for them runs out. Then there may be more room than before, but never less.
+    /// The lists don't change in either case.
     pub fn reserve(&mut self, items: usize) -> Result<(), AllocError>
         ensures lists { self.new.lists ≡ self.old.lists }
         ensures spare { self.old.spare ≤ self.new.spare }
@@ -76,9 +76,9 @@ impl<T: Drop> Chains<T> {
         Ok(())
     }
 
-    /// Adds an empty list behind the others, and tells its number, which is how many there were before.
+    /// Adds an empty list after the others, and returns its number, which is the number of lists before the call.
     ///
-    /// Where memory for it is wanting, an `AllocError` comes and nothing changes. It needs and makes no room for items.
+    /// It returns `AllocError` if memory runs out, and then nothing changes. It neither needs nor makes room for items.
     pub fn new_chain(&mut self) -> Result<usize, AllocError>
         ensures number { IfOk result (λ n. n ≡ length self.old.lists) }
         ensures ok { OnOk result (self.new ≡ record self.old { lists = self.old.lists ++ [] ∷ [] }) }
@@ -89,7 +89,7 @@ impl<T: Drop> Chains<T> {
         Ok(number)
     }
 
-    /// Puts an item at the end of a list. It takes room for one, and constant time.
+    /// Adds an item at the end of a list, in constant time. It uses room for one item.
     pub fn push_back(&mut self, chain: usize, item: T)
         requires chain { chain < length self.old.lists }
         requires room { 0 < self.old.spare }
@@ -99,7 +99,7 @@ impl<T: Drop> Chains<T> {
         self.items[node] = Some(item);
     }
 
-    /// Takes the first item out of a list that has one. Its room is free again, and the others move up, in constant time.
+    /// Removes and returns the first item of a list that isn't empty, in constant time. Its room is free again.
     pub fn take_first(&mut self, chain: usize) -> T
         requires chain { chain < length self.old.lists }
         requires some { 0 < length (get_or self.old.lists chain []) }
@@ -109,9 +109,9 @@ impl<T: Drop> Chains<T> {
         self.items[node].take().unwrap()
     }
 
-    /// Moves the items of list `b` to the end of list `a`, another one, and leaves `b` empty.
+    /// Moves the items of list `b` to the end of another list `a`, and leaves `b` empty.
     ///
-    /// No item is copied: it takes constant time, however long the lists are.
+    /// No item is copied, so it takes constant time for lists of any length.
     pub fn concat(&mut self, a: usize, b: usize)
         requires a { a < length self.old.lists }
         requires b { b < length self.old.lists }
@@ -121,10 +121,11 @@ impl<T: Drop> Chains<T> {
         self.links.concat(a, b);
     }
 
-    /// Moves the items of list `chain` of another arena to the end of list `into` of this one, and leaves that list empty.
+    /// Moves the items of list `chain` of another arena to the end of list `into` of this one, and leaves that list
+    /// empty.
     ///
-    /// They take room here, which there has to be, and their room there is free again. It takes time in proportion to
-    /// their number.
+    /// This arena must have room for the items. Their room in the other arena is free again. The call takes time in
+    /// proportion to their number.
     pub fn move_all(&mut self, into: usize, from: &mut Chains<T>, chain: usize)
         requires into { into < length self.old.lists }
         requires chain { chain < length from.old.lists }
@@ -140,7 +141,7 @@ impl<T: Drop> Chains<T> {
         }
     }
 
-    /// The items of a list, lent in order. It takes no memory.
+    /// Lends the items of a list, in order. It allocates no memory.
     pub fn walk(&self, chain: usize) -> Walk<'_, T>
         requires { chain < length self.now.lists }
         ensures rest { result ≡ get_or self.now.lists chain [] }
@@ -152,14 +153,14 @@ impl<T: Drop> Chains<T> {
         }
     }
 
-    /// How many lists there are.
+    /// The number of lists.
     pub fn count(&self) -> usize
         ensures { result ≡ length self.now.lists }
     {
         self.links.count()
     }
 
-    /// How many items a list has. It is kept, and not counted.
+    /// The number of items of a list, in constant time.
     pub fn items(&self, chain: usize) -> usize
         requires { chain < length self.now.lists }
         ensures { result ≡ length (get_or self.now.lists chain []) }
@@ -167,7 +168,7 @@ impl<T: Drop> Chains<T> {
         self.links.len(chain)
     }
 
-    /// For how many more items there is room.
+    /// The number of further items for which there is room.
     pub fn spare(&self) -> usize
         ensures { result ≡ self.now.spare }
     {

@@ -1,9 +1,10 @@
-//! Chains of nodes, of which each leads to the next one.
+//! Chains of nodes, each of which leads to the next one.
 
 ghost use Rattle.std.specs.Prelude.{◌≡◌, ◌<◌, ◌+◌, ◌^◌, length};
 ghost use Rattle.chain_arena.specs.Joins.{joined, joined_next, single_of, without_first_of};
 
-/// A linked list: its first node, its last one, and how many it has. Where it has none, the first two mean nothing.
+/// A linked list: its first node, its last node, and the number of its nodes. For an empty list the first two fields
+/// mean nothing.
 #[derive(Clone, Copy)]
 pub(crate) struct Chain {
     pub(crate) first: usize,
@@ -19,7 +20,7 @@ impl Chain {
     };
 }
 
-/// The nodes of the first chain and then those of the second.
+/// The nodes of the first chain, followed by those of the second.
 pub(crate) fn join(next: &mut Vec<usize>, a: Chain, b: Chain) -> Chain
     requires last { 0 < a.count → a.last < length next.old.items }
     requires fits { a.count + b.count < 2 ^ 64 }
@@ -53,7 +54,7 @@ pub(crate) fn without_first(next: &Vec<usize>, a: Chain) -> Chain
     }
 }
 
-/// The chain of this node.
+/// The chain that has only this node.
 pub(crate) fn single(node: usize) -> Chain
     ensures { result ≡ single_of node }
 {

@@ -1,16 +1,16 @@
-//! An arena of linked lists: many lists share one vector of items, and are linked by index in
-//! another one.
+//! An arena of linked lists. Many lists share one vector of items, and are linked by the indices in another vector.
 //!
-//! A `Chains<T>` means a list of lists, each told by its number, and `spare`, for how many more items there is room. Only
-//! two calls take memory: `reserve` makes room, and `new_chain` adds a list. Within that room an item is put behind a list,
-//! a list is joined to another one, or its items are moved to a list of another arena without memory, so none of these can
-//! fail, and nothing is left half done. Putting, taking and joining take constant time, whatever the lengths of the lists,
-//! and moving takes as long as the list that is moved. `Walk` lends the items of a list in order.
+//! The value of a `Chains<T>` is a list of lists, which are numbered, and `spare`, the number of further items for
+//! which there is room. Only two calls allocate memory: `reserve` makes room, and `new_chain` adds a list. Within the
+//! room, the other calls need no memory: they add an item to a list, join two lists, or move a list's items to another
+//! arena. So none of these can fail, and none is left half done. Adding, removing and joining take constant time, for
+//! lists of any length. Moving takes time in proportion to the length of the list. `Walk` lends the items of a list in
+//! order.
 //!
-//! Each node has a place for an item and leads to the next node. It stands at one place of one list, or of the free list,
-//! from which `push_back` takes nodes and to which `take_first` gives them back. Three layers keep that: `joins` has a
-//! chain as its first node, its last one and a count, and joins two; `links` means lists of node numbers and knows of no
-//! item; `arenas` has the items.
+//! Each node has a place for an item and leads to the next node. It is at one place of one list, or of the free list,
+//! from which `push_back` takes nodes and to which `take_first` returns them. Three layers ensure this. `joins`
+//! represents a chain as its first node, its last node and a count, and joins two chains. `links` keeps lists of node
+//! numbers, without items. `arenas` adds the items.
 #![tactic(auto)]
 
 pub mod arenas;

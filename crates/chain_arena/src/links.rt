@@ -8,10 +8,10 @@ use crate::walks::Nodes;
 use std::alloc::{AllocError, Global};
 use std::marker::Model;
 
-/// Nodes by number, each at one place of one list or of the free list.
+/// Nodes by number. Each is at one place of one list or of the free list.
 #[derive(Drop)]
 pub(crate) struct Links {
-    // The node that each one leads to. Of a chain's last node it means nothing.
+    // The node that each node leads to. For a chain's last node it means nothing.
     next: Vec<usize>,
     chains: Vec<Chain>,
     free: Chain,
@@ -40,7 +40,7 @@ impl Links {
         }
     }
 
-    /// Adds a node at the end of the free list. On want of memory nothing changes.
+    /// Adds a node at the end of the free list. If memory runs out, nothing changes.
     pub(crate) fn grow(&mut self) -> Result<(), AllocError>
         ensures ok { OnOk result (self.new ≡ record self.old { free = self.old.free ++ self.old.nodes ∷ []; nodes = self.old.nodes + 1 }) }
         ensures err { OnErr result (self.new ≡ self.old) }
@@ -51,7 +51,7 @@ impl Links {
         Ok(())
     }
 
-    /// Adds an empty list behind the others. On want of memory nothing changes.
+    /// Adds an empty list after the others. If memory runs out, nothing changes.
     pub(crate) fn add_list(&mut self) -> Result<(), AllocError>
         ensures ok { OnOk result (self.new ≡ record self.old { lists = self.old.lists ++ [] ∷ [] }) }
         ensures err { OnErr result (self.new ≡ self.old) }
@@ -60,7 +60,7 @@ impl Links {
         Ok(())
     }
 
-    /// Moves the first node of the free list to the end of a list, and tells it.
+    /// Moves the first node of the free list to the end of a list, and returns the node.
     pub(crate) fn take_free(&mut self, list: usize) -> usize
         requires list { list < length self.old.lists }
         requires some { 0 < length self.old.free }
@@ -72,7 +72,7 @@ impl Links {
         node
     }
 
-    /// Moves the first node of a list to the end of the free list, and tells it.
+    /// Moves the first node of a list to the end of the free list, and returns the node.
     pub(crate) fn free_first(&mut self, list: usize) -> usize
         requires list { list < length self.old.lists }
         requires some { 0 < length (get_or self.old.lists list []) }
@@ -110,14 +110,14 @@ impl Links {
         }
     }
 
-    /// How many lists there are.
+    /// The number of lists.
     pub(crate) fn count(&self) -> usize
         ensures { result ≡ length self.now.lists }
     {
         self.chains.len()
     }
 
-    /// How many nodes a list has.
+    /// The number of nodes of a list.
     pub(crate) fn len(&self, list: usize) -> usize
         requires { list < length self.now.lists }
         ensures { result ≡ length (get_or self.now.lists list []) }
@@ -125,7 +125,7 @@ impl Links {
         self.chains[list].count
     }
 
-    /// How many nodes are free.
+    /// The number of free nodes.
     pub(crate) fn spare(&self) -> usize
         ensures { result ≡ length self.now.free }
     {

@@ -1,4 +1,4 @@
-//! Going through a list, from its first node to its last.
+//! Iterates over a list, from its first node to its last.
 
 ghost use Rattle.std.specs.Prelude.{◌≡◌, length};
 ghost use Rattle.std.specs.Iterator.{YieldsFirst, YieldsFirstRef, item_count};
@@ -6,12 +6,12 @@ ghost use Rattle.std.specs.Iterator.{YieldsFirst, YieldsFirstRef, item_count};
 use std::iter::{ExactSizeIterator, FusedIterator};
 use std::marker::Model;
 
-/// The nodes of a list that are left, from the next one on.
+/// The remaining nodes of a list, from the next one on.
 #[derive(Drop)]
 pub(crate) struct Nodes<'a> {
-    // The node that each one leads to.
+    // The node that each node leads to.
     pub(crate) next: &'a [usize],
-    // The next one. Where none is left, it means nothing.
+    // The next node. If no node remains, it means nothing.
     pub(crate) node: usize,
     pub(crate) left: usize,
 }
@@ -53,11 +53,11 @@ impl<'a> Iterator for Nodes<'a> {
     }
 }
 
-/// The items of a list that are left, from the next one on, each lent.
+/// Lends the remaining items of a list, from the next one on.
 ///
-/// It means the list of those items. `Chains::walk` makes one that has all of them left; each call of `next` gives the
-/// first of those that are left, and `None` once none is, from then on always. It takes no memory, and each step takes
-/// constant time.
+/// Its value is the list of these items. `Chains::walk` returns one for all items of a list. Each call of `next`
+/// returns the first remaining item. Once no item remains, it always returns `None`. It allocates no memory, and each
+/// step takes constant time.
 #[derive(Drop)]
 pub struct Walk<'a, T> {
     pub(crate) nodes: Nodes<'a>,

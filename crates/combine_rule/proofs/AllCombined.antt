@@ -27,8 +27,8 @@ use Rattle.combine_rule.proofs.KeptInside.{HasInside, inside_kept, legal_inside}
 use Rattle.ship_strategy.proofs.FactsBelow.{facts_below}
 use Rattle.plan_trees.proofs.InsertedTrees.{has_new}
 
--- What holds of all that is to be combined: where a Reduce of this number may be combined, the fields of the Partition lie in its keys.
--- It is asked at each state on the way.
+-- At each state on the way, if the Reduce with this number may be combined, the fields of its Partition are among its
+-- keys.
 abbrev pub AreInside : (count at : ℕ) → (s end : Planned) (of : List (ℕ × ℕ)) → IsCombinedFrom count at s end of → Type 0
 AreInside zero at s end of h = Unit {0}
 AreInside (suc n) at s end of (inl h) = AllByRecursion (λ k. is_listed h.0.op.left_keys k ≡ true) h.0.fields × AreInside n (at + 1) (combined_at s at h.0) end h.1 h.3
@@ -40,7 +40,7 @@ has_kept m (suc n) at s end of (inl h) there = has_kept m n (at + 1) (combined_a
 has_kept m (suc n) at s end of (inr h) there = has_kept m n (at + 1) s end of h.1 there
 
 module _ (inputs : List Bag) (end : Planned) where
-  -- the combined program is one, with its plan
+  -- the combined program is a valid program with its plan
   pub all_program : (count at : ℕ) (s : Planned) (of : List (ℕ × ℕ)) → IsCombinedFrom count at s end of → IsProgram s.program
       → IsPlanOf s.program.functions s.program.ops s.physical.tree
       → IsProgram end.program × IsPlanOf end.program.functions end.program.ops end.physical.tree
@@ -49,7 +49,7 @@ module _ (inputs : List Bag) (end : Planned) where
   all_program (suc n) at s of (inl h) program plan = all_program n (at + 1) (combined_at s at h.0) h.1 h.3 (combined_program s at h.0 program inputs plan) (combined_plan s at h.0 program inputs plan)
 
 module _ (inputs : List Bag) (end : Planned) (end_plan : IsPlan end.physical.tree) where
-  -- the run of the whole combined plan, taken back Reduce by Reduce
+  -- a run of the whole combined plan becomes a run of the plan, one Reduce at a time
   pub all_divided : (count at : ℕ) (s : Planned) (of : List (ℕ × ℕ)) (h : IsCombinedFrom count at s end of) → AreInside count at s end of h
       → IsProgram s.program → IsPlanOf s.program.functions s.program.ops s.physical.tree
       → length s.physical.ships ≡ node_limit → (rows : Bag) (counts : List ℕ) → IsDivided (plan_ops end.program inputs) end.physical rows counts → IsDivided (plan_ops s.program inputs) s.physical rows counts
@@ -68,7 +68,7 @@ module _ (inputs : List Bag) (end : Planned) (end_plan : IsPlan end.physical.tre
       combined_divided s at c program inputs plan inside.0 (omega (arith, new_in, long)) (omega (arith, below_in, long)) next_plan.different rows counts
       (all_divided n (at + 1) next h.1 h.3 inside.1 (combined_program s at c program inputs plan) next_plan next_long rows counts d)
 
-  -- The theorem, where the Partitions lie in the keys at each state.
+  -- The theorem, if the fields of each Partition are among the keys at each state.
   pub all_counted : (count at : ℕ) (s : Planned) (of : List (ℕ × ℕ)) (h : IsCombinedFrom count at s end of) → AreInside count at s end of h
       → IsProgram s.program → AreInputsOf s.program inputs → IsPhysical s.physical
       → IsPlanOf s.program.functions s.program.ops s.physical.tree → LegalShip (facts_of s.program s.physical.tree) s.physical → IsPhysical end.physical
@@ -78,7 +78,7 @@ module _ (inputs : List Bag) (end : Planned) (end_plan : IsPlan end.physical.tre
       divided_counted s.program program inputs of_inputs s.physical physical plan legal rows counts
       (all_divided count at s of h inside program plan physical.long rows counts (divided end.program inputs end.physical rows counts end_physical e.1 run))
 
-  -- ---- the Partitions lie in the keys
+  -- ---- the fields of each Partition are among the keys
 
   pub all_inside : (count at : ℕ) (s : Planned) (of : List (ℕ × ℕ)) (h : IsCombinedFrom count at s end of) → IsProgram s.program
       → IsPlanOf s.program.functions s.program.ops s.physical.tree → length s.physical.ships ≡ node_limit
@@ -101,7 +101,8 @@ module _ (inputs : List Bag) (end : Planned) (end_plan : IsPlan end.physical.tre
             (λ e. both_ways (has new s.physical.tree) absent (subst (λ (k : ℕ). has k s.physical.tree ≡ true) (sym e) there)) (omega (arith, below_in, long)) (omega (arith, new_in, long)) s.physical.tree absent inside),
       )
 
--- The theorem: for a program with its inputs, a physical plan of it with legal shipping, and the combined plan of both: what a run of the combined plan leaves is counted for the plan.
+-- The theorem, for a program with its inputs, a physical plan of it with legal shipping, and their combined plan: the
+-- result of a run of the combined plan is counted for the plan.
 pub combined_run_counted : (s end : Planned) (of : List (ℕ × ℕ)) → IsCombinedPlan s end of → (inputs : List Bag) → IsProgram s.program
     → AreInputsOf s.program inputs → IsPhysical s.physical
     → IsPlanOf s.program.functions s.program.ops s.physical.tree → LegalShip (facts_of s.program s.physical.tree) s.physical → IsPhysical end.physical

@@ -1,4 +1,4 @@
--- Bodies that are put together of pieces.
+-- Bodies that are built piece by piece.
 use Rattle.std.proofs.Common.{◌≡◌, ◌≤◌, ◌<◌, ◌+◌, ℕ, zero, suc, pos, max, List, [], ◌∷◌, length, get_or, drop, refl, ap, sym, ◌∙◌, arith}
 use Rattle.std.specs.Prelude.{slice_index}
 use Rattle.std.proofs.lemmas.List.{drop_more}
@@ -32,7 +32,7 @@ joined_nothing (branch on body other next) = ap (branch on body other) (joined_n
 joined_nothing (again count body next) = ap (again count body) (joined_nothing next)
 joined_nothing (each name list body next) = ap (each name list body) (joined_nothing next)
 
--- a body with one more piece at its end, and what follows
+-- a body with one more piece at its end, and the code that follows
 pub put_behind : (b more d rest : Code) → more ≡ joined b d → joined more rest ≡ joined b (joined d rest)
 put_behind b more d rest e = ap (λ (x : Code). joined x rest) e ∙ joined_assoc b d rest
 
@@ -42,7 +42,7 @@ only-joined (choice on body other) c = refl
 only-joined (turning count body) c = refl
 only-joined (going_through name list body) c = refl
 
--- ---- what follows
+-- ---- the code that follows
 
 from_zero-joined : (by : Accumulation) (d : ℕ) (c next : Code) → joined (from_zero by d c) next ≡ from_zero by d (joined c next)
 from_zero-joined Sum d c next = refl
@@ -71,7 +71,7 @@ copies_next b more whole stmts i stmt copy lt e same now h =
     ∙ ap (joined b) (only-joined (statement_of stmt) (code_of (drop (i + 1) stmts)) ∙ sym (code_of-drop stmts i stmt lt e))
     ∙ h
 
--- what a loop over slots puts, slot for slot
+-- the code that a loop over slots appends, slot by slot
 module _ (P : List Slot → Code) (one : Slot → Code → Code) (is : (x : Slot) (xs : List Slot) → P (x ∷ xs) ≡ one x (P xs)) where
   pub slots_next : (b more whole : Code) (slots : List Slot) (i : ℕ) (x : Slot) → i < length slots → x ≡ get_or slots i x → ((c : Code) → joined more c ≡ joined b (one x c))
       → joined b (P (drop i slots)) ≡ whole → joined more (P (drop (i + 1) slots)) ≡ whole
@@ -108,7 +108,7 @@ keys_next t b some more whole keys n k lt e first second h =
     ∙ ap (λ (l : List ℕ). joined b (keying t n l stop)) (sym (drop_more keys n 0 lt ∙ ap (λ (y : ℕ). y ∷ drop (n + 1) keys) (sym e)))
     ∙ h
 
--- ---- the two
+-- ---- the sender and the merger
 
 pub sender_built : (front inner : Code) (t : ℕ) (keys : List ℕ) (slots : List Slot) (b1 b2 b3 b4 b5 b6 b7 : Code) → b1 ≡ joined stop front → b2 ≡ joined b1 (zeroing slots stop) → b3 ≡ joined b2 (each 1 Group inner stop)
     → b4 ≡ joined b3 (plain (new_record 0) stop) → b5 ≡ joined b4 (keying t 0 keys stop) → b6 ≡ joined b5 (giving slots stop) → b7 ≡ joined b6 (plain (emit_record 0) stop)
@@ -131,7 +131,7 @@ pub merger_built : (front inner rest b1 b2 b3 : Code) → b1 ≡ joined stop fro
 merger_built front inner rest b1 b2 b3 e1 e2 e3 =
     e3 ∙ put_behind b1 b2 (each 1 Group inner stop) rest e2 ∙ ap (λ (c : Code). joined c (each 1 Group inner rest)) e1
 
--- ---- how deep
+-- ---- nesting
 
 pub nesting_gathering : (t : ℕ) (slots : List Slot) → nesting (gathering t slots) ≡ 0
 nesting_gathering t [] = refl
@@ -161,11 +161,11 @@ drop_none [] (suc n) le = refl
 drop_none (x ∷ xs) zero le = absurd (omega (arith, le))
 drop_none (x ∷ xs) (suc n) le = drop_none xs n (omega (arith, le))
 
--- nothing is left to put behind a body
+-- after the last slot there is nothing more to append to the body
 pub ended : {A : Type 0} (P : List A → Code) → P [] ≡ stop → (b whole : Code) (xs : List A) (n : ℕ) → length xs ≤ n → joined b (P (drop n xs)) ≡ whole → b ≡ whole
 ended P none b whole xs n le h = sym (joined_nothing b) ∙ ap (joined b) (sym (ap P (drop_none xs n le) ∙ none)) ∙ h
 
--- ---- with the slot at a place of the list
+-- ---- the slot at a place of the list
 
 same_at : {A : Type 0} (xs : List A) (i : ℕ) (d e : A) → i < length xs → get_or xs i d ≡ get_or xs i e
 same_at [] i d e lt = absurd (omega (arith, lt))

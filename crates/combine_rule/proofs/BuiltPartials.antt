@@ -1,4 +1,4 @@
--- The halves that were built are those of the function, and have the law with it.
+-- The halves that were built are those of the function, so the law holds for them.
 use Rattle.std.proofs.Common.{◌≡◌, ◌≤◌, ◌<◌, ◌+◌, ℕ, Bool, List, [], ◌∷◌, Some, ap, sym, subst, ◌∙◌}
 use Rattle.std.specs.List.{AllByRecursion}
 use Rattle.tac_syntax.specs.declared.functions.Function.{Function}
@@ -80,7 +80,7 @@ module _ {f : Function} {fields : ℕ} {keys : List ℕ} {set : ℕ → Bool} {f
       merger_is = λ i. record { function = c i; fields = d i };
     }
 
--- ---- of a function as the code holds it
+-- ---- for a function as the code holds it
 
 pub of_function : (v s m : WithFields) (g : Function) (fields : ℕ) (keys : List ℕ) (set : ℕ → Bool) → g ≡ v.function → fields ≡ v.fields
     → ArePartials g fields keys set s m → ArePartials v.function v.fields keys set s m

@@ -1,4 +1,4 @@
--- What follows of a combined plan.
+-- Consequences for a combined plan.
 use Rattle.std.proofs.Common.{◌≡◌, ◌+◌, ℕ, zero, suc, inl, inr, List, [], ◌∷◌, ◌++◌, length, refl, sym, ap, subst, ◌∙◌, arith}
 use Rattle.std.proofs.lemmas.Option.{same_Some}
 use Rattle.plan_trees.specs.Physicals.{IsPhysical}
@@ -14,7 +14,7 @@ use Rattle.combine_rule.specs.CombinedPrograms.{CanCombine, Planned, combined_at
 use Rattle.combine_rule.specs.CombinedRuns.{IsCountedFor}
 use Rattle.combine_rule.proofs.CombinedPhysicals.{combined_counted_run}
 
--- ---- one number more
+-- ---- one more number
 
 pub one_more : (count at m : ℕ) (s mid end : Planned) (of more : List (ℕ × ℕ)) → m ≡ at + count → IsCombinedFrom count at s mid of
     → IsCombinedFrom 1 m mid end more → IsCombinedFrom (suc count) at s end (of ++ more)
@@ -25,7 +25,7 @@ one_more (suc n) at m s mid end of more e (inl h) g =
     inl (h.0, h.1 ++ more, ap (λ (l : List (ℕ × ℕ)). l ++ more) h.2, one_more n (at + 1) m (combined_at s at h.0) mid end h.1 more (omega (arith, e)) h.3 g)
 one_more (suc n) at m s mid end of more e (inr h) g = inr (h.0, one_more n (at + 1) m s mid end of more (omega (arith, e)) h.1 g)
 
--- ---- what stays
+-- ---- unchanged parts
 
 pub record HasSameRest (s end : Planned) : Type 0 where
   pub version : end.program.version ≡ s.program.version

@@ -1,4 +1,4 @@
--- The physical plan of the combined plan is one, and the theorem without asking it.
+-- The combined plan is a valid physical plan, and the theorem without that as a premise.
 use Rattle.std.proofs.Common.{◌+◌, ℕ, zero, suc, inl, inr, List, length, sym, subst}
 use Rattle.std.proofs.lemmas.Bool.{both_ways}
 use Rattle.plan_trees.specs.Physicals.{IsPhysical}
@@ -33,7 +33,8 @@ module _ (inputs : List Bag) (end : Planned) where
       (IsAbsent-from new (nodes s.physical.tree) (λ m i e.
       both_ways (has new s.physical.tree) (no_new s at c program inputs plan) (has-nodes new s.physical.tree (subst (λ (k : ℕ). IsIn k (nodes s.physical.tree)) e i)))))
 
--- The theorem: for a program with its inputs, a physical plan of it with legal shipping, and the combined plan of both, what a run of the combined plan leaves is counted for the plan.
+-- The theorem, for a program with its inputs, a physical plan of it with legal shipping, and their combined plan: the
+-- result of a run of the combined plan is counted for the plan.
 pub combined_counted_run : (s end : Planned) (of : List (ℕ × ℕ)) → IsCombinedPlan s end of → (inputs : List Bag) → IsProgram s.program
     → AreInputsOf s.program inputs → IsPhysical s.physical
     → IsPlanOf s.program.functions s.program.ops s.physical.tree → LegalShip (facts_of s.program s.physical.tree) s.physical

@@ -1,4 +1,4 @@
--- A Reduce that may be combined, as it is found, and what is put in and changed for it.
+-- A Reduce that may be combined, as it is found, and the operator and functions that are made for it.
 use Rattle.std.proofs.Common.{◌≡◌, ◌<◌, ◌↔◌, IsTrue, ℕ, Bool, true, if◌then◌else◌, List, [], Option, Some, None, get_or, length, slice_get, refl, sym, ap, subst, ◌∙◌}
 use Rattle.std.specs.Cmp.{both_ways}
 use Rattle.std.proofs.lemmas.Option.{same_Some, slice_get_within}
@@ -115,7 +115,7 @@ may_be p q at o input fields f set of_op kind there reads ship of_function of_fi
 pub not_source : (ops : List Op) (at : ℕ) (o : Op) → slice_get ops at ≡ Some o → o.kind ≡ Reduce → kind_at ops at ≡ Source → ⊥
 not_source ops at o e kind source = let bad : Source ≡ Reduce = sym source ∙ ap kind_in e ∙ kind in cc
 
--- ---- what is put in for it
+-- ---- the operator that is inserted for it
 
 module _ (p : ProgramData) (q : PhysicalData) (at : ℕ) (k : CanCombine (planned p q) at) (program : IsProgram p) (plan : IsPlanOf p.functions p.ops q.tree) where
   abbrev s : Planned
@@ -162,7 +162,7 @@ module _ (p : ProgramData) (q : PhysicalData) (at : ℕ) (k : CanCombine (planne
         (subst (λ (o : Op). CanInsert p q.tree (root_of k.input) o sender) (sym op_there)
         (subst (CanInsert p q.tree (root_of k.input) (sender_op (length p.ops) k.op)) (sym h.sender_is) (can_insert s at k program [] plan)))
 
-    -- the program with the sender
+    -- the program with the inserted operator and its function
     pub grown_is : inserted_into p op sender (inserted below (length p.ops) q.tree) ≡ inserted_into p (sender_op (length p.ops) k.op) (sender_for s at k) (inserted (root_of k.input) (length p.ops) q.tree)
     grown_is = λ i. inserted_into p (op_there i) (h.sender_is i) (inserted (h.below_it i) (length p.ops) q.tree)
 

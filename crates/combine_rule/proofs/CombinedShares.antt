@@ -1,4 +1,4 @@
--- What the instances of a combined plan gave, without the senders, is what the instances of the plan may give.
+-- Without the senders, the output of the instances of a combined plan is one that the instances of the plan may give.
 use Rattle.std.proofs.Common.{◌≡◌, ◌≢◌, ◌<◌, ◌==◌, ◌||◌, ℕ, Bool, true, false, cond, inl, inr, if◌then◌else◌, List, [], ◌∷◌, Some, get_or, slice_get, map, refl, sym, ap, subst, ◌∙◌}
 use Rattle.std.specs.Prelude.{filter, flat_map}
 use Rattle.std.specs.List.{AllByRecursion}
@@ -29,9 +29,9 @@ use Rattle.plan_trees.proofs.InsertedPlaces.{core, has-inserted, inserted-core, 
 use Rattle.combine_rule.specs.Combined.{IsSameAt, IsReadBy, IsCombinedAt}
 use Rattle.combine_rule.proofs.OneEdge.{AllInParts, all_in_parts, permuted_in_parts, sent_in_parts, share_in_parts, merged}
 
--- ---- where a record goes by its key
+-- ---- the worker that a record's key leads to
 
--- the value of a field by the values of the keys
+-- the value of a field, looked up among the key values
 looked_up : List ℕ → List Value → ℕ → Value
 looked_up [] values k = Null
 looked_up (j ∷ keys) [] k = Null
@@ -79,7 +79,7 @@ forward_stays W gave w b =
     only_one (λ from. sent Forward W from w (gave from)) W w b (λ from c ne. filter_none (from == w) (gave from) (ne_eqb from w ne))
     ∙ filter_all (w == w) (gave w) (eq-eqb w w refl)
 
--- ---- the same operators
+-- ---- operators that didn't change
 
 gives-same : (o u : PlanOps) (n : ℕ) → IsSameAt o u n → (k : OpKind) → o.kind n ≡ k → (ls out : Bag) → Gives u k n ls out → Gives o k n ls out
 gives-same o u n e Map is ls out h = subst (λ (f : List Value → Bag). out ≡ flat_map f ls) (e.calls (λ s. map_no_source (sym s ∙ is))).of_record h where
@@ -109,7 +109,7 @@ gives_both-same o u n e k is ls rs out h = absurd h
 
 -- ---- trees
 
--- what holds of all trees below an inserted one, holds of all below its core
+-- a property of all trees below an inserted operator holds for all trees below the tree that it wraps
 unwrapped : (P : PlanTree → Type 0) (below new n : ℕ) (t : PlanTree) → AllBelow P (wrapped below new n t) → AllBelow P t
 unwrapped P below new n t h = at (below == n) h where
   at : (b : Bool) → AllBelow P (if b then over new t else t) → AllBelow P t
@@ -125,14 +125,14 @@ module _ (o u : PlanOps) (p q : PhysicalData) (below new reduce : ℕ) (fields :
   abbrev K : List ℕ
   K = o.left_keys reduce
 
-  -- each instance of a tree's root gave its share, of the combined plan and of the plan
+  -- each instance of a tree's root gave its share, in the combined plan and in the plan
   abbrev pub Combined : PlanTree → Type 0
   Combined t = (w : ℕ) → w < p.workers → GaveShare u q gave t w
 
   abbrev pub Plain : PlanTree → Type 0
   Plain t = (w : ℕ) → w < p.workers → GaveShare o p gave t w
 
-  -- ---- what is received
+  -- ---- the records received
 
   ship_same : (t : PlanTree) → root_of t ≢ below → root_of t ≢ new → ship_of q (inserted below new t) ≡ ship_of p t
   ship_same t nb nn = ap (λ (n : ℕ). get_or q.ships n Forward) (root-inserted below new t nb) ∙ c.other_ships (root_of t) nb nn
@@ -188,7 +188,7 @@ module _ (o u : PlanOps) (p q : PhysicalData) (below new reduce : ℕ) (fields :
         permuted = to_permutation (chains (turned now.2) (from_permutation g.out (gave reduce w) g.permuted));
       }
 
-  -- ---- the others
+  -- ---- the other operators
 
   plain_leaf : (n : ℕ) → n ≢ reduce → n ≢ new → Combined (leaf n) → Plain (leaf n)
   plain_leaf n nr nn h w b =
@@ -223,7 +223,7 @@ module _ (o u : PlanOps) (p q : PhysicalData) (below new reduce : ℕ) (fields :
         permuted = g.permuted;
       }
 
-  -- ---- all of a tree
+  -- ---- all subtrees of a tree
 
   not_new : (n : ℕ) (t : PlanTree) → (has new t ≡ false) → has n t ≡ true → n ≢ new
   not_new n t h g e = both_ways (has new t) h (subst (λ (k : ℕ). has k t ≡ true) e g)
@@ -263,7 +263,8 @@ module _ (o u : PlanOps) (p q : PhysicalData) (below new reduce : ℕ) (fields :
 
 -- ---- the run
 
--- What is divided among the instances of the combined plan is divided among those of the plan, with the same rows and counts.
+-- If the output is divided among the instances of the combined plan, it is divided among those of the plan, with the
+-- same rows and counts.
 pub plain_divided : (o u : PlanOps) (p q : PhysicalData) (below new reduce : ℕ) (fields : List ℕ) → IsCombinedAt o u p q below new reduce fields
     → IsReadBy below reduce p.tree → root_of p.tree ≢ below
     → has new p.tree ≡ false → AreDifferent (nodes q.tree) → (rows : Bag) (counts : List ℕ) → IsDivided u q rows counts → IsDivided o p rows counts

@@ -1,4 +1,5 @@
--- One combined Reduce of a program: what is divided among the instances of the combined plan is divided among those of the plan.
+-- One combined Reduce of a program: if the output is divided among the instances of the combined plan, it is divided
+-- among those of the plan.
 use Rattle.std.proofs.Common.{◌≡◌, ◌≢◌, ◌<◌, ℕ, true, false, List, [], ◌∷◌, length, refl, sym, ap, subst, ◌∙◌}
 use Rattle.std.specs.List.{AllByRecursion}
 use Rattle.pact_record.specs.Keys.{is_listed}
@@ -73,7 +74,7 @@ module _ (s : Planned) (at : ℕ) (c : CanCombine s at) (program : IsProgram s.p
   split_at = splits p program inputs c.op at c.called tree S M (sender_op new c.op) c.found c.kind c.function refl refl
       (is_split c.called.function p.fields c.op.left_keys (attribute p c.input) valid (keys_below p.fields c.op.left_keys (subst (λ (n : ℕ). AreBelow n c.op.left_keys) called.fields called.left_below)) c.combinable)
 
-  -- the operator that was put in calls a sender
+  -- the inserted operator calls a sender
   pub sender_split : ((plan_ops end.program inputs).kind new ≡ Reduce)
       × IsSplitIn ((plan_ops end.program inputs).left_keys new) ((plan_ops p inputs).of_group at) ((plan_ops end.program inputs).of_group new) ((plan_ops end.program inputs).of_group at)
   sender_split = (

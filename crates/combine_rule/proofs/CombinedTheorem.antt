@@ -1,4 +1,4 @@
--- The theorem, of one combined Reduce of a program.
+-- The theorem for one combined Reduce of a program.
 use Rattle.std.proofs.Common.{◌≡◌, ◌≢◌, ◌<◌, ◌⊎◌, ℕ, Bool, true, false, inl, inr, List, [], ◌∷◌, Option, Some, None, length, refl, sym, ap, subst, ◌∙◌, arith, length-append}
 use Rattle.std.specs.List.{AllByRecursion}
 use Rattle.std.proofs.lemmas.Bool.{false_from_ne_true}
@@ -67,7 +67,7 @@ merger_names F c t slots p k h = subst (Names F k) (sym p.whole) (joined-names F
       | inr (inr r) ↦ inr (inr r)
     ]))
 
--- ---- what legal shipping says of the Reduce's edge
+-- ---- what legal shipping says about the Reduce's edge
 
 no_leaf : (n m : ℕ) (t : PlanTree) → leaf n ≡ over m t → ⊥
 no_leaf n m t e = cc
@@ -156,7 +156,7 @@ module _ (s : Planned) (at : ℕ) (c : CanCombine s at) (program : IsProgram s.p
   not_source : c.op.kind ≡ Source → ⊥
   not_source e = let z : Source ≡ Reduce = sym e ∙ c.kind in cc
 
-  -- and then `replace` for the merger
+  -- `replace` may be called for the merger after that
   pub can_replace : CanReplace U at M
   can_replace = record {
     op = c.op;
@@ -174,7 +174,7 @@ module _ (s : Planned) (at : ℕ) (c : CanCombine s at) (program : IsProgram s.p
   inserted_is : IsProgram U
   inserted_is = inserted_program P program D.tree below N S c.combinable.sender_valid can_insert
 
-  -- the combined program is one, and its plan is one of it
+  -- the combined program is valid, and its plan is one of its plans
   pub combined_plan : IsPlanOf (combined_at s at c).program.functions (combined_at s at c).program.ops (combined_at s at c).physical.tree
   combined_plan = replaced_plan U inserted_is at M c.combinable.merger_valid can_replace (inserted below new D.tree) (inserted_plan P program D.tree below N S c.combinable.sender_valid can_insert)
 
@@ -184,7 +184,7 @@ module _ (s : Planned) (at : ℕ) (c : CanCombine s at) (program : IsProgram s.p
   pub no_new : has new D.tree ≡ false
   no_new = false_from_ne_true (has new D.tree) (λ h. absent P program D.tree below N S c.combinable.sender_valid can_insert (nodes-has new D.tree h))
 
-  -- the fields of the Partition lie in the keys
+  -- the fields of the Partition are among the keys
   pub inside_keys : LegalShip (facts_of P D.tree) D → AllByRecursion (λ k. is_listed c.op.left_keys k ≡ true) c.fields
   inside_keys legal =
       let f = facts_of P D.tree in
@@ -196,7 +196,7 @@ module _ (s : Planned) (at : ℕ) (c : CanCombine s at) (program : IsProgram s.p
       (ap (λ (x : Ship). edge_placement x (placement f D c.input)) c.ship) allowed in
       subst (λ (ks : List ℕ). AllByRecursion (λ k. is_listed ks k ≡ true) c.fields) (ap left_keys_in c.found) r
 
-  -- what is divided among the instances of the combined plan is divided among those of the plan
+  -- if the output is divided among the instances of the combined plan, it is divided among those of the plan
   pub combined_divided : AllByRecursion (λ k. is_listed c.op.left_keys k ≡ true) c.fields → new < length D.ships → below < length D.ships
       → AreDifferent (nodes (combined_at s at c).physical.tree) → (rows : Bag) (counts : List ℕ)
       → IsDivided (plan_ops (combined_at s at c).program inputs) (combined_at s at c).physical rows counts → IsDivided (plan_ops P inputs) D rows counts
@@ -204,7 +204,7 @@ module _ (s : Planned) (at : ℕ) (c : CanCombine s at) (program : IsProgram s.p
       step_divided s at c program inputs new_in below_in (λ e. absent P program D.tree below N S c.combinable.sender_valid can_insert (subst (λ (k : ℕ). IsIn k (nodes D.tree)) (sym e) (nodes-has below D.tree below_there))) inside_them
       (read_by below at c.input refl D.tree plan.different c.there c.reads) not_top no_new different rows counts d
 
-  -- The theorem: what a run of the combined plan leaves is counted for the plan as it was.
+  -- The theorem: the result of a run of the combined plan is counted for the plan before it was combined.
   pub combined_counted : AreInputsOf P inputs → IsPhysical D → LegalShip (facts_of P D.tree) D → IsPhysical (combined_at s at c).physical → (rows : Bag) (counts : List ℕ)
       → Spread (setting (combined_at s at c).program inputs (combined_at s at c).physical) rows counts → Counted (plan_ops P inputs) D.tree rows counts
   combined_counted of_inputs physical legal end_physical rows counts run =

@@ -1,4 +1,4 @@
--- Tests of the pieces as the code has them, and of the body's own.
+-- Tests of the pieces in the code, and of the body itself.
 use Rattle.std.proofs.Common.{◌≡◌, ◌≤◌, ℕ, Bool, true, List, Some, sym, subst}
 use Rattle.tac_syntax.specs.declared.functions.Function.{Function}
 use Rattle.tac_syntax.specs.declared.functions.Kind.TheVariants.{Reduce}
@@ -41,7 +41,7 @@ module _ (f : Function) (F : ℕ) (keys : List ℕ) (set : ℕ → Bool) (front 
       subst (λ (c : Code). HasRoom c inner (code_of rest) F keys set) (sym p.front_is)
       (subst (λ (c : Code). HasRoom (front_of f.body) c (code_of rest) F keys set) (sym p.inner_is) (subst (λ (c : Code). HasRoom (front_of f.body) (loop_of f.body) c F keys set) (sym p.rest_is) h.of_room))
 
--- all tests, and what they are for
+-- if all tests pass, the function is combinable
 pub combinable_by : (f : Function) (F : ℕ) (keys : List ℕ) (set : ℕ → Bool) → IsValid f F → f.kind ≡ Reduce → IsOrderFree f.kind f.body → has_one_loop f.body ≡ true → HalvesPass f F keys set → IsCombinable f F keys set
 combinable_by f F keys set valid kind free one h = combinable_of f F keys set valid kind one free h.of_pieces h.of_keys h.of_room h.register h.is_spare
 
@@ -54,7 +54,7 @@ tests_of f F keys set valid h = record {
   is_spare = h.is_spare;
 }
 
--- for a function as the code holds it
+-- the tests decide it for a function as the code holds it
 pub exact : (v : WithFields) (g : Function) (F : ℕ) (keys : List ℕ) (set : ℕ → Bool) (b : Bool) → g ≡ v.function → F ≡ v.fields → IsValid v.function v.fields → g.kind ≡ Reduce → IsOrderFree v.function.kind v.function.body → has_one_loop g.body ≡ true
     → ((b ≡ true → HalvesPass g F keys set) × (HalvesPass g F keys set → b ≡ true)) → (b ≡ true → IsCombinable v.function v.fields keys set) × (IsCombinable v.function v.fields keys set → b ≡ true)
 exact v g F keys set b e eF valid kind free one h =

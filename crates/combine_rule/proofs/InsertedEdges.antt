@@ -22,7 +22,7 @@ use Rattle.combine_rule.proofs.CombinedPrograms.{other_ships, ship_kept}
 use Rattle.combine_rule.proofs.CombinedTheorem.{below_there, combined_plan, combined_program, no_new}
 use Rattle.combine_rule.proofs.ReadOnce.{inside, not_root, read_by}
 
--- The operator of the number is the input of the Reduce, and the edge between them is a Partition by the fields.
+-- The operator with the number is the input of the Reduce, and the edge between them is a Partition by the fields.
 pub record IsPartitionedTo (s : Planned) (number reduce : ℕ) (fields : List ℕ) : Type 0 where
   pub input : PlanTree
   pub there : has reduce s.physical.tree ≡ true
@@ -81,7 +81,7 @@ module _ (inputs : List Bag) (s : Planned) (at : ℕ) (c : CanCombine s at) (pro
   apart : new ≢ below
   apart e = not_in (subst (λ (k : ℕ). IsIn k (nodes tree)) (sym e) (nodes-has below tree below_in_tree))
 
-  -- the operator that it inserts
+  -- the inserted operator is partitioned to the Reduce
   pub partitioned : IsPartitionedTo next new at c.fields
   partitioned = record {
     input = inserted below new c.input;
@@ -91,7 +91,7 @@ module _ (inputs : List Bag) (s : Planned) (at : ℕ) (c : CanCombine s at) (pro
     ship = ship_kept s.physical below new apart below_in new_in ∙ c.ship;
   }
 
-  -- one that is there stays so, for another Reduce reads it
+  -- an operator that was partitioned to another Reduce still is
   pub still_partitioned : (number reduce : ℕ) (fields : List ℕ) → reduce ≢ at → IsPartitionedTo s number reduce fields → IsPartitionedTo next number reduce fields
   still_partitioned number reduce fields other h =
       let read = read_by below at c.input refl tree plan.different c.there c.reads in
@@ -105,7 +105,7 @@ module _ (inputs : List Bag) (s : Planned) (at : ℕ) (c : CanCombine s at) (pro
         ship = other_ships s.physical below new apart below_in new_in number not_below not_new ∙ h.ship;
       }
 
--- ---- to the end
+-- ---- all Reduces
 
 module _ (inputs : List Bag) (end : Planned) where
   to_end : (count at : ℕ) (s : Planned) (of : List (ℕ × ℕ)) (number reduce : ℕ) (fields : List ℕ) → IsCombinedFrom count at s end of → IsProgram s.program

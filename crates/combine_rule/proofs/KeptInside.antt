@@ -1,4 +1,5 @@
--- The fields of each Partition into a Reduce lie in its keys: legal shipping has it so, and combining a Reduce keeps it.
+-- The fields of each Partition into a Reduce are among its keys: legal shipping ensures it, and combining a Reduce
+-- preserves it.
 use Rattle.std.proofs.Common.{◌≡◌, ◌≢◌, ◌<◌, ◌==◌, ◌||◌, ℕ, Bool, true, false, inl, inr, if◌then◌else◌, List, [], ◌∷◌, ◌++◌, Some, length, get_or, slice_get, refl, sym, ap, subst, ◌∙◌}
 use Rattle.std.specs.List.{AllByRecursion}
 use Rattle.std.proofs.lemmas.Bool.{both_ways, eqb-true, eq-eqb, or_parts, or_left}
@@ -24,7 +25,7 @@ use Rattle.pact_operators.proofs.OneMore.{calling-at, calling-other, slice_get-o
 use Rattle.combine_rule.proofs.CombinedPrograms.{fed_forward, ship_kept, other_ships}
 use Rattle.combine_rule.proofs.CombinedTheorem.{within_keys}
 
--- of one edge
+-- this property for one edge
 abbrev pub HasInside : List Op → List Ship → PlanTree → Type 0
 HasInside ops ships (leaf n) = Unit {0}
 HasInside ops ships (over n t) = (op : Op) → slice_get ops n ≡ Some op → op.kind ≡ Reduce → (fields : List ℕ) → get_or ships (root_of t) Forward ≡ Partition fields → AllByRecursion (λ k. is_listed op.left_keys k ≡ true) fields
@@ -55,7 +56,7 @@ module _ (ops : List Op) (q : PhysicalData) (below at function : ℕ) (op : Op) 
   abbrev ships : List Ship
   ships = (inserted_above below new q).ships
 
-  -- the operator that stood there before
+  -- the operator that had this number before
   before : (n : ℕ) (x : Op) → n ≢ new → slice_get others n ≡ Some x → (y : Op) × (slice_get ops n ≡ Some y) × (x.kind ≡ y.kind) × (x.left_keys ≡ y.left_keys)
   before n x ne e = elim (eqb_tells n at) as (λ _. (y : Op) × (slice_get ops n ≡ Some y) × (x.kind ≡ y.kind) × (x.left_keys ≡ y.left_keys)) [
     | inl z ↦
@@ -83,7 +84,7 @@ module _ (ops : List Op) (q : PhysicalData) (below at function : ℕ) (op : Op) 
   root_there (over n t) = or_left (n == n) (has n t) (eq-eqb n n refl)
   root_there (both n t v) = or_left (n == n) (has n t || has n v) (eq-eqb n n refl)
 
-  -- the ship of the edge, as it was
+  -- the ship of the edge is the one that it had before
   ship_before : (t : PlanTree) → has new t ≡ false → get_or ships (root_of (inserted below new t)) Forward ≡ get_or q.ships (root_of t) Forward
   ship_before t absent = elim (eqb_tells (root_of t) below) as (λ _. get_or ships (root_of (inserted below new t)) Forward ≡ get_or q.ships (root_of t) Forward) [
     | inl z ↦

@@ -1,4 +1,4 @@
--- What has no loop over a group does the same for every group.
+-- Code without a loop over a group does the same for every group.
 use Rattle.std.proofs.Common.{◌≡◌, ℕ, zero, suc, Bool, true, false, ◌||◌, if◌then◌else◌, List, [], ◌∷◌, refl, sym, ap, ◌∙◌}
 use Rattle.std.proofs.lemmas.Bool.{or_parts}
 use Rattle.pact_record.specs.declared.values.Value.{Value}
@@ -16,11 +16,11 @@ abbrev pub with_input : CallInput → Store → Store
 with_input x s = record s { input = x }
 
 module _ (key : List Value) where
-  -- the store over another group of the key
+  -- the store with another group of the key as its input
   abbrev pub over : List (List Value) → Store → Store
   over group s = with_input (of_group key group) s
 
-  -- the same for every group
+  -- a step of execution that does the same for every group
   abbrev pub Moves : (Store → Store) → Type 0
   Moves f = (group : List (List Value)) (s : Store) → f (over group s) ≡ over group (f (over [] s))
 

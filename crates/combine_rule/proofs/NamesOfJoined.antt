@@ -1,4 +1,4 @@
--- The fields that one body after the other names.
+-- The fields that two joined bodies name.
 use Rattle.std.proofs.Common.{◌⊎◌, ℕ, inl, inr}
 use Rattle.tac_syntax.specs.Bounded.{Names}
 use Rattle.tac_syntax.specs.Code.{Code, stop, plain, branch, again, each, joined}

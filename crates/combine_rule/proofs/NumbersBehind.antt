@@ -1,4 +1,5 @@
--- A register whose last assignment in a body is a number of 64 bits, outside every block, holds one behind it.
+-- If a register's last assignment in a body is a 64-bit number, outside every block, the register holds one after the
+-- body.
 use Rattle.std.proofs.Common.{◌≡◌, ◌<◌, ◌==◌, ℕ, ℤ, pos, Bool, true, false, not, ◌&&◌, ◌||◌, if◌then◌else◌, refl, sym, ap, subst, ◌∙◌}
 use Rattle.std.proofs.lemmas.Bool.{and_parts, or_parts, not-true, eq-eqb, eqb-true}
 use Rattle.std.proofs.lemmas.Bool.Decides.{Decides-int_eq}
@@ -20,14 +21,14 @@ use Rattle.order_free.proofs.AgreeingStores.{IsWhole, value_in-put}
 use Rattle.order_free.proofs.KeptRegisters.{after-kept, exec-kept}
 use Rattle.combine_rule.specs.Combinable.{is_i64, number_after, is_number_behind}
 
--- a value to which adding 0 changes nothing
+-- a value that doesn't change when 0 is added
 abbrev pub IsNumber : Value → Type 0
 IsNumber v = applied2 (op_of Sum) v (Int (pos 0)) ≡ v
 
 number_is : (z : ℤ) → is_i64 z ≡ true → IsNumber (Int z)
 number_is z h = ap Int (ap (int_wrap w64) (+ℤ_idr z) ∙ (Decides-int_eq (int_wrap w64 z) z).0 h)
 
--- one register
+-- the set of one value register
 abbrev only : ℕ → RegisterSet
 only d r = is_value d r
 
@@ -72,7 +73,7 @@ module _ (kind : Kind) (F d : ℕ) (below : d < value_registers) where
   none_of true b x y = cc
   none_of false b x y = y
 
-  -- a body of one block
+  -- the body of one block, which doesn't assign the register
   block_kept : (c : Code) (n : ℕ) (s : Store) (so : Bool) → IsWellFormed kind F n c → is_assigned c (value_at d) ≡ false → IsWhole n s → (so ≡ true → IsNumber (value_in s d)) → so ≡ true → IsNumber (value_in (exec c s) d)
   block_kept c n s so w free h held e = subst IsNumber (kept c n s w free h) (held e)
 

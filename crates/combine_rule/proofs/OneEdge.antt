@@ -1,4 +1,5 @@
--- Groups that travel in parts: what the workers' senders gave for their shares, sent on by key, is for a merger what the records themselves are for the function.
+-- Groups that are sent in parts. The workers' senders emit records for their shares, and these are shipped by key. A
+-- merger does with them what the function does with the records of the group.
 use Rattle.std.proofs.Common.{◌≡◌, ◌<◌, ◌==◌, ◌||◌, ℕ, zero, suc, Bool, true, false, cond, inl, inr, List, [], ◌∷◌, ◌++◌, length, map, refl, sym, ap, subst, ◌∙◌, append_assoc, append-nil, arith}
 use Rattle.std.specs.Prelude.{filter, IsPermutation}
 use Rattle.std.specs.List.{AllByRecursion}
@@ -31,7 +32,7 @@ abbrev all_but_first : {B : Type 0} → List B → List B
 all_but_first [] = []
 all_but_first (b ∷ bs) = bs
 
--- what is given for a permuted list is what is given for a list, permuted
+-- a permutation of a mapped list is the mapping of a permuted list
 unmapped : {A B : Type 0} (f : A → B) {ys zs : List B} → Perm ys zs → (xs : List A) → ys ≡ map f xs → (ws : List A) × Perm xs ws × (zs ≡ map f ws)
 unmapped f nothing [] e = ([], nothing, refl)
 unmapped f nothing (x ∷ xs) e = cc
@@ -66,14 +67,15 @@ group-append keys k xs ys = filter-append (λ r. is_same_key (key_of keys r) k) 
 group-perm : (keys : List ℕ) (k : Key) {xs ys : Bag} → Perm xs ys → Perm (group_of_key keys xs k) (group_of_key keys ys k)
 group-perm keys k p = filter_perm (λ r. is_same_key (key_of keys r) k) p
 
--- ---- records and what senders gave for them
+-- ---- records, and what senders emitted for them
 
 module _ (keys : List ℕ) (f sender merger : GroupCall) (split : IsSplitIn keys f sender merger) where
   -- key values that some record has
   abbrev pub IsKey : Key → Type 0
   IsKey k = (row : List Value) × (k ≡ key_of keys row)
 
-  -- For a key, the records that were sent are what senders give for parts of the group of the records that were taken; no part is empty.
+  -- For a key, the sent records are what the sender emits for parts of the group of the taken records. No part is
+  -- empty.
   pub record InParts (k : Key) (rows sent : Bag) : Type 0 where
     pub parts : List Bag
     pub gives : Perm (group_of_key keys sent k) (map (split.partial k) parts)
@@ -106,12 +108,12 @@ module _ (keys : List ℕ) (f sender merger : GroupCall) (split : IsSplitIn keys
       let p = h k in
       record { parts = p.parts; gives = chains (turned (group-perm keys k y)) p.gives; takes = chains p.takes (group-perm keys k x); some = p.some }
 
-  -- over all workers
+  -- the same property for all workers together
   pub all_in_parts : (W : ℕ) (rows sent : ℕ → Bag) → ((w : ℕ) → w < W → AllInParts (rows w) (sent w)) → AllInParts (all_of W rows) (all_of W sent)
   all_in_parts zero rows sent h = none_in_parts
   all_in_parts (suc n) rows sent h = both_in_parts (rows n) (sent n) (all_of n rows) (all_of n sent) (h n (omega arith)) (all_in_parts n rows sent (λ w b. h w (omega (arith, b))))
 
-  -- ---- those that go to one place, by their keys
+  -- ---- the records that go to one worker, by their keys
 
   module _ (place : Key → ℕ) (w : ℕ) where
     abbrev pub goes_there : List Value → Bool
@@ -157,9 +159,9 @@ module _ (keys : List ℕ) (f sender merger : GroupCall) (split : IsSplitIn keys
       | inr e ↦ record { parts = []; gives = is_same (group_away k sent e); takes = is_same (sym (group_away k rows e)); some = tt }
     ]
 
-  -- ---- what a sender gave for its share
+  -- ---- what a sender emitted for its share
 
-  -- for some keys, each once, over the records of a share
+  -- the sender's output for some keys, each once, over the records of a share
   pub record GaveFor (rows : Bag) (ks : List Key) (out : Bag) (k : Key) : Type 0 where
     pub here : occurs k ks ≡ true → (part : Bag) × Perm (group_of_key keys rows k) part × (group_of_key keys out k ≡ split.partial k part ∷ [])
     pub away : occurs k ks ≡ false → group_of_key keys out k ≡ []
@@ -177,7 +179,7 @@ module _ (keys : List ℕ) (f sender merger : GroupCall) (split : IsSplitIn keys
     row : List Value
     row = split.partial j part
 
-    -- what it gave for this key is one record, with this key
+    -- its output for this key is one record, which has this key
     is_out : out ≡ row ∷ h.1
     is_out = h.3 ∙ ap (λ (l : Bag). l ++ h.1) (subst (λ (x : Key). sender x part ≡ split.partial x part ∷ []) (sym is.0.1) (split.sends is.0.0 part))
 
@@ -235,7 +237,7 @@ module _ (keys : List ℕ) (f sender merger : GroupCall) (split : IsSplitIn keys
             record { parts = []; gives = is_same (g.away e); takes = is_same (sym none); some = tt }
       ]
 
-  -- ---- what the merger gives
+  -- ---- what the merger emits
 
   pub merged_group : (k : Key) (rows sent group : Bag) → IsKey k → InParts k rows sent → IsPermutation (group_of_key keys sent k) group
       → (own : Bag) × IsPermutation (group_of_key keys rows k) own × (merger k group ≡ f k own)
@@ -261,7 +263,7 @@ module _ (keys : List ℕ) (f sender merger : GroupCall) (split : IsSplitIn keys
   some_listed [] lt = absurd (omega (arith, lt))
   some_listed (x ∷ xs) lt = omega arith
 
-  -- a key has records on the one side where it has on the other
+  -- a key has taken records exactly if it has sent records
   same_occurs : (rows sent : Bag) → AllInParts rows sent → (k : Key)
       → (occurs k (keys_in keys sent) ≡ true → occurs k (keys_in keys rows) ≡ true) × (occurs k (keys_in keys rows) ≡ true → occurs k (keys_in keys sent) ≡ true)
   same_occurs rows sent h k =
@@ -285,7 +287,7 @@ module _ (keys : List ℕ) (f sender merger : GroupCall) (split : IsSplitIn keys
       let q = AreChosen-permuted (IsGivenFor (of_one_side f) keys [] rows []) perm out (grouped-AreChosen f keys rows ks out own) in
       (q.0, chosen-Grouped f keys rows js q.0 q.1, q.2)
 
-  -- for each key there is exactly one record, which has this key
+  -- each key has exactly one record, which has this key
   pub one_for_each : (rows : Bag) (ks : List Key) → AllByRecursion IsKey ks → (out : Bag) → Grouped sender keys rows ks out → map (key_of keys) out ≡ ks
   one_for_each rows [] is out h = ap (map (key_of keys)) h
   one_for_each rows (k ∷ ks) is out h =

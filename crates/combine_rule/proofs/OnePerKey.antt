@@ -1,4 +1,4 @@
--- By the notes of a run each instance of an inserted operator put one record for each key value that it took.
+-- By the notes of a run, each instance of an inserted operator put one record for each key value that it took.
 use Rattle.std.proofs.Common.{◌≡◌, ◌<◌, ◌≤◌, ◌==◌, ◌||◌, ◌++◌, ℕ, zero, suc, Bool, true, false, cond, List, [], ◌∷◌, Option, Some, length, map, slice_get, refl, sym, ap, subst, ◌∙◌, append-nil, arith}
 use Rattle.std.specs.List.{AllByRecursion}
 use Rattle.std.proofs.lemmas.Bool.{and_from, eqb-true, or_right}
@@ -70,7 +70,7 @@ module _ (W : ℕ) (some : 1 ≤ W) (fields : List ℕ) (worker : ℕ) where
   put_together [] = is_same (sym (none_each (λ to. []) W (λ w b. refl)))
   put_together (row ∷ rows) = chains (keeps (put_together rows)) (all_of-one_more (place row) row (λ to. for_worker to rows) W (target_below W some (key_of fields row)))
 
-  -- and that is the one that its fields name
+  -- that worker is the one that the record's fields name
   all_named : (to : ℕ) (rows : Bag) → AllByRecursion (λ row. place row ≡ to) (for_worker to rows)
   all_named to [] = tt
   all_named to (row ∷ rows) = by (place row == to) refl (all_named to rows) where
@@ -81,7 +81,7 @@ module _ (W : ℕ) (some : 1 ≤ W) (fields : List ℕ) (worker : ℕ) where
 -- ---- an instance that is done
 
 module _ (s : Spot) (worker : ℕ) (i : Instance) (taken : ℕ → ℕ → List Note) (put : ℕ → List Note) (l : IsLocal s worker i taken put) (done : want i ≡ Done) where
-  -- what it gave follows from all that it took
+  -- the records that it gave follow from all that it took
   given_for_all : IsGiven s s.kind s.ports worker (taken_rows s.workers taken) l.given
   given_for_all =
       let fin = finished_by i.waiting i.marks (port_ended i 0) (port_ended i 1) i.finished done in
@@ -89,7 +89,7 @@ module _ (s : Spot) (worker : ℕ) (i : Instance) (taken : ℕ → ℕ → List 
       let now : (works_at_once s.kind || all_ended i) ≡ true = or_right (works_at_once s.kind) (all_ended i) ended in
       subst (λ (b : Bool). Gave b (IsGiven s s.kind s.ports worker (taken_rows s.workers taken)) l.given) now l.gave
 
-  -- and all of it was put
+  -- all records that it gave were put
   all_put : (to : ℕ) → to < s.workers → Perm (sent s.out s.workers worker to l.given) (rows_of (put to))
   all_put to less =
       let fin = finished_by i.waiting i.marks (port_ended i 0) (port_ended i 1) i.finished done in

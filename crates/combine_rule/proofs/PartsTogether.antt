@@ -1,6 +1,5 @@
--- The law between a function, its sender and its merger: what the function gives for a group is what its merger gives
--- for what its sender gave for the parts.
--- of the group, one after the other.
+-- The law of a function, its sender and its merger. The sender emits one record for each part of a group. For these
+-- records, one after the other, the merger emits what the function emits for the group.
 use Rattle.std.proofs.Common.{◌≡◌, ◌≢◌, ◌<◌, ℕ, pos, Bool, true, false, not, ◌&&◌, ◌||◌, inl, inr, if◌then◌else◌, List, [], ◌∷◌, ◌++◌, length, get_or, refl, sym, ap, subst, ◌∙◌, arith}
 use Rattle.std.proofs.lemmas.Bool.{cases_Bool, or_cases, or_left, or_right, and_parts, and_from, both_ways, false_from_ne_true, not-true, not_from_false}
 use Rattle.std.proofs.lemmas.List.{length-replicate}
@@ -42,7 +41,7 @@ use Rattle.combine_rule.proofs.SlotRuns.{HasSlot, registers_of, fields_of, start
 
 -- ---- registers
 
--- what is live before a body with nothing live behind it, occurs in it
+-- a register that is live before a body, with nothing live after it, occurs in the body
 pub live-occurs : (c : Code) (r : Register) → is_live c r false ≡ true → occurs_in c r ≡ true
 live-occurs stop r h = cc
 live-occurs (plain a next) r h = elim (or_cases (has_operand a r) (is_live next r false && not (assigns a r)) h) as (λ _. (occurs a r || occurs_in next r) ≡ true) [
@@ -98,7 +97,7 @@ pub turns-append : (name : ℕ) (f : Store → Store) (xs ys : List (List Value)
 turns-append name f [] ys s = refl
 turns-append name f (x ∷ xs) ys s = turns-append name f xs ys (f (bind s name x))
 
--- ---- stores that agree, whatever their groups
+-- ---- stores that agree, for any groups
 
 pub record Near (set : RegisterSet) (s t : Store) : Type 0 where
   pub own : IsWhole 0 s
@@ -124,7 +123,7 @@ near-over key group set s t h = record {
   records = h.records;
 }
 
--- a register that isn't assigned
+-- the registers that a body doesn't assign
 abbrev pub unassigned : Code → RegisterSet
 unassigned body r = not (is_assigned body r)
 
@@ -137,12 +136,12 @@ abbrev pub start_of : ℕ → List Value → Store
 start_of F key = start_store F (of_group key [])
 
 module _ (F : ℕ) (key : List Value) (front : Code) (flat : has_each front ≡ false) (first : has_first front ≡ false) where
-  -- behind its front a body has reached the same for every group
+  -- the front of a body does the same for every group
   pub front-over : (group : List (List Value)) → exec front (start_store F (of_group key group)) ≡ over key group (exec front (start_of F key))
   front-over group = exec-moves key front flat first group (start_of F key)
 
   module _ (loop rest : Code) (loop_flat : has_each loop ≡ false) (loop_first : has_first loop ≡ false) where
-    -- its turns, over no group
+    -- the call of the whole body, with the turns of its loop over the group
     pub called : (group : List (List Value)) → Out F (joined front (each 1 Group loop rest)) (of_group key group)
         ≡ (exec rest (over key group (for_each 1 group (exec loop) (over key [] (exec front (start_of F key)))))).emitted
     called group =
@@ -156,7 +155,7 @@ module _ (F : ℕ) (key : List Value) (front : Code) (flat : has_each front ≡ 
 
 -- ---- the law
 
--- what is known of the slots of a function's loop
+-- the facts about the slots of a function's loop
 pub record AreSlots (F t : ℕ) (keys : List ℕ) (loop : Code) (slots : List Slot) : Type 0 where
   pub in_range : AreInRange slots
   pub registers : AreDifferent (registers_of slots)
@@ -184,7 +183,7 @@ module _ (F : ℕ) (c : Code) (w : IsWellFormed Reduce F 0 c) (one : has_one_loo
 
   -- ---- registers
 
-  -- those that a turn reads beside accumulators aren't assigned
+  -- registers that a turn reads, other than accumulators, aren't assigned in it
   read_unassigned : (r : Register) → (is_live L r false && not (is_accumulator L r)) ≡ true → unassigned L r ≡ true
   read_unassigned r h =
       let q = and_parts (is_live L r false) (not (is_accumulator L r)) h in
@@ -195,7 +194,7 @@ module _ (F : ℕ) (c : Code) (w : IsWellFormed Reduce F 0 c) (one : has_one_loo
             both_ways (is_live L r false) (not-true (is_live L r false) z.0) q.0
       ]))
 
-  -- those that are live behind the loop are accumulators, or aren't assigned
+  -- registers that are live after the loop are accumulators, or the loop doesn't assign them
   live_assigned : (r : Register) → live Q no_registers r ≡ true → is_assigned L r ≡ true → is_accumulator L r ≡ true
   live_assigned r h i = elim (or_cases (is_accumulator L r) (is_local L (live Q no_registers) r) (p.free free r i)) as (λ _. is_accumulator L r ≡ true) [
     | inl a ↦ a
@@ -216,7 +215,7 @@ module _ (F : ℕ) (c : Code) (w : IsWellFormed Reduce F 0 c) (one : has_one_loo
     loop_moves : (part : List (List Value)) (s : Store) → exec loop_alone (over key part s) ≡ over key part (run part s)
     loop_moves part s = turns-move key 1 part (exec L) (exec-moves key L p.flat.1 (p.no_first no_first).1) part s
 
-    -- The turns over a part give the same operands to each accumulator from either store.
+    -- The turns over a part feed the same operands to each accumulator from either store.
     pub record TakesFrom (part : List (List Value)) (s z : Store) : Type 0 where
       pub operands : ℕ → List Value
       pub own : (d : ℕ) → is_accumulator L (value_at d) ≡ true → value_in (run part s) d ≡ accumulated (accumulation_of L d) (value_in s d) (operands d)
@@ -258,13 +257,13 @@ module _ (F : ℕ) (c : Code) (w : IsWellFormed Reduce F 0 c) (one : has_one_loo
     base_silent : base.emitted ≡ []
     base_silent = exec-silent P quiet_front (start_of F key)
 
-    -- a store whose accumulators hold what those of a sender start from
+    -- a store whose accumulators hold the sender's start values
     pub record Starts (z : Store) : Type 0 where
       pub near : Near (unassigned L) base z
       pub from : (x : Slot) → HasSlot slots x → value_in z x.register ≡ starting x.by (value_in base x.register)
 
-    -- The record is what the sender gives for the part: the fields of the key hold its values, those of the slots what
-    -- the turns left, from such a store on.
+    -- The record is what the sender emits for the part. Its key fields hold the key values. The fields of the slots
+    -- hold what the turns left in the accumulators, starting from such a store.
     pub record IsPartial (v : ℕ → Value) (part : List (List Value)) (row : List Value) : Type 0 where
       pub z : Store
       pub starts : Starts z
@@ -283,7 +282,7 @@ module _ (F : ℕ) (c : Code) (w : IsWellFormed Reduce F 0 c) (one : has_one_loo
     over_itself : (group : List (List Value)) (z : Store) → z.input ≡ of_group key group → z ≡ over key group z
     over_itself group z e = λ i. record z { input = e i }
 
-    -- what the sender does is exactly one such record for each part
+    -- the sender emits exactly one such record for each part
     pub sender_gives : (v : ℕ → Value) → HasKeysAt v key 0 keys → (part : List (List Value))
         → (row : List Value) × (Out F (sender_of c t keys slots) (of_group key part) ≡ row ∷ []) × IsPartial v part row
     sender_gives v has part =
@@ -330,8 +329,8 @@ module _ (F : ℕ) (c : Code) (w : IsWellFormed Reduce F 0 c) (one : has_one_loo
 
     -- ---- one turn of the merger for one part
 
-    -- The function's store and the merger's hold the same in each accumulator, which has taken up already what a sender
-    -- starts from.
+    -- Each accumulator holds the same value in the function's store and in the merger's. The value has already absorbed
+    -- the sender's start value.
     pub record Together (s m : Store) : Type 0 where
       pub near : Near (unassigned L) base s
       pub whole : IsWhole 0 m
@@ -407,7 +406,7 @@ module _ (F : ℕ) (c : Code) (w : IsWellFormed Reduce F 0 c) (one : has_one_loo
 
     -- ---- all parts
 
-    -- side by side
+    -- each row is the partial record of the part at the same place
     abbrev pub ArePartials : (ℕ → Value) → List (List (List Value)) → List (List Value) → Type 0
     ArePartials v [] [] = Unit {0}
     ArePartials v [] (row ∷ rows) = ⊥
@@ -426,7 +425,7 @@ module _ (F : ℕ) (c : Code) (w : IsWellFormed Reduce F 0 c) (one : has_one_loo
         ap (for_each 1 (all_parts parts) (exec L)) (sym (over_itself [] (run part s) one.input)) ∙ sym (turns-append 1 (exec L) part (all_parts parts) (over key [] s)) in
         subst (λ (u : Store). Together u (for_each 1 rows (exec (gathering t slots)) (merge row m))) moved rest
 
-    -- ---- behind the loop
+    -- ---- after the loop
 
     gathering_flat : (xs : List Slot) → has_each (gathering t xs) ≡ false
     gathering_flat [] = refl
@@ -436,7 +435,7 @@ module _ (F : ℕ) (c : Code) (w : IsWellFormed Reduce F 0 c) (one : has_one_loo
     gathering_first [] = refl
     gathering_first (x ∷ xs) = gathering_first xs
 
-    -- sums that a function starts are numbers of 64 bits
+    -- the function starts its sums from 64-bit numbers
     abbrev pub SumsAreNumbers : Type 0
     SumsAreNumbers = (x : Slot) → HasSlot slots x → x.by ≡ Sum → applied2 (op_of Sum) (value_in base x.register) (Int (pos 0)) ≡ value_in base x.register
 
@@ -463,7 +462,7 @@ module _ (F : ℕ) (c : Code) (w : IsWellFormed Reduce F 0 c) (one : has_one_loo
     not_spare : (k : ℕ) → live Q no_registers (value_at k) ≡ true → k ≢ t
     not_spare k h e = both_ways (occurs_in Q (value_at k)) (subst (λ (j : ℕ). occurs_in Q (value_at j) ≡ false) (sym e) (p.unused (value_at t) unused).2) (live-occurs Q (value_at k) h)
 
-    -- what is live behind the loop is the same
+    -- registers that are live after the loop hold the same
     live_same : (s m : Store) → Together s m → Near (live Q no_registers) s m
     live_same s m h = record {
       own = h.near.other;
@@ -495,7 +494,7 @@ module _ (F : ℕ) (c : Code) (w : IsWellFormed Reduce F 0 c) (one : has_one_loo
     base_over : over key [] base ≡ base
     base_over = sym (over_itself [] base base_input)
 
-    -- The law: the merger gives for what the sender gave for the parts what the function gives for all of them.
+    -- The law: for the sender's records of the parts the merger emits what the function emits for all parts together.
     pub merger_gives : SumsAreNumbers → (v : ℕ → Value) (parts : List (List (List Value))) (rows : List (List Value)) → ArePartials v parts rows
         → Out F c (of_group key (all_parts parts)) ≡ Out F (merger_of c t slots) (of_group key rows)
     merger_gives numbers v parts rows partials =

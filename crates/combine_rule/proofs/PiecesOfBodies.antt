@@ -1,4 +1,4 @@
--- A body with one loop is its three pieces, each of which keeps what the body keeps.
+-- A body with one loop is its three pieces. A rule that the body keeps, each piece keeps.
 use Rattle.std.proofs.Common.{◌≡◌, ℕ, Bool, true, false, not, ◌||◌, if◌then◌else◌, refl, ap}
 use Rattle.std.proofs.lemmas.Bool.{and_parts, or_parts, not-true}
 use Rattle.pact_record.specs.Value.{is_true}
@@ -21,7 +21,7 @@ exec-joined (branch on body other next) d s = exec-joined next d (if is_true (va
 exec-joined (again count body next) d s = exec-joined next d (times count (exec body) s)
 exec-joined (each name list body next) d s = exec-joined next d (for_each name (rows_of s.input list) (exec body) s)
 
--- what holds of all three
+-- a property of all three pieces
 abbrev pub OfAll : (Code → Type 0) → Code → Type 0
 OfAll P c = P (front_of c) × P (loop_of c) × P (rest_of c)
 

@@ -1,4 +1,5 @@
--- In a plan with different numbers a number is read once; and a tree with a further number put in has different numbers.
+-- In a plan with different numbers each number is read once. A tree in which a further number is inserted still has
+-- different numbers.
 use Rattle.std.proofs.Common.{◌≡◌, ◌≢◌, ◌==◌, ◌||◌, ℕ, Bool, true, false, inl, inr, if◌then◌else◌, ◌++◌, refl, sym, ap, subst, ◌∙◌}
 use Rattle.std.proofs.lemmas.Bool.{cases_Bool, both_ways, false_from_ne_true, or_parts, eq-eqb, eqb-true, eqb-false, ne_eqb}
 use Rattle.plan_trees.specs.Distinct.{AreDifferent}
@@ -22,7 +23,7 @@ module _ (below at : ℕ) where
   not_at : (n : ℕ) (t : PlanTree) → has at t ≡ false → has n t ≡ true → n ≢ at
   not_at n t h g e = both_ways (has at t) h (subst (λ (k : ℕ). has k t ≡ true) e g)
 
-  -- a tree without the Reduce, in which the number stands at the root or nowhere
+  -- a tree without the Reduce, in which the number is at the root or nowhere
   elsewhere : (t : PlanTree) → AreDifferent (nodes t) → has at t ≡ false → (IsIn below (nodes t) → root_of t ≡ below) → IsReadBy below at t
   elsewhere (leaf n) d h top = not_at n (leaf n) h (eq-eqb n n refl)
   elsewhere (over n t) d h top =
@@ -44,7 +45,7 @@ module _ (below at : ℕ) where
         elsewhere u different.1 sides.1 (λ i. absurd (none (IsIn-right below (nodes t) (nodes u) i))),
       )
 
-  -- where the Reduce stands in a tree over the number, this is one of the tree's, and not its root
+  -- if the Reduce is in a tree over the number, the number is in that tree, and not at its root
   module _ (input : PlanTree) (root : root_of input ≡ below) where
     leaf_no_over : (n m : ℕ) (t : PlanTree) → leaf n ≡ over m t → ⊥
     leaf_no_over n m t e = cc
@@ -150,7 +151,7 @@ module _ (below at : ℕ) where
     pick_first true x y e = refl
     pick_first false x y e = cc
 
-    -- the tree of the number is the Reduce's input
+    -- the subtree with the number is the Reduce's input
     pub input_subtree : (t : PlanTree) → AreDifferent (nodes t) → has at t ≡ true → subtree_of at t ≡ over at input → subtree_of below t ≡ input
     input_subtree (leaf n) d h r = absurd (leaf_no_over n at input r)
     input_subtree (over n t) d h r =

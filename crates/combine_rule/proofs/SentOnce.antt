@@ -1,4 +1,5 @@
--- The operators that were put in are senders for the Reduces that merge, to the end; so each instance of one gives exactly one record for each key that it took, which has this key.
+-- The inserted operators are senders for the Reduces that merge, and stay so until the last Reduce is combined. So each
+-- of their instances emits exactly one record for each key that it took, and the record has this key.
 use Rattle.std.proofs.Common.{◌≡◌, ◌<◌, ◌≤◌, ◌+◌, ℕ, zero, suc, true, inl, inr, List, Option, Some, None, length, slice_get, refl, sym, ap, subst, ◌∙◌, arith}
 use Rattle.std.specs.List.{AllByRecursion}
 use Rattle.std.proofs.lemmas.Option.{slice_get_within}
@@ -35,7 +36,7 @@ reduce_within ops n e = by (slice_get ops n) refl e where
   by None q z = let bad : Source ≡ Reduce = z in absurd cc
   by (Some op) q z = slice_get_within ops n op q
 
--- it has one input
+-- a Reduce has one input
 pub over_reduce : (ops : List Op) (tree : PlanTree) (n : ℕ) → HasArity ops tree → has n tree ≡ true → kind_at ops n ≡ Reduce
     → (input : PlanTree) × (subtree_of n tree ≡ over n input)
 over_reduce ops tree n arity there kind = by (subtree_of n tree) (down (HasArity ops) arity_down n tree arity) (root_of-subtree n tree there) where
@@ -52,7 +53,7 @@ over_reduce ops tree n arity there kind = by (subtree_of n tree) (down (HasArity
 
 -- ---- senders
 
--- The Reduce of the number calls a sender.
+-- The Reduce with the number calls a sender.
 pub record IsSenderAt (o : PlanOps) (n : ℕ) : Type 0 where
   pub kind : o.kind n ≡ Reduce
   pub whole : GroupCall
@@ -72,7 +73,7 @@ still_sender o u n e h =
       split = subst (λ (ks : List ℕ). IsSplitIn ks h.whole (u.of_group n) h.merger) (sym e.left_keys) (subst (λ (s : GroupCall). IsSplitIn (o.left_keys n) h.whole s h.merger) (sym calls.of_group) h.split);
     }
 
--- each instance of a sender gives one record a key, which has this key
+-- each instance of a sender emits one record for each key, which has this key
 gives_once : (o : PlanOps) (q : PhysicalData) (gave : Shares) (n : ℕ) (input : PlanTree) → IsSenderAt o n → subtree_of n q.tree ≡ over n input
     → ((w : ℕ) → w < q.workers → GaveShare o q gave (subtree_of n q.tree) w) → GivesOnce o q gave n
 gives_once o q gave n input h reads shares = record {
@@ -93,7 +94,7 @@ module _ (inputs : List Bag) (end : Planned) where
   put_in : (s : Planned) (at : ℕ) (c : CanCombine s at) → IsProgram s.program → IsSenderAt (plan_ops (combined_at s at c).program inputs) (length s.program.ops)
   put_in s at c program = let e = sender_split s at c program inputs in record { kind = e.0; whole = _; merger = _; split = e.1 }
 
-  -- there are no fewer operators and sources than there were
+  -- the number of operators and sources doesn't shrink
   pub no_fewer : (count at : ℕ) (s : Planned) (of : List (ℕ × ℕ)) → IsCombinedFrom count at s end of → IsProgram s.program
       → IsPlanOf s.program.functions s.program.ops s.physical.tree → length s.program.ops ≤ length end.program.ops
   no_fewer zero at s of h program plan = subst (λ (x : Planned). length s.program.ops ≤ length x.program.ops) (sym h.0) (omega arith)
@@ -105,7 +106,7 @@ module _ (inputs : List Bag) (end : Planned) where
       let rest = no_fewer k (at + 1) next h.1 h.3 (combined_program s at c program inputs plan) (combined_plan s at c program inputs plan) in
       omega (arith, longer, rest)
 
-  -- what is one stays one, for the Reduces that come have smaller numbers
+  -- a sender stays one, since the Reduces still to come have smaller numbers
   sender_to_end : (count at : ℕ) (s : Planned) (of : List (ℕ × ℕ)) (n : ℕ) → IsCombinedFrom count at s end of → IsProgram s.program
       → IsPlanOf s.program.functions s.program.ops s.physical.tree → at + count ≤ n
       → IsSenderAt (plan_ops s.program inputs) n → IsSenderAt (plan_ops end.program inputs) n

@@ -23,7 +23,7 @@ module _ (set : ℕ → Bool) where
   have_all zero h = refl
   have_all (suc n) h = both (set n) (has_all n set) (h n (omega arith)) (have_all n (λ k lt. h k (omega (arith, lt))))
 
-  -- ---- one field after the other
+  -- ---- one field at a time
 
   pub all_next : (n m : ℕ) → m ≡ suc n → set n ≡ true → has_all n set ≡ true → has_all m set ≡ true
   all_next n m e here h = subst (λ (j : ℕ). has_all j set ≡ true) (sym e) (both (set n) (has_all n set) here h)

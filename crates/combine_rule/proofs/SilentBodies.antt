@@ -1,4 +1,4 @@
--- What has no `emit` emits nothing.
+-- A body without an `emit` emits nothing.
 use Rattle.std.proofs.Common.{◌≡◌, ℕ, zero, suc, Bool, true, false, ◌||◌, if◌then◌else◌, List, [], ◌∷◌, refl, ◌∙◌}
 use Rattle.std.proofs.lemmas.Bool.{or_parts}
 use Rattle.pact_record.specs.declared.values.Value.{Value}

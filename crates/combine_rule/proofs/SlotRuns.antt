@@ -1,4 +1,4 @@
--- What the statements do that the sender and the merger have besides the function's own.
+-- The effect of the statements that the sender and the merger add to the function's own.
 use Rattle.std.proofs.Common.{◌≡◌, ◌≢◌, ◌<◌, ◌+◌, ◌==◌, ◌⊎◌, ℕ, pos, true, inl, inr, List, [], ◌∷◌, ◌++◌, length, get_or, map, slice_set, refl, sym, ap, subst, ◌∙◌, arith}
 use Rattle.std.proofs.lemmas.Bool.{cases_Bool, or_cases, eqb-true, eqb-false}
 use Rattle.std.proofs.lemmas.List.{get_or-set_same, get_or-set_other, length-set, length-append, length-replicate}
@@ -40,13 +40,13 @@ absent-apart f n (y ∷ ys) x a h = elim h as (λ _. n ≢ f x) [
 
 -- ---- sums from 0
 
--- what a sender's accumulator starts from
+-- the start value of a sender's accumulator
 abbrev pub starting : Accumulation → Value → Value
 starting Sum v = Int (pos 0)
 starting Least v = v
 starting Greatest v = v
 
--- a store that differs in values alone
+-- two stores that differ only in value registers
 pub record ValuesOnly (s t : Store) : Type 0 where
   pub whole : IsWhole 0 t
   pub fields : t.fields ≡ s.fields
@@ -80,14 +80,14 @@ abbrev pub AreInRange : List Slot → Type 0
 AreInRange [] = Unit {0}
 AreInRange (x ∷ xs) = (x.register < value_registers) × AreInRange xs
 
--- one slot's statement, and then those of the others
+-- one slot's statement, followed by those of the others
 one_zeroed : (by : Accumulation) (d : ℕ) (next : Code) (s : Store) → d < value_registers → IsWhole 0 s
     → (t : Store) × (exec (from_zero by d next) s ≡ exec next t) × ValuesOnly s t × (value_in t d ≡ starting by (value_in s d)) × ((k : ℕ) → k ≢ d → value_in t k ≡ value_in s k)
 one_zeroed Sum d next s lt w = let v = Int (pos 0) in (put_value s d v, refl, ValuesOnly-put s d v w, value_in-put 0 s d v w lt, λ k apart. value_in-put_other s d v k apart)
 one_zeroed Least d next s lt w = (s, refl, ValuesOnly-itself s w, refl, λ k apart. refl)
 one_zeroed Greatest d next s lt w = (s, refl, ValuesOnly-itself s w, refl, λ k apart. refl)
 
--- the statements of a list of slots lead to a store from which what follows goes on
+-- the statements for a list of slots lead to a store from which the following code runs
 pub zeroed : (slots : List Slot) (next : Code) (s : Store) → AreInRange slots → AreDifferent (registers_of slots) → IsWhole 0 s → (t : Store) × (exec (zeroing slots next) s ≡ exec next t) × Zeroed slots s t
 zeroed [] next s r d w = (s, refl, record { only = ValuesOnly-itself s w; at = λ x h. absurd h; others = λ k a. refl })
 zeroed (y ∷ ys) next s r d w =
@@ -105,7 +105,7 @@ zeroed (y ∷ ys) next s r d w =
       },
     )
 
--- ---- what a merger's turn takes up
+-- ---- what a merger's turn absorbs
 
 pub record Gathered (t : ℕ) (slots : List Slot) (s u : Store) : Type 0 where
   pub only : ValuesOnly s u
@@ -160,9 +160,9 @@ gathered t (y ∷ ys) s lt r a d w =
     let next = s2 t y ys s lt r.0 a d.0 w in
     gathered_on t y ys s lt r.0 a d.0 w (exec (gathering t ys) next) (gathered t ys next lt r.1 a.1 d.1 (w2 t y ys s lt r.0 a d.0 w))
 
--- ---- the record that a sender gives
+-- ---- the record that a sender emits
 
--- a store whose first record register holds a record of the width
+-- a store whose first record register holds a record of this width
 pub record HoldsRecord (F : ℕ) (s : Store) : Type 0 where
   pub whole : IsWhole 0 s
   pub width : length (record_in s 0) ≡ F
@@ -183,7 +183,7 @@ set_holds F s k v h = record {
   width = ap length (get_or-set_same s.records 0 (slice_set (record_in s 0) k v) [] (omega (arith, h.whole.records))) ∙ length-set (record_in s 0) k v ∙ h.width;
 }
 
--- the accumulators' fields
+-- the record after the accumulators were copied to their fields
 pub record Gave (F : ℕ) (slots : List Slot) (s t : Store) : Type 0 where
   pub holds : HoldsRecord F t
   pub emitted : t.emitted ≡ s.emitted
@@ -282,7 +282,7 @@ keyed F t v key at (k0 ∷ rest) next s lt b e ks h =
       },
     )
 
--- ---- all that follows a sender's loop
+-- ---- all code after a sender's loop
 
 pub record Sent (F : ℕ) (v : ℕ → Value) (keys : List ℕ) (slots : List Slot) (s : Store) (row : List Value) : Type 0 where
   pub width : length row ≡ F

@@ -1,4 +1,4 @@
--- What is known of the slots of a loop.
+-- Facts about the slots of a loop.
 use Rattle.std.proofs.Common.{◌≡◌, ◌≢◌, ◌≤◌, ◌<◌, ◌+◌, ◌==◌, ℕ, zero, suc, Bool, true, false, not, ◌&&◌, ◌||◌, cond, inl, inr, if◌then◌else◌, List, [], ◌∷◌, Option, Some, None, length, refl, sym, ap, subst, arith}
 use Rattle.std.specs.Prelude.{filter}
 use Rattle.std.specs.List.{AllByRecursion, range_with_len}
@@ -69,7 +69,7 @@ among_picked p a (suc n) m lo hi h =
       above : (x y : ℕ) → x ≤ y → x ≢ y → x + 1 ≤ y
       above x y le ne = omega (arith, le, ne)
 
--- ---- side by side
+-- ---- accumulators and fields side by side
 
 module _ (by : ℕ → Accumulation) where
   pub registers_are : (ds ks : List ℕ) → length ds ≤ length ks → registers_of (slots_with by ds ks) ≡ ds
@@ -209,7 +209,7 @@ unused_below c a (suc n) t le h =
 pub spare_is : (c : Code) (t : ℕ) → spare_register c ≡ Some t → (t < value_registers) × (occurs_in c (value_at t) ≡ false)
 spare_is c t h = unused_below c 0 value_registers t (omega arith) h
 
--- ---- all of it
+-- ---- all facts together
 
 module _ (kind : Kind) (F t : ℕ) (keys : List ℕ) (set : ℕ → Bool) (loop : Code) where
   abbrev by : ℕ → Accumulation

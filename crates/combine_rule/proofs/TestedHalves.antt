@@ -1,4 +1,4 @@
--- A valid function is combinable exactly where its pieces, the keys and some numbers pass their tests.
+-- A valid function is combinable exactly if its pieces, its keys and some counts pass their tests.
 use Rattle.std.proofs.Common.{◌≡◌, ◌≤◌, ◌+◌, ◌*◌, inl, inr, not, ◌&&◌, ℕ, Bool, true, false, Some, List, [], ◌∷◌, length, refl, ap, subst, ◌∙◌, arith}
 use Rattle.std.specs.List.{AllByRecursion}
 use Rattle.std.proofs.lemmas.Bool.{and_parts}
@@ -31,7 +31,7 @@ use Rattle.combine_rule.proofs.SetsOfAll.{all_have, have_all}
 use Rattle.combine_rule.proofs.NamesOfJoined.{names-joined, joined-names}
 use Rattle.combine_rule.proofs.ValidHalves.{IsSlotIn, few_statements, sender_is_valid, merger_is_valid, sender_says}
 
--- ---- how many statements there are
+-- ---- the number of statements
 
 count-from_zero : (by : Accumulation) (d : ℕ) (next : Code) → count_of (from_zero by d next) + 1 ≡ weight by + count_of next
 count-from_zero Sum d next = omega arith
@@ -126,7 +126,7 @@ names-inside fields set (again count body next) h =
 names-inside fields set (each name list body next) h =
     both_true (sets_inside fields set body) (sets_inside fields set next) (names-inside fields set body (λ k n. h k (inl n))) (names-inside fields set next (λ k n. h k (inr n)))
 
--- those of a sender
+-- the fields that a sender sets
 module _ (fields k : ℕ) where
   zeroing_names : (slots : List Slot) (next : Code) → Names fields k (zeroing slots next) → Names fields k next
   zeroing_names [] next h = h
@@ -189,7 +189,7 @@ module _ (f : Function) (F : ℕ) (keys : List ℕ) (set : ℕ → Bool) (valid 
   sizes : count_of c ≡ count_of (front_of c) + (1 + count_of (loop_of c) + count_of (rest_of c))
   sizes = ap count_of p.whole ∙ count_of-joined (front_of c) (each 1 Group (loop_of c) (rest_of c))
 
-  -- the pieces are no longer than the body may be
+  -- each piece has at most the number of statements that a body may have
   pub few_in_pieces : (count_of (front_of c) ≤ statement_limit) × (count_of (loop_of c) ≤ statement_limit) × (count_of (rest_of c) ≤ statement_limit)
   few_in_pieces = let few = few_statements f F valid in (omega (arith, few, sizes), omega (arith, few, sizes), omega (arith, few, sizes))
 

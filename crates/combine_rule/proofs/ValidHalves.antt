@@ -1,4 +1,4 @@
--- When the sender and the merger of a valid function are valid.
+-- Conditions under which the sender and the merger of a valid function are valid.
 use Rattle.std.proofs.Common.{◌≡◌, ◌≤◌, ◌<◌, ◌+◌, ◌||◌, not, ℕ, pos, Bool, true, false, if◌then◌else◌, Option, Some, None, List, [], ◌∷◌, ◌++◌, length, refl, ap, sym, subst, ◌∙◌, nat_le, arith, length-append, append_assoc}
 use Rattle.std.specs.List.{AllByRecursion}
 use Rattle.std.proofs.lemmas.Bool.{leb-false, lt-leb, le-leb}
@@ -25,9 +25,9 @@ use Rattle.combine_rule.specs.Halves.{from_zero, zeroing, keying, giving, gather
 use Rattle.combine_rule.specs.Combinable.{with_body}
 use Rattle.combine_rule.proofs.PiecesOfBodies.{ArePieces}
 
--- ---- rules that heed no numbers
+-- ---- rules that don't depend on a statement's number
 
--- the rule isn't broken, whatever the number of the statement; of the rule on numbers nothing is asked
+-- The rule isn't broken, for any number of the statement. The rule on the number of statements asks nothing here.
 abbrev pub KeptAt : Rule → Placed → Type 0
 KeptAt rule x = breaks rule 0 x.place x.line ≡ false
 
@@ -78,7 +78,7 @@ length-placed p (again count body next) =
 length-placed p (each name list body next) =
     omega (arith, length-append (placed (in_each p) body) (placed p next), length-placed (in_each p) body, length-placed p next)
 
--- ---- functions by such rules and their number of statements
+-- ---- valid functions, from such rules and their number of statements
 
 pub few_statements : (f : Function) (F : ℕ) → IsValid f F → count_of f.body ≤ statement_limit
 few_statements f F h =
@@ -95,7 +95,7 @@ valid_with f F c h kept few = record {
   keeps = λ rule. kept_all rule 0 (placed (top_place f F) c) (omega (arith, few, length-placed (top_place f F) c)) (kept rule);
 }
 
--- ---- one body after the other
+-- ---- joined bodies
 
 pub placed-joined : (p : Place) (c d : Code) → placed p (joined c d) ≡ placed p c ++ placed p d
 placed-joined p stop d = refl
@@ -136,7 +136,7 @@ kept_pieces rule p F c pieces h =
       rest = AllByRecursion-right (KeptAt rule) (placed (in_each p) (loop_of c)) (placed p (rest_of c)) both.1.1;
     }
 
--- ---- the statements of the two
+-- ---- the statements of the sender and the merger
 
 fine : (a b : Bool) → a ≡ false → b ≡ false → (a || b) ≡ false
 fine true b p q = cc
@@ -177,7 +177,7 @@ applies_it Registers p op d t lt k =
     (lt-leb value_registers t k)
 applies_it rule p op d t lt k = refl
 
--- registers that there are, and fields below the bound
+-- an existing register, and a field below the bound
 abbrev pub IsSlotIn : ℕ → Slot → Type 0
 IsSlotIn F s = (s.register < value_registers) × (s.field < F)
 
@@ -204,7 +204,7 @@ kept-gathering : (rule : Rule) (p : Place) (t : ℕ) (slots : List Slot) → t <
 kept-gathering rule p t [] lt l s = tt
 kept-gathering rule p t (x ∷ xs) lt l s = (gets_it rule p t x.field lt l s.0.1, (applies_it rule p (op_of x.by) x.register t s.0.0 lt, kept-gathering rule p t xs lt l s.1))
 
--- ---- the two
+-- ---- the sender and the merger
 
 module _ (f : Function) (F : ℕ) (pieces : ArePieces F f.body) (valid : IsValid f F) (reduces : f.kind ≡ Reduce) (t : ℕ) (lt : t < value_registers) (slots : List Slot) (inside : AllByRecursion (IsSlotIn F) slots) where
   abbrev p : Place
@@ -237,7 +237,7 @@ module _ (f : Function) (F : ℕ) (pieces : ArePieces F f.body) (valid : IsValid
       kept-joined rule p (front_of f.body) (each 1 Group (gathering t slots) (rest_of f.body)) k.front
       (k.head, AllByRecursion-append (KeptAt rule) (placed (in_each p) (gathering t slots)) (placed p (rest_of f.body)) (kept-gathering rule (in_each p) t slots lt (omega arith) inside) k.rest)) small
 
--- ---- what a valid sender says of the keys
+-- ---- what a valid sender says about the keys
 
 keys_below : (p : Place) (t at : ℕ) (keys : List ℕ) (next : Code) → KeptIn Fields p (keying t at keys next) → AllByRecursion (λ k. k < p.fields) keys
 keys_below p t at [] next h = tt

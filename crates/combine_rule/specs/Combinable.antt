@@ -16,17 +16,17 @@ use Rattle.combine_rule.specs.Pieces.{has_emit, has_one_loop, front_of, loop_of}
 use Rattle.combine_rule.specs.Slots.{accumulation_of, accumulators_of, spare_fields, slots_of, spare_register}
 use Rattle.combine_rule.specs.Halves.{sender_of, merger_of}
 
--- a number of 64 bits, as each number of a function's code is
+-- a 64-bit number, as every number in a function's code is
 abbrev pub is_i64 : ℤ → Bool
 is_i64 z = int_eq (int_wrap w64 z) z
 
--- Whether the last assignment of a value register is `vD = int N` outside every block, where the flag says so of what
--- stands before the statement.
+-- Whether the last assignment of value register d up to this statement is `vD = int N`, outside every block. `so` says
+-- whether this holds before the statement.
 abbrev pub number_after : Simple → ℕ → Bool → Bool
 number_after (load_int to value) d so = if d == to then is_i64 value else so
 number_after s d so = so && not (assigns s (value_at d))
 
--- the same of a body, with assignments at any depth
+-- this property after a body; an assignment inside a block makes it false
 abbrev pub is_number_behind : Code → ℕ → Bool → Bool
 is_number_behind stop d so = so
 is_number_behind (plain s next) d so = is_number_behind next d (number_after s d so)
@@ -34,7 +34,7 @@ is_number_behind (branch on body other next) d so = is_number_behind next d (so 
 is_number_behind (again count body next) d so = is_number_behind next d (so && not (is_assigned body (value_at d)))
 is_number_behind (each name list body next) d so = is_number_behind next d (so && not (is_assigned body (value_at d)))
 
--- A sum starts as a number, to which adding 0 changes nothing. Of least and greatest values nothing is asked.
+-- A sum must start as a number, so that adding 0 doesn't change it. Least and greatest values have no such condition.
 abbrev pub StartsAsNumber : Accumulation → Code → ℕ → Type 0
 StartsAsNumber Sum front d = is_number_behind front d false ≡ true
 StartsAsNumber Least front d = Unit {0}
@@ -50,10 +50,10 @@ sender_with f fields t keys set = with_body f (sender_of f.body t keys (slots_of
 abbrev pub merger_with : Function → ℕ → ℕ → List ℕ → (ℕ → Bool) → Function
 merger_with f fields t keys set = with_body f (merger_of f.body t (slots_of (loop_of f.body) fields keys set))
 
--- A function of a Reduce with such keys, where the set has the attributes of the Reduce's input. It may take its group
--- in any order, goes through it once, outside every other block, and emits nothing before that loop or in it. Sums start
--- as numbers. The keys are of the set, and it has a field outside them for each accumulator. A value register is left
--- for the two functions, which are valid, and the sender sets fields of the set alone.
+-- A function of a Reduce with these keys, whose input has the attributes in `set`. It may take its group in any order.
+-- It has one loop over the group, outside every other block, and emits nothing before that loop or in it. Sums start as
+-- numbers. The keys are in the set, and for each accumulator the set has a field outside the keys. A value register is
+-- left unused. The sender and the merger are valid, and the sender sets only fields of the set.
 pub record IsCombinable (f : Function) (fields : ℕ) (keys : List ℕ) (set : ℕ → Bool) : Type 0 where
   pub kind : f.kind ≡ Reduce
   pub order_free : IsOrderFree f.kind f.body

@@ -1,4 +1,5 @@
--- A plan with partial groups before shipping. The laws are proved over what stands here, and no clause names it: the combined plan is that of `CombinedPrograms`.
+-- A plan with partial groups before shipping. The laws are proved for these definitions, but no clause names them:
+-- clauses use the combined plan of `CombinedPrograms`.
 use Rattle.std.specs.Prelude.{◌≡◌, ◌≢◌, ℕ, true, List, get_or}
 use Rattle.std.specs.List.{AllByRecursion}
 use Rattle.pact_record.specs.Keys.{is_listed}
@@ -10,7 +11,7 @@ use Rattle.tac_syntax.specs.declared.declarations.OpKind.TheVariants.{Source, Re
 use Rattle.pact_operators.specs.PlanOps.{PlanOps}
 use Rattle.combine_rule.specs.Splits.{IsSplitIn}
 
--- two programs do the same at a number; what a source would call is of no account
+-- Two programs make the same calls at a number. It isn't asked of sources, which make none.
 pub record HasSameCalls (o u : PlanOps) (n : ℕ) : Type 0 where
   pub of_record : u.of_record n ≡ o.of_record n
   pub of_pair : u.of_pair n ≡ o.of_pair n
@@ -25,13 +26,14 @@ pub record IsSameAt (o u : PlanOps) (n : ℕ) : Type 0 where
   pub left_keys : u.left_keys n ≡ o.left_keys n
   pub right_keys : u.right_keys n ≡ o.right_keys n
 
--- The Reduce of this number reads what the other number gives, and nothing else does; and it has one input.
+-- The Reduce with this number has one input, the operator or source `below`, and no other operator reads `below`.
 abbrev pub IsReadBy : (below reduce : ℕ) → PlanTree → Type 0
 IsReadBy below reduce (leaf n) = n ≢ reduce
 IsReadBy below reduce (over n t) = (root_of t ≡ below → n ≡ reduce) × (n ≡ reduce → root_of t ≡ below) × IsReadBy below reduce t
 IsReadBy below reduce (both n t u) = (n ≢ reduce) × (root_of t ≢ below) × (root_of u ≢ below) × IsReadBy below reduce t × IsReadBy below reduce u
 
--- One Reduce is combined: a sender stands on its input's edge, is fed Forward and keeps the Partition towards the Reduce, which now merges. All else stays.
+-- One Reduce is combined. A sender is inserted on its input's edge. The edge to the sender is Forward, and the edge
+-- from the sender to the Reduce has the Partition. The Reduce now merges. The rest is unchanged.
 pub record IsCombinedAt (o u : PlanOps) (p q : PhysicalData) (below new reduce : ℕ) (fields : List ℕ) : Type 0 where
   pub tree : q.tree ≡ inserted below new p.tree
   pub workers : q.workers ≡ p.workers
@@ -45,6 +47,6 @@ pub record IsCombinedAt (o u : PlanOps) (p q : PhysicalData) (below new reduce :
   pub sender_kind : u.kind new ≡ Reduce
   pub merger_keys : u.left_keys reduce ≡ o.left_keys reduce
   pub sender_keys : u.left_keys new ≡ o.left_keys reduce
-  -- the Partition is legal
+  -- the fields of the Partition are keys of the Reduce, as legal shipping requires
   pub inside : AllByRecursion (λ k. is_listed (o.left_keys reduce) k ≡ true) fields
   pub split : IsSplitIn (o.left_keys reduce) (o.of_group reduce) (u.of_group new) (u.of_group reduce)

@@ -20,7 +20,8 @@ pub record Planned : Type 0 where
 abbrev pub planned : ProgramData → PhysicalData → Planned
 planned program physical = record { program = program; physical = physical }
 
--- The operator of the number is a Reduce that may be combined: its input's edge is Partition, its function is combinable, and there is room.
+-- The operator with the number is a Reduce that may be combined: its input's edge is Partition, its function is
+-- combinable, and there is room for another operator and two functions.
 pub record CanCombine (s : Planned) (at : ℕ) : Type 0 where
   pub op : Op
   pub found : slice_get s.program.ops at ≡ Some op
@@ -36,7 +37,8 @@ pub record CanCombine (s : Planned) (at : ℕ) : Type 0 where
   pub room : times_of_kind is_operator_kind s.program.ops < 16
   pub function_room : length s.program.functions < 63
 
--- The operator that sends: a name that no text can have, and the keys of the Reduce. What an operator doesn't have is empty.
+-- The inserted operator: a name that no program text can declare, and the keys of the Reduce. Parts that a Reduce
+-- doesn't have are empty.
 abbrev pub sender_op : (new : ℕ) → Op → Op
 sender_op new op = record { name = decimal new; kind = Reduce; function = 0; left_keys = op.left_keys; right_keys = []; file = []; columns = [] }
 
@@ -46,7 +48,7 @@ sender_for s at c = record { function = sender_with c.called.function s.program.
 abbrev pub merger_for : (s : Planned) (at : ℕ) → CanCombine s at → WithFields
 merger_for s at c = record { function = merger_with c.called.function s.program.fields c.combinable.register c.op.left_keys (attribute s.program c.input); fields = s.program.fields }
 
--- what comes of combining it
+-- the physical plan after the Reduce is combined
 abbrev pub physical_at : (s : Planned) (at : ℕ) → CanCombine s at → PhysicalData
 physical_at s at c = inserted_above (root_of c.input) (length s.program.ops) s.physical
 
@@ -56,7 +58,8 @@ combined_at s at c = record {
   physical = physical_at s at c;
 }
 
--- From the operators of these numbers on, one after the other, each that can be combined is; with the numbers of the operators put in, each with its Reduce's.
+-- Starting at number `at`, `count` operators are visited one after the other, and each that can be combined is. The
+-- list pairs the number of each inserted operator with that of its Reduce.
 abbrev pub IsCombinedFrom : (count at : ℕ) → Planned → Planned → List (ℕ × ℕ) → Type 0
 IsCombinedFrom zero at s end of = (end ≡ s) × (of ≡ [])
 IsCombinedFrom (suc n) at s end of =

@@ -1,5 +1,5 @@
--- The body of a function with one loop over its group, in three pieces: what stands before the loop, the loop's body,
--- and what stands behind it.
+-- The body of a function with one loop over its group, in three pieces: the statements before the loop, the loop's
+-- body, and the statements after it.
 use Rattle.std.specs.Prelude.{Bool, true, false, not, ◌&&◌, ◌||◌}
 use Rattle.tac_syntax.specs.Code.{Simple, emit_record, Code, stop, plain, branch, again, each}
 use Rattle.order_free.specs.Registers.{Register, is_value, occurs}
@@ -32,7 +32,7 @@ occurs_in (branch on body other next) r = is_value on r || (occurs_in body r || 
 occurs_in (again count body next) r = occurs_in body r || occurs_in next r
 occurs_in (each name list body next) r = occurs_in body r || occurs_in next r
 
--- there is exactly one `each`, and it stands in no other block
+-- there is exactly one `each`, and it isn't inside another block
 abbrev pub has_one_loop : Code → Bool
 has_one_loop stop = false
 has_one_loop (plain s next) = has_one_loop next
@@ -40,7 +40,8 @@ has_one_loop (branch on body other next) = not (has_each body || has_each other)
 has_one_loop (again count body next) = not (has_each body) && has_one_loop next
 has_one_loop (each name list body next) = not (has_each body || has_each next)
 
--- what stands before the first `each` that stands in no other block, its body, and what stands behind it
+-- the statements before the first `each` that isn't inside another block; below, that loop's body, and the statements
+-- after it
 abbrev pub front_of : Code → Code
 front_of stop = stop
 front_of (plain s next) = plain s (front_of next)

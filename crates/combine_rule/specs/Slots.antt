@@ -1,4 +1,4 @@
--- The accumulators of a loop, each with the field in which its partial value travels.
+-- The accumulators of a loop, each with the field that carries its partial value.
 use Rattle.std.specs.Prelude.{ℕ, ◌==◌, Bool, false, not, ◌&&◌, ◌||◌, if◌then◌else◌, filter, List, [], ◌∷◌, Option, Some, None}
 use Rattle.std.specs.List.{range_with_len}
 use Rattle.tac_syntax.specs.Limits.{value_registers}
@@ -31,7 +31,7 @@ is_among (n ∷ ns) k = (n == k) || is_among ns k
 abbrev pub spare_fields : ℕ → List ℕ → (ℕ → Bool) → List ℕ
 spare_fields fields keys set = filter (λ k. set k && not (is_among keys k)) (range_with_len 0 fields)
 
--- side by side, as long as there are fields
+-- accumulators paired with fields, as long as there are fields
 abbrev pub slots_with : (ℕ → Accumulation) → List ℕ → List ℕ → List Slot
 slots_with by [] ks = []
 slots_with by (d ∷ ds) [] = []

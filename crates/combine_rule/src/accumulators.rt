@@ -22,7 +22,7 @@ fn has_op(by: Accumulation, op: Op2) -> bool
     }
 }
 
-// Whether the value register occurs in a statement in another way than vD in `vD = OP vD vA`.
+// Whether the value register occurs in a statement in any other way than as vD in `vD = OP vD vA`.
 #[cycle(otherwise)]
 fn is_used_otherwise(by: Accumulation, stmt: &Stmt, register: u32) -> bool
     ensures { result ≡ occurs_otherwise by (value_at register) (only stmt.now) }
@@ -57,7 +57,7 @@ fn is_used_otherwise(by: Accumulation, stmt: &Stmt, register: u32) -> bool
     }
 }
 
-// Whether the value register occurs in a body in another way than vD in `vD = OP vD vA`.
+// Whether the value register occurs in a body in any other way than as vD in `vD = OP vD vA`.
 #[cycle(otherwise)]
 fn occurs_otherwise(by: Accumulation, body: &Body, register: u32) -> bool
     ensures { result ≡ occurs_otherwise by (value_at register) body.now }

@@ -18,13 +18,13 @@ use plan_trees::{Parts, Physical, Ship};
 use std::alloc::Global;
 use tac_syntax::OpKind;
 
-// A Reduce is combined while there are fewer operators and functions than these.
+// A Reduce is combined only while the program has fewer operators and functions than these limits.
 const MAX_OPERATORS: usize = 16;
 
 const MAX_FUNCTIONS: usize = 63;
 
-/// A program with a physical plan of it, in which each Reduce that may be is combined. The list pairs the number of
-/// each operator that was put in with that of its Reduce.
+/// A program with a physical plan of it, in which each Reduce that may be combined is. The list pairs the number of
+/// each inserted operator with that of its Reduce.
 #[derive(Debug, Drop)]
 pub struct Combined {
     pub program: Program,
@@ -32,7 +32,7 @@ pub struct Combined {
     pub of: Vec<(u32, u32)>,
 }
 
-// How many of them are operators.
+// The number of operators, without the sources.
 fn operators(ops: &[Op]) -> usize
     ensures { result ≡ times_of_kind is_operator_kind ops.now }
 {
@@ -74,7 +74,7 @@ fn can_combine(program: &Program, physical: &Physical, at: u32) -> bool
     combinable(program.function_at(at), &op.left_keys, attributes)
 }
 
-// The operator that sends.
+// The operator that is inserted to call the sender.
 fn sender_op(alloc: Global, new: u32, keys: Keys) -> Result<Op, OutOfMemory>
     ensures { IfOk result (λ op. op ≡ record { name = decimal new; kind = Reduce; function = 0; left_keys = keys; right_keys = []; file = []; columns = [] }) }
 {
@@ -92,7 +92,7 @@ fn sender_op(alloc: Global, new: u32, keys: Keys) -> Result<Op, OutOfMemory>
     })
 }
 
-// The Reduce is combined.
+// Combines the Reduce.
 fn combine_one(
     alloc: Global,
     program: Program,
@@ -116,7 +116,7 @@ fn combine_one(
     Ok((changed, moved))
 }
 
-// With the operator of the number combined, where it may be.
+// Combines the operator with the number if it may be combined.
 fn combined_at(alloc: Global, so_far: Combined, at: u32) -> Result<Combined, OutOfMemory>
     requires there { at < length so_far.program.ops }
     requires plan { IsPlanOf so_far.program.functions so_far.program.ops so_far.physical.tree }
@@ -159,10 +159,10 @@ fn all_combined(
     Ok(combined)
 }
 
-/// The combined plan: in the order of numbers, each Reduce whose input's edge is Partition and whose function may be
-/// split gets an operator on that edge that reduces what each worker has to one record a key, while there are
-/// fewer than 16 operators and fewer than 63 functions. A run of it leaves what the plan as it was allows, with the same
-/// counts for its operators.
+/// The combined plan. In the order of their numbers, each Reduce gets an operator on its input's edge if that edge is
+/// Partition and its function may be split. The new operator reduces each worker's records to one record per key. This
+/// goes on while the program has fewer than 16 operators and fewer than 63 functions. A run of the combined plan leaves
+/// a result that the original plan allows, with the same counts for its operators.
 pub fn combine(
     alloc: Global,
     program: &Program,
@@ -180,9 +180,9 @@ pub fn combine(
     ensures once { IfOk result (λ c. AreSentOnce (planned program.now physical.now) (planned c.program c.physical) c.of.items) }
     ensures sent_once { IfOk result (λ c. AllPutOnePerKey (planned c.program c.physical) c.of.items) }
 {
-    // Its clause says that the program keeps every rule.
+    // this call shows the prover that the program keeps every rule
     let _fields = program.fields();
-    // Its clause says that the physical plan is one.
+    // this call shows the prover that the physical plan is a valid one
     let _workers = physical.workers();
     all_combined(alloc, program, physical)
 }

@@ -15,7 +15,8 @@ use order_free::order_test;
 use pact_record::{Fields, Keys};
 use tac_syntax::{Function, Kind, Valid};
 
-// Whether the halves of a function with one loop may stand for it, for a Reduce with such keys and attributes.
+// Whether the sender and the merger of a function with one loop may replace it, for a Reduce with these keys and
+// attributes.
 fn halves_pass(function: &Function, fields: u32, keys: &Keys, attributes: Fields) -> bool
     requires valid { IsValid function.now fields }
     requires kind { function.now.kind ≡ Reduce }
@@ -37,7 +38,7 @@ fn halves_pass(function: &Function, fields: u32, keys: &Keys, attributes: Fields
     has_room(&p, fields, keys, attributes)
 }
 
-/// Whether a Reduce with such keys, over records with such attributes, may have partial groups made of its groups
+/// Whether a Reduce with these keys, over records with these attributes, may have partial groups made from its groups
 /// before they are shipped.
 pub fn combinable(f: &Valid, keys: &Keys, attributes: Fields) -> bool
     ensures { IsTrue result ↔ IsCombinable f.now.function f.now.fields keys.now (has_field attributes) }

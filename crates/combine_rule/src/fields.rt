@@ -1,4 +1,4 @@
-//! The fields that statements set, and the fields that are left for partial values.
+//! The fields that statements set, and the fields that can carry partial values.
 
 ghost use Rattle.std.specs.Prelude.{◌≡◌, ◌↔◌, ◌<◌, ◌&&◌, not, ℕ, true, IsTrue, length};
 ghost use Rattle.std.specs.List.{AllByRecursion};
@@ -10,11 +10,11 @@ ghost use Rattle.combine_rule.specs.Tests.{has_all, sets_inside};
 use pact_record::{Fields, Keys, MAX_FIELDS};
 use tac_syntax::Stmt;
 
-/// Whether a set has a field, of any number.
+/// Whether a set has a field. The field may be any number.
 fn is_inside(field: u32, set: Fields) -> bool
     ensures { result ≡ has_field set field }
 {
-    // It is told with any field that no set has one of `MAX_FIELDS` or more.
+    // this call shows the prover that no set has a field of `MAX_FIELDS` or more
     let _others = set.has(0);
     field < MAX_FIELDS && set.has(field)
 }
@@ -31,8 +31,8 @@ fn has_all(fields: u32, set: Fields) -> bool
     true
 }
 
-// Whether a statement sets fields of the set alone, and so do those in its blocks. One that takes its field from a
-// register may set each of a program with so many fields.
+// Whether a statement and those in its blocks set only fields of the set. A statement that takes its field from a
+// register may set any of the program's `fields` fields.
 #[cycle(inside)]
 fn sets_inside(stmt: &Stmt, fields: u32, set: Fields) -> bool
     ensures { result ≡ sets_inside fields (has_field set) (only stmt.now) }
@@ -50,7 +50,7 @@ fn sets_inside(stmt: &Stmt, fields: u32, set: Fields) -> bool
     }
 }
 
-/// Whether statements set fields of the set alone, at any depth.
+/// Whether statements set only fields of the set, at any depth.
 #[cycle(inside)]
 pub(crate) fn all_inside(stmts: &[Stmt], fields: u32, set: Fields) -> bool
     ensures { result ≡ sets_inside fields (has_field set) (code_of stmts.now) }
@@ -99,14 +99,14 @@ fn is_among(field: u32, keys: &Keys) -> bool
     false
 }
 
-/// Whether a partial value may travel in a field.
+/// Whether a field can carry a partial value.
 pub(crate) fn is_spare(field: u32, keys: &Keys, set: Fields) -> bool
     ensures { result ≡ (has_field set field && not (is_among keys.now field)) }
 {
     is_inside(field, set) && !is_among(field, keys)
 }
 
-/// How many fields there are in which a partial value may travel.
+/// The number of fields that can carry a partial value.
 pub(crate) fn count_spare(fields: u32, keys: &Keys, set: Fields) -> u32
     ensures { result ≡ length (spare_fields fields keys.now (has_field set)) }
 {

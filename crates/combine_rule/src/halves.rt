@@ -22,7 +22,7 @@ use pact_record::{Fields, Keys, Op2, OutOfMemory, Word};
 use std::alloc::Global;
 use tac_syntax::{Body, Function, LoopList, NotPushed, Rec, Stmt, Valid};
 
-// Puts a statement behind a body.
+// Appends a statement to a body.
 fn put(body: &mut Body, stmt: Stmt) -> Result<(), OutOfMemory>
     requires { nesting (only stmt) ≤ nesting_limit }
     ensures { OnOk result (body.new ≡ joined body.old (only stmt)) }
@@ -34,7 +34,7 @@ fn put(body: &mut Body, stmt: Stmt) -> Result<(), OutOfMemory>
     }
 }
 
-// Puts copies of statements behind a body.
+// Appends copies of statements to a body.
 fn put_copies(alloc: Global, body: &mut Body, stmts: &[Stmt]) -> Result<(), OutOfMemory>
     requires { nesting (code_of stmts.now) ≤ nesting_limit }
     ensures { OnOk result (body.new ≡ joined body.old (code_of stmts.now)) }
@@ -45,7 +45,7 @@ fn put_copies(alloc: Global, body: &mut Body, stmts: &[Stmt]) -> Result<(), OutO
     Ok(())
 }
 
-// Sums start from 0.
+// Appends statements that start each sum from 0.
 fn put_zeros(body: &mut Body, slots: &[Slot]) -> Result<(), OutOfMemory>
     ensures { OnOk result (body.new ≡ joined body.old (zeroing slots.now stop)) }
 {
@@ -63,7 +63,7 @@ fn put_zeros(body: &mut Body, slots: &[Slot]) -> Result<(), OutOfMemory>
     Ok(())
 }
 
-// The key values into the key fields.
+// Appends statements that copy the key values to the key fields.
 fn put_keys(body: &mut Body, register: u32, keys: &Keys) -> Result<(), OutOfMemory>
     ensures { OnOk result (body.new ≡ joined body.old (keying register 0 keys.now stop)) }
 {
@@ -87,7 +87,7 @@ fn put_keys(body: &mut Body, register: u32, keys: &Keys) -> Result<(), OutOfMemo
     Ok(())
 }
 
-// The accumulators into their fields.
+// Appends statements that copy the accumulators to their fields.
 fn put_values(body: &mut Body, slots: &[Slot]) -> Result<(), OutOfMemory>
     ensures { OnOk result (body.new ≡ joined body.old (giving slots.now stop)) }
 {
@@ -114,7 +114,7 @@ fn op_of(by: Accumulation) -> Op2
     }
 }
 
-// The accumulators take up the partial values of a record.
+// A body in which the accumulators absorb the partial values of a record.
 fn gathering(alloc: Global, register: u32, slots: &[Slot]) -> Result<Body, OutOfMemory>
     ensures { IfOk result (λ b. b ≡ gathering register slots.now) }
 {
@@ -201,7 +201,7 @@ fn with_body(alloc: Global, function: &Function, body: Body) -> Result<Function,
     })
 }
 
-// The two functions of a function that is known to be valid.
+// The sender and the merger of a valid function.
 fn halves_of(
     alloc: Global,
     function: &Function,
@@ -213,7 +213,7 @@ fn halves_of(
     requires combinable { IsCombinable function.now fields keys.now (has_field attributes) }
     ensures { IfOk result (λ p. ArePartials function.now fields keys.now (has_field attributes) p.sender p.merger) }
 {
-    // It is told with the depth that it is bounded.
+    // this call shows the prover that the body's depth is bounded
     let _depth = function.body.depth();
     let Some(p) = split(&function.body) else {
         unreachable!()
@@ -230,8 +230,8 @@ fn halves_of(
     })
 }
 
-/// The two functions of a Reduce that may have partial groups made of its groups: what the merger gives for what the
-/// sender gave for the parts of a group is what the function gives for the group.
+/// The sender and the merger of a function for which `combinable` holds. For what the sender emits for the parts of a
+/// group, the merger emits what the function emits for the group.
 pub fn partial(
     alloc: Global,
     f: &Valid,

@@ -1,10 +1,11 @@
 //! Partial groups before shipping: which functions of a Reduce may be split into a sender and a merger, and what the
 //! two do.
 //!
-//! A function whose group is gone through by one loop, which takes sums, least or greatest values, gives the same for a
-//! group as its merger gives for what its sender gave for the parts of the group. `specs/Combinable` says which
-//! functions are so, `specs/Halves` what the two are, and `specs/Splits` what holds of the three.
-//! `specs/CombinedPrograms` has the combined plan.
+//! Some functions have one loop over their group, which computes sums, least or greatest values. For these the sender
+//! can be called for each part of a group, and the merger for the sender's records. The merger then emits what the
+//! function emits for the whole group. `specs/Combinable` says which functions these are. `specs/Halves` defines the
+//! sender and the merger, and `specs/Splits` states the law of the three. `specs/CombinedPrograms` has the combined
+//! plan.
 #![tactic(auto)]
 
 mod accumulators;

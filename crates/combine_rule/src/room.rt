@@ -1,4 +1,4 @@
-//! What is asked of the pieces of a body, of keys, and of numbers.
+//! The tests of the pieces of a body, of keys, and of counts.
 
 ghost use Rattle.std.specs.Prelude.{◌≡◌, ◌↔◌, ◌≤◌, ◌<◌, ◌^◌, IsTrue, length};
 ghost use Rattle.pact_record.specs.FieldSets.{has_field};
@@ -13,10 +13,11 @@ use crate::sizes::size_of;
 use crate::slots::{are_numbers, count_taken, weights};
 use pact_record::{Fields, Keys};
 
-// A function has at most so many statements.
+// The most statements of a function.
 const MAX_STATEMENTS: u32 = 1_000;
 
-/// Whether the pieces emit and set only what they may, and sums start as numbers.
+/// Whether the statements before the loop and those in it emit nothing and set only fields of the set, and sums start
+/// as numbers.
 pub(crate) fn pieces_pass(p: &Pieces<'_>, fields: u32, set: Fields) -> bool
     ensures { IsTrue result ↔ PiecesPass (code_of p.now.front.now) p.now.inner.now fields (has_field set) }
 {
@@ -27,14 +28,14 @@ pub(crate) fn pieces_pass(p: &Pieces<'_>, fields: u32, set: Fields) -> bool
         && are_numbers(p.front, p.inner)
 }
 
-/// Whether the keys are attributes, fields of the program, and no more than the function has.
+/// Whether the keys are attributes and fields of the program, and the function has at least as many key positions.
 pub(crate) fn keys_pass(keys: &Keys, positions: u32, fields: u32, set: Fields) -> bool
     ensures { IsTrue result ↔ KeysPass keys.now positions fields (has_field set) }
 {
     are_inside(keys, set) && are_below(keys, fields) && keys.len() <= positions
 }
 
-// How many statements the sender has for so many keys.
+// The number of statements of the sender for this number of keys.
 fn sender_size(p: &Pieces<'_>, keys: u32) -> u32
     requires front { count_of (code_of p.now.front.now) ≤ statement_limit }
     requires inner { count_of p.now.inner.now ≤ statement_limit }
@@ -44,7 +45,7 @@ fn sender_size(p: &Pieces<'_>, keys: u32) -> u32
     size_of(p.front) + weights(p.inner) + 1 + p.inner.size() + 1 + 2 * keys + 1
 }
 
-// How many statements the merger has.
+// The number of statements of the merger.
 fn merger_size(p: &Pieces<'_>) -> u32
     requires front { count_of (code_of p.now.front.now) ≤ statement_limit }
     requires rest { count_of (code_of p.now.rest.now) ≤ statement_limit }
@@ -53,7 +54,7 @@ fn merger_size(p: &Pieces<'_>) -> u32
     size_of(p.front) + 1 + 2 * count_taken(p.inner) + size_of(p.rest)
 }
 
-/// Whether there is a field for each accumulator, and neither half is too long.
+/// Whether there is a field for each accumulator, and neither the sender nor the merger is too long.
 pub(crate) fn has_room(p: &Pieces<'_>, fields: u32, keys: &Keys, set: Fields) -> bool
     requires front { count_of (code_of p.now.front.now) ≤ statement_limit }
     requires inner { count_of p.now.inner.now ≤ statement_limit }

@@ -1,4 +1,4 @@
-//! The accumulators of a loop, and the fields in which their partial values travel.
+//! The accumulators of a loop, and the fields that carry their partial values.
 
 ghost use Rattle.std.specs.Prelude.{◌≡◌, ◌↔◌, ◌≤◌, false, IsTrue, IfOk, length};
 ghost use Rattle.std.specs.List.{AllByRecursion};
@@ -17,7 +17,7 @@ use pact_record::{Fields, Keys, OutOfMemory};
 use std::alloc::Global;
 use tac_syntax::{Body, Stmt, VALUE_REGISTERS};
 
-/// An accumulator's register, its operation, and the field in which its partial value travels.
+/// An accumulator's register, its operation, and the field that carries its partial value.
 #[derive(Clone, Copy)]
 pub struct Slot {
     pub register: u32,
@@ -64,8 +64,8 @@ pub(crate) fn weights(inner: &Body) -> u32
     n
 }
 
-// Each number in code has 64 bits. What a statement holds behind a reference isn't told to have them, what a call is
-// given is.
+// Always true, since each number in code has 64 bits. This is a call because the prover knows an argument's range, but
+// not that of a number read through a reference.
 fn is_number(value: i64) -> bool
     ensures { result ≡ specs.is_i64 value }
 {
@@ -73,7 +73,7 @@ fn is_number(value: i64) -> bool
     true
 }
 
-// Whether a statement leaves a value register a number, where it is one before or isn't.
+// Whether a statement leaves a value register a number. `so` says whether it is one before the statement.
 fn number_after(stmt: &Stmt, register: u32, so: bool) -> bool
     ensures { result ≡ specs.is_number_behind (only stmt.now) register so }
 {
@@ -93,7 +93,7 @@ fn number_after(stmt: &Stmt, register: u32, so: bool) -> bool
     }
 }
 
-// Whether the last assignment of a value register in these statements is of a number, outside every block.
+// Whether the last assignment of a value register in these statements is a number, outside every block.
 fn is_number_behind(stmts: &[Stmt], register: u32) -> bool
     ensures { result ≡ specs.is_number_behind (code_of stmts.now) register false }
 {
@@ -150,7 +150,7 @@ fn taken(alloc: Global, inner: &Body) -> Result<Vec<u32>, OutOfMemory>
     Ok(found)
 }
 
-// The fields in which partial values may travel.
+// The fields that can carry partial values.
 fn spare(alloc: Global, fields: u32, keys: &Keys, set: Fields) -> Result<Vec<u32>, OutOfMemory>
     ensures { IfOk result (λ v. v.items ≡ spare_fields fields keys.now (has_field set)) }
 {
@@ -163,7 +163,7 @@ fn spare(alloc: Global, fields: u32, keys: &Keys, set: Fields) -> Result<Vec<u32
     Ok(found)
 }
 
-/// The accumulators of a loop's body, each with the field in which its partial value travels.
+/// The accumulators of a loop's body, each with the field that carries its partial value.
 pub(crate) fn slots(
     alloc: Global,
     inner: &Body,

@@ -1,4 +1,4 @@
--- A cost is the sum of all its parts, stopped once: the order of the sums is of no account.
+-- A cost is the sum of all its parts, capped once: the order of the additions doesn't matter.
 use Rattle.std.proofs.Common.{◌≡◌, ◌+◌, ◌*◌, ℕ, List, refl, ◌∙◌, arith}
 use Rattle.std.proofs.lemmas.Grind.{common_steps}
 use Rattle.plan_trees.specs.declared.physicals.Ship.{Ship}

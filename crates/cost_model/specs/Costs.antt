@@ -7,17 +7,18 @@ use Rattle.plan_trees.specs.Plans.{PlanTree, leaf, over, both}
 use Rattle.pact_operators.specs.Programs.{ProgramData}
 use Rattle.cost_model.specs.Estimates.{estimate, plus, times}
 
--- of shipping so many records along an edge: one that stays costs nothing, and one that goes to every worker goes to each
+-- the cost of shipping `n` records along an edge: a record that stays costs 0, one that goes to one worker 1, and one
+-- that goes to every worker 1 for each worker
 abbrev pub ship_cost : ℕ → Ship → ℕ → ℕ
 ship_cost workers Forward n = 0
 ship_cost workers (Partition keys) n = n
 ship_cost workers Broadcast n = times workers n
 
--- of an edge: its operator takes the records, and they are shipped
+-- the cost of an edge: its operator takes the records, and they are shipped
 abbrev pub edge_cost : ℕ → Ship → ℕ → ℕ
 edge_cost workers ship n = plus n (ship_cost workers ship n)
 
--- of the operators of a tree
+-- the cost of the operators of a tree
 abbrev pub spent : ProgramData → List ℕ → PhysicalData → PlanTree → ℕ
 spent p counts physical (leaf n) = 0
 spent p counts physical (over n t) = plus (edge_cost physical.workers (ship_of physical t) (estimate p counts t)) (spent p counts physical t)
@@ -28,7 +29,7 @@ spent p counts physical (both n t u) =
 abbrev pub cost : ProgramData → List ℕ → PhysicalData → ℕ
 cost p counts physical = spent p counts physical physical.tree
 
--- ---- the same without a greatest number
+-- ---- costs without a greatest number
 
 abbrev pub whole_ship_cost : ℕ → Ship → ℕ → ℕ
 whole_ship_cost workers Forward n = 0

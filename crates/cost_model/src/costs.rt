@@ -14,14 +14,15 @@ use pact_bag::Counts;
 use pact_operators::{Parts, Physical, Plan, Program, Ship};
 use plan_trees::{parts_within, ship_below};
 
-// What a tree's root is expected to give, and what its operators are expected to cost.
+// How many records a tree's root is expected to emit, and what the operators of the tree are expected to cost.
 #[derive(Clone, Copy)]
 struct Spent {
     estimate: u64,
     cost: u64,
 }
 
-/// What an edge of so many records costs: its operator takes them, and they are shipped. A record that stays costs nothing more.
+/// The cost of an edge with `n` records: its operator takes them, and they are shipped. A record that stays has no
+/// further cost.
 pub fn edge_cost(workers: u32, ship: &Ship, n: u64) -> u64
     ensures { result ≡ costs.edge_cost workers ship.now n }
 {
@@ -32,7 +33,7 @@ pub fn edge_cost(workers: u32, ship: &Ship, n: u64) -> u64
     }
 }
 
-// Of the edge that an input's root leaves, where it is expected to give so many records.
+// The cost of the edge that an input's root leaves, if it is expected to emit `n` records.
 fn input_cost(physical: &Physical, input: &Plan, n: u64) -> u64
     requires has { has (root_of input.now) physical.now.tree ≡ true }
     requires edge { root_of input.now ≢ root_of physical.now.tree }

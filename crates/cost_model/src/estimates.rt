@@ -1,4 +1,4 @@
-//! How many records a source or an operator is expected to give.
+//! How many records a source or an operator is expected to emit.
 
 ghost use Rattle.std.specs.Prelude.{◌≡◌, true, get_or};
 ghost use Rattle.tac_syntax.specs.EmitBounds.{least_emits, most_emits};
@@ -11,21 +11,21 @@ use pact_bag::Counts;
 use pact_operators::{OpKind, Parts, Plan, Program};
 use tac_syntax::Valid;
 
-/// The sum, which stops at the greatest number of 64 bits.
+/// The sum, capped at the greatest number of 64 bits.
 pub fn plus(a: u64, b: u64) -> u64
     ensures { result ≡ estimates.plus a b }
 {
     a.saturating_add(b)
 }
 
-/// The product, which stops there too.
+/// The product, capped at the same number.
 pub(crate) fn times(a: u64, b: u64) -> u64
     ensures { result ≡ estimates.times a b }
 {
     a.saturating_mul(b)
 }
 
-// Of a Map each of whose calls emits at least and at most so many records.
+// The estimate for a Map whose calls each emit at least `least` and at most `most` records.
 fn of_map(least: u32, most: u32, n: u64) -> u64
     ensures { result ≡ estimates.of_map least most n }
 {
@@ -41,7 +41,7 @@ fn of_map(least: u32, most: u32, n: u64) -> u64
     times(n, most.min(4) as u64)
 }
 
-// How many records a call of the function of this number emits, at least and at most.
+// How many records a call of the function with this number emits, at least and at most.
 fn called_bounds(functions: &[Valid], number: u32) -> (u32, u32)
     ensures least { result.0 ≡ least_emits (body_of functions.now number) }
     ensures most { result.1 ≡ most_emits (body_of functions.now number) }
@@ -52,7 +52,7 @@ fn called_bounds(functions: &[Valid], number: u32) -> (u32, u32)
     }
 }
 
-// Of an operator of one input.
+// The estimate for an operator of one input.
 fn estimate_over(kind: OpKind, functions: &[Valid], function: u32, n: u64) -> u64
     ensures { result ≡ estimates.estimate_over kind (least_emits (body_of functions.now function)) (most_emits (body_of functions.now function)) n }
 {
@@ -66,7 +66,7 @@ fn estimate_over(kind: OpKind, functions: &[Valid], function: u32, n: u64) -> u6
     }
 }
 
-// Of an operator of two inputs.
+// The estimate for an operator of two inputs.
 fn estimate_both(kind: OpKind, m: u64, n: u64) -> u64
     ensures { result ≡ estimates.estimate_both kind m n }
 {
@@ -78,7 +78,7 @@ fn estimate_both(kind: OpKind, m: u64, n: u64) -> u64
     }
 }
 
-/// How many records the operator of one input is expected to give for an input of so many.
+/// How many records the operator of one input is expected to emit for an input of `n`.
 pub fn estimate_above_one(program: &Program, at: u32, n: u64) -> u64
     ensures { result ≡ estimates.estimate_over (kind_at program.now.ops at) (least_emits (body_at program.now at)) (most_emits (body_at program.now at)) n }
 {
@@ -88,7 +88,7 @@ pub fn estimate_above_one(program: &Program, at: u32, n: u64) -> u64
     }
 }
 
-/// The same of an operator of two inputs.
+/// How many records the operator of two inputs is expected to emit for inputs of `m` and `n`.
 pub fn estimate_above_two(program: &Program, at: u32, m: u64, n: u64) -> u64
     ensures { result ≡ estimates.estimate_both (kind_at program.now.ops at) m n }
 {
@@ -98,7 +98,7 @@ pub fn estimate_above_two(program: &Program, at: u32, m: u64, n: u64) -> u64
     }
 }
 
-/// How many rows the source has. One without a count has none.
+/// How many rows the source has; 0 if it has no count.
 pub fn rows_at(counts: &Counts, at: u32) -> u64
     ensures { result ≡ get_or counts.now at 0 }
 {
@@ -109,7 +109,7 @@ pub fn rows_at(counts: &Counts, at: u32) -> u64
     }
 }
 
-/// How many records the root of the tree is expected to give.
+/// How many records the root of the tree is expected to emit.
 pub fn estimate_of(program: &Program, counts: &Counts, tree: &Plan) -> u64
     ensures { result ≡ estimates.estimate program.now counts.now tree.now }
 {
@@ -126,7 +126,7 @@ pub fn estimate_of(program: &Program, counts: &Counts, tree: &Plan) -> u64
     }
 }
 
-/// How many records the source or operator of this number is expected to give in the plan.
+/// How many records the source or operator with this number is expected to emit in the plan.
 pub fn estimate(program: &Program, plan: &Plan, counts: &Counts, at: u32) -> u64
     requires { has at plan.now ≡ true }
     ensures { result ≡ estimates.estimate program.now counts.now (subtree_of at plan.now) }

@@ -100,7 +100,7 @@ by_reads s fields field (c ∷ rest) = by (is_end (step default_config s c).1) _
     by true all more h = refl
     by false all more h = h
 
--- csv's definition with enough turns gives these records
+-- csv's definition with enough turns yields these records
 pub as_records : (n : ℕ) (s : State) (xs : List ℕ) → ends_at_end s ≡ false → length xs < n → records_from default_config n s xs ≡ all_from s [] [] xs
 unfolding records_from next_record
 as_records zero s xs b l = absurd (omega arith)

@@ -1,4 +1,4 @@
--- After a line feed that isn't quoted, the records begin anew.
+-- After an unquoted line feed, records are read as at the beginning of a text.
 use Rattle.std.proofs.Common.{◌≡◌, ◌+◌, ◌++◌, ◌==◌, Bool, ℕ, List, [], ◌∷◌, length, true, false, true≢false, refl, sym, subst, ◌∙◌, ap, ap₂, arith}
 use Rattle.std.specs.Prelude.{◌||◌, if◌then◌else◌, ⊤}
 use Rattle.std.proofs.lemmas.Bool.{eqb-true}

@@ -1,4 +1,4 @@
--- What a text comes to that was cut in two.
+-- The result for a text that was cut in two.
 use Rattle.std.proofs.Common.{◌≡◌, ◌+◌, ◌++◌, inl, inr, ℕ, List, length, take, drop, subst, sym, arith}
 use Rattle.std.specs.List.{AllByRecursion}
 use Rattle.std.specs.Prelude.{Result, Ok, Err, IfOk, IfErr}
@@ -46,7 +46,7 @@ rest_refused fields columns text at rows (bads.At row column why) bad cut h f (i
 rest_refused fields columns text at rows (bads.At row column why) bad cut h f (inr e) = subst (RowsRefused fields columns (records_of text)) (sym e) tt
 rest_refused fields columns text at rows bads.Memory bad cut h f e = subst (RowsRefused fields columns (records_of text)) (sym e) tt
 
--- what the whole text comes to, from the rows of its prefix and what the rest came to
+-- the result for the whole text, from the rows of its prefix and the result for the rest
 pub joined_answer : (fields : ℕ) (columns : List Column) (text : List ℕ) (at : ℕ) (rows : List (List Value)) (rest result : Result (List (List Value)) BadRow) → IsCut text at
     → CsvRows fields columns (take at text) rows → IfOk rest (CsvRows fields columns (drop at text)) → IfErr rest (SourceRefused fields columns (drop at text)) → IsJoined rows rest result
     → IfOk result (CsvRows fields columns text) × IfErr result (SourceRefused fields columns text)

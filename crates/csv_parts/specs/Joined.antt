@@ -1,4 +1,4 @@
--- What a text that was cut in two comes to, from what its two parts came to.
+-- The result for a text that was cut in two, from the results for its two parts.
 use Rattle.std.specs.Prelude.{◌≡◌, ◌⊎◌, ◌+◌, ◌++◌, ℕ, List, length, Result, Ok, Err}
 use Rattle.pact_record.specs.declared.values.Value.{Value}
 use Rattle.csv_source.specs.declared.reading.BadRow.{BadRow}

@@ -16,8 +16,8 @@ use pact_record::{Bytes, OutOfMemory, Record, Value};
 use std::alloc::Global;
 use std::io::Write;
 
-/// The CSV text of rows, one after the other, in their order. A field is empty where the value is Null, or a text
-/// without bytes. Want of memory is the only error.
+/// The CSV text of rows, one after the other, in their order. A field is empty if its value is Null or a text without
+/// bytes. Out of memory is the only error.
 pub fn write_rows(alloc: Global, rows: &Rows) -> Result<Bytes, OutOfMemory>
     ensures { IfOk result (λ text. text ≡ csv_text rows.now) }
 {
@@ -43,13 +43,13 @@ pub fn write_fields(alloc: Global, rows: &[Record], fields: &[u32]) -> Result<By
     Ok(Bytes::from_vec(text))
 }
 
-// Rows have one width, so that a writer to memory has no other reason than want of memory.
+// All rows have one width, so out of memory is the only reason for which a writer to memory fails.
 fn write_row<W: Write + Drop>(writer: &mut Writer<W>, row: &Record) -> Result<(), OutOfMemory>
     requires { IsBetweenRows writer.old }
     ensures text { OnOk result (Appends (text_written W.contents writer.old) (text_written W.contents writer.new) (row_text default_writer (map value_text row.now))) }
     ensures between { OnOk result (IsBetweenRows writer.new) }
 {
-    // a record has few fields
+    // `len` makes it known that a record has at most `MAX_FIELDS` values
     let _few = row.len();
     for value in row.values() {
         write_value(writer, value)?;
@@ -60,7 +60,7 @@ fn write_row<W: Write + Drop>(writer: &mut Writer<W>, row: &Record) -> Result<()
     Ok(())
 }
 
-// The listed fields alone.
+// Writes only the listed fields.
 fn write_row_fields<W: Write + Drop>(
     writer: &mut Writer<W>,
     row: &Record,
@@ -93,7 +93,7 @@ fn write_value<W: Write + Drop>(writer: &mut Writer<W>, value: &Value) -> Result
     Ok(())
 }
 
-// The text of a value, that of a number in the buffer.
+// The text of a value; that of a number is written into the buffer.
 fn text_of<'a>(value: &'a Value, digits: &'a mut Buffer) -> &'a [u8]
     ensures { result.now ≡ value_text value.now }
 {

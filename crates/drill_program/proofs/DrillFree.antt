@@ -15,7 +15,7 @@ loop_body = plain (get_field 1 (Loop 1) 1) (plain (apply_two 0 AddW 0 1) stop)
 abbrev behind_loop : Code
 behind_loop = plain (new_record 0) (plain (get_key 2 0) (plain (set_field 0 0 2) (plain (set_field 0 3 0) (plain (emit_record 0) stop))))
 
--- the first value register is the sum, and the second one is set anew for each record
+-- the first value register is the sum, and the second one is set again for each record
 loop_free : (behind : RegisterSet) → behind (value_at 1) ≡ false → IsLoopFree loop_body behind
 loop_free behind e (value_at zero) h = refl
 loop_free behind e (value_at (suc zero)) h = ap not e

@@ -1,4 +1,4 @@
--- The functions of a drill are valid, its draft keeps every rule, and its program is what the draft declares.
+-- The functions of a drill are valid, its draft follows every rule, and its program is what the draft declares.
 use Rattle.std.proofs.Common.{◌≡◌, ◌<◌, ◌⊎◌, inl, inr, ℕ, zero, suc, true, false, [], length, refl, subst, arith}
 use Rattle.std.proofs.lemmas.Bool.{both_ways}
 use Rattle.tac_syntax.specs.declared.declarations.Decl.{Decl}
@@ -67,7 +67,7 @@ is_program = record { version = refl; fields = refl; functions = refl; ops = ref
 not_true : false ≡ true → ⊥
 not_true = both_ways false refl
 
--- the two rules on attributes speak of the plan as written, of which there is only one
+-- the two rules on attributes are about the plan as written, of which there is only one
 no_attribute_lacks : (decl : Decl) → (LacksAttribute drill_draft drill_functions drill_plan decl → ⊥) → Breaks NoAttribute drill_draft drill_functions [] decl → ⊥
 no_attribute_lacks decl none b = none (subst (λ (t : PlanTree). LacksAttribute drill_draft drill_functions t decl) (same_plan drill_draft b.0 drill_plan b.1 is_written) b.2)
 

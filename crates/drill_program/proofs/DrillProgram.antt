@@ -1,4 +1,4 @@
--- Some text spells the draft of a drill, and its program keeps what every program does.
+-- Some text spells the draft of a drill, and what holds for every program holds for its program.
 use Rattle.std.proofs.Common.{◌≤◌, ℕ, pos, FitsSigned, w64, inl, rules, refl, arith}
 use Rattle.tac_syntax.specs.Drafts.{IsSpelledDraft}
 use Rattle.tac_syntax.specs.Grammar.{IsSpelled}

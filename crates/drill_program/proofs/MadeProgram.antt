@@ -1,4 +1,4 @@
--- What the calls that make the program of a drill are handed, and what they come to.
+-- The arguments of the calls that make the program of a drill, and their results.
 use Rattle.std.proofs.Common.{◌≡◌, ◌∙◌, ℕ, List, map, ap, sym, subst, arith}
 use Rattle.tac_syntax.specs.declared.functions.Function.{Function}
 use Rattle.tac_syntax.specs.Drafts.{DraftData}

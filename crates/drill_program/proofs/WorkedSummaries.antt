@@ -3,7 +3,7 @@ use Rattle.std.proofs.Common.{◌≡◌, [], codes, refl}
 use Rattle.std.specs.Fmt.{digits}
 use Rattle.drill_program.specs.Summary.{check_of, summary_text}
 
--- the row of seed 0 alone
+-- the row of seed 0 only
 first_check : check_of (codes "1,-752\n") ≡ 44790612456
 unfolding check_of
 first_check = refl

@@ -1,4 +1,4 @@
--- The program that a drill runs: for each first field below 500, the sum of the second ones.
+-- The program that a drill runs: for each first field below 500, the sum of the second fields.
 use Rattle.std.specs.Prelude.{ℕ, pos, true, false, List, [], ◌∷◌, codes}
 use Rattle.pact_record.specs.declared.columns.Column.{Column}
 use Rattle.pact_record.specs.declared.operations.Op2.TheVariants.{AddW, Lt}
@@ -70,7 +70,7 @@ drill_draft = record {
 
 -- ---- the program
 
--- a function of a program with so many fields
+-- a function of a program with this number of fields
 abbrev pub with_fields : ℕ → Function → WithFields
 with_fields fields f = record { function = f; fields = fields }
 

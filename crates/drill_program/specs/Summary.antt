@@ -1,4 +1,4 @@
--- What a drill writes of its run.
+-- What a drill writes about its run.
 use Rattle.std.specs.Prelude.{◌++◌, ◌+◌, ◌*◌, ◌%◌, ◌^◌, ℕ, List, codes, decimal, fold}
 
 -- A check of bytes in 64 bits, from the first byte on. It stays closed, so that no check multiplies numerals.

@@ -1,7 +1,7 @@
-//! The program that a drill runs over generated rows, and what it tells of the run.
+//! The program that a drill runs over generated rows, and the summary of the run.
 //!
-//! The program is made of its text, which is a constant. That the text is read, and that no rule is
-//! broken, is proved, so that want of memory is the only error.
+//! The program is made from its text, which is a constant. It is proved that the text can be read and that it breaks no
+//! rule, so out of memory is the only error.
 #![tactic(auto)]
 
 mod programs;

@@ -1,4 +1,4 @@
-//! The program of a drill, made of its text.
+//! The program of a drill, made from its text.
 
 ghost use Rattle.std.specs.Prelude.{◌≡◌, Err, IfOk, map};
 ghost use Rattle.std.specs.List.{AllByRecursion};
@@ -45,7 +45,7 @@ map m low r
 sink m 0 3
 ";
 
-// The text has no fault.
+// The only error is out of memory, since the text has no fault.
 fn not_read(fault: TextFault) -> OutOfMemory
     requires { GivesDraft (Err fault) drill_draft }
 {
@@ -76,7 +76,7 @@ fn seal_all(alloc: Global, functions: &[Function], fields: u32) -> Result<ValidL
     Ok(valids)
 }
 
-// No rule is broken.
+// The only error is out of memory, since no rule is broken.
 fn not_made(not: NotProgram) -> OutOfMemory
     requires { not ≡ Memory }
 {
@@ -86,7 +86,7 @@ fn not_made(not: NotProgram) -> OutOfMemory
     }
 }
 
-/// The program of a drill. Want of memory is the only error.
+/// The program of a drill. Out of memory is the only error.
 pub fn drill_program(alloc: Global) -> Result<Program, OutOfMemory>
     ensures { IfOk result (λ program. program ≡ specs.drill_program) }
 {

@@ -1,4 +1,4 @@
-//! What a drill tells of its run.
+//! The summary of a drill's run.
 
 ghost use Rattle.std.specs.Prelude.{◌≡◌, ◌++◌, IfOk, OnOk};
 ghost use Rattle.drill_program.specs.Summary as specs;
@@ -27,8 +27,8 @@ fn push_line(text: &mut Bytes, word: &[u8], number: u64) -> Result<(), OutOfMemo
     text.extend_from_slice(b"\n")
 }
 
-/// How many rows went in, how many came out, and a check of the bytes that they are written as. Want
-/// of memory is the only error.
+/// How many rows went in, how many came out, and a check of the bytes that they are written as. Out of memory is the
+/// only error.
 pub fn summary_text(alloc: Global, rows: u64, out: u64, lines: &[u8]) -> Result<Bytes, OutOfMemory>
     ensures { IfOk result (λ text. text ≡ specs.summary_text rows out lines.now) }
 {

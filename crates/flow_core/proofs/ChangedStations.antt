@@ -15,7 +15,7 @@ use Rattle.flow_core.proofs.StationsAtPlaces.{IsFoundAt, IsSet}
 abbrev pub world_of : List (List StationData) → World
 world_of stations = record { instance = λ at worker. instance_in stations at worker; queue = λ edge from to. queue_in stations edge from to }
 
--- the pipe isn't one of those where all is the same
+-- another pipe of the same sender is unchanged
 other_to : (old new : List (List StationData)) (p : PipeId) (list : List Note) (s : StationData) → IsSet old new p.edge p.from s → s.queues ≡ set (station_in old p.edge p.from).queues p.to list
     → (edge from to : ℕ) → is_pipe p edge from to ≡ false → edge ≡ p.edge → from ≡ p.from → queue_in new edge from to ≡ queue_in old edge from to
 other_to old new p list s i is edge from to other e f = elim (cases_eq to p.to) as (λ _. queue_in new edge from to ≡ queue_in old edge from to) [
@@ -49,7 +49,7 @@ puts_at old new p s i is less = record {
   queue = list_changed old new p (queue_in old p.edge p.from p.to ++ next_note (instance_in old p.edge p.from).waiting ∷ []) s i (ap (λ (x : StationData). x.queues) is) less;
 }
 
--- all instances are the same, where the one at the place is
+-- if the instance at the place is unchanged, all instances are
 pub same_instances : (old new : List (List StationData)) (at worker : ℕ) (s : StationData) → IsSet old new at worker s → s.instance ≡ instance_in old at worker → (a b : ℕ) → instance_in new a b ≡ instance_in old a b
 same_instances old new at worker s i is a b = elim (cases_eq a at) as (λ _. instance_in new a b ≡ instance_in old a b) [
   | inr e ↦ ap (λ (x : StationData). x.instance) (i.others a b (inl e))
@@ -59,7 +59,7 @@ same_instances old new at worker s i is a b = elim (cases_eq a at) as (λ _. ins
   ]
 ]
 
--- and so are all pipes
+-- if the pipes at the place are unchanged, all pipes are
 pub same_queues : (old new : List (List StationData)) (at worker : ℕ) (s : StationData) → IsSet old new at worker s → s.queues ≡ (station_in old at worker).queues → (a b to : ℕ) → queue_in new a b to ≡ queue_in old a b to
 same_queues old new at worker s i is a b to = elim (cases_eq a at) as (λ _. queue_in new a b to ≡ queue_in old a b to) [
   | inr e ↦ ap (λ (x : StationData). get_or x.queues to []) (i.others a b (inl e))

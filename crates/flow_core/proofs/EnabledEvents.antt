@@ -1,4 +1,4 @@
--- What an enabled event tells of the instance that does it.
+-- What follows for an instance from an enabled event that it does.
 use Rattle.std.proofs.Common.{◌∷◌, [], ◌≡◌, ◌<◌, ◌&&◌, ℕ, true, false, Option, None, Some, List, length, slice_get, nat_lt, refl, subst, sym, ◌∙◌}
 use Rattle.std.proofs.lemmas.Bool.{and_parts, ltb-true}
 use Rattle.plan_trees.specs.Plans.{has, subtree_of}

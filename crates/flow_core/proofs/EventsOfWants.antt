@@ -60,7 +60,7 @@ port_says p (both n t u) zero q e = ap (λ (o : Option Port). edge_in o) e
 port_says p (both n t u) (suc zero) q e = ap (λ (o : Option Port). edge_in o) e
 port_says p (both n t u) (suc (suc port)) q e = absurd (let none : None ≡ Some q = e in cc)
 
--- a setting in which nothing is done, for what is said of plans alone
+-- a setting in which nothing is done, for statements about plans only
 pub blank : PhysicalData → Setting
 blank p = record {
   ops = record { nulls = false; kind = λ n. Source; rows = λ n. []; of_record = λ n row. []; of_pair = λ n l r. []; of_group = λ n key g. []; of_groups = λ n key l r. []; left_keys = λ n. []; right_keys = λ n. [] };
@@ -83,7 +83,7 @@ input_reads p at port e k i = elim (cases_Bool (has at p.tree)) as (λ _. reader
   | inr absent ↦ absurd (none-some e (sym (rw absent refl) ∙ i))
 ]
 
--- an answer that is None only where a test failed
+-- an answer that is None only if a test failed
 pub none_if : {X P : Type 0} (b : Bool) (x : X) (o : Option X) → o ≡ (if b then Some x else None) → (b ≡ false → P) → IfNone o P
 none_if {X} {P} true x o e h = subst (λ (y : Option X). IfNone y P) (sym e) tt
 none_if {X} {P} false x o e h = subst (λ (y : Option X). IfNone y P) (sym e) (h refl)
@@ -96,7 +96,7 @@ some_if {X} f x o e = by_test (f x) refl e
     by_test true on is = subst (λ (p : Option X). IfSome p (λ y. f y ≡ true)) (sym is) on
     by_test false off is = subst (λ (p : Option X). IfSome p (λ y. f y ≡ true)) (sym is) tt
 
--- ---- what enabled events tell
+-- ---- consequences of enabled events
 
 module _ (p : PhysicalData) (depth : ℕ) (w : World) where
   pub told_put : (q : PipeId) → enabled p depth w (events.Put q) ≡ true → want (w.instance q.edge q.from) ≡ Put q.to
@@ -144,7 +144,7 @@ module _ (p : PhysicalData) (depth : ℕ) (w : World) where
       let place = and_parts (has at p.tree) (nat_lt worker p.workers) (and_parts (has at p.tree && nat_lt worker p.workers) _ on).0 in
       (place.0, ltb-true worker p.workers place.1)
 
-  -- what an instance wants that does an enabled event
+  -- an instance that does an enabled event wants it
   abbrev Wanted : (at worker : ℕ) → Event → Want → Type 0
   Wanted at worker (events.Put q) x = (x ≡ Put q.to) × (q.edge ≡ at) × (q.from ≡ worker)
   Wanted at worker (events.Take q) x = (port : ℕ) × (reader_of q.edge p.tree ≡ Some (at, port)) × (q.to ≡ worker) × (x ≡ Take port)
@@ -200,7 +200,7 @@ module _ (p : PhysicalData) (depth : ℕ) (w : World) where
       → ((q : PipeId) → q.to ≡ worker → reader_of q.edge p.tree ≡ Some (at, port) → enabled p depth w (events.Take q) ≡ true → ⊥) → IsIdle p depth w at worker
   idle_take at worker port wanted h = idle_if at worker (λ e x on. no_take at worker port h e (subst (Wanted at worker e) wanted x) on)
 
-  -- at a port that nothing comes in at, or where no note waits
+  -- at a port with no input, or without a waiting note
   pub idle_unread : IsPhysical p → (at worker port : ℕ) → want (w.instance at worker) ≡ Take port → input_in p.tree at port ≡ None → IsIdle p depth w at worker
   idle_unread k at worker port wanted none = idle_take at worker port wanted (λ q to r on. none-some q.edge (sym none ∙ reads_input p q.edge at port k r))
 
@@ -212,7 +212,7 @@ module _ (p : PhysicalData) (depth : ℕ) (w : World) where
       let none : length (w.queue q.edge q.from q.to) ≡ 0 = (λ i. length (w.queue (same i) q.from (to i))) ∙ empty q.from t.from in
       omega (arith, t.some, none))
 
-  -- a note waits, and can't be taken all the same
+  -- a note waits, and still can't be taken
   pub idle_beside : (at worker port edge from : ℕ) → want (w.instance at worker) ≡ Take port → reader_of edge p.tree ≡ Some (at, port) → from < p.workers → 0 < length (w.queue edge from worker)
       → enabled p depth w (events.Take (record { edge = edge; from = from; to = worker })) ≡ false → IsIdle p depth w at worker
   idle_beside at worker port edge from wanted reads below some off = idle_take at worker port wanted (λ q to r on.

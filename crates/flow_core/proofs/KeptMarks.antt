@@ -1,4 +1,4 @@
--- Each instance stands on the stack as often as it is marked.
+-- Each instance is on the stack as often as it is marked.
 use Rattle.std.proofs.Common.{◌≡◌, ◌≢◌, ◌<◌, ◌≤◌, ◌+◌, ◌++◌, ◌∷◌, ◌⊎◌, [], inl, inr, ℕ, zero, suc, Bool, true, false, cond, List, get_or, length, replicate, rules, set, refl, ap, subst, sym, ◌∙◌, arith}
 use Rattle.std.proofs.lemmas.Bool.{cases_eq, cases_lt, eq-eqb, ne_eqb}
 use Rattle.std.proofs.lemmas.List.{get_or-set_other, get_or-set_same, get_or_past}
@@ -10,7 +10,7 @@ use Rattle.flow_core.specs.Listed.{IsKept, is_marked, times, with_mark}
 abbrev marked : List (List Bool) → (at worker : ℕ) → Bool
 marked marks at worker = get_or (get_or marks at []) worker false
 
--- what stands in a list, and isn't the default, stands within
+-- an index whose item isn't the default is within the list
 within : {X : Type 0} (xs : List X) (i : ℕ) (d : X) → (get_or xs i d ≡ d → ⊥) → i < length xs
 within xs i d h = elim (cases_lt i (length xs)) as (λ _. i < length xs) [
   | inl less ↦ less
@@ -21,7 +21,7 @@ record HasMark (marks : List (List Bool)) (at worker : ℕ) : Type 0 where
   number : at < length marks
   place : worker < length (get_or marks at [])
 
--- what stands for a list that isn't there
+-- a mark that isn't the default is within the lists
 none_there : (marks : List (List Bool)) (at worker : ℕ) (d : Bool) → (get_or (get_or marks at []) worker d ≡ d → ⊥) → HasMark marks at worker
 none_there marks at worker d h = record {
   number = within marks at [] (λ e. h (ap (λ (row : List Bool). get_or row worker d) e));

@@ -15,7 +15,8 @@ length_cond : (b : Bool) (row : List Value) (rows : Bag) → length (cond b (row
 length_cond true row rows = omega arith
 length_cond false row rows = omega arith
 
--- From a row whose turn is that of one worker on, another worker gets one row more at most than the first one, and no more where its turn is over.
+-- The rows from one on, which is at some worker's turn. Another worker gets at most one of them more than the first
+-- one, and no more if its turn is over.
 record IsBehind (worker turn count most : ℕ) : Type 0 where
   near : count ≤ most + 1
   over : (turn ≡ 0) ⊎ (worker < turn) → count ≤ most

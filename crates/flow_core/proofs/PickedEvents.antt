@@ -119,7 +119,7 @@ module _ (p : PhysicalData) (depth : ℕ) (w : World) where
   pub picked_on : (pick : ℕ) (e : Event) → Some e ≡ picked_from (enabled_events p depth w) pick → On e
   picked_on pick e is = AllByRecursion-slice_get On (enabled_events p depth w) (pick % length (enabled_events p depth w)) e all_on (sym is)
 
-  -- and where nothing is, nothing can happen
+  -- and if nothing is picked, no event can happen
   pub stuck_if_none : IsPhysical p → (pick : ℕ) → picked_from (enabled_events p depth w) pick ≡ None → IsStuck p depth w
   stuck_if_none k pick none e = false_from_ne_true (enabled p depth w e) (λ (on : enabled p depth w e ≡ true). in_none (enabled_events p depth w) none (each_in k e on))
     where
@@ -155,7 +155,7 @@ led_more w u v l r = record { count = l.count + 1; reached = reached_more w u v 
 pub led_same : (w u v : WorldData) → IsLed w u → v ≡ u → IsLed w v
 led_same w u v l e = subst (IsLed w) (sym e) l
 
--- what is left is what came of the world before the picked events
+-- the outcome of the world after the picked events is one of the world before them
 pub led_spread : (w v : WorldData) (rows : Bag) (counts : List ℕ) → IsLed w v → ((g : Setting) (h : History) → IsStanding g v h → Spread g rows counts) → (g : Setting) (h : History) → IsStanding g w h → Spread g rows counts
 led_spread w v rows counts l f g h s = let m = l.reached.each g h s in f g m.0 m.1
 

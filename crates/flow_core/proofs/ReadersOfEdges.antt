@@ -20,7 +20,7 @@ read_at_left tree e at left right is here =
     let rest = if (e == root_of right) then Some (at, 1) else first_of (reader_of e left) (reader_of e right) in
     sym (ap (reader_of e) (is_both tree left right at (sym is)) ∙ ap (λ (b : Bool). if b then Some (at, 0) else rest) (eq-eqb e (root_of left) here))
 
--- not at the left one
+-- the edge isn't the left input
 past_left : (tree : PlanTree) (e at : ℕ) (left right : PlanTree) → parts_of tree ≡ OverTwo at left right → (e ≡ root_of left → ⊥)
     → reader_of e tree ≡ (if (e == root_of right) then Some (at, 1) else first_of (reader_of e left) (reader_of e right))
 past_left tree e at left right is other =

@@ -24,7 +24,7 @@ use Rattle.flow_core.specs.Replays.{IsReached}
 use Rattle.flow_core.specs.Worlds.{IsStanding, StandsForSome, WorldData, seen}
 use Rattle.flow_core.proofs.FinishedWorlds.{done_if_stuck, length-stations}
 
--- where nothing can happen, every instance is done
+-- if no event can happen, every instance is done
 pub ended_here : (w : WorldData) → StandsForSome w → IsStuck w.physical w.depth (seen w) → IsEnded w w
 ended_here w some stuck = record {
   each = λ g h s. (h, s, done_if_stuck g w h some.is_physical some.some_depth s stuck);
@@ -32,7 +32,7 @@ ended_here w some stuck = record {
   stands = some;
 }
 
--- what is left is what came of the world before the run
+-- the outcome of the world after the run is one of the world before it
 pub ended_spread : (w v : WorldData) (rows : Bag) (counts : List ℕ) → IsEnded w v → IsOutcome v rows counts → (g : Setting) (h : History) → IsStanding g w h → Spread g rows counts
 ended_spread w v rows counts e l g h s =
     let m = e.each g h s in
@@ -43,7 +43,7 @@ ended_widths w v rows counts e l g h s =
     let m = e.each g h s in
     l.wide g m.0 m.1
 
--- legal ships make of it one counted evaluation
+-- with legal shipping it is one counted evaluation
 pub spread_counted : (physical : PhysicalData) (rows : Bag) (counts : List ℕ) (p : ProgramData) (inputs : List Bag) → IsPhysical physical → IsProgram p → AreInputsOf p inputs → IsPlanOf p.functions p.ops physical.tree
     → LegalShip (facts_of p physical.tree) physical → Spread (setting p inputs physical) rows counts → Counted (plan_ops p inputs) physical.tree rows counts
 spread_counted physical rows counts p inputs k is are plan legal run = divided_counted p is inputs are physical k plan legal rows counts (divided p inputs physical rows counts k plan run)

@@ -136,13 +136,13 @@ pub record IsOpAt (p : ProgramData) (n : ℕ) (op : Op) : Type 0 where
 pub op_at : (p : ProgramData) (ops : List Op) (n : ℕ) (op : Op) → ops ≡ p.ops → n < length ops → op ≡ get_or ops n op → IsOpAt p n op
 op_at p ops n op same less is = record { less = subst (λ (l : List Op). n < length l) same less; is = is ∙ ap (λ (l : List Op). get_or l n op) same }
 
--- where the next one is a source, there are rows left for it
+-- if the next one is a source, there are rows left for it
 pub some_left : (p : ProgramData) (inputs left : List Bag) (n : ℕ) (op : Op) → AreInputsOf p inputs → IsOpAt p n op → left ≡ drop (source_place p.ops n) inputs → is_source_kind op.kind ≡ true → 0 < length left
 some_left p inputs left n op are at behind source =
     let below = place_below p.fields p.ops inputs n are at.less (kind_is p.ops n op at.less at.is ∙ source_kind op.kind source) in
     omega (arith, below, ap length behind, length-drop (source_place p.ops n) inputs)
 
--- what was taken is its own, and the rows of the sources behind it are left
+-- what was taken is its own, and the rows of the sources after it are left
 pub record HasTaken (p : ProgramData) (inputs : List Bag) (at : ℕ) (own : Bag) (left : List Bag) : Type 0 where
   pub own_are : AreOwn p inputs at own
   pub none : is_source_kind (kind_at p.ops at) ≡ false → own ≡ []

@@ -44,7 +44,7 @@ module _ (old items : List (List StationData)) (row found_row : List StationData
   station_set : (s : StationData) → IsSet old (set items at (set row worker s)) at worker s
   station_set s = subst (λ (l : List (List StationData)). IsSet old l at worker s) (λ i. set (sym items_are i) at (set (sym row_at i) worker s)) (set_row old at worker s below within)
 
--- The station that was found at a place of whole stations, and what another one in its place makes of them.
+-- The station found at a place of whole stations, and the stations after it is replaced.
 pub record IsFoundAt (p : PhysicalData) (old items : List (List StationData)) (row : List StationData) (at worker : ℕ) (x : StationData) : Type 0 where
   pub is : x ≡ station_in old at worker
   pub below : at < length old

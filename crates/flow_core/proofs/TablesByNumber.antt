@@ -16,7 +16,7 @@ set_next d f xs n y less h e k below = elim (cases_eq k n) as (λ _. get_or (set
   | inr other ↦ get_or-set_other xs n k y d other ∙ h k (omega (arith, below, other))
 ]
 
--- a whole table of a function that is the default behind it
+-- a whole table of a function that returns the default beyond the table
 pub all_set : {X : Type 0} (d : X) (f : ℕ → X) (xs : List X) (n limit : ℕ) → limit ≤ n → length xs ≡ limit → ((k : ℕ) → k < n → get_or xs k d ≡ f k)
     → ((k : ℕ) → limit ≤ k → f k ≡ d) → (k : ℕ) → get_or xs k d ≡ f k
 all_set d f xs n limit enough long h beyond k = elim (cases_lt k limit) as (λ _. get_or xs k d ≡ f k) [

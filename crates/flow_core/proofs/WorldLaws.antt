@@ -1,4 +1,4 @@
--- A world that stands for some history obeys the laws.
+-- A world that represents some history obeys the laws.
 use Rattle.std.proofs.Common.{◌≡◌, ◌<◌, subst, sym, true}
 use Rattle.plan_trees.specs.Physicals.{IsPhysical, PhysicalData}
 use Rattle.plan_trees.specs.Plans.{has}

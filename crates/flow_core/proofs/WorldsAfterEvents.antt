@@ -17,7 +17,7 @@ use Rattle.flow_instance.specs.Worlds.{History, World, enabled, lists_at, reader
 use Rattle.flow_instance.proofs.Events.{step_stands}
 use Rattle.flow_core.specs.Worlds.{IsStanding, IsWhole, StandsForSome, WorldData, instance_in, queue_in, seen}
 
--- a note that left a pipe, which gave the world u, was taken
+-- a note was taken, where u is the world after the note left its pipe
 pub take_steps : (g : Setting) (w u v : WorldData) (h : History) (p : PipeId) (at port : ℕ) (note : Note) → IsStanding g w h
     → reader_of p.edge w.physical.tree ≡ Some (at, port) → has at w.physical.tree ≡ true → p.to < w.physical.workers
     → ((a b : ℕ) → instance_in u.stations a b ≡ instance_in w.stations a b)
@@ -50,7 +50,7 @@ take_steps g w u v h p at port note s reader there below same queue note_is took
 
 -- ---- parts of instances
 
--- where it is kept at the one place that changes
+-- an instance's part is kept everywhere if it is kept at the one place that changes
 parts_by : (w v : World) (at worker : ℕ) → (v.instance at worker).part ≡ (w.instance at worker).part → OthersSame w at worker v → (a b : ℕ) → (v.instance a b).part ≡ (w.instance a b).part
 parts_by w v at worker here others a b = elim (cases_eq a at) as (λ _. (v.instance a b).part ≡ (w.instance a b).part) [
   | inr other ↦ ap (λ (i : Instance). i.part) (others a b (inl other))
@@ -69,7 +69,7 @@ parts_kept g w v (events.Take p) h = by (reader_of p.edge g.physical.tree) h whe
   by (Some reader) t = parts_by w v reader.0 p.to t.instance.part t.others
 parts_kept g w v (events.End at worker) h = parts_by w v at worker (ap (λ (i : Instance). i.part) h.instance) h.others
 
--- ---- what stands
+-- ---- the histories that the world represents
 
 pub standing_after : (g : Setting) (w v : WorldData) (h : History) (e : Event) → IsPhysical w.physical → enabled w.physical w.depth (seen w) e ≡ true → IsStanding g w h → Steps g (seen w) e (seen v)
     → v.physical ≡ w.physical → IsWhole v.physical v.stations → IsStanding g v (noted (seen w) e h)

@@ -6,7 +6,7 @@ use Rattle.flow_instance.specs.declared.notes.Event.{Event}
 use Rattle.flow_instance.specs.declared.notes.Event.TheVariants.{Put, Take, End}
 use Rattle.flow_instance.specs.Worlds.{World, enabled, reader_of}
 
--- The event is one of the instance on the worker: it puts, takes or ends.
+-- The event belongs to the instance on the worker: it puts, takes or ends.
 abbrev pub IsOf : PlanTree → (at worker : ℕ) → Event → Type 0
 IsOf tree at worker (Put pipe) = (pipe.edge ≡ at) × (pipe.from ≡ worker)
 IsOf tree at worker (Take pipe) = ((port : ℕ) × (reader_of pipe.edge tree ≡ Some (at, port))) × (pipe.to ≡ worker)

@@ -1,4 +1,4 @@
--- What holds of a world, whatever events have led to it.
+-- Laws of a world, after any events.
 use Rattle.std.specs.Prelude.{◌≡◌, ◌≢◌, ◌<◌, ◌≤◌, ℕ, true, List, Some, slice_get}
 use Rattle.std.specs.List.Sorted.{IsPermutation}
 use Rattle.pact_operators.specs.Allowed.{Bag, Counted}
@@ -17,9 +17,10 @@ use Rattle.flow_instance.specs.Spread.{given_in, placed_in}
 use Rattle.flow_instance.specs.Worlds.{AreDone, History, enabled}
 use Rattle.flow_core.specs.Worlds.{IsStanding, WorldData, instance_in, seen}
 
--- For each setting and history for which it stands: it isn't stuck, so that while some instance isn't done, an event is enabled; the notes put, the
--- notes taken and the instances that are done are together at most so many; and where every instance is done, all that was put was taken, and, if
--- shipping is legal, what the root's instances placed is a bag that the plan allows, and what all instances gave its counts.
+-- The laws hold for each setting and each history that the world represents. The world isn't stuck: while some instance
+-- isn't done, an event is enabled. The notes put, the notes taken and the instances that are done are together at most
+-- the bound `most`. If every instance is done, everything that was put was taken. If shipping is legal too, what the
+-- root's instances placed is a bag that the plan allows, and what all instances emitted are its counts.
 pub record ObeysLaws (w : WorldData) : Type 0 where
   pub goes_on : (g : Setting) (h : History) → IsStanding g w h → (at worker : ℕ) → has at w.physical.tree ≡ true → worker < w.physical.workers → want (instance_in w.stations at worker) ≢ Done
       → (e : Event) × (enabled w.physical w.depth (seen w) e ≡ true)

@@ -21,11 +21,11 @@ pub record LeftOn : Type 0 where
 
 -- ---- as a world
 
--- the instance of a source or operator on a worker, where instances are listed by number and then by worker
+-- the instance of a source or operator on a worker, from instances listed by number and then by worker
 abbrev pub instance_of : List (List Instance) → (at worker : ℕ) → Instance
 instance_of rows at worker = get_or (get_or rows at []) worker no_instance
 
--- all that is listed for a pipe, in the order of the list
+-- all notes that are listed for a pipe, in the order of the list
 abbrev pub left_on : List LeftOn → (edge from to : ℕ) → List Note
 left_on [] edge from to = []
 left_on (l ∷ lists) edge from to = cond (is_pipe l.pipe edge from to) l.notes [] ++ left_on lists edge from to
@@ -34,7 +34,7 @@ left_on (l ∷ lists) edge from to = cond (is_pipe l.pipe edge from to) l.notes 
 abbrev pub left_world : List (List Instance) → List LeftOn → World
 left_world rows lists = record { instance = λ at worker. instance_of rows at worker; queue = λ edge from to. left_on lists edge from to }
 
--- ---- when they are a plan's
+-- ---- the instances and notes of a plan
 
 -- the plan has the sender, and both are workers
 pub record IsPipeOf (p : PhysicalData) (pipe : PipeId) : Type 0 where
@@ -49,7 +49,7 @@ pub record AreOfPlan (p : PhysicalData) (rows : List (List Instance)) (lists : L
   pub workers : (at : ℕ) → at < length rows → length (get_or rows at []) ≡ p.workers
   pub pipes : AllByRecursion (λ l. IsPipeOf p l.pipe) lists
 
--- they stand for some history of a run of the program
+-- they represent some history of a run of the program
 pub record StandForSome (p : ProgramData) (physical : PhysicalData) (rows : List (List Instance)) (lists : List LeftOn) : Type 0 where
   pub inputs : List Bag
   pub history : History
@@ -64,22 +64,22 @@ pub record IsEmptied (workers : ℕ) (i : Instance) (s : StationData) : Type 0 w
   pub long : length s.queues ≡ workers
   pub empty : AllByRecursion (λ queue. queue ≡ []) s.queues
 
--- so many of one source or operator
+-- `count` emptied instances of one source or operator
 pub record AreEmptied (workers count : ℕ) (own : List Instance) (row : List StationData) : Type 0 where
   pub long : length row ≡ count
   pub each : (k : ℕ) → k < count → IsEmptied workers (get_or own k no_instance) (get_or row k no_station)
 
--- so many sources and operators
+-- the emptied instances of `count` sources and operators
 pub record AreAllEmptied (workers count : ℕ) (rows : List (List Instance)) (stations : List (List StationData)) : Type 0 where
   pub long : length stations ≡ count
   pub each : (at : ℕ) → at < count → AreEmptied workers (length (get_or rows at [])) (get_or rows at []) (get_or stations at [])
 
--- These notes came behind those that were on the pipes, and nothing else has changed.
+-- These notes were appended to those on the pipes, and nothing more has changed.
 pub record AreFilled (p : PhysicalData) (old : List (List StationData)) (lists : List LeftOn) (new : List (List StationData)) : Type 0 where
   pub whole : IsWhole p new
   pub instances : (at worker : ℕ) → instance_in new at worker ≡ instance_in old at worker
   pub queues : (edge from to : ℕ) → queue_in new edge from to ≡ queue_in old edge from to ++ left_on lists edge from to
 
--- notes behind those of one pipe
+-- with notes appended to those of one pipe
 abbrev pub refilled : StationData → (to : ℕ) → List Note → StationData
 refilled s to notes = record { instance = s.instance; queues = set s.queues to (get_or s.queues to [] ++ notes) }

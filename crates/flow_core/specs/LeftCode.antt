@@ -1,4 +1,4 @@
--- How what is left is stored in the logic.
+-- How instances and notes that a run has left are stored in the logic.
 use Rattle.std.specs.Prelude.{List, refl}
 use Rattle.std.specs.Coded.{Coded, code_by, coded×, coded_list}
 use Rattle.flow_instance.specs.InstanceCode.{coded_instance}
@@ -13,7 +13,7 @@ use Rattle.flow_core.specs.Left.{LeftOn}
 abbrev pub coded_instances : Coded (List Instance)
 coded_instances = coded_list coded_instance
 
--- those of all
+-- the instances of all sources and operators
 abbrev pub coded_all : Coded (List (List Instance))
 coded_all = coded_list coded_instances
 
@@ -21,6 +21,6 @@ coded_all = coded_list coded_instances
 abbrev pub coded_left : Coded LeftOn
 coded_left = code_by (PipeId × List Note) (coded× pipe_row.coded (coded_list note_row.coded)) (λ l. (l.pipe, l.notes)) (λ q. record { pipe = q.0; notes = q.1 }) (λ _. refl)
 
--- those on all pipes
+-- the notes on all pipes
 abbrev pub coded_lists : Coded (List LeftOn)
 coded_lists = coded_list coded_left

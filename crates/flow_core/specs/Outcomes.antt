@@ -1,4 +1,4 @@
--- What a run on one thread comes to.
+-- The results of a run on one thread.
 use Rattle.std.specs.Prelude.{◌≡◌, ◌≤◌, ◌-◌, ◌^◌, ℕ, Bool, true, false, List, length}
 use Rattle.pact_operators.specs.Allowed.{Bag}
 use Rattle.pact_operators.specs.Programs.{ProgramData}
@@ -10,23 +10,24 @@ use Rattle.flow_instance.specs.Worlds.{AreDone, History}
 use Rattle.flow_core.specs.Replays.{IsReached}
 use Rattle.flow_core.specs.Worlds.{IsStanding, StandsForSome, WorldData, seen}
 
--- Whatever history the world stands for, the other one stands for some history at which every instance is done.
+-- For each history that the first world represents, the second one represents some history at which every instance is
+-- done.
 pub record IsEnded (w v : WorldData) : Type 0 where
   pub each : (g : Setting) (h : History) → IsStanding g w h → (more : History) × IsStanding g v more × AreDone g.physical (seen v)
   pub physical : v.physical ≡ w.physical
   pub stands : StandsForSome v
 
--- One event has led to the other world, or none could happen and every instance is done.
+-- One event has led to the other world, or no event could happen and every instance is done.
 abbrev pub GoesOn : WorldData → (went : Bool) → WorldData → Type 0
 GoesOn w true v = IsReached w 1 v
 GoesOn w false v = IsEnded w v
 
--- The run has ended, or its bound allows for 2^64 - 1 events at least.
+-- The run has ended, or its bound allows at least 2^64 - 1 events.
 abbrev pub IsRun : WorldData → (ended : Bool) → WorldData → Type 0
 IsRun w true v = IsEnded w v
 IsRun w false v = (p : ProgramData) (inputs : List Bag) (h : History) → IsStanding (setting p inputs w.physical) w h → 2 ^ 64 - 1 ≤ most (setting p inputs w.physical) (program_turns p)
 
--- The rows are what the root's instances placed, and the counts how many records each source and operator gave.
+-- The rows are what the root's instances placed. The counts are how many records each source and operator emitted.
 pub record IsOutcome (w : WorldData) (rows : Bag) (counts : List ℕ) : Type 0 where
   pub spread : (g : Setting) (h : History) → IsStanding g w h → AreDone g.physical (seen w) → Spread g rows counts
   pub wide : (g : Setting) (h : History) → IsStanding g w h → AreWide g.fields rows

@@ -1,4 +1,4 @@
--- Which events a number picks from.
+-- The events from which a number picks.
 use Rattle.std.specs.Prelude.{◌≡◌, ◌%◌, ◌++◌, ◌∷◌, [], ℕ, zero, suc, Bool, true, false, if◌then◌else◌, Option, Some, None, List, length, slice_get}
 use Rattle.plan_trees.specs.Physicals.{PhysicalData}
 use Rattle.plan_trees.specs.Plans.{node_limit}
@@ -19,7 +19,7 @@ abbrev pub joined_below : {X : Type 0} → ℕ → (ℕ → List X) → List X
 joined_below zero f = []
 joined_below (suc n) f = joined_below n f ++ f n
 
--- the event, where it is enabled
+-- the event, if it is enabled
 abbrev pub if_enabled : PhysicalData → (depth : ℕ) → World → Event → List Event
 if_enabled p depth w e = if enabled p depth w e then e ∷ [] else []
 
@@ -39,12 +39,12 @@ events_by p depth w at worker wants.Done = []
 abbrev pub events_of : PhysicalData → (depth : ℕ) → World → (at worker : ℕ) → List Event
 events_of p depth w at worker = events_by p depth w at worker (want (w.instance at worker))
 
--- The events that are enabled, by the number of the source or operator whose instance does them, then by worker, then by the sender of a note that is
--- taken.
+-- The enabled events, ordered by the number of the source or operator whose instance does them, then by worker, then by
+-- the sender of a note that is taken.
 abbrev pub enabled_events : PhysicalData → (depth : ℕ) → World → List Event
 enabled_events p depth w = joined_below node_limit (λ at. joined_below p.workers (λ worker. events_of p depth w at worker))
 
--- the one at the place of the number, where numbers beyond the last one begin anew
+-- the event at the place of the number, taken modulo the length of the list
 abbrev pub picked_from : List Event → (pick : ℕ) → Option Event
 picked_from list pick = slice_get list (pick % length list)
 
@@ -55,7 +55,7 @@ pub record IsPicked (w : WorldData) (pick : ℕ) (v : WorldData) : Type 0 where
   pub happened : (g : Setting) (h : History) → IsStanding g w h → Steps g (seen w) event (seen v) × IsStanding g v (noted (seen w) event h)
   pub reached : IsReached w 1 v
 
--- It has, or none could happen and the world is the same.
+-- The picked event has happened, or none could happen and the world is unchanged.
 abbrev pub GoesByPick : WorldData → (pick : ℕ) → (went : Bool) → WorldData → Type 0
 GoesByPick w pick true v = IsPicked w pick v
 GoesByPick w pick false v = (v ≡ w) × IsStuck w.physical w.depth (seen w)

@@ -1,4 +1,4 @@
--- Where lists of events lead.
+-- The results of lists of events.
 use Rattle.std.specs.Prelude.{◌≡◌, ◌<◌, ◌+◌, ℕ, false, List, Some, length, slice_get, take}
 use Rattle.flow_instance.specs.declared.notes.Event.{Event}
 use Rattle.flow_instance.specs.Events.{Runs}
@@ -10,7 +10,8 @@ use Rattle.flow_core.specs.declared.stops.Replay.TheVariants.{Memory, NotEnabled
 use Rattle.flow_core.specs.Laws.{ObeysLaws}
 use Rattle.flow_core.specs.Worlds.{IsStanding, StandsForSome, WorldData, seen}
 
--- Over each history, the events lead from the world to the other one, which stands for the history with their notes.
+-- For each history, the events lead from the world to the other one, which represents the history extended by their
+-- notes.
 pub record IsReplayed (w : WorldData) (events : List Event) (v : WorldData) : Type 0 where
   pub runs : (g : Setting) (h : History) → IsStanding g w h → (more : History) × Runs g w.depth (seen w) h events (seen v) more × IsStanding g v more
   pub physical : v.physical ≡ w.physical
@@ -23,12 +24,12 @@ IsStopped w events (NotEnabled index v) =
     (index < length events) × IsReplayed w (take index events) v × ((e : Event) → slice_get events index ≡ Some e → enabled v.physical v.depth (seen v) e ≡ false)
 IsStopped w events Memory = Unit {0}
 
--- The world that is handed back obeys the laws too.
+-- The returned world obeys the laws too.
 abbrev pub HandsBackLawful : {L : Type 0} → Replay L → Type 0
 HandsBackLawful (NotEnabled index v) = ObeysLaws v
 HandsBackLawful Memory = Unit {0}
 
--- Whatever the world stands for, the other one stands for what came of it in so many events.
+-- For each history that the first world represents, the second one represents a history that is n events longer.
 pub record IsReached (w : WorldData) (n : ℕ) (v : WorldData) : Type 0 where
   pub each : (g : Setting) (h : History) → IsStanding g w h → (more : History) × IsStanding g v more × (events g (seen v) more ≡ events g (seen w) h + n)
   pub physical : v.physical ≡ w.physical

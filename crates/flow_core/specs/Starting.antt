@@ -16,16 +16,16 @@ use Rattle.flow_instance.specs.Starting.{CanStart, IsStartedFrom, IsUnstarted}
 use Rattle.flow_core.specs.declared.starting.UnstartedRow.{UnstartedRow}
 use Rattle.flow_core.specs.Worlds.{StationData, no_instance, no_station}
 
--- of the rows that are left, a source takes those of the first one, and an operator none
+-- a source takes the first bag of those that are left, and an operator takes none
 abbrev pub TakesOwn : Bool → (old : List Bag) → (own : Bag) → (new : List Bag) → Type 0
 TakesOwn true old own new = old ≡ own ∷ new
 TakesOwn false old own new = (own ≡ []) × (new ≡ old)
 
--- where it is a source, the rows are those that it has in the program
+-- if it is a source, the rows are those that it has in the program
 abbrev pub AreOwn : ProgramData → List Bag → (at : ℕ) → Bag → Type 0
 AreOwn p inputs at rows = kind_at p.ops at ≡ Source → rows ≡ (plan_ops p inputs).rows at
 
--- each of so many workers has its share of the rows
+-- each worker has its share of the rows
 pub record AreDealt (workers : ℕ) (rows : Bag) (shares : List Bag) : Type 0 where
   pub long : length shares ≡ workers
   pub each : (worker : ℕ) → worker < workers → get_or shares worker [] ≡ share_from 0 workers worker rows
@@ -38,26 +38,26 @@ pub record IsUnstartedOn (p : ProgramData) (physical : PhysicalData) (size at : 
   pub is_share : share ≡ share_from 0 physical.workers worker rows
   pub is : IsUnstarted p physical at worker size share u
 
--- those of the workers from one number on
+-- those of the workers from the number `from` on
 abbrev pub AreUnstartedFrom : ProgramData → PhysicalData → (size at : ℕ) → Bag → (from : ℕ) → List Unstarted → Type 0
 AreUnstartedFrom p physical size at rows from [] = Unit {0}
 AreUnstartedFrom p physical size at rows from (u ∷ row) = IsUnstartedOn p physical size at rows from u × AreUnstartedFrom p physical size at rows (from + 1) row
 
--- so many, from the first worker on
+-- those of the first `count` workers
 pub record AreUnstarted (p : ProgramData) (physical : PhysicalData) (size at : ℕ) (rows : Bag) (count : ℕ) (row : List Unstarted) : Type 0 where
   pub long : length row ≡ count
   pub each : AreUnstartedFrom p physical size at rows 0 row
 
--- how many rows the first worker has of its own, and none where there is no worker
+-- how many rows the first worker has of its own, and 0 if there is no worker
 abbrev pub first_share : List Unstarted → ℕ
 first_share [] = 0
 first_share (u ∷ row) = length u.rows
 
--- no worker has more than so many
+-- no worker has more than `most` rows
 abbrev pub HaveAtMost : (most : ℕ) → List Unstarted → Type 0
 HaveAtMost most row = AllByRecursion (λ (u : Unstarted). length u.rows ≤ most) row
 
--- each instance is started from what is at its place
+-- each instance is started from the item at its place
 abbrev pub StartFrom : List Unstarted → List Instance → Type 0
 StartFrom [] [] = Unit {0}
 StartFrom (u ∷ row) (i ∷ own) = IsStartedFrom u i × StartFrom row own
@@ -71,7 +71,7 @@ StartAllFrom (row ∷ rows) (own ∷ all) = StartFrom row.held.items own × Star
 StartAllFrom [] (own ∷ all) = ⊥
 StartAllFrom (row ∷ rows) [] = ⊥
 
--- each of a row can start
+-- each instance of a row can start
 abbrev pub CanStartRow : UnstartedRow → Type 0
 CanStartRow row = AllByRecursion CanStart row.held.items
 
@@ -81,19 +81,19 @@ pub record IsRowUnstarted (p : ProgramData) (physical : PhysicalData) (inputs : 
   pub own_are : AreOwn p inputs at own
   pub are : AreUnstarted p physical size at own physical.workers row.held.items
 
--- those of the numbers from one on
+-- the rows of the numbers from `from` on
 abbrev pub AreRowsFrom : ProgramData → PhysicalData → List Bag → (size from : ℕ) → List UnstartedRow → Type 0
 AreRowsFrom p physical inputs size from [] = Unit {0}
 AreRowsFrom p physical inputs size from (row ∷ rows) = IsRowUnstarted p physical inputs size from row × AreRowsFrom p physical inputs size (from + 1) rows
 
--- those of the first numbers
+-- the rows of the first `count` numbers
 pub record AreAllUnstarted (p : ProgramData) (physical : PhysicalData) (inputs : List Bag) (size count : ℕ) (rows : List UnstartedRow) : Type 0 where
   pub long : length rows ≡ count
   pub each : AreRowsFrom p physical inputs size 0 rows
 
 -- ---- at the start
 
--- the instance of a number on a worker, with batches of at most so many records
+-- the instance of a number on a worker, with batches of at most `size` records
 pub record IsStartedOn (g : Setting) (size at worker : ℕ) (i : Instance) : Type 0 where
   pub started : Started (spot g (subtree_of at g.physical.tree)) worker i
   pub batch : i.part.batch ≡ size
@@ -103,7 +103,7 @@ pub record AreStartedOn (g : Setting) (size at : ℕ) (own : List Instance) : Ty
   pub long : length own ≡ g.physical.workers
   pub each : (worker : ℕ) → worker < g.physical.workers → IsStartedOn g size at worker (get_or own worker no_instance)
 
--- those of the first numbers
+-- those of the first `count` numbers
 pub record AreAllStarted (g : Setting) (size count : ℕ) (all : List (List Instance)) : Type 0 where
   pub long : length all ≡ count
   pub each : (at : ℕ) → at < count → AreStartedOn g size at (get_or all at [])
@@ -116,14 +116,14 @@ pub record AreStartedForSome (p : ProgramData) (physical : PhysicalData) (all : 
 
 -- ---- as stations
 
--- an instance at its start, with empty pipes, and batches of at most so many records
+-- an instance at its start, with empty pipes, and batches of at most `size` records
 pub record IsStarted (g : Setting) (size at worker : ℕ) (s : StationData) : Type 0 where
   pub started : Started (spot g (subtree_of at g.physical.tree)) worker s.instance
   pub batch : s.instance.part.batch ≡ size
   pub long : length s.queues ≡ g.physical.workers
   pub empty : AllByRecursion (λ queue. queue ≡ []) s.queues
 
--- one on each of the first workers
+-- one on each of the first `count` workers
 abbrev pub AreBelow : Setting → (size at count : ℕ) → List StationData → Type 0
 AreBelow g size at count row = (worker : ℕ) → worker < count → IsStarted g size at worker (get_or row worker no_station)
 
@@ -132,7 +132,7 @@ pub record AreStartedAt (g : Setting) (size at : ℕ) (row : List StationData) :
   pub long : length row ≡ g.physical.workers
   pub each : AreBelow g size at g.physical.workers row
 
--- those of the first numbers
+-- those of the first `count` numbers
 pub record AreStarted (g : Setting) (size count : ℕ) (stations : List (List StationData)) : Type 0 where
   pub long : length stations ≡ count
   pub each : (at : ℕ) → at < count → AreStartedAt g size at (get_or stations at [])

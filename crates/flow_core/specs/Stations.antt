@@ -32,24 +32,25 @@ pub record IsReadyFor (i : Instance) (on port sender : ℕ) (note : Note) : Type
   pub not_ended : ended_at i port sender ≡ false
   pub fits : AreNotes i.part.fields (note ∷ [])
 
--- The instance can take it on its own worker. (A record, and so is the next one, so that a caller hands it on closed.)
+-- The instance can take it on its own worker. This is a record, like the next one, so that a caller can pass it on
+-- without unfolding it.
 pub record CanTake (i : Instance) (port sender : ℕ) (note : Note) : Type 0 where
   pub ready : IsReadyFor i i.part.worker port sender note
 
--- It has taken the note, whatever was taken and put before.
+-- It has taken the note, no matter which notes were taken and put before.
 pub record TakesNote (i : Instance) (port sender : ℕ) (note : Note) (j : Instance) : Type 0 where
   pub took : (s : Spot) (taken : ℕ → ℕ → List Note) (put : ℕ → List Note) → IsLocal s i.part.worker i taken put → Took s i.part.worker i port sender note j
 
 -- ---- what the stations of a row leave
 
--- how many records a worker's instance gave
+-- how many records a worker's instance emitted
 abbrev pub given_by : List StationData → (worker : ℕ) → ℕ
 given_by row worker = (get_or row worker no_station).instance.given
 
--- those that it placed
+-- the records that a worker's instance placed
 abbrev pub placed_by : List StationData → (worker : ℕ) → Bag
 placed_by row worker = (get_or row worker no_station).instance.placed
 
--- how many they gave together, where a greater number counts as the greatest of 64 bits
+-- how many records the instances emitted together, where the greatest 64-bit number also counts for more
 abbrev pub total_given : List StationData → ℕ
 total_given row = count_of (sum_below (length row) (given_by row))

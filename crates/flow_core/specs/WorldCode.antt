@@ -15,11 +15,11 @@ coded_station =
     code_by (Instance × List (List Note)) (coded× coded_instance (coded_list (coded_list note_row.coded))) (λ s. (s.instance, s.queues))
     (λ q. record { instance = q.0; queues = q.1 }) (λ _. refl)
 
--- those of one operator
+-- the stations of one source or operator
 abbrev pub coded_row : Coded (List StationData)
 coded_row = coded_list coded_station
 
--- all of them, with the physical plan and the depth
+-- all stations, with the physical plan and the depth
 abbrev pub coded_world : Coded WorldData
 coded_world =
     code_by (PhysicalData × (ℕ × List (List StationData))) (coded× coded_physical (coded× coded_ℕ (coded_list coded_row)))

@@ -22,7 +22,7 @@ use local_strategy::Local;
 use pact_bag::Outcome;
 use pact_record::OutOfMemory;
 
-// An event that can happen: of an instance that is listed, or else of any.
+// An event that can happen: first of the listed instances, otherwise of any instance.
 fn next_event<L: Local>(world: &World<L>, ready: &mut Ready) -> Option<Event>
     requires { IsPhysical world.now.physical }
     ensures some { IfSome result (λ e. enabled world.now.physical world.now.depth (seen world.now) e ≡ true) }
@@ -36,7 +36,7 @@ fn next_event<L: Local>(world: &World<L>, ready: &mut Ready) -> Option<Event>
     world.any_event()
 }
 
-// Lists what a note that went along a pipe may have set free: the instances at both of its ends.
+// Lists the instances at both ends of the pipe along which a note went. Each of them may be able to go on now.
 fn list_around<L: Local>(
     ready: &mut Ready,
     world: &World<L>,
@@ -52,7 +52,7 @@ fn list_around<L: Local>(
     }
 }
 
-// Lets an event happen, and tells whether one could.
+// Lets one event happen, and returns whether one could.
 fn go_on<L: Local>(world: &mut World<L>, ready: &mut Ready) -> Result<bool, OutOfMemory>
     requires { StandsForSome world.old }
     ensures { IfOk result (λ went. GoesOn world.old went world.new) }
@@ -65,7 +65,7 @@ fn go_on<L: Local>(world: &mut World<L>, ready: &mut Ready) -> Result<bool, OutO
     Ok(true)
 }
 
-// Lets events happen until none can, and false after 2^64 - 1 of them, where a run may have as many.
+// Lets events happen until none can. It returns false after 2^64 - 1 events, and then the bound allows that many.
 fn run_to_end<L: Local>(world: &mut World<L>) -> Result<bool, OutOfMemory>
     requires { StandsForSome world.old }
     ensures { IfOk result (λ ended. IsRun world.old ended world.new) }
@@ -79,8 +79,9 @@ fn run_to_end<L: Local>(world: &mut World<L>) -> Result<bool, OutOfMemory>
     Ok(false)
 }
 
-/// Lets events happen until none can, which is when every instance is done. It waits for nobody. Want of memory is the error; a run whose bound on
-/// events is 2^64 - 1 or more, which no machine would see end, gives up with it too.
+/// Lets events happen until none can; every instance is done then. It waits for no other thread.
+///
+/// Out of memory is the only error. A run also reports it after 2^64 - 1 events, more than any machine gets through.
 pub fn run_alone<L: Local>(world: World<L>) -> Result<Outcome, OutOfMemory>
     requires { StandsForSome world }
     ensures spread { IfOk result (λ o. (g : Setting) (h : History) → IsStanding g world h → Spread g o.rows o.counts) }

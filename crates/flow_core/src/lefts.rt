@@ -1,11 +1,11 @@
 //! What a run has left: instances, and notes on pipes.
 
-ghost use Rattle.std.specs.Prelude.{◌≡◌, ◌<◌, ◌++◌, ◌∷◌, [], get_or, length, replicate, set, IfOk, OnErr, OnOk};
+ghost use Rattle.std.specs.Prelude.{◌≡◌, ◌<◌, ◌++◌, ◌∷◌, [], get_or, length, replicate, set, slice_get, IfErr, IfOk, OnErr, OnOk, Some};
 
 use flow_instance::{Instance, Note, PipeId};
 use local_strategy::Local;
 use pact_record::OutOfMemory;
-use std::alloc::Global;
+use std::alloc::{AllocFailed, Global};
 use std::collections::VecDeque;
 use std::marker::Model;
 use std::mem;
@@ -63,7 +63,7 @@ impl<L: Local> InstanceList<L> {
         InstanceList { rows }
     }
 
-    /// For so many sources and operators, with room for so many workers; no instance is listed yet.
+    /// A list for `ops` sources and operators, with room for `workers` instances of each. No instance is listed yet.
     pub fn new(alloc: Global, ops: usize, workers: usize) -> Result<InstanceList<L>, OutOfMemory>
         ensures { IfOk result (λ list. list ≡ replicate ops []) }
     {
@@ -76,17 +76,32 @@ impl<L: Local> InstanceList<L> {
         Ok(InstanceList { rows })
     }
 
-    /// Lists the instance of a source or operator on its next worker. Where memory is wanting, the instance is dropped.
-    pub fn push(&mut self, at: usize, instance: Instance<L>) -> Result<(), OutOfMemory>
+    /// Lists the instance of a source or operator on its next worker. If memory runs out, the instance comes back.
+    pub fn push(&mut self, at: usize, instance: Instance<L>) -> Result<(), AllocFailed<Instance<L>>>
         requires at { at < length self.old }
         ensures ok { OnOk result (self.new ≡ set self.old at (get_or self.old at [] ++ instance ∷ [])) }
         ensures err { OnErr result (self.new ≡ self.old) }
+        ensures handed_back { IfErr result (λ e. e.value ≡ instance) }
     {
-        self.rows[at].held.push(instance)?;
-        Ok(())
+        self.rows[at].held.push(instance)
     }
 
-    /// The instances of a row leave the list, and the row is empty then.
+    /// The number of sources and operators.
+    pub fn len(&self) -> usize
+        ensures { result ≡ length self.now }
+    {
+        self.rows.len()
+    }
+
+    /// The instances of a source or operator, by worker.
+    pub fn at(&self, at: usize) -> &[Instance<L>]
+        requires { at < length self.now }
+        ensures { slice_get self.now at ≡ Some result.now }
+    {
+        &self.rows[at].held
+    }
+
+    /// Removes and returns the instances of a row, which is empty afterwards.
     pub fn take(&mut self, alloc: Global, at: usize) -> Vec<Instance<L>>
         requires { at < length self.old }
         ensures taken { result.items ≡ get_or self.old at [] }
@@ -133,7 +148,7 @@ impl Model for NoteLists {
 }
 
 impl NoteLists {
-    /// No pipe is listed.
+    /// A list without pipes.
     pub fn new(alloc: Global) -> NoteLists
         ensures { result ≡ [] }
     {
@@ -142,13 +157,42 @@ impl NoteLists {
         }
     }
 
-    /// Lists a pipe with its notes, the next one first. A pipe may be listed more than once: the notes listed later come behind. Where memory is
-    /// wanting, the notes are dropped.
-    pub fn push(&mut self, pipe: PipeId, notes: VecDeque<Note>) -> Result<(), OutOfMemory>
+    /// Lists a pipe with its notes, the next one first. If a pipe is listed more than once, the notes listed later come
+    /// after those listed earlier. If memory runs out, the pipe and its notes come back.
+    pub fn push(
+        &mut self,
+        pipe: PipeId,
+        notes: VecDeque<Note>,
+    ) -> Result<(), AllocFailed<(PipeId, VecDeque<Note>)>>
         ensures ok { OnOk result (self.new ≡ self.old ++ record { pipe = pipe; notes = notes.items } ∷ []) }
         ensures err { OnErr result (self.new ≡ self.old) }
+        ensures handed_back { IfErr result (λ e. (e.value.0 ≡ pipe) × (e.value.1.items ≡ notes.items)) }
     {
-        self.lists.push(NoteList { pipe, notes })?;
-        Ok(())
+        match self.lists.push(NoteList { pipe, notes }) {
+            Ok(()) => Ok(()),
+            Err(
+                AllocFailed {
+                    value: NoteList { pipe, notes },
+                },
+            ) => Err(AllocFailed {
+                value: (pipe, notes),
+            }),
+        }
+    }
+
+    /// The number of pipes that are listed; one that is listed twice counts twice.
+    pub fn len(&self) -> usize
+        ensures { result ≡ length self.now }
+    {
+        self.lists.len()
+    }
+
+    /// The pipe that is listed at a place, and the notes that are listed with it.
+    pub fn at(&self, at: usize) -> (PipeId, &VecDeque<Note>)
+        requires { at < length self.now }
+        ensures { slice_get self.now at ≡ Some (record { pipe = result.0; notes = result.1.now.items }) }
+    {
+        let NoteList { pipe, notes } = &self.lists[at];
+        (*pipe, notes)
     }
 }

@@ -1,10 +1,11 @@
 //! A plan's instances and pipes on one thread, event by event.
 //!
-//! A `World` has an instance of each source and operator on each worker, each with the notes on the pipes that leave it. `enabled` tells whether an event
-//! can happen, and `step` lets it happen; `replay` goes through a list of events, `run_alone` picks its own until every instance is done, and
-//! `run_picked` has them picked by numbers. What is promised of all five is said of histories: a world stands for the notes that were put and taken so
-//! far. `unstarted_rows` has what the instances of a plan start from, so that a caller may start them on threads.
-//! `World::resume` makes a world of instances and of notes that stand for some history, whoever let the events happen.
+//! A `World` has an instance of each source and operator on each worker, each with the notes on the pipes that leave it.
+//! `enabled` says whether an event can happen, and `step` lets it happen. `replay` goes through a list of events,
+//! `run_alone` picks its own until every instance is done, and `run_picked` has them picked by numbers. The promises of
+//! all five speak of histories: a world represents the notes that were put and taken so far. `unstarted_rows` has what
+//! the instances of a plan start from, so that a caller may start them on threads. `World::resume` makes a world of
+//! instances and of notes that represent some history, whichever caller let the events happen.
 #![tactic(auto)]
 
 pub mod alone;

@@ -25,7 +25,7 @@ use pact_operators::MAX_NODES;
 use pact_record::OutOfMemory;
 
 impl<L: Local> World<L> {
-    // Lists the event, where it can happen.
+    // Lists the event if it can happen.
     fn list_event(&self, events: &mut Vec<Event>, event: Event) -> Result<(), OutOfMemory>
         ensures { OnOk result (events.new.items ≡ events.old.items ++ if_enabled self.now.physical self.now.depth (seen self.now) event) }
     {
@@ -35,7 +35,7 @@ impl<L: Local> World<L> {
         Ok(())
     }
 
-    // Lists what an instance can take at a port, by sender.
+    // Lists the takes that an instance can do at a port, by sender.
     fn list_takes(
         &self,
         events: &mut Vec<Event>,
@@ -59,7 +59,7 @@ impl<L: Local> World<L> {
         Ok(())
     }
 
-    // Lists what an instance can do.
+    // Lists the events that an instance can do.
     fn list_of(&self, events: &mut Vec<Event>, at: u32, worker: u32) -> Result<(), OutOfMemory>
         ensures { OnOk result (events.new.items ≡ events.old.items ++ events_of self.now.physical self.now.depth (seen self.now) at worker) }
     {
@@ -78,7 +78,7 @@ impl<L: Local> World<L> {
         }
     }
 
-    // Lists what the instances of a source or operator can do.
+    // Lists the events that the instances of a source or operator can do.
     fn list_at(&self, events: &mut Vec<Event>, at: u32) -> Result<(), OutOfMemory>
         ensures { OnOk result (events.new.items ≡ events.old.items ++ joined_below self.now.physical.workers (λ worker. events_of self.now.physical self.now.depth (seen self.now) at worker)) }
     {
@@ -99,7 +99,7 @@ impl<L: Local> World<L> {
         Ok(events)
     }
 
-    // The one at the place of the number.
+    // The event that the number picks, if one can happen.
     fn picked_event(&self, pick: u32) -> Result<Option<Event>, OutOfMemory>
         requires { IsPhysical self.now.physical }
         ensures picked { IfOk result (λ event. event ≡ picked_from (enabled_events self.now.physical self.now.depth (seen self.now)) pick) }
@@ -114,7 +114,7 @@ impl<L: Local> World<L> {
     }
 }
 
-// Lets the picked event happen, and tells whether one could.
+// Lets the picked event happen, and returns whether one could.
 fn go_by_pick<L: Local>(world: &mut World<L>, pick: u32) -> Result<bool, OutOfMemory>
     requires { StandsForSome world.old }
     ensures { IfOk result (λ went. GoesByPick world.old pick went world.new) }
@@ -126,7 +126,7 @@ fn go_by_pick<L: Local>(world: &mut World<L>, pick: u32) -> Result<bool, OutOfMe
     Ok(true)
 }
 
-// Lets the picked events happen, until none can.
+// Lets the picked events happen, and stops when none can.
 fn go_by_picks<L: Local>(world: &mut World<L>, picks: &[u32]) -> Result<(), OutOfMemory>
     requires { StandsForSome world.old }
     ensures { OnOk result (IsLed world.old world.new) }
@@ -139,12 +139,13 @@ fn go_by_picks<L: Local>(world: &mut World<L>, picks: &[u32]) -> Result<(), OutO
     Ok(())
 }
 
-/// Lets events happen until none can, the first of them picked: at each step the enabled events stand in the order of the numbers of their sources and
-/// operators, then of workers, then of the senders of what is taken, and the one at the place of the next number happens, where numbers beyond the last
-/// place begin anew. Where no event is enabled, every instance is done, and numbers that are left are dropped. Behind the last number it goes on as
-/// `run_alone`, whose conditions and clauses it has. It waits for nobody.
+/// Lets events happen until none can; the numbers pick the first of them. At each step the enabled events are ordered
+/// by the number of their source or operator, then by worker, then by the sender of what is taken. The next number,
+/// modulo the number of enabled events, is the place of the event that happens. If no event is enabled, every instance
+/// is done, and the numbers that are left are ignored. After the last number it goes on like `run_alone`, and its
+/// conditions and clauses are those of `run_alone`. It waits for no other thread.
 ///
-/// No clause tells that the picked events were those that happened; `replay` says it of a list of events.
+/// No clause says that the events that happened are the picked ones; `replay` promises that for a list of events.
 pub fn run_picked<L: Local>(world: World<L>, picks: &[u32]) -> Result<Outcome, OutOfMemory>
     requires { StandsForSome world }
     ensures spread { IfOk result (λ o. (g : Setting) (h : History) → IsStanding g world h → Spread g o.rows o.counts) }

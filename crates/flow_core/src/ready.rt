@@ -8,13 +8,14 @@ use pact_record::OutOfMemory;
 use std::alloc::Global;
 use std::marker::Model;
 
-// As many workers as a physical plan can have.
+// The largest number of workers of a physical plan.
 const MAX_WORKERS: usize = 16;
 
 type Marks = [[bool; MAX_WORKERS]; MAX_NODES];
 
-/// Instances that may be able to go on, by their numbers and workers, the next one last. Each is listed once, so there are never many. Nothing
-/// rests on the list but speed: one that isn't on it is found by a look at all.
+/// Instances that may be able to go on, by their numbers and workers, the next one last. Each is listed at most once,
+/// so the list stays short. The list matters only for speed: an event of an unlisted instance is found by a search of
+/// all instances.
 #[derive(Drop)]
 pub(crate) struct Ready {
     stack: Vec<(u32, u32)>,
@@ -31,7 +32,8 @@ impl Model for Ready {
     ghost invariant = { λ r. IsKept r.stack.items r.marks };
 }
 
-// Notes whether the instance of a worker is listed, and tells whether it was. What no plan has counts as listed.
+// Notes whether the instance of a worker is listed, and returns whether it was. A worker that no plan has counts as
+// listed.
 fn mark_of(row: &mut [bool; MAX_WORKERS], worker: u32, is_listed: bool) -> bool
     ensures was { result ≡ get_or row.old worker true }
     ensures now { row.new ≡ set row.old worker is_listed }
@@ -45,7 +47,7 @@ fn mark_of(row: &mut [bool; MAX_WORKERS], worker: u32, is_listed: bool) -> bool
     was_listed
 }
 
-// The same of all instances.
+// Notes whether an instance is listed, and returns whether it was. An instance that no plan has counts as listed.
 fn mark(marks: &mut Marks, at: u32, worker: u32, is_listed: bool) -> bool
     ensures was { result ≡ is_marked marks.old at worker }
     ensures now { marks.new ≡ with_mark marks.old at worker is_listed }
@@ -67,7 +69,7 @@ impl Ready {
         }
     }
 
-    /// Lists an instance as the next one, unless it is listed.
+    /// Lists an instance as the next one, unless it is listed already.
     pub(crate) fn push(&mut self, at: u32, worker: u32) -> Result<(), OutOfMemory>
         ensures { OnOk result (self.new ≡ pushed self.old at worker) }
     {
@@ -78,7 +80,7 @@ impl Ready {
         Ok(())
     }
 
-    /// Takes the next one off.
+    /// Removes and returns the next one.
     pub(crate) fn pop(&mut self) -> Option<(u32, u32)>
         ensures { IsPopped self.old result self.new }
     {

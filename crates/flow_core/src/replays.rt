@@ -15,7 +15,7 @@ use crate::worlds::World;
 use flow_instance::Event;
 use local_strategy::Local;
 
-/// Lets the events of a list happen, in their order. No run has more events than `short` tells.
+/// Lets the events of a list happen, in their order. The clause `short` bounds the number of events of any run.
 pub fn replay<L: Local>(world: World<L>, events: &[Event]) -> Result<World<L>, Replay<L>>
     requires { StandsForSome world }
     ensures done { IfOk result (IsReplayed world events.now) }

@@ -1,4 +1,4 @@
-//! Worlds of what a run has left.
+//! Worlds from what a run has left.
 
 ghost use Rattle.std.specs.Prelude.{◌≡◌, ◌≤◌, ◌∷◌, [], ℕ, length, IfOk, OnOk};
 ghost use Rattle.std.specs.List.{AllByRecursion};
@@ -36,7 +36,7 @@ fn empty_row<L: Local>(
     Ok(Row { held })
 }
 
-// Those of all sources and operators.
+// The instances of all sources and operators, each with an empty pipe to every worker.
 pub(crate) fn empty_rows<L: Local>(
     alloc: Global,
     workers: u32,
@@ -51,7 +51,7 @@ pub(crate) fn empty_rows<L: Local>(
     Ok(rows)
 }
 
-// The notes that are left on a pipe come back to it.
+// Appends the notes that are left on a pipe to it.
 fn refill<L: Local>(world: &mut World<L>, left: NoteList) -> Result<(), OutOfMemory>
     requires whole { IsWhole world.old.physical world.old.stations }
     requires pipe { IsPipeOf world.old.physical left.pipe }
@@ -63,7 +63,7 @@ fn refill<L: Local>(world: &mut World<L>, left: NoteList) -> Result<(), OutOfMem
     world.stations[pipe.edge as usize].held[pipe.from as usize].refill(pipe.to, notes)
 }
 
-// Those of all pipes.
+// Appends the notes that are left on all pipes to them.
 fn refill_all<L: Local>(world: &mut World<L>, lists: NoteLists) -> Result<(), OutOfMemory>
     requires whole { IsWhole world.old.physical world.old.stations }
     requires pipes { AllByRecursion (λ (l : LeftOn). IsPipeOf world.old.physical l.pipe) lists }
@@ -78,9 +78,10 @@ fn refill_all<L: Local>(world: &mut World<L>, lists: NoteLists) -> Result<(), Ou
 }
 
 impl<L: Local> World<L> {
-    /// The world of instances and of notes on pipes that a run has left. It stands for each history for which they do. Each instance keeps the size of
-    /// batch with which it was started. A pipe may have more notes left than `depth`: none is put there until it has fewer. After want of memory the
-    /// instances and the notes are gone.
+    /// The world of the instances and of the notes on pipes that a run has left. It represents each history that they
+    /// represent. Each instance keeps the batch size with which it was started. A pipe may have more notes left than
+    /// `depth`; no note is put there until it has fewer. After an out-of-memory error the instances and the notes are
+    /// gone.
     pub fn resume(
         alloc: Global,
         program: &Program,
@@ -103,7 +104,7 @@ impl<L: Local> World<L> {
         ensures depth { IfOk result (λ w. w.depth ≡ depth) }
         ensures batch { IfOk result (λ w. (at worker : ℕ) → (instance_in w.stations at worker).part.batch ≡ (instance_of instances at worker).part.batch) }
     {
-        // a program tells that it is one, and a physical plan too
+        // `fields` makes it known that this is a program, and `workers` that this is a physical plan.
         let (_fields, workers) = (program.fields(), physical.workers());
         let stations = empty_rows(alloc, workers, instances)?;
         let mut world = World {

@@ -15,7 +15,7 @@ use local_strategy::Local;
 use pact_operators::MAX_NODES;
 
 impl<L: Local> World<L> {
-    // A worker from which a note is on its way.
+    // A worker whose pipe along the edge to the receiver has a note.
     fn sender(&self, edge: u32, to: u32) -> Option<u32>
         ensures some { IfSome result (λ from. 0 < length (queue_in self.now.stations edge from to)) }
         ensures below { IfSome result (λ from. from < self.now.physical.workers) }
@@ -35,7 +35,7 @@ impl<L: Local> World<L> {
         self.enabled(event).then_some(event)
     }
 
-    // A note that an instance can take at the port that it wants.
+    // The event that takes a note at the port, if the instance can take one there.
     fn take_at(&self, at: u32, worker: u32, port: u32) -> Option<Event>
         requires physical { IsPhysical self.now.physical }
         requires wanted { want (instance_in self.now.stations at worker) ≡ wants.Take port }
@@ -51,7 +51,7 @@ impl<L: Local> World<L> {
         }))
     }
 
-    /// What an instance can do.
+    /// An event that the instance can do, if there is one.
     pub(crate) fn event_of(&self, at: u32, worker: u32) -> Option<Event>
         requires physical { IsPhysical self.now.physical }
         ensures some { IfSome result (λ e. enabled self.now.physical self.now.depth (seen self.now) e ≡ true) }
@@ -69,7 +69,7 @@ impl<L: Local> World<L> {
         }
     }
 
-    // What some instance of a source or operator can do.
+    // An event that some instance of a source or operator can do.
     fn event_at(&self, at: u32) -> Option<Event>
         requires physical { IsPhysical self.now.physical }
         ensures some { IfSome result (λ e. enabled self.now.physical self.now.depth (seen self.now) e ≡ true) }
@@ -83,7 +83,7 @@ impl<L: Local> World<L> {
         None
     }
 
-    /// What some instance can do, by a look at all of them.
+    /// An event that some instance can do, found by a search of all of them.
     pub(crate) fn any_event(&self) -> Option<Event>
         requires physical { IsPhysical self.now.physical }
         ensures some { IfSome result (λ e. enabled self.now.physical self.now.depth (seen self.now) e ≡ true) }

@@ -29,7 +29,8 @@ pub struct UnstartedRow {
 }
 
 impl UnstartedRow {
-    /// How many rows the first worker has of its own. Rows are dealt from the first worker on, so no worker has more.
+    /// How many rows the first worker has of its own. Rows are dealt in turn from the first worker on, so no worker has
+    /// more.
     pub fn share_len(&self) -> usize
         ensures first { result ≡ first_share self.now.held.items }
         ensures most { (p : ProgramData) (physical : PhysicalData) (size at : ℕ) (rows : Bag) → AreUnstarted p physical size at rows physical.workers self.now.held.items → HaveAtMost result self.now.held.items }
@@ -48,7 +49,7 @@ impl UnstartedRow {
     }
 }
 
-// The rows of the next source, where this is one. An operator has no rows.
+// The rows of the next source if this is one. An operator has no rows.
 fn own_rows(alloc: Global, op: &Op, left: &mut Inputs) -> Rows
     requires { is_source_kind op.now.kind ≡ true → 0 < length left.old }
     ensures { TakesOwn (is_source_kind op.now.kind) left.old result left.new }
@@ -60,7 +61,7 @@ fn own_rows(alloc: Global, op: &Op, left: &mut Inputs) -> Rows
     }
 }
 
-// No rows for each worker, with room for a share of so many.
+// An empty share for each worker, with room for its part of `rows` rows.
 fn no_shares(alloc: Global, workers: u32, rows: usize) -> Result<Vec<Rows>, OutOfMemory>
     requires { 1 ≤ workers }
     ensures { IfOk result (λ shares. AreDealt workers [] shares.items) }
@@ -78,7 +79,7 @@ fn deal(alloc: Global, rows: Rows, workers: u32) -> Result<Vec<Rows>, OutOfMemor
     requires { 1 ≤ workers }
     ensures { IfOk result (λ shares. AreDealt workers rows shares.items) }
 {
-    // they have one width
+    // `rows` makes it known that they have one width.
     let _same = rows.rows();
     let count = rows.len();
     let mut shares = no_shares(alloc, workers, count)?;
@@ -133,8 +134,8 @@ fn unstarted_row(
     Ok(UnstartedRow { held })
 }
 
-/// What the instances of all sources and operators start from, by their numbers. Each row of a source moves to its worker.
-/// An instance gives batches of at most `batch` records.
+/// What the instances of all sources and operators start from, by their numbers. Each row of a source moves to its
+/// worker. An instance emits batches of at most `batch` records.
 pub fn unstarted_rows(
     alloc: Global,
     program: &Program,
@@ -148,7 +149,7 @@ pub fn unstarted_rows(
     ensures { IfOk result (λ rows. AreAllUnstarted program.now physical.now inputs batch (length program.now.ops) rows.items) }
 {
     let ops = program.ops();
-    // The call states that a physical plan has few numbers.
+    // `workers` makes it known that a physical plan has few numbers.
     let _workers = physical.workers();
     let mut left = inputs;
     let mut rows = Vec::with_capacity(alloc, ops.len())?;

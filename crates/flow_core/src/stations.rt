@@ -51,7 +51,7 @@ impl<L: Local> Model for Station<L> {
 }
 
 impl<L: Local> Station<L> {
-    /// The note that is wanted to go out moves to its pipe.
+    /// Moves the note that the instance wants to put to the pipe.
     pub(crate) fn put(&mut self, to: u32) -> Result<(), OutOfMemory>
         requires wanted { want self.old.instance ≡ Put to }
         requires to { to < length self.old.queues }
@@ -62,7 +62,7 @@ impl<L: Local> Station<L> {
         Ok(())
     }
 
-    /// Notes that were left on the pipe to a receiver come back to it.
+    /// Appends notes that were left on the pipe to a receiver.
     pub(crate) fn refill(&mut self, to: u32, notes: VecDeque<Note>) -> Result<(), OutOfMemory>
         requires { to < length self.old.queues }
         ensures { OnOk result (self.new ≡ refilled self.old to notes.items) }
@@ -82,7 +82,7 @@ impl<L: Local> Station<L> {
         queue.notes.len()
     }
 
-    /// The first note leaves a pipe.
+    /// Removes and returns the first note of the pipe to a receiver.
     pub(crate) fn give(&mut self, to: u32) -> Note
         requires { 0 < length (get_or self.old.queues to []) }
         ensures note { result ≡ first_note (get_or self.old.queues to []) }
@@ -143,7 +143,7 @@ impl<L: Local> Model for Row<L> {
 }
 
 impl<L: Local> Row<L> {
-    /// How many records the instances gave together.
+    /// The number of records that the instances emitted together, where the greatest u64 also counts for more.
     pub(crate) fn given(&self) -> u64
         ensures { result ≡ total_given self.now }
     {

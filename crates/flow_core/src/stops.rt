@@ -8,6 +8,6 @@ use local_strategy::Local;
 pub enum Replay<L: Local> {
     /// The first event that can't happen, by its place in the list, and the world before it.
     NotEnabled { index: usize, world: World<L> },
-    /// Memory was wanting.
+    /// Out of memory.
     Memory,
 }

@@ -8,7 +8,8 @@ ghost use Rattle.flow_instance.specs.Worlds.{reader_of};
 use pact_operators::{MAX_NODES, Parts, Physical, Plan};
 use std::marker::Model;
 
-/// A physical plan with its numbers, the reader of each edge, and what each operator reads, at hand: an event walks no plan.
+/// A physical plan with tables of its numbers, of the reader of each edge, and of what each operator reads. With them
+/// no event has to walk the plan.
 #[derive(Drop)]
 pub(crate) struct Wiring {
     physical: Physical,
@@ -59,11 +60,11 @@ fn reader_of(plan: &Plan, edge: u32) -> Option<(u32, u32)>
     }
 }
 
-// Which numbers are the plan's.
+// For each number, whether the plan has it.
 fn nodes_of(plan: &Plan) -> [bool; MAX_NODES]
     ensures { (at : ℕ) → get_or result at false ≡ has at plan.now }
 {
-    // the root of a plan tells that it is one
+    // `root` makes it known that this is a plan.
     let _root = plan.root();
     let mut nodes = [false; MAX_NODES];
     for at in 0..MAX_NODES {
@@ -76,7 +77,7 @@ fn nodes_of(plan: &Plan) -> [bool; MAX_NODES]
 fn readers_of(plan: &Plan) -> [Option<(u32, u32)>; MAX_NODES]
     ensures { (edge : ℕ) → get_or result edge None ≡ reader_of edge plan.now }
 {
-    // the root of a plan tells that it is one
+    // `root` makes it known that this is a plan.
     let _root = plan.root();
     let mut readers = [None; MAX_NODES];
     for edge in 0..MAX_NODES {
@@ -99,7 +100,7 @@ fn input_of(plan: &Plan, at: u32, port: u32) -> Option<u32>
 fn inputs_of(plan: &Plan, port: u32) -> [Option<u32>; MAX_NODES]
     ensures { (at : ℕ) → get_or result at None ≡ input_in plan.now at port }
 {
-    // the root of a plan tells that it is one
+    // `root` makes it known that this is a plan.
     let _root = plan.root();
     let mut inputs = [None; MAX_NODES];
     for at in 0..MAX_NODES {
@@ -150,7 +151,7 @@ impl Wiring {
         self.readers.get(edge as usize).copied().flatten()
     }
 
-    /// What the operator reads at a port, and None where the plan doesn't have it.
+    /// What the operator reads at a port, and None if the plan doesn't have it.
     pub(crate) fn input(&self, at: u32, port: u32) -> Option<u32>
         ensures { result ≡ input_in self.now.tree at port }
     {

@@ -1,4 +1,4 @@
-//! Worlds.
+//! Worlds: all instances of a plan, with the notes on the pipes between them.
 
 ghost use Rattle.std.specs.Prelude.{◌≡◌, ◌<◌, ◌≤◌, ℕ, true, List, length, map, IfNone, IfOk, IfSome, OnOk};
 ghost use Rattle.pact_operators.specs.Inputs.{AreInputsOf};
@@ -51,7 +51,7 @@ impl<L: Local> Model for World<L> {
     ghost view = { λ w. record { physical = w.wiring; depth = w.depth; stations = w.stations.items } };
 }
 
-// How many records each source and operator gave.
+// How many records each source and operator emitted.
 fn count_rows<L: Local>(alloc: Global, rows: &[Row<L>]) -> Result<Counts, OutOfMemory>
     ensures { IfOk result (λ counts. counts ≡ map total_given rows.now) }
 {
@@ -62,7 +62,7 @@ fn count_rows<L: Local>(alloc: Global, rows: &[Row<L>]) -> Result<Counts, OutOfM
     Ok(counts)
 }
 
-// Whether two wants are the same.
+// Whether two wants are equal.
 fn does_want(a: Want, b: Want) -> bool
     ensures { result ≡ does_want a b }
 {
@@ -76,8 +76,9 @@ fn does_want(a: Want, b: Want) -> bool
 }
 
 impl<L: Local> World<L> {
-    /// The instances of a plan at their start, and empty pipes that hold at most `depth` notes each. An instance gives batches of at most `batch` records.
-    /// The rows of the sources are given away: each moves to its worker.
+    /// A world of the plan's instances at their start, with empty pipes that hold at most `depth` notes each. An
+    /// instance emits batches of at most `batch` records. The caller gives the rows of the sources away: each row moves
+    /// to its worker.
     pub fn start_owned(
         alloc: Global,
         program: &Program,
@@ -97,7 +98,7 @@ impl<L: Local> World<L> {
         ensures depth { IfOk result (λ w. w.depth ≡ depth) }
         ensures batch { IfOk result (λ w. HasBatchSize w batch) }
     {
-        // The calls state that these are a program and a physical plan.
+        // `fields` makes it known that this is a program, and `workers` that this is a physical plan.
         let (_fields, workers) = (program.fields(), physical.workers());
         let rows = unstarted_rows(alloc, program, physical, inputs, batch)?;
         let instances = start_rows(alloc, rows)?;
@@ -110,7 +111,7 @@ impl<L: Local> World<L> {
         })
     }
 
-    /// The same of rows that are lent, of which each is copied once.
+    /// Like `start_owned`, but the rows are lent, and each is copied once.
     pub fn start(
         alloc: Global,
         program: &Program,
@@ -133,7 +134,7 @@ impl<L: Local> World<L> {
         World::start_owned(alloc, program, physical, inputs.copy(alloc)?, batch, depth)
     }
 
-    // The station of an operator on a worker, where there is one.
+    // The station of a source or operator on a worker, if there is one.
     fn station(&self, at: u32, worker: u32) -> Option<&Station<L>>
         ensures some { IfSome result (λ station. station.now ≡ station_in self.now.stations at worker) }
         ensures none { IfNone result (station_in self.now.stations at worker ≡ no_station) }
@@ -142,7 +143,7 @@ impl<L: Local> World<L> {
         row.held.get(worker as usize)
     }
 
-    // What an instance wants. Where there is none, nothing is wanted.
+    // What an instance wants. An instance that doesn't exist wants nothing.
     pub(crate) fn want(&self, at: u32, worker: u32) -> Want
         ensures { result ≡ want (instance_in self.now.stations at worker) }
     {
@@ -183,8 +184,9 @@ impl<L: Local> World<L> {
         does_want(self.want(at, pipe.to), Want::Take(port)) && self.queued(pipe) > 0
     }
 
-    /// Whether the event can happen: a note is put where its sender wants that and the pipe holds fewer notes than the depth, and taken where the
-    /// receiver wants the port and the pipe holds a note; an instance ends where it wants to. Of what the plan doesn't have nothing can happen.
+    /// Whether the event can happen. A note can be put if its sender wants that and the pipe holds fewer notes than the
+    /// depth. A note can be taken if the receiver wants to take at the port and the pipe holds a note. An instance can
+    /// end if it wants to. No event can happen at instances or pipes that the plan doesn't have.
     pub fn enabled(&self, event: Event) -> bool
         ensures { result ≡ enabled self.now.physical self.now.depth (seen self.now) event }
     {
@@ -197,7 +199,7 @@ impl<L: Local> World<L> {
         }
     }
 
-    // The note that is wanted to go out moves to its pipe.
+    // Moves the note that the sender wants to put to the pipe.
     fn put(&mut self, pipe: PipeId) -> Result<(), OutOfMemory>
         requires wanted { want (instance_in self.old.stations pipe.edge pipe.from) ≡ wants.Put pipe.to }
         requires whole { IsWhole self.old.physical self.old.stations }
@@ -212,7 +214,7 @@ impl<L: Local> World<L> {
         self.stations[pipe.edge as usize].held[pipe.from as usize].put(pipe.to)
     }
 
-    // The first note leaves a pipe.
+    // Removes and returns the first note of a pipe.
     fn give(&mut self, pipe: PipeId) -> Note
         requires some { 0 < length (queue_in self.old.stations pipe.edge pipe.from pipe.to) }
         requires whole { IsWhole self.old.physical self.old.stations }
@@ -229,7 +231,6 @@ impl<L: Local> World<L> {
         self.stations[pipe.edge as usize].held[pipe.from as usize].give(pipe.to)
     }
 
-    // An instance takes a note.
     fn receive(
         &mut self,
         at: u32,
@@ -252,7 +253,6 @@ impl<L: Local> World<L> {
         self.stations[at as usize].held[worker as usize].take(port, from, note)
     }
 
-    // An instance ends.
     fn end(&mut self, at: u32, worker: u32)
         requires wanted { want (instance_in self.old.stations at worker) ≡ wants.End }
         requires whole { IsWhole self.old.physical self.old.stations }
@@ -266,7 +266,7 @@ impl<L: Local> World<L> {
         self.stations[at as usize].held[worker as usize].end();
     }
 
-    // The first note of a pipe moves to its reader.
+    // Moves the first note of a pipe to its reader.
     fn take(&mut self, pipe: PipeId) -> Result<(), OutOfMemory>
         requires can { enabled self.old.physical self.old.depth (seen self.old) (events.Take pipe) ≡ true }
         requires stands { StandsForSome self.old }
@@ -282,7 +282,7 @@ impl<L: Local> World<L> {
         self.receive(at, pipe.to, port, pipe.from, note)
     }
 
-    // The world after an event.
+    // Lets the event happen.
     fn change(&mut self, event: Event) -> Result<(), OutOfMemory>
         requires can { enabled self.old.physical self.old.depth (seen self.old) event ≡ true }
         requires stands { StandsForSome self.old }
@@ -301,7 +301,7 @@ impl<L: Local> World<L> {
         }
     }
 
-    /// Lets an event happen. After want of memory the world may only be dropped.
+    /// Lets an event happen. After an out-of-memory error the world may only be dropped.
     pub fn step(&mut self, event: Event) -> Result<(), OutOfMemory>
         requires can { enabled self.old.physical self.old.depth (seen self.old) event ≡ true }
         requires stands { StandsForSome self.old }
@@ -317,7 +317,8 @@ impl<L: Local> World<L> {
         self.change(event)
     }
 
-    /// What is left at the end: the records that the root's instances placed, and how many each source and operator gave.
+    /// What is left at the end: the records that the root's instances placed, and how many records each source and
+    /// operator emitted.
     pub(crate) fn finish(self) -> Result<Outcome, OutOfMemory>
         requires { StandsForSome self }
         ensures { IfOk result (λ o. IsOutcome self o.rows o.counts) }

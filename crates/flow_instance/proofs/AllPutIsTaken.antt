@@ -1,4 +1,4 @@
--- Where every instance is done, all that was put was taken.
+-- When every instance is done, every note that was put was also taken.
 use Rattle.std.proofs.Common.{◌≡◌, ◌<◌, inl, inr, cond, ◌==◌, ℕ, zero, suc, Bool, true, false, Option, Some, None, List, [], ◌++◌, slice_get, refl, ap, sym, ◌∙◌, subst, append-nil}
 use Rattle.std.proofs.lemmas.Bool.{and_right, cases_Bool, cases_lt, or_cases}
 use Rattle.std.specs.List.Sorted.{IsPermutation}
@@ -57,7 +57,7 @@ sender_has_ended q from k notes pipe e = simp pipe at e
 both_nil : (put taken queue : List Note) → put ≡ taken ++ queue → put ≡ [] → put ≡ taken
 both_nil put taken queue e n = n ∙ sym (left_nil taken queue (sym e ∙ n))
 
--- the root has no edge
+-- no edge leaves the root
 pub no_edge : (g : Setting) (edge from to : ℕ) → (edge == root_of g.physical.tree) ≡ true → has_out (ship_at g.physical edge) from to ≡ false
 no_edge g edge from to root =
     let none : has_edge edge g.physical.tree ≡ false = rw (root, and_right (has edge g.physical.tree) false refl) refl in

@@ -16,7 +16,7 @@ use Rattle.flow_instance.specs.Notes.{AreNotes, IsNote, has_end, rows_of}
 use Rattle.flow_instance.specs.Steps.{is_end, note_rows}
 use Rattle.pact_record.proofs.Permutations.{from_permutation, to_permutation, flat_map_perm}
 
--- ---- permutations, with what they are of left out
+-- ---- permutations, with the type argument implicit
 
 pub is_same : {X : Type 0} {xs ys : List X} → xs ≡ ys → IsPermutation xs ys
 is_same {X} {xs} {ys} e = subst (IsPermutation xs) e (IsPermutation-refl xs)

@@ -1,4 +1,4 @@
--- The keys of two bags are those of the first, and those of the second that the first lacks.
+-- The keys of two bags are the keys of the first, and those of the second that the first lacks.
 use Rattle.std.proofs.Common.{◌≡◌, ◌++◌, ◌∷◌, [], ◌||◌, ℕ, Bool, true, false, not, cond, List, map, refl, ap, sym, ◌∙◌}
 use Rattle.std.proofs.Math.Bool.{not-not}
 use Rattle.std.specs.Prelude.{filter}
@@ -20,7 +20,7 @@ once_more false true k test ks ls e h = ap (λ (t : Bool). cond t (k ∷ filter 
 once_more true false k test ks ls e h = h
 once_more false false k test ks ls e h = h
 
--- other than j, and none of the others
+-- filtering out the keys in `o` and then j is the same as filtering out both at once
 filter-both : (j : List Value) (o : List Value → Bool) (ks : List (List Value)) → filter (other_than j) (filter (λ k. not (o k)) ks) ≡ filter (λ k. not (is_same_key j k || o k)) ks
 filter-both j o [] = refl
 filter-both j o (k ∷ ks) =

@@ -1,4 +1,4 @@
--- A call of a program's function gives no more records than it takes steps.
+-- A call of a program's function emits at most as many records as it takes steps.
 use Rattle.std.proofs.Common.{List, arith}
 use Rattle.pact_operators.specs.Allowed.{Bag}
 use Rattle.pact_operators.specs.PlanOps.{body_at, plan_ops}

@@ -1,4 +1,4 @@
--- The calls of a Reduce and a CoGroup, by the numbers of the keys.
+-- The calls of a Reduce and a CoGroup, by the numbers of their keys.
 use Rattle.std.proofs.Common.{◌≡◌, ◌<◌, ◌≤◌, ◌+◌, ℕ, zero, suc, Bool, true, false, cond, Option, Some, List, [], ◌∷◌, ◌++◌, length, map, take, refl, ap, sym, ◌∙◌, subst, arith, add-one, append-nil, append_assoc}
 use Rattle.std.proofs.lemmas.List.{take_all}
 use Rattle.std.specs.Prelude.{IfSome, filter, slice_get}
@@ -21,13 +21,13 @@ use Rattle.flow_instance.specs.Grouping.{AreCoGroupsGiven, AreGroupsAt, AreGroup
 use Rattle.flow_instance.proofs.BothKeys.{keys_of_both}
 use Rattle.flow_instance.proofs.PairsByKeys.{group_wide}
 
--- ---- the group of a number
+-- ---- the group of the key with a number
 
--- each of the keys has a record
+-- each key has at least one record
 abbrev HaveGroups : List ℕ → Bag → List (List Value) → Type 0
 HaveGroups keys rows ks = AllByRecursion (λ k. 0 < length (group_of_key keys rows k)) ks
 
--- the key of a number, with its group
+-- the key with a number, and its group
 pub record IsNumbered (keys : List ℕ) (rows : Bag) (order : List (List Value)) (n : ℕ) (group : Bag) : Type 0 where
   pub key : List Value
   pub is : slice_get order n ≡ Some key
@@ -54,7 +54,7 @@ numbered_as {keys} {own} rows order n group same less o p = subst (λ (ks : List
 pub numbered_wide : {keys : List ℕ} {rows : Bag} {order : List (List Value)} {n : ℕ} {group : Bag} (fields : ℕ) → IsNumbered keys rows order n group → AreWide fields rows → AreWide fields group
 numbered_wide {keys} {rows} {order} {n} {group} fields r wide = group_wide fields keys rows group r.key wide r.same
 
--- the records of a permuted group have its key
+-- every record of a permuted group has the group's key
 pub keys_of_group : (keys : List ℕ) (rows group : Bag) (k : List Value) → IsPermutation (group_of_key keys rows k) group → AllByRecursion (λ row. key_of keys row ≡ k) group
 keys_of_group keys rows group k p = each_perm (λ (row : List Value). key_of keys row ≡ k) (from_permutation (group_of_key keys rows k) group p) (group_keys keys rows k)
 
@@ -70,7 +70,7 @@ each_more Gives (k ∷ order) zero out given less g c = (given, [], c, ap (λ (l
 each_more Gives (k ∷ order) (suc n) out given less g c =
     (g.0, g.1 ++ given, g.2, ap (λ (l : Bag). l ++ given) g.3 ∙ append_assoc g.0 g.1 given, each_more Gives order n g.1 given (omega (arith, less)) g.4 c)
 
--- what the calls for a prefix of the keys have given, with the next one's
+-- the output for a prefix of the keys, extended by the output for the next key
 pub given_on : (fields : ℕ) (Gives : List Value → Bag → Type 0) (order : List (List Value)) (n : ℕ) (out whole : Bag) → n < length order → EachGives Gives (take n order) out
     → IsAppended (λ part. IfSome (slice_get order n) (λ k. Gives k part)) out whole → AreWide fields whole → EachGives Gives (take (n + 1) order) whole × AreWide fields whole
 given_on fields Gives order n out whole less h g wide = (
@@ -78,11 +78,11 @@ given_on fields Gives order n out whole less h g wide = (
   wide,
 )
 
--- and those for all keys
+-- the output for all keys
 pub all_given : (Gives : List Value → Bag → Type 0) (order : List (List Value)) (n : ℕ) (out : Bag) → length order ≤ n → EachGives Gives (take n order) out → EachGives Gives order out
 all_given Gives order n out past g = subst (λ (ks : List (List Value)). EachGives Gives ks out) (take_all n order past) g
 
--- ---- keys in another order
+-- ---- the same keys in another order
 
 pub record IsGivenAs (Gives : List Value → Bag → Type 0) (ks : List (List Value)) (out : Bag) : Type 0 where
   pub other : Bag
@@ -111,7 +111,7 @@ in_order Gives (chains p q) out g =
 pub other_order : (Gives : List Value → Bag → Type 0) (ks js : List (List Value)) (out : Bag) → IsPermutation ks js → EachGives Gives js out → IsGivenAs Gives ks out
 other_order Gives ks js out p g = in_order Gives (from_permutation ks js p) out g
 
--- ---- what a Reduce gives
+-- ---- the output of a Reduce
 
 grouped : (f : List Value → Bag → Bag) (keys : List ℕ) (rows : Bag) (ks : List (List Value)) (out : Bag) → EachGives (IsCalled f keys rows) ks out → Grouped f keys rows ks out
 grouped f keys rows [] out g = g
@@ -133,7 +133,7 @@ other_group {keys} {rows} {order} {n} {group} {row} others other_rows other r e 
     let key : key_of keys row ≡ r.key = AllByRecursion-slice_get (λ (x : List Value). key_of keys x ≡ r.key) group 0 row (keys_of_group keys rows group r.key r.same) e in
     subst (λ (k : List Value). IsPermutation (group_of_key others other_rows k) other) key p
 
--- a side lacks a key where it has no record of it in another order
+-- two orders of the same rows agree on whether there is any row
 has_none-same : (rows other : Bag) → IsPermutation rows other → has_none rows ≡ has_none other
 has_none-same [] [] p = refl
 has_none-same [] (row ∷ other) p = absurd (omega (arith, length_permutation [] (row ∷ other) p))
@@ -151,7 +151,7 @@ by_side Left f keys other_keys rows others k own other out p q told = (own, othe
 by_side Right f keys other_keys rows others k own other out p q told =
     subst (λ (b : Bool). IsCalledIf b (IsCoCalled f other_keys keys others rows k) out) (sym (has_none-same (group_of_key other_keys others k) other q)) (alone f other_keys keys others rows k other own out q p told)
 
--- what is given for the key with a number
+-- the output for the key with a number
 pub called_from : {keys other_keys fields : List ℕ} {rows others : Bag} {order : List (List Value)} {n : ℕ} {own other : Bag} (side : Side) (f : List Value → Bag → Bag → Bag) (old new : Bag) → fields ≡ other_keys → AreGroupsAt keys fields rows others order n own other
     → ((k : List Value) → AllByRecursion (λ row. key_of keys row ≡ k) own → AllByRecursion (λ row. key_of other_keys row ≡ k) other → IsAppended (IsGivenFrom side f k own other) old new)
     → IsAppended (λ part. IfSome (slice_get order n) (λ k. IsCalledFrom side f keys other_keys rows others k part)) old new
@@ -163,14 +163,15 @@ called_from {keys} {other_keys} {fields} {rows} {others} {order} {n} {own} {othe
       more.2,
     )
 
--- ---- what a CoGroup gives
+-- ---- the output of a CoGroup
 
 pub each_append : (Gives : List Value → Bag → Type 0) (ks js : List (List Value)) (out other : Bag) → EachGives Gives ks out → EachGives Gives js other → EachGives Gives (ks ++ js) (out ++ other)
 each_append Gives [] js out other g h = subst (EachGives Gives js) (ap (λ (l : Bag). l ++ other) (sym g)) h
 each_append Gives (k ∷ ks) js out other g h =
     (g.0, g.1 ++ other, g.2, ap (λ (l : Bag). l ++ other) g.3 ∙ append_assoc g.0 g.1 other, each_append Gives ks js g.1 other g.4 h)
 
--- the keys that the left side lacks give what all keys of the right side give
+-- Calls for the keys that the left side lacks emit together what the conditional calls for all keys of the right side
+-- emit.
 keep_lacking : (Gives : List Value → Bag → Type 0) (b : Bool) (k : List Value) (ks : List (List Value)) (part rest out : Bag) → IsCalledIf b (Gives k) part → out ≡ part ++ rest → EachGives Gives ks rest → EachGives Gives (cond b (k ∷ ks) ks) out
 keep_lacking Gives true k ks part rest out p e g = (part, rest, p, e, g)
 keep_lacking Gives false k ks part rest out p e g = subst (EachGives Gives ks) (sym (e ∙ ap (λ (l : Bag). l ++ rest) p)) g
@@ -210,7 +211,7 @@ sides_turned {f} {left_keys} {right_keys} {left_fields} {right_fields} {ls} {rs}
   right_wide = s.left_wide;
 }
 
--- those of the groups of a key
+-- both sides have the groups of the key
 pub sides_at : {f : WithFields} {keys other_keys own_fields other_fields : List ℕ} {rows others : Bag} {order : List (List Value)} {n : ℕ} {own other : Bag} → AreSides f keys other_keys own_fields other_fields rows others
     → AreGroupsAt keys other_fields rows others order n own other → AreSides f keys other_keys keys other_keys own other
 sides_at {f} {keys} {other_keys} {own_fields} {other_fields} {rows} {others} {order} {n} {own} {other} s r = record {
@@ -225,8 +226,7 @@ sides_at {f} {keys} {other_keys} {own_fields} {other_fields} {rows} {others} {or
   right_wide = group_wide f.fields other_fields others other r.key s.right_wide r.other_same;
 }
 
--- the call for a key that the other side lacks
--- a key that the left side has is none of the right side alone
+-- a key of the right side for which the left side has a record gets no call from the right side
 pub given_none : (side : Side) (f : List Value → Bag → Bag → Bag) (k : List Value) (own other : Bag) → side ≡ Right → 0 < length other → IsGivenFrom side f k own other []
 given_none side f k own [] e some = absurd (omega (arith, some))
 given_none side f k own (row ∷ other) e some = subst (λ (s : Side). IsGivenFrom s f k own (row ∷ other) []) (sym e) refl

@@ -1,4 +1,4 @@
--- That an operator's function may be called: for kept groups, and for pairs of a kept record and one that came.
+-- An operator's function may be called for kept groups, and for pairs of a kept record and one that came.
 use Rattle.std.proofs.Common.{◌≡◌, ◌&&◌, ℕ, Bool, true, false, Some, List, [], ◌⊎◌, inl, inr, length, refl, sym, ap, ◌∙◌, subst, arith}
 use Rattle.std.specs.Option.{IsSome}
 use Rattle.std.specs.List.Sorted.{IsPermutation}
@@ -22,7 +22,7 @@ use Rattle.flow_instance.proofs.TakenNotes.{its_fields, its_function}
 pub has_function : (p : Part) → IsOperator p → IsSome p.called
 has_function p h = subst IsSome (sym h.called) refl
 
--- ---- by the kind
+-- ---- by kind
 
 groups_open : (kind : OpKind) (ended : Bool) → works_at_once kind ≡ false → is_built kind ended ≡ false
 groups_open Source ended w = refl
@@ -81,7 +81,7 @@ module _ {L : Type 0} (rows : L → Bag) (keys : L → List ℕ) (is_sealed : L 
       subst (λ (h : WithFields). AreWide h.fields kept) (its_function s.part f sound.operator e)
       (subst (λ (n : ℕ). AreWide n kept) (sym sound.operator.fields) (wide_permuted s.part.fields (rows s.left) kept p sound.left_wide))
 
-  -- what has the program's fields has the function's
+  -- records that have the program's number of fields have the function's
   pub fields_of : (f : WithFields) (some : Bag) → s.part.called ≡ Some f → AreWide s.part.fields some → AreWide f.fields some
   fields_of f some e wide = subst (λ (n : ℕ). AreWide n some) (sym (its_fields s.part f sound.operator e)) wide
 
@@ -120,7 +120,7 @@ module _ {L : Type 0} (rows : L → Bag) (keys : L → List ℕ) (is_sealed : L 
     pub sides_of : (f : WithFields) → s.part.called ≡ Some f → AreSides f s.part.left_keys s.part.right_keys (keys l) (keys r) (rows l) (rows r)
     sides_of f e = subst (λ (h : WithFields). AreSides h s.part.left_keys s.part.right_keys (keys l) (keys r) (rows l) (rows r)) (its_function s.part f sound.operator e) own_sides
 
--- what is kept for pairs is sealed when port 1 takes
+-- the left records that are kept for pairs are sealed when the instance takes at port 1
 pub left_built : {L : Type 0} (rows : L → Bag) (keys : L → List ℕ) (is_sealed : L → Bool) (s : State L) → IsReady rows keys is_sealed s 1 → is_pair_kind s.part.kind ≡ true → is_sealed s.left ≡ true
 left_built rows keys is_sealed s ready k =
     let ended : port_ended (seen rows s) 0 ≡ true = elim ready.which as (λ _. port_ended (seen rows s) 0 ≡ true) [ inl zero ↦ absurd (omega (arith, zero)) | inr one ↦ one.1 ] in

@@ -1,4 +1,4 @@
--- Batches that come one by one.
+-- Batches that are built row by row.
 use Rattle.std.proofs.Common.{◌≡◌, ◌<◌, ◌==◌, ℕ, Bool, cond, List, [], ◌∷◌, ◌++◌, length, map, get_or, refl, ap, sym, ◌∙◌, subst, arith, append_assoc, append-nil}
 use Rattle.std.specs.List.{AllByRecursion}
 use Rattle.std.proofs.lemmas.Bool.{eq-eqb}
@@ -17,7 +17,7 @@ pub rows_for-append : (to : ℕ) (a b : List (ℕ × Bag)) → rows_for to (a ++
 rows_for-append to [] b = refl
 rows_for-append to (w ∷ a) b = ap (λ (l : Bag). cond (w.0 == to) w.1 [] ++ l) (rows_for-append to a b) ∙ sym (append_assoc (cond (w.0 == to) w.1 []) (rows_for to a) (rows_for to b))
 
--- what is held comes as a batch
+-- the held rows are queued as a batch
 pub stowed : (fields to : ℕ) (done held : Bag) (old before after : List Parcel) → 0 < length held → after ≡ before ++ batch_parcel (to, held) ∷ [] → AreCarriedBut fields to done old before held → AreCarriedBut fields to done old after []
 stowed fields to done held old before after some e c = record {
   more = c.more ++ (to, held) ∷ [];
@@ -29,7 +29,7 @@ stowed fields to done held old before after some e c = record {
   wide = tt;
 }
 
--- all are held
+-- all rows are held, and none is in a batch yet
 pub all_held : (fields to : ℕ) (rows : Bag) (old : List Parcel) → AreWide fields rows → AreCarriedBut fields to rows old old rows
 all_held fields to rows old wide = record { more = []; behind = sym (append-nil old); batches = tt; carried = refl; wide = wide }
 
@@ -53,14 +53,14 @@ all_carried fields to done old new held few c = record {
 
 -- ---- rows that come one by one
 
--- the row of a turn of a loop over the rows
+-- the row of the current turn of a loop over the rows
 abbrev pub IsNext : (done rows : Bag) → List Value → Type 0
 IsNext done rows row = (length done < length rows) × (row ≡ get_or rows (length done) row)
 
 pub next_width : (fields : ℕ) (done rows : Bag) (row : List Value) → AreWide fields rows → IsNext done rows row → length row ≡ fields
 next_width fields done rows row wide n = ap length n.1 ∙ AllByRecursion-get_or (λ (r : List Value). length r ≡ fields) rows (length done) row n.0 wide
 
--- what is held has the width of the next row
+-- the held rows have the width of the next row
 pub held_width : (to : ℕ) (done rows : Bag) (row : List Value) (old new : List Parcel) (held : Bag) → HaveOneWidth rows → IsNext done rows row
     → ((fields : ℕ) → AreWide fields rows → AreCarriedBut fields to done old new held) → AllByRecursion (λ r. length r ≡ length row) held
 held_width to done rows row old new held one n c =

@@ -28,7 +28,7 @@ use Rattle.flow_instance.proofs.StandsAfterEvents.{added_elsewhere, added_here, 
 use Rattle.flow_instance.proofs.Readers.{found}
 use Rattle.plan_trees.proofs.NodesOfTrees.{nodes-has}
 
--- ---- sums of which one term is changed
+-- ---- sums in which one term changes
 
 pub sum-same : (n : ℕ) (f h : ℕ → ℕ) → ((k : ℕ) → k < n → h k ≡ f k) → sum_below n h ≡ sum_below n f
 sum-same zero f h e = refl
@@ -109,7 +109,7 @@ unfinished [] [] true true true e = absurd (cc)
 undone : (i : Instance) → i.finished ≡ false → does_want (want i) Done ≡ false
 undone i e = unfinished i.waiting i.marks (port_ended i 0) (port_ended i 1) i.finished e
 
--- an instance of which nothing is done, before and after
+-- an instance that isn't done before the event and isn't done after it
 done_same : (g : Setting) (w v : World) (at k n : ℕ) → (w.instance at k).finished ≡ false → (v.instance at k).finished ≡ false → OthersSame w at k v → done_at g v n ≡ done_at g w n
 done_same g w v at k n old new others =
     sum-same g.physical.workers (λ j. one_if (does_want (want (w.instance n j)) Done)) (λ j. one_if (does_want (want (v.instance n j)) Done)) (λ j less.

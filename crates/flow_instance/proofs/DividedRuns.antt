@@ -1,4 +1,4 @@
--- What a finished run gives is divided among its instances.
+-- The output of a finished run is divided among its instances.
 use Rattle.std.proofs.Common.{◌≡◌, ◌<◌, ◌+◌, ◌||◌, inl, inr, ℕ, zero, suc, Bool, true, false, Option, Some, None, List, [], ◌++◌, fold, length, map, slice_get, sum, refl, ap, sym, ◌∙◌, subst, append-nil, arith}
 use Rattle.std.proofs.lemmas.Bool.{and_from, and_parts, and_right, cases_Bool, cases_lt, or_right, eq-eqb}
 use Rattle.std.specs.List.Sorted.{IsPermutation}
@@ -29,9 +29,9 @@ use Rattle.flow_instance.proofs.EndMarksAndWants.{finished_by}
 use Rattle.plan_trees.proofs.EverySubtree.{AllBelow, all_below-at, all_below-root}
 use Rattle.flow_instance.proofs.Trees.{HasEdge, Inside, edges, inside_of}
 
--- ---- counts that stand still
+-- ---- saturating counts
 
--- a sum of counts counts as the sum of what is counted, over what was summed before
+-- the saturating count of a sum is the saturating sum of the counts, starting from a
 counted_from : (a n : ℕ) (f h : ℕ → ℕ) → ((k : ℕ) → k < n → f k ≡ count_of (h k)) → count_of (a + sum_below n f) ≡ count_of (fold (λ s x. s + x) a (map h (workers_below n)))
 counted_from a zero f h e = ap count_of (omega arith)
 counted_from a (suc n) f h e = omega (arith, e n (omega arith), counted_from (a + h n) n f h (λ k less. e k (omega arith)))
@@ -46,7 +46,7 @@ moved_each f h n e = to_permutation (perm_each f h n (λ k below. from_permutati
 
 -- ---- the inputs of each subtree
 
--- what holds of a tree's inputs
+-- a property of each input of a tree
 abbrev Inputs : (PlanTree → Type 0) → PlanTree → Type 0
 Inputs P (leaf n) = Unit {0}
 Inputs P (over n t) = P t
@@ -59,7 +59,7 @@ inputs_below P (both n t u) h = ((all_below-root P t h.0, all_below-root P u h.1
 
 -- ---- an instance that is done
 
--- What an instance that is done tells of what it gave: it follows from all that was taken, and all of it was put or placed.
+-- A done instance gave records that follow from all notes taken. All of these records were put or placed.
 record Told (s : Spot) (worker : ℕ) (i : Instance) (taken : ℕ → ℕ → List Note) (put : ℕ → List Note) (given : Bag) : Type 0 where
   pub gave : IsGiven s s.kind s.ports worker (taken_rows s.workers taken) given
   pub put_all : (to : ℕ) → to < s.workers → IsPermutation (sent s.out s.workers worker to given) (rows_of (put to))
@@ -87,7 +87,7 @@ LeafIsSource o (over n t) = Unit {0}
 LeafIsSource o (both n t u) = Unit {0}
 
 module _ (g : Setting) (rows : Bag) (counts : List ℕ) (run : Spread g rows counts) where
-  -- what the instance of a number on a worker tells
+  -- the facts about the instance with this number on a worker
   abbrev ToldAt : (at worker : ℕ) → Bag → Type 0
   ToldAt at worker given =
       let t = subtree_of at g.physical.tree in
@@ -96,7 +96,7 @@ module _ (g : Setting) (rows : Bag) (counts : List ℕ) (run : Spread g rows cou
   abbrev Chosen : ℕ → ℕ → Type 0
   Chosen at worker = (given : Bag) × (has at g.physical.tree ≡ true → worker < g.physical.workers → ToldAt at worker given)
 
-  -- what it gave, and nothing where there is none
+  -- the records that the instance gave, or no records if there is no such instance
   chosen : (at worker : ℕ) → Chosen at worker
   chosen at worker = elim (cases_Bool (has at g.physical.tree)) as (λ _. Chosen at worker) [
     | inr none ↦ ([], λ there. absurd (let clash : true ≡ false = sym there ∙ none in cc))
@@ -116,7 +116,7 @@ module _ (g : Setting) (rows : Bag) (counts : List ℕ) (run : Spread g rows cou
   unfolding gave
   told_at at worker there below = (chosen at worker).1 there below
 
-  -- where an edge leaves, what the instances put for a worker is what goes there
+  -- If the tree has an edge, the records that the instances put for a worker are the records that go there.
   received : (t : PlanTree) → HasEdge g.physical.tree t → (worker : ℕ) → worker < g.physical.workers → (given : Bag)
       → IsPermutation (all_of g.physical.workers (λ from. rows_of (run.notes (root_of t) from worker))) given → IsReceived g.physical gave t worker given
   received t edge worker below given e =
@@ -128,7 +128,7 @@ module _ (g : Setting) (rows : Bag) (counts : List ℕ) (run : Spread g rows cou
       subst (λ (o : Option Ship). IsPermutation (sent o g.physical.workers from worker (gave (root_of t) from)) (rows_of (run.notes (root_of t) from worker))) out
       ((told_at (root_of t) from there less).put_all worker below))) e
 
-  -- from what an instance tells to its share
+  -- the instance's share of its operator's output
   share : (t : PlanTree) (worker : ℕ) (given : Bag) → worker < g.physical.workers → Inputs (HasEdge g.physical.tree) t → LeafIsSource g.ops t
       → IsGiven (spot g t) (spot g t).kind (spot g t).ports worker (taken_rows g.physical.workers (λ port from. lists_at run.notes (slice_get (ports_of g.physical t) port) from worker)) given
       → given ≡ gave (root_of t) worker → GaveShare g.ops g.physical gave t worker
@@ -175,7 +175,7 @@ module _ (g : Setting) (rows : Bag) (counts : List ℕ) (run : Spread g rows cou
         counted = λ at there. run.counts_are at there ∙ ap Some (same_given at there);
       }
 
--- ---- of a program
+-- ---- runs of a program
 
 source_leaves : (p : ProgramData) (inputs : List Bag) (t : PlanTree) → HasArity p.ops t → AllBelow (LeafIsSource (plan_ops p inputs)) t
 source_leaves p inputs (leaf n) h = is_source p.ops n h

@@ -74,7 +74,7 @@ sound_flagged rows keys is_sealed s ended h long e = record {
   counted = h.counted;
 }
 
--- ---- what a Reduce gives
+-- ---- the output of a Reduce
 
 may_reduce : (s : Spot) (kind : OpKind) (ports : List PortData) (worker : ℕ) (left right out : Bag) → is_reduce kind ≡ true → takes kind ≡ length ports → Grouped (s.ops.of_group s.at) (s.ops.left_keys s.at) left (keys_in (s.ops.left_keys s.at) left) out
     → MayGive s kind ports worker left right out
@@ -116,7 +116,7 @@ reduce_given rows keys is_sealed s f kept out h k e p g = λ ops a.
       permuted = g.same;
     })
 
--- ---- what a CoGroup gives
+-- ---- the output of a CoGroup
 
 may_cogroup : (s : Spot) (kind : OpKind) (ports : List PortData) (worker : ℕ) (left right out : Bag) → works_at_once kind ≡ false → is_reduce kind ≡ false → takes kind ≡ length ports
     → CoGrouped (s.ops.of_groups s.at) (s.ops.left_keys s.at) (s.ops.right_keys s.at) left right (keys_in_either (s.ops.left_keys s.at) (s.ops.right_keys s.at) left right) out → MayGive s kind ports worker left right out
@@ -157,7 +157,7 @@ cogroup_given rows keys is_sealed s f lefts rights out h w k e p q g = λ ops a.
       permuted = g.same;
     })
 
--- ---- the kept rows with those of an end mark
+-- ---- the kept rows after an end mark
 
 abbrev none_or_none : Bool → Bag
 none_or_none b = cond b [] []
@@ -169,7 +169,7 @@ none_if false = refl
 no_more : (kept : ℕ → Bag) (port : ℕ) → kept ≡ kept_with kept port End
 no_more kept port = λ i p. sym (ap (λ (l : Bag). kept p ++ l) (none_if (p == port)) ∙ append-nil (kept p)) i
 
--- not the last one
+-- an end mark that isn't the last one
 gives_nothing : (b : Bool) (s : Spot) (worker : ℕ) (i j : Instance) (port : ℕ) → all_ended j ≡ false → GivesNow b s worker i j port End []
 gives_nothing true s worker i j port e = (none_at_end s s.kind port (kept_at i 0) []).1 refl
 gives_nothing false s worker i j port e = subst (λ (b : Bool). Gave b (IsGiven s s.kind s.ports worker (kept_with (kept_at i) port End)) []) (sym e) refl

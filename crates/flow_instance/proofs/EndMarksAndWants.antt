@@ -8,7 +8,7 @@ use Rattle.flow_instance.specs.declared.notes.Want.TheVariants.{Take, Put, End, 
 use Rattle.flow_instance.specs.Instances.{want_by}
 use Rattle.flow_instance.specs.Notes.{has_end, AreNotes}
 
--- behind an end mark nothing stands
+-- no note follows an end mark
 pub nothing_behind : (fields : ℕ) (xs ys : List Note) → AreNotes fields (xs ++ ys) → has_end xs ≡ true → ys ≡ []
 nothing_behind fields [] ys h e = absurd cc
 nothing_behind fields (Batch rows ∷ xs) ys h e = nothing_behind fields xs ys h.2 e
@@ -33,7 +33,7 @@ ends [] (m ∷ ms) f h e = absurd (h m refl)
 ends [] [] false h e = absurd (e refl)
 ends [] [] true h e = refl
 
--- what a finished instance is
+-- the state of a finished instance
 pub record IsFinished (ws : List (ℕ × Bag)) (ms : List ℕ) (a b f : Bool) : Type 0 where
   pub waiting : ws ≡ []
   pub marks : ms ≡ []
@@ -45,7 +45,7 @@ pub finished_by : (ws : List (ℕ × Bag)) (ms : List ℕ) (a b f : Bool) → wa
 finished_by [] [] true true true e = record { waiting = refl; marks = refl; first = refl; second = refl; finished = refl }
 finished_by ws ms a b f e = absurd (cc)
 
--- a receiver to which a note is wanted to go is that of the first that waits
+-- if a property holds for the receiver of each note that waits, it holds for the receiver of the next put
 pub put_to : (P : ℕ → Type 0) (Q : ℕ × Bag → Type 0) (ws : List (ℕ × Bag)) (ms : List ℕ) (a b f : Bool) (to : ℕ) → ((w : ℕ × Bag) → Q w → P w.0) → AllByRecursion Q ws → AllByRecursion P ms
     → want_by ws ms a b f ≡ Put to → P to
 put_to P Q (w ∷ ws) ms a b f to h p q e = let same : w.0 ≡ to = cc in subst P same (h w p.0)

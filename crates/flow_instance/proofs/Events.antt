@@ -40,7 +40,7 @@ wants_end (Put p) e = absurd (cc)
 wants_end End e = refl
 wants_end Done e = absurd (cc)
 
--- ---- what an enabled event tells
+-- ---- consequences of an enabled event
 
 pub record MayPut (p : PhysicalData) (depth : ℕ) (w : World) (pipe : PipeId) : Type 0 where
   pub there : has pipe.edge p.tree ≡ true
@@ -82,7 +82,7 @@ may_end p depth w at worker e =
     let place = and_parts (has at p.tree) (nat_lt worker p.workers) parts.0 in
     record { there = place.0; below = ltb-true worker p.workers place.1; wanted = wants_end (want (w.instance at worker)) parts.1 }
 
--- ---- an event keeps a world standing
+-- ---- an event preserves `Stands`
 
 take_by : (g : Setting) (w v : World) (h : History) (p : PipeId) (o : Option (ℕ × ℕ)) → AreDifferent (nodes g.physical.tree) → Stands g w h → reader_of p.edge g.physical.tree ≡ o
     → p.from < g.physical.workers → p.to < g.physical.workers → can_take w p o ≡ true → TakesBy g w p o v → Stands g v (noted w (events.Take p) h)

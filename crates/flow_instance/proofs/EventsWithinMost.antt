@@ -1,4 +1,4 @@
--- `most` bounds the events of a world that stands for a history.
+-- `most` bounds the events of a world that agrees with a history (`Stands`).
 use Rattle.std.proofs.Common.{◌≤◌, ℕ, refl, sym, subst}
 use Rattle.std.proofs.lemmas.Bool.{eq-eqb}
 use Rattle.plan_trees.specs.Distinct.{AreDifferent}

@@ -1,4 +1,4 @@
--- A record with Null in the fields that it lacks has the key values of the record itself.
+-- Filling the missing fields of a record with Null doesn't change its key values.
 use Rattle.std.proofs.Common.{◌≡◌, ◌<◌, ◌≤◌, ◌+◌, ◌-◌, ◌++◌, ℕ, zero, suc, List, [], ◌∷◌, length, map, take, set, replicate, refl, ap, sym, ◌∙◌, arith, length-append}
 use Rattle.std.proofs.lemmas.List.{length-replicate, length-take-le, take_more}
 use Rattle.pact_bag.proofs.FilledFromLeft.{set_next}

@@ -23,7 +23,7 @@ module _ {L : Type 0} (rows : L → Bag) (s c d : State L) (out : Bag) (none : s
   lists : c.queue.items ≡ map batch_parcel g.list ++ map mark_parcel []
   lists = g.is ∙ sym (append-nil (map batch_parcel g.list))
 
-  -- more is to come
+  -- some sender hasn't ended
   pub begun_more : all_ended (seen rows c) ≡ false → HasBegun rows s out c
   begun_more not_yet = record {
     same = given;
@@ -35,7 +35,7 @@ module _ {L : Type 0} (rows : L → Bag) (s c d : State L) (out : Bag) (none : s
     orderly = orderly;
   }
 
-  -- nothing is to come
+  -- all senders have ended
   pub begun_last : all_ended (seen rows c) ≡ true → d ≡ record c { queue = d.queue } → HasMarked (part_of c.part) c.queue.items d.queue.items → HasBegun rows s out d
   begun_last all marked m =
       let part : c.part ≡ s.part = ap (λ (u : State L). u.part) given in

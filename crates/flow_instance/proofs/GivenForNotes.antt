@@ -1,4 +1,4 @@
--- What an operator gives for one note more.
+-- The records that an operator gives for one more note.
 use Rattle.std.proofs.Common.{◌≡◌, ◌↔◌, ◌==◌, ◌||◌, not, ℕ, zero, suc, Bool, true, false, cond, List, [], ◌∷◌, ◌++◌, slice_get, refl, ap, sym, ◌∙◌, subst, append-nil}
 use Rattle.std.proofs.lemmas.List.{nil_from_length}
 use Rattle.std.specs.Prelude.{filter, flat_map}
@@ -28,7 +28,7 @@ Grown rows port note new = (p : ℕ) → IsPermutation (kept_with rows port note
 pub nil_only : {X : Type 0} {ys : List X} → IsPermutation [] ys → ys ≡ []
 nil_only {X} {ys} p = nil_from_length ys (length_permutation [] ys p)
 
--- at another port nothing is added
+-- nothing is added at another port
 pub unchanged : (rows new : ℕ → Bag) (port p : ℕ) (note : Note) → (p == port) ≡ false → Grown rows port note new → IsPermutation (new p) (rows p)
 unchanged rows new port p note e h =
     turned (joined (is_same (sym (append-nil (rows p)) ∙ ap (λ (b : Bool). rows p ++ cond b (note_rows note) []) (sym e))) (h p))
@@ -53,7 +53,7 @@ ended s kind ports worker port rows new given out grown g e = record {
   permuted = joined g.permuted (is_same (sym (append-nil given) ∙ ap (λ (l : Bag). given ++ l) (sym e)));
 }
 
--- a pair's first port: nothing was taken at the second one
+-- a note at port 0 of an operator on pairs, before any note was taken at port 1
 left_first : (s : Spot) (kind : OpKind) (f : List Value → List Value → Bag) (p q : Port) (worker : ℕ) (rows new : ℕ → Bag) (batch given out : Bag)
     → ((ls rs o : Bag) → MayGive s kind (p ∷ q ∷ []) worker ls rs o → o ≡ crossed f ls rs) → ((ls rs : Bag) → MayGive s kind (p ∷ q ∷ []) worker ls rs (crossed f ls rs))
     → Grown rows 0 (Batch batch) new → rows 1 ≡ [] → IsGiven s kind (p ∷ q ∷ []) worker rows given → out ≡ [] → IsGiven s kind (p ∷ q ∷ []) worker new (given ++ out)
@@ -71,7 +71,7 @@ left_first s kind f p q worker rows new batch given out into from grown none g e
       permuted = is_same (crossed-nil f (new 0) ∙ (λ i. sym given_nil i ++ sym e i));
     }
 
--- and its second one
+-- a note at port 1 of an operator on pairs
 right_next : (s : Spot) (kind : OpKind) (f : List Value → List Value → Bag) (p q : Port) (worker : ℕ) (rows new : ℕ → Bag) (kept batch given out : Bag)
     → ((ls rs o : Bag) → MayGive s kind (p ∷ q ∷ []) worker ls rs o → o ≡ crossed f ls rs) → ((ls rs : Bag) → MayGive s kind (p ∷ q ∷ []) worker ls rs (crossed f ls rs))
     → Grown rows 1 (Batch batch) new → ((ls : Bag) → IsPermutation (rows 0) ls → IsPermutation (crossed f ls batch) (crossed f kept batch)) → IsGiven s kind (p ∷ q ∷ []) worker rows given → out ≡ crossed f kept batch → IsGiven s kind (p ∷ q ∷ []) worker new (given ++ out)
@@ -99,7 +99,7 @@ none_for nulls f ks js l (r ∷ rs) e =
     ap (λ (b : Bool). cond (do_match ks js l r) (cond b (f l r) []) [] ++ flat_map (matched nulls f ks js l) rs) e
     ∙ ap (λ (x : Bag). x ++ flat_map (matched nulls f ks js l) rs) (no_call (do_match ks js l r)) ∙ none_for nulls f ks js l rs e
 
--- what is given for those that may match is what is given for all
+-- dropping the left records that can't match doesn't change the output
 only_matching : (nulls : Bool) (f : List Value → List Value → Bag) (ks js : List ℕ) (ls rs : Bag)
     → crossed (matched nulls f ks js) ls rs ≡ crossed (matched nulls f ks js) (filter (λ l. nulls || not (has_null (key_of ks l))) ls) rs
 only_matching nulls f ks js [] rs = refl
@@ -114,7 +114,7 @@ only_matching nulls f ks js (l ∷ ls) rs = by (nulls || not (has_null (key_of k
   by true e same = ap (λ (rest : Bag). flat_map (g l) rs ++ rest) same
   by false e same = ap (λ (x : Bag). x ++ crossed g ls rs) (none_for nulls f ks js l rs e) ∙ same
 
--- for an end mark nothing is given at once
+-- an operator that works at once gives nothing for an end mark
 pub none_at_end : (s : Spot) (kind : OpKind) (port : ℕ) (kept out : Bag) → GivesAtOnce s kind port kept End out ↔ (out ≡ [])
 none_at_end s Match zero kept out = ((λ e. e), (λ e. e))
 none_at_end s Match (suc port) kept out = ((λ e. e), (λ e. e))
@@ -156,7 +156,7 @@ given_more s Cross (p ∷ q ∷ []) worker (suc zero) from (Batch batch) rows ne
     (λ ls same. crossed-left (s.ops.of_pair s.at) ls (kept 0) batch (joined (turned same) keeps)) g o
 given_more s kind ports worker port from note rows new kept given out w e grown keeps order g o = absurd (cc)
 
--- what an operator gives that waits for all
+-- the output of an operator that waits for all its input
 pub given_last : (s : Spot) (kind : OpKind) (ports : List Port) (worker port from : ℕ) (note : Note) (rows new kept : ℕ → Bag) (out : Bag)
     → works_at_once kind ≡ false → is_edge (slice_get ports port) from worker ≡ true → Grown rows port note new → KeepsRows s kind rows kept
     → IsGiven s kind ports worker (kept_with kept port note) out → IsGiven s kind ports worker new out
@@ -183,7 +183,7 @@ given_last s CoGroup (p ∷ q ∷ []) worker port from note rows new kept out w 
 }
 given_last s kind ports worker port from note rows new kept out w e grown keeps g = absurd (cc)
 
--- one port's rows are kept with the note's
+-- the rows kept for one port, with those of the note
 kept_port : (rows new kept more : ℕ → Bag) (port p : ℕ) (note : Note) → Grown rows port note new → IsPermutation (rows p) (kept p) → IsPermutation (kept_with kept port note p) (more p)
     → IsPermutation (new p) (more p)
 kept_port rows new kept more port p note grown keeps m =

@@ -1,4 +1,4 @@
--- What an instance keeps is what its program and plan say, and so what it owes follows.
+-- An instance keeps what its program and plan say. Its obligations follow from that.
 use Rattle.std.proofs.Common.{◌≡◌, ◌<◌, ◌||◌, not, ℕ, Bool, true, false, List, [], ◌∷◌, slice_get, refl, ap, sym, ◌∙◌, subst}
 use Rattle.std.specs.List.{AllByRecursion}
 use Rattle.flow_instance.proofs.LocalAfterTakes.{took_local}
@@ -31,7 +31,7 @@ ops_of s on p h = record {
 
 -- ---- a note is taken
 
--- operators that call the function of a part at any number
+-- a `PlanOps` in which every number is an operator with the part's function, keys and setting for Nulls
 abbrev own_ops : Part → PlanOps
 own_ops p = record {
   nulls = p.nulls;
@@ -55,7 +55,7 @@ are_own p = record { calls = calls p.kind; left_keys = refl; right_keys = refl; 
   calls Cross = λ left right. refl
   calls CoGroup = λ key left right. refl
 
--- its part is as before
+-- the part doesn't change
 pub same_part : (i j : Instance) (port from : ℕ) (note : Note) → ((ops : _) → AreOpsOf ops i.part → Took (spot_of i.part ops) i.part.worker i port from note j) → j.part ≡ i.part
 same_part i j port from note h = (h (own_ops i.part) (are_own i.part)).part
 
@@ -77,7 +77,7 @@ local_taken s i j port from note taken new put h wanted edge below open_still fi
     let unended : has_end (taken port from) ≡ false = not_yet (has_end (taken port from)) (is_edge (slice_get s.ports port) from i.part.worker) edge_s (sym (l.ended port from below_s) ∙ open_still) in
     took_local s i.part.worker i j taken new put port from note l wanted below_s edge_s unended (is_note s.fields note (subst (λ (n : ℕ). AreNotes n (note ∷ [])) part.fields fit)) (took_for s i j port from note taken put h l) a
 
--- which note is out is no matter
+-- the `receiver` field makes no difference
 pub took_receiver : (s : Spot) (worker : ℕ) (i j : Instance) (port from r : ℕ) (note : Note) → Took s worker i port from note j → Took s worker i port from note (record j { receiver = r })
 took_receiver s worker i j port from r note t = record {
   out = t.out;

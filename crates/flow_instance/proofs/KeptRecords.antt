@@ -18,7 +18,7 @@ wide_permuted fields xs ys p h = each_perm (λ (r : List Value). length r ≡ fi
 pub none_kept : {L : Type 0} (rows : L → Bag) (keys : L → List ℕ) (is_sealed : L → Bool) (fields : ℕ) (first : L) → is_sealed first ≡ false → AreWide fields (rows first) → IsKept rows keys is_sealed fields [] first first
 none_kept rows keys is_sealed fields first s wide = record { kept = is_same (append-nil (rows first)); same = λ i. keys first; not_sealed = s; wide = wide }
 
--- a row that may match, and one that may not
+-- a row that may match is added, and another row isn't
 pub row_added : {L : Type 0} (rows : L → Bag) (keys : L → List ℕ) (is_sealed : L → Bool) (may : List Value → Bool) (row : List Value) (old new : L) → may row ≡ true → IsPermutation (rows old ++ row ∷ []) (rows new) → keys new ≡ keys old
     → is_sealed new ≡ false → IsRowKept rows keys is_sealed may row old new
 row_added rows keys is_sealed may row old new e p k s = record { kept = joined (is_same (ap (λ (b : Bool). rows old ++ cond b (row ∷ []) []) e)) p; same = k; not_sealed = s }
@@ -26,7 +26,7 @@ row_added rows keys is_sealed may row old new e p k s = record { kept = joined (
 pub row_passed : {L : Type 0} (rows : L → Bag) (keys : L → List ℕ) (is_sealed : L → Bool) (may : List Value → Bool) (row : List Value) (old : L) → may row ≡ false → is_sealed old ≡ false → IsRowKept rows keys is_sealed may row old old
 row_passed rows keys is_sealed may row old e s = record { kept = is_same (ap (λ (b : Bool). rows old ++ cond b (row ∷ []) []) e ∙ append-nil (rows old)); same = λ i. keys old; not_sealed = s }
 
--- one row more, which is kept where it may match
+-- one more row, which is kept if it may match
 pub row_kept : {L : Type 0} (rows : L → Bag) (keys : L → List ℕ) (is_sealed : L → Bool) (fields : ℕ) (may : List Value → Bool) (done : Bag) (row : List Value) (first old new : L) → length row ≡ fields → IsRowKept rows keys is_sealed may row old new
     → IsKept rows keys is_sealed fields (filter may done) first old → IsKept rows keys is_sealed fields (filter may (done ++ row ∷ [])) first new
 row_kept rows keys is_sealed fields may done row first old new width k h =
@@ -39,7 +39,7 @@ row_kept rows keys is_sealed fields may done row first old new width k h =
           (AllByRecursion-append (λ (r : List Value). length r ≡ fields) (rows old) one h.wide (AllByRecursion-filter (λ (r : List Value). length r ≡ fields) may (row ∷ []) (width, tt)));
     }
 
--- where all may match, all are kept
+-- if all rows may match, all are kept
 pub all_chosen : (keys : List ℕ) (rows : Bag) → filter (may_match true keys) rows ≡ rows
 all_chosen keys [] = λ i. []
 all_chosen keys (row ∷ rows) = ap (λ (rest : Bag). row ∷ rest) (all_chosen keys rows)

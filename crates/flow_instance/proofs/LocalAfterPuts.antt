@@ -34,7 +34,7 @@ putting_by [] [] true true true to e = absurd (cc)
 each_one : (P : ℕ → Type 0) (a : ℕ) → P a → ((c : ℕ) → c ≢ a → P c) → (c : ℕ) → P c
 each_one P a here there c = elim (cases_eq c a) as (λ _. P c) [ inl e ↦ subst P (sym e) here | inr e ↦ there c e ]
 
--- what leaves the notes that wait, of the records for a receiver
+-- the records of the next note and of the later ones, for one receiver
 rows_left : (ws : List (ℕ × Bag)) (ms : List ℕ) (a : ℕ) → IsPutting ws ms a → note_rows (next_note ws) ++ rows_for a (later ws) ≡ rows_for a ws
 rows_left (w ∷ ws) ms a batch = ap (λ (b : Bool). cond b w.1 [] ++ rows_for w.0 ws) (sym (eq-eqb w.0 w.0 refl))
 rows_left [] (m ∷ ms) a mark = refl
@@ -55,7 +55,7 @@ marks_kept (w ∷ ws) ms a c batch other = refl
 marks_kept [] [] a c p other = elim p [ ]
 marks_kept [] (m ∷ ms) a c mark other = sym (zero-add (marks_for c ms)) ∙ ap (λ (b : Bool). one_if b + marks_for c ms) (sym (ne_eqb m c (λ e. other (sym e))))
 
--- nothing was ended where a note is put
+-- no end mark was put for a receiver that a note still waits for
 not_before : (b owed : Bool) (ws : List (ℕ × Bag)) (ms : List ℕ) (a : ℕ) → IsPutting ws ms a → one_if b + marks_for a ms ≡ one_if owed → (b ≡ true → ws ≡ []) → b ≡ false
 not_before false owed ws ms a p e last = refl
 not_before true owed (w ∷ ws) ms a batch e last = let none = last refl in absurd (cc)
@@ -74,7 +74,7 @@ all_later_marks : (P : ℕ → Type 0) (ws : List (ℕ × Bag)) (ms : List ℕ) 
 all_later_marks P [] ms h = all_later P ms h
 all_later_marks P (w ∷ ws) ms h = h
 
--- behind an end mark that was put, and at a mark that is put, no batch waits
+-- no batch waits once an end mark was put or is being put
 later_empty : (ws : List (ℕ × Bag)) → ws ≡ [] → later ws ≡ []
 later_empty ws e = ap later e
 
@@ -127,9 +127,9 @@ offered_local s worker i taken put new a l wanted below more =
       counted = l.counted;
     }
 
--- ---- a note comes back, and the end
+-- ---- a note is put back, and the instance ends
 
--- another receiver of the last note, or an end, changes nothing else
+-- `IsLocal` still holds if `receiver` changes, or if `finished` changes when nothing is left to do
 with_state : (s : Spot) (worker r : ℕ) (f : Bool) (i : Instance) (taken : ℕ → ℕ → List Note) (put : ℕ → List Note) → IsLocal s worker i taken put
     → (f ≡ true → (i.waiting ≡ []) × (i.marks ≡ []) × (all_ended i ≡ true)) → IsLocal s worker (record i { receiver = r; finished = f }) taken put
 with_state s worker r f i taken put l finished = record {

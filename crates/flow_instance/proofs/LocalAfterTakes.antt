@@ -38,7 +38,7 @@ taking_by [] [] true true true port e = absurd (cc)
 pub not_all : (ws : List (ℕ × Bag)) (ms : List ℕ) (a b : Bool) (port : ℕ) → IsTaking ws ms a b port → (a && b) ≡ false
 not_all ws ms a b port t = elim t.which as (λ _. (a && b) ≡ false) [ inl x ↦ and_left a b x.1 | inr x ↦ and_right a b x.2 ]
 
--- no end mark was put where none is owed
+-- if no end mark is owed, none was put
 pub unmarked : (b owed : Bool) (marks : ℕ) → one_if b + marks ≡ one_if owed → owed ≡ false → b ≡ false
 unmarked false owed marks e o = refl
 unmarked true owed marks e o = absurd (omega (arith, e, ap one_if o))

@@ -26,7 +26,7 @@ use Rattle.flow_instance.proofs.Stuck.{StandsAt}
 use Rattle.flow_instance.proofs.Sums.{at_most, cogroup_length, crossed_length, distributes, few_notes, flat_length, kept-le, length-all_of, matched_length, reduce_length, shares, sum-const, sum-le, sum-plus, sum-times}
 use Rattle.plan_trees.proofs.EverySubtree.{AllBelow, all_below-root}
 
--- ---- what one instance gives
+-- ---- the records of one instance
 
 three : (a b x y c : ℕ) → a ≤ x → b ≤ y → a * (b * c) ≤ (x * y) * c
 three a b x y c h k =
@@ -71,7 +71,7 @@ sent-le : (o : Option Ship) (workers from to : ℕ) (rows : Bag) → length (sen
 sent-le None workers from to rows = omega arith
 sent-le (Some ship) workers from to rows = kept-le (goes ship workers from to) rows
 
--- of an operator of one input with at most x records
+-- an operator with one input that has at most x records
 one_gives : (turns : ℕ → ℕ → ℕ) (s : Spot) (kind : OpKind) (p : Port) (worker : ℕ) (rows : ℕ → Bag) (b : Bool) (given : Bag) (x : ℕ) → AreCallsBounded s.ops turns → length (rows 0) ≤ x
     → Gave b (IsGiven s kind (p ∷ []) worker rows) given → length given ≤ one_bound kind x (turns s.at)
 one_gives turns s kind p worker rows false given x bounded small e = omega (arith, ap length e)
@@ -91,7 +91,7 @@ one_gives turns s Match p worker rows true given x bounded small e = absurd e.ma
 one_gives turns s Cross p worker rows true given x bounded small e = absurd e.may
 one_gives turns s CoGroup p worker rows true given x bounded small e = absurd e.may
 
--- of calls for pairs of records
+-- calls for pairs of records
 pairs_give : (f : List Value → List Value → Bag) (turn x y : ℕ) (rows : ℕ → Bag) (ls rs out given : Bag) → length (rows 0) ≤ x → length (rows 1) ≤ y → IsPermutation (rows 0) ls → IsPermutation (rows 1) rs
     → out ≡ crossed f ls rs → IsPermutation out given → ((l r : List Value) → length (f l r) ≤ turn) → length given ≤ (x * y) * turn
 pairs_give f turn x y rows ls rs out given small few of_left of_right e permuted bounded =
@@ -127,7 +127,7 @@ source_gives s kind worker rows false given e = omega (arith, ap length e)
 source_gives s kind worker rows true given e = omega (arith, length_permutation e.out given e.permuted, ap length e.may)
 
 module _ (g : Setting) (turns : ℕ → ℕ → ℕ) (w : World) (h : History) (bounded : AreCallsBounded g.ops turns) (pipes : (edge from to : ℕ) → h.put edge from to ≡ h.taken edge from to ++ w.queue edge from to) where
-  -- what is told of an instance's records
+  -- the facts about an instance's records
   pub record Told (t : PlanTree) (k : ℕ) (given : Bag) : Type 0 where
     pub gave : Gave (works_at_once (spot g t).kind || all_ended (w.instance (root_of t) k))
         (IsGiven (spot g t) (spot g t).kind (spot g t).ports k (taken_rows g.physical.workers (λ port from. lists_at h.taken (slice_get (ports_of g.physical t) port) from k))) given
@@ -161,7 +161,7 @@ module _ (g : Setting) (turns : ℕ → ℕ → ℕ) (w : World) (h : History) (
   given : (t : PlanTree) → StandsAt g w h t → ℕ → ℕ
   given t at k = length (chosen t at k).0
 
-  -- what a reader took of an input
+  -- if the instances of an input gave at most x records, the reader took at most x of them
   taken_few : (t : PlanTree) (at : StandsAt g w h t) (k x : ℕ) → k < g.physical.workers → sum_below g.physical.workers (given t at) ≤ x
       → length (all_of g.physical.workers (λ from. rows_of (h.taken (root_of t) from k))) ≤ x
   unfolding given

@@ -32,7 +32,7 @@ pub none_sent : (fields workers from : ℕ) (ship : Ship) (rows : Bag) (queue : 
 none_sent fields workers from ship rows queue e =
     record { list = []; is = e; batches = tt; each = λ turn t less _ _. absurd (omega (arith, less)); later = λ _ t _ _ _ _. refl; others = λ t above. refl }
 
--- a receiver has one turn
+-- each receiver has exactly one turn
 one_turn : (workers from a b t u : ℕ) → a < workers → b < workers → t < workers → u < workers → IsTurn workers from a t → IsTurn workers from b u → a ≡ b → t ≡ u
 one_turn workers from a b t u al bl tl ul (inl e) (inl f) s = omega (arith, e, f, s)
 one_turn workers from a b t u al bl tl ul (inl e) (inr f) s = absurd (omega (arith, e, f, s, tl, ul))
@@ -45,14 +45,14 @@ one_receiver workers from a b t u al bl tl ul (inl e) (inr f) s = absurd (omega 
 one_receiver workers from a b t u al bl tl ul (inr e) (inl f) s = absurd (omega (arith, e, f, s, al, bl))
 one_receiver workers from a b t u al bl tl ul (inr e) (inr f) s = omega (arith, e, f, s)
 
--- what isn't this receiver had its turn before
+-- if turn m is at most n and its receiver isn't turn n's, then m is before n
 sooner : (workers from n to m t : ℕ) → n < workers → to < workers → t < workers → IsTurn workers from n to → IsTurn workers from m t → t ≢ to → m < n + 1 → m < n
 sooner workers from n to m t early below tl turn its other less = elim (cases_lt m n) as (λ _. m < n) [
   | inl before ↦ before
   | inr after ↦ absurd (other (one_turn workers from m n t to (omega (arith, less, early)) early tl below its turn (omega (arith, less, after))))
 ]
 
--- one receiver more, to which the edge leads
+-- one more receiver to which the edge leads
 pub sent_one : (fields workers from n to : ℕ) (ship : Ship) (rows part : Bag) (old new : List Parcel) → n < workers → to < workers → IsTurn workers from n to → has_pipe ship from to ≡ true → part ≡ sent ship workers from to rows
     → AreCarried fields to part old new → AreSentSoFar fields workers ship from n rows old → AreSentSoFar fields workers ship from (n + 1) rows new
 sent_one fields workers from n to ship rows part old new early below turn pipe part_is c h =
@@ -109,7 +109,7 @@ sent_forward fields workers from rows old new below none c = record {
   others = λ t above. others_none fields from t c.more c.batches (λ e. omega (arith, e, above, below));
 }
 
--- one that broadcasts takes all rows to each
+-- a broadcast sends all rows to each worker
 pub sent_broadcast : (workers from to : ℕ) (rows copy : Bag) → copy ≡ rows → copy ≡ sent Broadcast workers from to rows
 sent_broadcast workers from to rows copy e = e ∙ sym (filter-const true rows)
 

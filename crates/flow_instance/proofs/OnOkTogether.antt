@@ -1,4 +1,4 @@
--- Facts of a call that went well.
+-- Facts of a call that returned no error.
 use Rattle.std.specs.Prelude.{IfOk, OnOk}
 use Rattle.std.specs.declared.result.Result.{Result}
 use Rattle.std.specs.declared.result.Result.TheVariants.{Ok, Err}

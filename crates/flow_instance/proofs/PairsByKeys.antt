@@ -20,7 +20,7 @@ pub group_wide : (fields : ℕ) (keys : List ℕ) (rows group : Bag) (k : List V
 group_wide fields keys rows group k wide p =
     wide_permuted fields (group_of_key keys rows k) group p (AllByRecursion-filter (λ (r : List Value). length r ≡ fields) (λ row. is_same_key (key_of keys row) k) rows wide)
 
--- a call where the keys are equal, whatever is called
+-- a function that is called only if the keys are equal
 abbrev pub equal : (List Value → List Value → Bag) → List ℕ → List ℕ → List Value → List Value → Bag
 equal f left_keys right_keys l r = cond (do_match left_keys right_keys l r) (f l r) []
 
@@ -36,7 +36,7 @@ matched_group f left_keys right_keys (l ∷ ls) r =
     ap (λ (rest : Bag). equal f left_keys right_keys l r ++ rest) (matched_group f left_keys right_keys ls r)
     ∙ sym (if_matched (λ x. f x r) (is_same_key (key_of left_keys l) (key_of right_keys r)) l (group_of_key left_keys ls (key_of right_keys r)))
 
--- ---- where Nulls match, or don't
+-- ---- both settings for Nulls in keys
 
 cond_same : (b : Bool) (x : Bag) → cond b x x ≡ x
 cond_same true x = refl
@@ -46,7 +46,7 @@ cond_both : (b : Bool) (x y : Bag) → cond b x [] ++ cond b y [] ≡ cond b (x 
 cond_both true x y = refl
 cond_both false x y = refl
 
--- the records of one key match all, or nothing
+-- a right record matches all records of one key, or none
 one_key : (nulls : Bool) (f : List Value → List Value → Bag) (keys : List ℕ) (k r : List Value) (group : Bag) → AllByRecursion (λ l. key_of keys l ≡ k) group
     → flat_map (λ l. unless_null nulls f keys l r) group ≡ cond (nulls || not (has_null k)) (flat_map (λ l. f l r) group) []
 one_key nulls f keys k r [] h = sym (cond_same (nulls || not (has_null k)) [])
@@ -59,14 +59,14 @@ matches_of nulls f left_keys right_keys ls r =
     matched_group (unless_null nulls f left_keys) left_keys right_keys ls r
     ∙ one_key nulls f left_keys (key_of right_keys r) r (group_of_key left_keys ls (key_of right_keys r)) (group_keys left_keys ls (key_of right_keys r))
 
--- one right record whose key matches nothing
+-- one right record whose key can't match
 pub no_right : (nulls : Bool) (f : List Value → List Value → Bag) (left_keys right_keys : List ℕ) (ls out : Bag) (r : List Value) (may : Bool) → may ≡ (nulls || not (has_null (key_of right_keys r))) → may ≡ false
     → IsPermutation (out ++ flat_map (λ l. matched nulls f left_keys right_keys l r) ls) out
 no_right nulls f left_keys right_keys ls out r may is e =
     let none = matches_of nulls f left_keys right_keys ls r ∙ ap (λ (b : Bool). cond b (flat_map (λ l. f l r) (group_of_key left_keys ls (key_of right_keys r))) []) (sym is ∙ e) in
     is_same (ap (λ (l : Bag). out ++ l) none ∙ append-nil out)
 
--- and one whose key may match
+-- one right record whose key may match
 pub some_right : (nulls : Bool) (f : List Value → List Value → Bag) (left_keys right_keys : List ℕ) (ls group out more : Bag) (r : List Value) (may : Bool) → may ≡ (nulls || not (has_null (key_of right_keys r))) → may ≡ true
     → IsPermutation (group_of_key left_keys ls (key_of right_keys r)) group → more ≡ out ++ flat_map (λ l. f l r) group
     → IsPermutation (out ++ flat_map (λ l. matched nulls f left_keys right_keys l r) ls) more
@@ -76,7 +76,7 @@ some_right nulls f left_keys right_keys ls group out more r may is e p m =
     joined (is_same (ap (λ (l : Bag). out ++ l) all))
     (joined (beside (is_same refl) (to_permutation (flat_map_perm (λ l. f l r) (from_permutation (group_of_key left_keys ls k) group p)))) (is_same (sym m)))
 
--- one right record more, in whatever way it is matched
+-- one more right record, for any way of matching
 pub one_right : (g : List Value → List Value → Bag) (ls rs out more : Bag) (n : ℕ) (r : List Value) → n < length rs → r ≡ get_or rs n r
     → IsPermutation (out ++ flat_map (λ l. g l r) ls) more
     → IsPermutation (flat_map (λ x. flat_map (λ l. g l x) ls) (take n rs)) out
@@ -86,7 +86,7 @@ one_right g ls rs out more n r lt e m h =
     joined (is_same (ap (flat_map calls) (take_more rs n r lt ∙ ap (λ (x : List Value). take n rs ++ x ∷ []) (sym e)) ∙ flat_map-append calls (take n rs) (r ∷ []) ∙ ap (λ (l : Bag). flat_map calls (take n rs) ++ l) (append-nil (calls r))))
     (joined (beside h (is_same refl)) m)
 
--- one left record more
+-- one more left record
 pub pairs_more : (f : List Value → Bag) (xs : Bag) (n : ℕ) (x : List Value) (old new given whole : Bag) → n < length xs → x ≡ get_or xs n x → new ≡ old ++ flat_map f (take n xs) → given ≡ f x → whole ≡ new ++ given → whole ≡ old ++ flat_map f (take (n + 1) xs)
 pairs_more f xs n x old new given whole lt e h g m =
     let more : flat_map f (take (n + 1) xs) ≡ flat_map f (take n xs) ++ f x =
@@ -102,7 +102,7 @@ turned_pairs g ls rs out p = joined (to_permutation (turn g ls rs)) p
 
 -- ---- a Cross
 
--- without keys all records are of one group
+-- without keys all records are in one group
 all_one : (keys : List ℕ) (rows : Bag) → group_of_key [] rows [] ≡ rows
 all_one keys [] = refl
 all_one keys (row ∷ rows) = ap (λ (l : Bag). row ∷ l) (all_one keys rows)

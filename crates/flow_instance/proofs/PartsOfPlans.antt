@@ -1,4 +1,4 @@
--- The ports of an operator, its function, and what an instance keeps of them.
+-- The ports of an operator, its function, and the parts of these that an instance keeps.
 use Rattle.std.proofs.Common.{◌≡◌, ◌<◌, ◌==◌, ◌||◌, ℕ, Bool, true, Option, Some, List, length, get_or, slice_get, refl, ap, sym, ◌∙◌, subst}
 use Rattle.std.proofs.lemmas.Bool.{or_right}
 use Rattle.std.proofs.lemmas.Option.{slice_get_read, slice_get_within}
@@ -20,7 +20,7 @@ use Rattle.flow_instance.specs.Starting.{IsFunctionAt}
 
 -- ---- ports
 
--- the numbers of a subtree are the tree's
+-- every number of a subtree is a number of the tree
 inside : (t : PlanTree) → GoesDown (λ u. (m : ℕ) → has m u ≡ true → has m t ≡ true)
 inside t = record {
   of_one = λ n u h m e. h m (or_right (m == n) (has m u) e);

@@ -37,7 +37,7 @@ some_first a b i j e = let same : ◌≡◌ {A = ℕ × ℕ} (a, i) (b, j) = cc 
 pub some_second : (a b i j : ℕ) → ◌≡◌ {A = Option (ℕ × ℕ)} (Some (a, i)) (Some (b, j)) → i ≡ j
 some_second a b i j e = let same : ◌≡◌ {A = ℕ × ℕ} (a, i) (b, j) = cc in ap (λ (x : ℕ × ℕ). x.1) same
 
--- two ports that read one edge are one
+-- two ports that read the same edge are the same port
 pub one_reader : (g : Setting) (tree : PlanTree) (a b i j : ℕ) (p q : Port) → AreDifferent (nodes tree) → has a tree ≡ true → has b tree ≡ true
     → slice_get (ports_of g.physical (subtree_of a tree)) i ≡ Some p → slice_get (ports_of g.physical (subtree_of b tree)) j ≡ Some q → p.edge ≡ q.edge → (a ≡ b) × (i ≡ j)
 one_reader g tree a b i j p q d at_a at_b e f same =
@@ -56,7 +56,7 @@ top_subtree at (leaf n) e = refl
 top_subtree at (over n t) e = rw (eq-eqb at n e) refl
 top_subtree at (both n t u) e = rw (eq-eqb at n e) refl
 
--- at the root of the tree
+-- a port at the root of the tree
 at_root : (g : Setting) (tree : PlanTree) (edge at port n i e : ℕ) → n ≡ at → i ≡ port → edge ≡ e → root_of tree ≡ n → slice_get (ports_of g.physical tree) i ≡ Some (port_for g e) → has e tree ≡ true
     → IsFound g tree edge at port
 at_root g tree edge at port n i e n_is i_is e_is root port_is there =
@@ -67,7 +67,7 @@ at_root g tree edge at port n i e n_is i_is e_is root port_is there =
       port_is = ap (λ (t : PlanTree). slice_get (ports_of g.physical t) port) top ∙ ap (slice_get (ports_of g.physical tree)) (sym i_is) ∙ port_is ∙ ap (λ (x : ℕ). Some (port_for g x)) (sym e_is);
     }
 
--- below it, on the left where somebody there reads the edge
+-- a port below the root
 below : (g : Setting) (edge at port n : ℕ) (t u : PlanTree) → AreDifferent (nodes (both n t u)) → (o : Option (ℕ × ℕ)) → o ≡ reader_of edge t → first_of o (reader_of edge u) ≡ Some (at, port)
     → (reader_of edge t ≡ Some (at, port) → IsFound g t edge at port) → (reader_of edge u ≡ Some (at, port) → IsFound g u edge at port) → IsFound g (both n t u) edge at port
 below g edge at port n t u d (Some x) is e left right =
@@ -119,7 +119,7 @@ found g edge at port (both n t u) d e = elim (cases_Bool (edge == root_of t)) as
   ]
 ]
 
--- ---- what is read is there
+-- ---- an edge that is read exists
 
 input_of_root : (g : Setting) (t : PlanTree) (port : ℕ) (q : Port) → slice_get (ports_of g.physical t) port ≡ Some q → has q.edge t ≡ true
 input_of_root g (leaf n) port q e = absurd (let none : None ≡ Some q = e in cc)

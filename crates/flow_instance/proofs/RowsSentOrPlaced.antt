@@ -65,9 +65,9 @@ marked_some p ship old new o a = record {
   };
 }
 
--- ---- what waits, in order
+-- ---- the order of the waiting notes
 
--- some sources and operators
+-- a plan that exists only to instantiate a lemma
 no_ops : PlanOps
 no_ops = record {
   nulls = true;

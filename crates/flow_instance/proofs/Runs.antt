@@ -37,14 +37,14 @@ runs_counted g depth (e ∷ es) w v h more d st r =
     let rest = runs_counted g depth es r.0 v (noted w e h) more d (step_stands g depth w r.0 h e d st r.1 r.2) r.3 in
     omega (arith, rest, step_counted g depth w r.0 h e d st r.1 r.2)
 
--- no list of events is longer
+-- a run has at most `most` events
 pub runs_short : (g : Setting) (turns : ℕ → ℕ → ℕ) (depth : ℕ) (es : List Event) (w v : World) (h more : History) → AreDifferent (nodes g.physical.tree) → AreCallsBounded g.ops turns → Stands g w h → Runs g depth w h es v more
     → length es ≤ most g turns
 runs_short g turns depth es w v h more d bounded st r = omega (arith, runs_counted g depth es w v h more d st r, bound g turns v more d bounded (runs_stand g depth es w v h more d st r))
 
 -- ---- an event that is enabled
 
--- among the numbers below n one has it, or all have the other
+-- either some number below n has P, or all numbers below n have Q
 search_below : (n : ℕ) (P Q : ℕ → Type 0) → ((k : ℕ) → k < n → P k ⊎ Q k) → ((k : ℕ) × (k < n) × P k) ⊎ ((k : ℕ) → k < n → Q k)
 search_below zero P Q f = inr (λ k less. absurd (omega arith))
 search_below (suc n) P Q f = elim (f n (omega arith)) as (λ _. ((k : ℕ) × (k < suc n) × P k) ⊎ ((k : ℕ) → k < suc n → Q k)) [

@@ -1,4 +1,4 @@
--- Batches that keep to their size.
+-- Batches stay within their size.
 use Rattle.std.proofs.Common.{◌≡◌, ◌≤◌, ℕ, List, [], ◌∷◌, length, map, ap, sym, ◌∙◌, subst}
 use Rattle.std.specs.List.{AllByRecursion}
 use Rattle.flow_instance.specs.Instances.{HasSmallBatches, Part}
@@ -19,7 +19,7 @@ marks_few : (most : ℕ) (marks : List ℕ) → AreFew most (map mark_parcel mar
 marks_few most [] = tt
 marks_few most (m ∷ marks) = (tt, marks_few most marks)
 
--- they stand behind the batches
+-- end marks follow the batches
 pub few_marked : (most : ℕ) (p : Part) (old new : List Parcel) → AreFew most old → HasMarked p old new → AreFew most new
 few_marked most p old new few m = subst (AreFew most) (sym m.behind) (AllByRecursion-append (λ (x : Parcel). IsFew most x.note) old (map mark_parcel m.list) few (marks_few most m.list))
 
@@ -34,19 +34,19 @@ few_batches most [] h = tt
 few_batches most (p ∷ queue) h = with_note most p.to p.note (batches_in queue) h.0 (few_batches most queue h.1)
 
 module _ {L : Type 0} (rows : L → Bag) where
-  -- those of an instance
+  -- the batches of an instance
   pub small_batches : (s : State L) → AreFew s.part.batch s.queue.items → HasSmallBatches (seen rows s)
   small_batches s few = few_batches s.part.batch s.queue.items few
 
-  -- at its start
+  -- an instance at its start
   pub small_started : (s t : State L) (out : Bag) → HasBegun rows s out t → AreFew s.part.batch t.queue.items → HasSmallBatches (seen rows t)
   small_started s t out b few = small_batches t (subst (λ (n : ℕ). AreFew n t.queue.items) (sym (ap (λ (u : State L). u.part.batch) b.same)) few)
 
-  -- more is to come
+  -- some sender hasn't ended
   pub few_more : (s t : State L) (port from : ℕ) → s.queue.items ≡ [] → HasEnded rows s port from t → AreFew t.part.batch t.queue.items
   few_more s t port from none e = none_few t.part.batch t.queue.items (ap (λ (u : State L). u.queue.items) e.same ∙ none)
 
-  -- nothing is to come
+  -- all senders have ended
   pub few_last : (b c d : State L) → c ≡ record b { queue = c.queue; placed = c.placed; given = c.given } → d ≡ record c { queue = d.queue } → AreFew b.part.batch c.queue.items → HasMarked (part_of c.part) c.queue.items d.queue.items
       → AreFew d.part.batch d.queue.items
   few_last b c d given marked few m =

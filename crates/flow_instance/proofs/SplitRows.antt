@@ -27,7 +27,7 @@ read [] n x y e f = absurd (cc)
 read (z ∷ xs) zero x y e f = f ∙ same_Some z x e
 read (z ∷ xs) (suc n) x y e f = read xs n x y e f
 
--- the part to which a row goes has its width
+-- the part that a row goes to has the row's width
 pub part_width : (keys : List ℕ) (workers to : ℕ) (done rows part : Bag) (row : List Value) (parts : List Bag) → HaveOneWidth rows → IsNext done rows row → to < workers → part ≡ get_or parts to part → IsSplit keys workers done parts
     → ((fields : ℕ) → AreWide fields rows → AreWide fields done) → AllByRecursion (λ r. length r ≡ length row) part
 part_width keys workers to done rows part row parts one n less is split kept =

@@ -1,4 +1,4 @@
--- Each event takes a world that stands for a history to one that stands for the history with the event's note.
+-- `Stands` holds after each event, for the history extended by the event's note.
 use Rattle.std.proofs.Common.{◌≡◌, ◌≢◌, ◌<◌, ◌⊎◌, inl, inr, ◌&&◌, cond, ◌==◌, ℕ, Bool, true, false, Option, Some, None, List, [], ◌∷◌, ◌++◌, length, slice_get, filter, refl, ap, sym, ◌∙◌, subst, arith, append-nil, append_assoc}
 use Rattle.std.proofs.lemmas.Bool.{and_left, and_right, cases_Bool, cases_eq, eq-eqb, ne_eqb, and_from}
 use Rattle.std.specs.List.Sorted.{IsPermutation}
@@ -46,7 +46,7 @@ other_from p a b c h = and_right (a == p.edge) ((b == p.from) && (c == p.to)) (a
 pub other_to : (p : PipeId) (a b c : ℕ) → c ≢ p.to → is_pipe p a b c ≡ false
 other_to p a b c h = and_right (a == p.edge) ((b == p.from) && (c == p.to)) (and_right (b == p.from) (c == p.to) (ne_eqb c p.to h))
 
--- at each pipe, either it is this one or another
+-- a property of this pipe and of every other pipe holds for each pipe
 each_pipe : (P : ℕ → ℕ → ℕ → Type 0) (p : PipeId) → P p.edge p.from p.to → ((a b c : ℕ) → is_pipe p a b c ≡ false → P a b c) → (a b c : ℕ) → P a b c
 each_pipe P p here there a b c = elim (cases_eq a p.edge) as (λ _. P a b c) [
   | inr e ↦ there a b c (other_edge p a b c e)
@@ -59,7 +59,7 @@ each_pipe P p here there a b c = elim (cases_eq a p.edge) as (λ _. P a b c) [
   ]
 ]
 
--- an instance that nothing happened to
+-- an instance that an event doesn't change
 pub local_same : (s : Spot) (k : ℕ) (i j : Instance) (taken more : ℕ → ℕ → List Note) (put new : ℕ → List Note) → IsLocal s k i taken put → j ≡ i
     → ((p f : ℕ) → more p f ≡ taken p f) → ((to : ℕ) → new to ≡ put to) → IsLocal s k j more new
 local_same s k i j taken more put new l same e f =
@@ -150,7 +150,7 @@ no_notes fields (Batch [] ∷ ns) a r e = absurd (omega (arith, a.0))
 no_notes fields (Batch (row ∷ rows) ∷ ns) a r e = absurd (cc)
 no_notes fields (EndNote ∷ ns) a r e = absurd (cc)
 
--- and no note
+-- no note goes where there is no pipe
 pub nothing_put : (s : Spot) (worker : ℕ) (i : Instance) (taken : ℕ → ℕ → List Note) (put : ℕ → List Note) (to : ℕ) → IsLocal s worker i taken put → to < s.workers → has_out s.out worker to ≡ false → put to ≡ []
 nothing_put s worker i taken put to l less none =
     let unsent : sent s.out s.workers worker to l.given ≡ [] = sent_nowhere s.out s.workers worker to l.given none in
@@ -158,7 +158,7 @@ nothing_put s worker i taken put to l less none =
     no_notes s.fields (put to) (l.put_notes to) (left_nil (rows_of (put to)) (rows_for to i.waiting) rows)
     (unmarked (has_end (put to)) (has_out s.out worker to && all_ended i) (marks_for to i.marks) (l.marked to less) (and_left (has_out s.out worker to) (all_ended i) none))
 
--- the note behind the notes taken
+-- the first note after the taken ones may extend them
 front_note : (fields : ℕ) (xs : List Note) (n : Note) (ns : List Note) → AreNotes fields (xs ++ n ∷ ns) → IsNote fields n
 front_note fields [] (Batch rows) ns h = (h.0, h.1)
 front_note fields [] EndNote ns h = tt
@@ -173,7 +173,8 @@ pub no_out : (b : Bool) (ship : Ship) (from to : ℕ) → has_pipe ship from to 
 no_out true ship from to h = h
 no_out false ship from to h = refl
 
--- What holds where a note can be taken: the pipe is there, no end mark came along it, and the note may stand in a list.
+-- If a note can be taken, the pipe exists, no end mark was taken from it, and the note may extend the list of taken
+-- notes.
 pub record CanTake (g : Setting) (w : World) (h : History) (p : PipeId) (n port : ℕ) : Type 0 where
   pub found : IsFound g g.physical.tree p.edge n port
   pub put_is : h.put p.edge p.from p.to ≡ h.taken p.edge p.from p.to ++ first_note (w.queue p.edge p.from p.to) ∷ later (w.queue p.edge p.from p.to)

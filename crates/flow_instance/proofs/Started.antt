@@ -1,4 +1,4 @@
--- What an instance of a plan has given and owes at its start.
+-- The records that an instance of a plan has given at its start, and the notes that it owes.
 use Rattle.std.proofs.Common.{◌≡◌, ◌<◌, ◌≤◌, ◌+◌, ◌&&◌, ◌||◌, not, ℕ, zero, suc, Bool, true, false, Option, Some, None, List, [], ◌∷◌, length, map, slice_get, refl, ap, sym, ◌∙◌, subst, arith}
 use Rattle.std.proofs.Math.Path.{transport}
 use Rattle.std.proofs.lemmas.Bool.{and_left, and_parts, and_right, eq-eqb}
@@ -70,7 +70,7 @@ module _ (p : ProgramData) (physical : PhysicalData) (at worker batch : ℕ) (pa
     out = h.out ∙ ap (ship_at physical) root;
   }
 
-  -- an operator, where its kind isn't a source's
+  -- the kind of an operator isn't Source
   operator_by : (called : Option WithFields) → part.called ≡ called → IsCalledAt p at called → (kind_at p.ops at ≡ Source → ⊥) → takes part.kind ≡ length part.ports.items → IsOperator part
   operator_by None e c operator arity = absurd (operator c)
   operator_by (Some f) e c operator arity = record {
@@ -101,7 +101,7 @@ own_pipe Forward worker = eq-eqb worker worker refl
 own_pipe (Partition keys) worker = refl
 own_pipe Broadcast worker = refl
 
--- ---- what is given at the start
+-- ---- the records given at the start
 
 gives_by : (s : Spot) (kind : OpKind) (ports : List PortData) (worker : ℕ) (all : Bool) (out : Bag) → takes kind ≡ length ports → (kind ≡ Source → out ≡ share_from 0 s.workers worker (s.ops.rows s.at)) → (is_source_kind kind ≡ false → out ≡ [])
     → (is_source_kind kind ≡ false → all ≡ false) → Gave (works_at_once kind || all) (IsGiven s kind ports worker (λ port. [])) out
@@ -121,7 +121,7 @@ none_kept s Match kept e f = is_same (sym e)
 none_kept s Cross kept e f = is_same (sym e)
 none_kept s CoGroup kept e f = (is_same (sym e), is_same (sym f))
 
--- a port that there is waits for the worker's own sender
+-- if a port exists, it waits for the sender on the same worker
 first_port : (ports : List PortData) (worker : ℕ) → 0 < length ports → is_edge (slice_get ports 0) worker worker ≡ true
 first_port [] worker h = absurd (omega (arith, h))
 first_port (p ∷ ports) worker h = own_pipe p.ship worker
@@ -202,7 +202,7 @@ module _ {L : Type 0} (rows : L → Bag) (keys : L → List ℕ) (is_sealed : L 
         room = λ less. absurd (omega (arith, less, receiver));
       }
 
-  -- ---- what it owes
+  -- ---- the notes that it owes
 
   pub part_of_started : part_of t.part ≡ part_of part
   part_of_started = ap (λ (u : State L). part_of u.part) b.same ∙ ap part_of f.part

@@ -26,7 +26,7 @@ use Rattle.plan_trees.proofs.SubtreesOfPlans.{has-root}
 abbrev pub edge_at : Spot → ℕ → ℕ
 edge_at s port = (get_or s.ports port (record { edge = s.at; ship = Forward })).edge
 
--- what is empty has no end mark
+-- if a note waits on the pipe, no end mark was taken from it
 not_ended : (fields : ℕ) (put taken queue : List Note) → put ≡ taken ++ queue → AreNotes fields put → 1 ≤ length queue → has_end taken ≡ true → ⊥
 not_ended fields put taken queue e h some t =
     let none : queue ≡ [] = nothing_behind fields taken queue (subst (AreNotes fields) e h) t in
@@ -45,7 +45,7 @@ pub nothing_there : (ns : List Note) → nat_lt 0 (length ns) ≡ false → ns �
 nothing_there [] e = refl
 nothing_there (n ∷ ns) e = absurd (omega (arith, ltb-false 0 (length (n ∷ ns)) e))
 
--- an end mark that neither waits nor was put is none that is owed
+-- if no end mark waits and none was put, none is owed
 was_put : (b owed : Bool) (marks : ℕ) → one_if b + marks ≡ one_if owed → marks ≡ 0 → owed ≡ true → b ≡ true
 was_put true owed marks e m o = refl
 was_put false owed marks e m o = absurd (omega (arith, e, m, ap one_if o))
@@ -77,15 +77,15 @@ module _ (g : Setting) (depth : ℕ) (w : World) (h : History) (some : 1 ≤ dep
     pub below : p < length (ports_of g.physical c)
     pub is_edge : has_edge (root_of t) g.physical.tree ≡ true
 
-  -- whoever hasn't ended at the port waits for it
+  -- an instance that hasn't ended at the port waits for it
   abbrev pub Waits : PlanTree → ℕ → Type 0
   Waits c p = (k : ℕ) → k < g.physical.workers → port_ended (w.instance (root_of c) k) p ≡ false → want (w.instance (root_of c) k) ≡ Take p
 
-  -- the ships of an edge at its two ends are one
+  -- both ends of an edge agree on how it ships
   one_ship : (t : PlanTree) (from to : ℕ) → has_edge (root_of t) g.physical.tree ≡ true → has_out (ship_at g.physical (root_of t)) from to ≡ has_pipe (port_from g.physical t).ship from to
   one_ship t from to e = ap (λ (b : Bool). has_out (cond b (Some (port_from g.physical t).ship) None) from to) e
 
-  -- where the reader waits, the sender wants no put
+  -- while the reader waits, the sender doesn't want to put
   no_puts : (c : PlanTree) (p : ℕ) (t : PlanTree) → IsFed c p t → StandsAt g w h c → StandsAt g w h t → AreIdle c → AreIdle t → Waits c p → ArePutless t
   no_puts c p t fed at_c at_t idle_c idle_t waits j to below e =
       let i = w.instance (root_of t) j in
@@ -107,7 +107,7 @@ module _ (g : Setting) (depth : ℕ) (w : World) (h : History) (some : 1 ≤ dep
       let same : w.queue (edge_at (spot g c) p) j to ≡ w.queue (root_of t) j to = ap (λ (n : ℕ). w.queue n j to) fed.edge in
       omega (arith, ap length (sym same ∙ none))
 
-  -- where all senders are done, the port has ended
+  -- once all senders are done, the port has ended
   all_taken : (c : PlanTree) (p : ℕ) (t : PlanTree) → IsFed c p t → StandsAt g w h c → StandsAt g w h t → AreIdle c → DoneAt t → Waits c p
       → (k : ℕ) → k < g.physical.workers → port_ended (w.instance (root_of c) k) p ≡ true
   all_taken c p t fed at_c at_t idle_c done waits k below = elim (cases_Bool (port_ended (w.instance (root_of c) k) p)) as (λ _. port_ended (w.instance (root_of c) k) p ≡ true) [
@@ -130,7 +130,7 @@ module _ (g : Setting) (depth : ℕ) (w : World) (h : History) (some : 1 ≤ dep
         r.ended p j j_below ∙ ap (λ (o : Option Port). sender_ended o j k (lists_at h.taken o j k)) fed.port ∙ sender_true (port_from g.physical t) j k (h.taken e j k) has)
   ]
 
-  -- the last step: whoever has ended everywhere and wants no put is done
+  -- the last step: an instance that has ended at every port and doesn't want to put is done
   at_last : (t : PlanTree) → AreIdle t → ArePutless t → ((k : ℕ) → k < g.physical.workers → port_ended (w.instance (root_of t) k) 0 ≡ true) → ((k : ℕ) → k < g.physical.workers → port_ended (w.instance (root_of t) k) 1 ≡ true) → DoneAt t
   at_last t idle putless first second k below =
       let i = w.instance (root_of t) k in
@@ -149,7 +149,7 @@ module _ (g : Setting) (depth : ℕ) (w : World) (h : History) (some : 1 ≤ dep
       let is : want i ≡ want_by i.waiting i.marks true false i.finished = λ x. want_by i.waiting i.marks (first k below x) (e x) i.finished in
       is ∙ takes_second i.waiting i.marks i.finished (λ to e. putless k to below (is ∙ e))
 
-  -- a port that the operator doesn't have has ended
+  -- a port that the operator doesn't have counts as ended
   no_port : (t : PlanTree) (p : ℕ) → StandsAt g w h t → slice_get (ports_of g.physical t) p ≡ None → (k : ℕ) → k < g.physical.workers → port_ended (w.instance (root_of t) k) p ≡ true
   no_port t p at none k below =
       let i = w.instance (root_of t) k in
@@ -189,7 +189,7 @@ module _ (g : Setting) (depth : ℕ) (w : World) (h : History) (some : 1 ≤ dep
       let second = all_taken (both n t u) 1 u fed.0.1 at.0 at_u idle.0 (all_below-root DoneAt u right) waits_u in
       (at_last (both n t u) idle.0 putless first second, left, right)
 
-  -- ---- what is stuck is idle
+  -- ---- a stuck world is idle
 
   pub fed_whole : (t : PlanTree) → Inside (HasEdge g.physical.tree) t → AllBelow IsFedWhole t
   fed_whole (leaf n) e = tt

@@ -44,7 +44,7 @@ sum-plus (suc n) f h = omega (arith, sum-plus n f h)
 pub distributes : (c a b : ℕ) → c * (a + b) ≡ c * a + c * b
 distributes c a b = grind arith
 
--- for each of n numbers one of c
+-- summing c times f is c times the sum of f
 pub sum-times : (n c : ℕ) (f : ℕ → ℕ) → sum_below n (λ k. c * f k) ≡ c * sum_below n f
 sum-times zero c f = omega arith
 sum-times (suc n) c f = ap (λ (x : ℕ). x + c * f n) (sum-times n c f) ∙ sym (distributes c (sum_below n f) (f n))
@@ -55,7 +55,7 @@ length-all_of (suc n) f = omega (arith, length-append (f n) (all_of n f), length
 
 -- ---- notes
 
--- each batch has a record, and there is one end mark at most
+-- each batch has a record, and there is at most one end mark
 pub few_notes : (fields : ℕ) (ns : List Note) → AreNotes fields ns → length ns ≤ length (rows_of ns) + 1
 few_notes fields [] h = omega arith
 few_notes fields (Batch rows ∷ ns) h =
@@ -98,7 +98,7 @@ shares start n workers (row ∷ rows) =
     (λ k less. omega (arith, length_if (start % workers == k) row (share_from (suc start) workers k rows))) in
     omega (arith, split, sum-plus n (λ k. one_if (start % workers == k)) (λ k. length (share_from (suc start) workers k rows)), one_place (start % workers) n, shares (suc start) n workers rows)
 
--- ---- what operators give
+-- ---- the output of operators
 
 pub flat_length : (f : List Value → Bag) (c : ℕ) (rows : Bag) → ((row : List Value) → length (f row) ≤ c) → length (flat_map f rows) ≤ length rows * c
 flat_length f c [] h = omega arith

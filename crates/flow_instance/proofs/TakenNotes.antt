@@ -46,7 +46,7 @@ placed_permuted : (o : Option Ship) (before out real placed : Bag) → IsPermuta
 placed_permuted None before out real placed p h = joined (beside (IsPermutation-refl before) p) h
 placed_permuted (Some ship) before out real placed p h = h
 
--- what was given stands in some order for what may be given
+-- the given records are, in some order, an output that the operator may give
 pub took_of : (s : Spot) (worker : ℕ) (i j : Instance) (port from : ℕ) (note : Note) (out real : Bag) → IsPermutation out real → GivesNow (works_at_once s.kind) s worker i j port note out → j.part ≡ i.part → j.finished ≡ i.finished
     → ((p k : ℕ) → ended_at j p k ≡ ((is_end note && ((p == port) && (k == from))) || ended_at i p k)) → (all_ended j ≡ false → KeepsMore s s.kind (kept_at i) port note (kept_at j)) → ((p : ℕ) → AreWide s.fields (kept_at j p))
     → Carry s worker real j.waiting → Mark s worker (all_ended j) j.marks → Placed s.out (i.placed ++ real) j.placed → AreWide s.fields j.placed → j.given ≡ count_of (i.given + length real) → Took s worker i port from note j
@@ -86,7 +86,7 @@ pub stays : (o : Option Ship) (placed : Bag) → PlacesAtRoot o placed → Place
 stays None placed h = is_same (append-nil placed)
 stays (Some ship) placed h = h
 
--- ---- what a part says
+-- ---- the contents of a part
 
 pub its_function : (p : Part) (f : WithFields) → (h : IsOperator p) → p.called ≡ Some f → h.function ≡ f
 its_function p f h e = same_Some h.function f (sym h.called ∙ e)
@@ -128,7 +128,7 @@ module _ {L : Type 0} (rows : L → Bag) (keys : L → List ℕ) (is_sealed : L 
   pub still_taking : all_ended (seen rows s) ≡ false
   still_taking = not_all (port_ended (seen rows s) 0) (port_ended (seen rows s) 1) port (port_ended (seen rows s) port) ready.which ready.not_ended (λ e. ap (port_ended (seen rows s)) e) (λ e. ap (port_ended (seen rows s)) e)
 
-  -- what works at once gave for a batch
+  -- an operator that works at once gave records for a batch
   pub took_given : (t : State L) (ops : PlanOps) (from : ℕ) (batch out real : Bag) → works_at_once s.part.kind ≡ true → GivesAtOnce (spot_of (part_of s.part) ops) s.part.kind port (rows s.left) (Batch batch) out → IsPermutation out real
       → KeepsMore (spot_of (part_of s.part) ops) s.part.kind (kept_at (seen rows s)) port (Batch batch) (kept_at (seen rows s)) → t ≡ record s { queue = t.queue; placed = t.placed; given = t.given } → t.given ≡ count_of (s.given + length real)
       → HasGiven (part_of s.part) real s.placed t.placed t.queue.items → Took (spot_of (part_of s.part) ops) s.part.worker (seen rows s) port from (Batch batch) (seen rows t)
@@ -145,7 +145,7 @@ module _ {L : Type 0} (rows : L → Bag) (keys : L → List ℕ) (is_sealed : L 
       (no_marks spot s.part.worker (all_ended (seen rows t)) (marks_in t.queue.items) all (ap marks_in given.is ∙ none_marked given.list))
       given.places given.wide counted
 
-  -- what is kept of a batch
+  -- the rows of a batch that are kept
   pub took_kept : (t : State L) (ops : PlanOps) (from : ℕ) (batch : Bag) → GivesNow (works_at_once s.part.kind) (spot_of (part_of s.part) ops) s.part.worker (seen rows s) (seen rows t) port (Batch batch) []
       → KeepsMore (spot_of (part_of s.part) ops) s.part.kind (kept_at (seen rows s)) port (Batch batch) (kept_at (seen rows t)) → ((p : ℕ) → AreWide s.part.fields (kept_at (seen rows t) p)) → t ≡ record s { left = t.left; right = t.right }
       → Took (spot_of (part_of s.part) ops) s.part.worker (seen rows s) port from (Batch batch) (seen rows t)
@@ -275,7 +275,7 @@ gives_kept_left p ops i j Match batch k e = refl
 gives_kept_left p ops i j Cross batch k e = refl
 gives_kept_left p ops i j CoGroup batch k e = rw e refl
 
--- what is kept of a batch at port 0, where Nulls are let pass for all but a Match
+-- the rows of a batch at port 0 that are kept: only a Match drops rows for their Nulls
 pub needed_is : (p : Part) (kind : OpKind) (rows : Bag) → filter (may_match (p.nulls || not (is_match kind)) p.left_keys) rows ≡ needed_of p kind rows
 needed_is p Match rows = ap (λ (b : Bool). filter (may_match b p.left_keys) rows) (or_false p.nulls)
 needed_is p Source rows = ap (λ (b : Bool). filter (may_match b p.left_keys) rows) (or_true p.nulls) ∙ all_chosen p.left_keys rows
@@ -317,13 +317,13 @@ right_keeps s Match i j batch k two p l = absurd (cc)
 right_keeps s Cross i j batch k two p l = absurd (cc)
 right_keeps s CoGroup i j batch k two p l = (is_same (append-nil i.left_kept ∙ sym l), p)
 
--- ---- what an instance is then
+-- ---- the instance after the note
 
 module _ {L : Type 0} (rows : L → Bag) (keys : L → List ℕ) (is_sealed : L → Bool) (s : State L) (batch : Bag) where
   none_waits : s.queue.items ≡ [] → AreOrderly s.part.workers s.queue.items
   none_waits none = subst (AreOrderly s.part.workers) (sym none) (record { order = refl; receivers = tt })
 
-  -- one that gave records for it
+  -- an instance that gave records for the note
   pub takes_given : (t : State L) (port from : ℕ) (note : Note) (out : Bag) → IsSound rows keys is_sealed s → Gives s out t → HasTaken rows s port from note t → Takes rows keys is_sealed s port from note t
   takes_given t port from note out sound g took =
       let part : t.part ≡ s.part = ap (λ (u : State L). u.part) g.same in

@@ -1,4 +1,4 @@
--- What holds of each subtree.
+-- Properties of each subtree.
 use Rattle.std.proofs.Common.{◌≡◌, ◌++◌, ◌||◌, ◌==◌, inl, inr, ℕ, true, false, Some, None, Option, refl, subst, sym}
 use Rattle.std.proofs.lemmas.Bool.{eq-eqb, eqb-true, false_from_ne_true, or_cases, or_left, or_right, or_parts}
 use Rattle.plan_trees.specs.Distinct.{AreDifferent}
@@ -10,7 +10,7 @@ use Rattle.plan_trees.proofs.NodesOfTrees.{nodes-has}
 use Rattle.plan_trees.proofs.SubtreesOfPlans.{has-root}
 use Rattle.flow_instance.specs.Worlds.{reader_of}
 
--- what holds of each root holds of each number
+-- a property of the root of each subtree holds for each number
 pub each_below : (P : ℕ → Type 0) (t : PlanTree) → AllBelow (λ s. P (root_of s)) t → (m : ℕ) → has m t ≡ true → P m
 each_below P (leaf n) h m there = subst P (sym (eqb-true m n there)) h
 each_below P (over n t) h m there = elim (or_cases (m == n) (has m t) there) as (λ _. P m) [
@@ -37,7 +37,7 @@ Reads reader (leaf n) = Unit {0}
 Reads reader (over n t) = reader (root_of t) ≡ Some (n, 0)
 Reads reader (both n t u) = (reader (root_of t) ≡ Some (n, 0)) × (reader (root_of u) ≡ Some (n, 1))
 
--- whoever reads an edge inside of the tree reads it by the other function too
+-- the second function gives the same reader as the first for every edge inside the tree
 abbrev Carries : (ℕ → Option (ℕ × ℕ)) → (ℕ → Option (ℕ × ℕ)) → PlanTree → Type 0
 Carries f h t = (e : ℕ) (x : ℕ × ℕ) → has e t ≡ true → (e == root_of t) ≡ false → f e ≡ Some x → h e ≡ Some x
 
@@ -62,7 +62,7 @@ carried f h (both n t u) d c r =
       carried f h u parts.1 (λ e x there other s. c e x (in_right e there) (right e there) s) r.2,
     )
 
--- nobody reads an edge that isn't there
+-- an edge that doesn't exist has no reader
 pub no_reader : (e : ℕ) (t : PlanTree) → has e t ≡ false → reader_of e t ≡ None
 no_reader e (leaf n) h = refl
 no_reader e (over n t) h =
@@ -103,7 +103,7 @@ within P (both n t u) h = (
   within P u (λ m there. h m (or_right (m == n) (has m t || has m u) (or_right (has m t) (has m u) there))),
 )
 
--- what holds of the trees below a tree, without itself
+-- a property of the trees below a tree, without the tree itself
 abbrev pub Inside : (PlanTree → Type 0) → PlanTree → Type 0
 Inside P (leaf n) = Unit {0}
 Inside P (over n t) = AllBelow P t

@@ -1,4 +1,4 @@
--- What an instance wants, and when it may take a note.
+-- The wants of an instance, and when it may take a note.
 use Rattle.std.proofs.Common.{◌≡◌, ◌<◌, ◌≤◌, ◌+◌, ◌-◌, ◌&&◌, ◌⊎◌, inl, inr, ℕ, zero, suc, Bool, true, false, Option, Some, None, List, [], ◌∷◌, length, map, get_or, slice_get, refl, ap, sym, ◌∙◌, subst, arith}
 use Rattle.std.specs.Prelude.{IsSome, ◌↔◌}
 use Rattle.flow_instance.proofs.LocalAfterTakes.{IsTaking, not_all, taking_by}
@@ -28,7 +28,7 @@ past [] m le = refl
 past (x ∷ flags) zero le = absurd (omega (arith, le))
 past (x ∷ flags) (suc m) le = past flags m (omega (arith, le))
 
--- the flags tell whether all of so many senders have ended
+-- the flags decide whether all of the given number of senders have ended
 pub all_flags : (flags : List Bool) (workers : ℕ) (all b : Bool) → length flags ≤ workers → all ≡ all_below (length flags) (λ k. get_or flags k true) → all ≡ b → all_below workers (λ k. get_or flags k true) ≡ b
 all_flags flags workers all b le told is =
     let split : workers ≡ (workers - length flags) + length flags = omega (arith, le) in
@@ -111,7 +111,7 @@ edge_at [] n p lt e = absurd (omega (arith, lt))
 edge_at (q ∷ ports) zero p lt e = ap (λ x. Some x.edge) (sym e)
 edge_at (q ∷ ports) (suc n) p lt e = edge_at ports n p (omega (arith, lt)) e
 
--- ---- a queue without a front
+-- ---- a queue after its first note is removed
 
 pub empty_queue : {X Y : Type 0} (front : Option X) (n : ℕ) (xs : List Y) → front ≡ None → IsSome front ↔ 0 < n → n ≡ length xs → xs ≡ []
 empty_queue None n [] e h l = refl

@@ -1,4 +1,4 @@
--- What a fresh state holds in memory.
+-- What a fresh state keeps in memory.
 use Rattle.std.specs.Prelude.{◌≡◌, ℕ, Bool, false, List, [], map, slice_get}
 use Rattle.flow_instance.specs.Spots.{ship_in}
 use Rattle.pact_operators.specs.Allowed.{Bag}
@@ -7,11 +7,11 @@ use Rattle.flow_instance.specs.States.{port_of}
 use Rattle.flow_instance.specs.declared.parts.Part.{Part}
 use Rattle.flow_instance.specs.declared.states.Held.{Held}
 
--- flags of who has ended before any note has come
+-- the flags of the senders that have ended, before any note has come
 abbrev pub AreFlagsOf : Part → (port : ℕ) → List Bool → Type 0
 AreFlagsOf own port flags = AreEndedAtStart (ship_in (slice_get (map port_of own.ports.items) port)) own.workers own.worker flags
 
--- it keeps no records, and waits for whoever may send
+-- it keeps no records, and waits for every worker that may send
 pub record IsHeldAtStart {L : Type 0} (rows : L → Bag) (keys : L → List ℕ) (is_sealed : L → Bool) (own : Part) (held : Held L) : Type 0 where
   pub left_flags : AreFlagsOf own 0 held.left_ended
   pub right_flags : AreFlagsOf own 1 held.right_ended

@@ -1,4 +1,4 @@
--- How an instance is stored in the logic.
+-- The encoding of an instance in the logic.
 use Rattle.std.specs.Prelude.{ℕ, Bool, List, Option, refl}
 use Rattle.std.specs.Coded.{Coded, code_by, coded×, coded_bool, coded_list, coded_option, coded_ℕ}
 use Rattle.flow_instance.specs.Instances.{Instance, Part}

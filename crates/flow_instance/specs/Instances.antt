@@ -1,4 +1,4 @@
--- An instance as data, and what it wants.
+-- An instance as data, and its next want.
 use Rattle.std.specs.Prelude.{◌&&◌, ◌≤◌, ℕ, zero, suc, Bool, true, false, List, [], ◌∷◌, Option, get_or, length}
 use Rattle.std.specs.List.{AllByRecursion}
 use Rattle.tac_syntax.specs.Code.{Code}
@@ -10,26 +10,27 @@ use Rattle.flow_instance.specs.Spots.{Port}
 use Rattle.flow_instance.specs.declared.notes.Want.{Want}
 use Rattle.flow_instance.specs.declared.notes.Want.TheVariants.{Take, Put, End, Done}
 
--- What an instance keeps of the program and of the physical plan.
+-- The parts of the program and of the physical plan that an instance keeps.
 pub record Part : Type 0 where
   pub at : ℕ
   pub kind : OpKind
   pub body : Code
   pub left_keys : List ℕ
   pub right_keys : List ℕ
-  -- whether Nulls match in them
+  -- whether Nulls match in these keys
   pub nulls : Bool
   pub fields : ℕ
   pub worker : ℕ
   pub workers : ℕ
-  -- a batch has at most so many records
+  -- the most records of a batch
   pub batch : ℕ
   pub ports : List Port
   pub out : Option Ship
 
--- For each port, the senders that have ended there, by their numbers, and the rows that are kept. `waiting` are batches with their
--- receivers, the next one first, and `marks` the receivers of the end marks that wait behind them. `placed` is what the root gave, `receiver` the
--- worker for which the last note was that went out.
+-- `left_ended` and `right_ended` hold, by a sender's number, whether it has ended at port 0 and at port 1. `left_kept`
+-- and `right_kept` are the rows kept of these ports. `waiting` has batches with their receivers, the next one first.
+-- `marks` has the receivers of the end marks, which go out after the batches. `placed` is what the root gave.
+-- `receiver` is the worker for which the last note went out, or the number of workers if no note is out.
 pub record Instance : Type 0 where
   pub part : Part
   pub left_ended : List Bool
@@ -43,17 +44,17 @@ pub record Instance : Type 0 where
   pub given : ℕ
   pub finished : Bool
 
--- port 0 is an only one or the left one, port 1 the right one
+-- port 0 is the only or the left one, and port 1 the right one
 abbrev pub of_port : {A : Type 0} → A → A → A → ℕ → A
 of_port left right other zero = left
 of_port left right other (suc zero) = right
 of_port left right other (suc (suc port)) = other
 
--- Whether a sender has ended at a port: of those that can't send nothing is waited for.
+-- Whether a sender has ended at a port. A worker that can't send there counts as ended.
 abbrev pub ended_at : Instance → (port from : ℕ) → Bool
 ended_at i port from = get_or (of_port i.left_ended i.right_ended [] port) from true
 
--- the rows that are kept of a port
+-- the rows that are kept for a port
 abbrev pub kept_at : Instance → ℕ → Bag
 kept_at i port = of_port i.left_kept i.right_kept [] port
 
@@ -65,7 +66,8 @@ port_ended i port = all_below i.part.workers (ended_at i port)
 abbrev pub all_ended : Instance → Bool
 all_ended i = port_ended i 0 && port_ended i 1
 
--- A note goes out while one waits; else one is taken at the first port that hasn't ended; else the instance ends.
+-- If a note waits, it goes out. Otherwise a note is taken at the first port that hasn't ended. If every port has ended,
+-- the instance ends.
 abbrev pub want_by : (waiting : List (ℕ × Bag)) (marks : List ℕ) → (left_ended right_ended finished : Bool) → Want
 want_by (w ∷ ws) marks left_ended right_ended finished = Put w.0
 want_by [] (m ∷ marks) left_ended right_ended finished = Put m
@@ -74,10 +76,10 @@ want_by [] [] true false finished = Take 1
 want_by [] [] true true false = End
 want_by [] [] true true true = Done
 
--- What waits goes out first, then port 0 is taken and then port 1; at the end the instance ends.
+-- An instance first puts what waits, then takes at port 0, then at port 1, and ends last.
 abbrev pub want : Instance → Want
 want i = want_by i.waiting i.marks (port_ended i 0) (port_ended i 1) i.finished
 
--- no batch that waits has more records than its size
+-- every waiting batch has at most `batch` records
 abbrev pub HasSmallBatches : Instance → Type 0
 HasSmallBatches i = AllByRecursion (λ w. length w.1 ≤ i.part.batch) i.waiting

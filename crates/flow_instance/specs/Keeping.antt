@@ -1,4 +1,4 @@
--- Records that come to those that are kept.
+-- Records that are added to the kept ones.
 use Rattle.std.specs.Prelude.{◌≡◌, ◌||◌, ◌++◌, ◌∷◌, [], filter, not, ℕ, Bool, false, List}
 use Rattle.std.specs.List.Sorted.{IsPermutation}
 use Rattle.pact_operators.specs.Allowed.{Bag}
@@ -7,17 +7,17 @@ use Rattle.pact_record.specs.Record.{key_of}
 use Rattle.pact_record.specs.declared.values.Value.{Value}
 use Rattle.pact_record.specs.Widths.{AreWide}
 
--- whether a record may match another one by these keys: where Nulls don't match, its key has none
+-- Whether a record may match another one by these keys. If Nulls don't match, a key with a Null matches nothing.
 abbrev pub may_match : Bool → List ℕ → List Value → Bool
 may_match nulls keys row = nulls || not (has_null (key_of keys row))
 
--- a row came, which is kept where it is to be, and it is as open as before
+-- a row came and was kept if it passes `may`; the kept rows aren't sealed
 pub record IsRowKept {L : Type 0} (rows : L → Bag) (keys : L → List ℕ) (is_sealed : L → Bool) (may : List Value → Bool) (row : List Value) (old new : L) : Type 0 where
   pub kept : IsPermutation (rows old ++ filter may (row ∷ [])) (rows new)
   pub same : keys new ≡ keys old
   pub not_sealed : is_sealed new ≡ false
 
--- these came, and it is as open as before
+-- these rows came and were kept; the kept rows aren't sealed
 pub record IsKept {L : Type 0} (rows : L → Bag) (keys : L → List ℕ) (is_sealed : L → Bool) (fields : ℕ) (more : Bag) (old new : L) : Type 0 where
   pub kept : IsPermutation (rows old ++ more) (rows new)
   pub same : keys new ≡ keys old

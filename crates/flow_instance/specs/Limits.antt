@@ -1,6 +1,6 @@
--- Numbers of a run.
+-- Limits of a run.
 use Rattle.std.specs.Prelude.{ℕ}
 
--- a batch has at most so many records
+-- the most records of a batch
 abbrev pub batch_limit : ℕ
 batch_limit = 1024

@@ -11,19 +11,19 @@ rows_of [] = []
 rows_of (Batch rows ∷ notes) = rows ++ rows_of notes
 rows_of (End ∷ notes) = rows_of notes
 
--- whether an end mark is among them
+-- whether the list has an end mark
 abbrev pub has_end : List Note → Bool
 has_end [] = false
 has_end (Batch rows ∷ notes) = has_end notes
 has_end (End ∷ notes) = true
 
--- Batches that aren't empty, of records with so many fields, and behind them at most one end mark.
+-- A list of nonempty batches, each record of which has this number of fields, and at most one end mark, which is last.
 abbrev pub AreNotes : ℕ → List Note → Type 0
 AreNotes fields [] = Unit {0}
 AreNotes fields (Batch rows ∷ notes) = (0 < length rows) × AreWide fields rows × AreNotes fields notes
 AreNotes fields (End ∷ notes) = notes ≡ []
 
--- a note that may stand among them
+-- a note that such a list may have
 abbrev pub IsNote : ℕ → Note → Type 0
 IsNote fields (Batch rows) = (0 < length rows) × AreWide fields rows
 IsNote fields End = Unit {0}

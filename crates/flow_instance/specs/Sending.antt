@@ -11,7 +11,7 @@ use Rattle.plan_trees.specs.declared.physicals.Ship.{Ship}
 use Rattle.plan_trees.specs.declared.physicals.Ship.TheVariants.{Partition}
 use Rattle.flow_instance.specs.declared.parcels.Parcel.{Parcel}
 
--- ---- a queue as two lists
+-- ---- a queue as a list of batches and a list of end marks
 
 abbrev pub with_batch : ℕ → Note → List (ℕ × Bag) → List (ℕ × Bag)
 with_batch to (Batch rows) others = (to, rows) ∷ others
@@ -37,16 +37,16 @@ batch_parcel w = record { to = w.0; note = Batch w.1 }
 abbrev pub mark_parcel : ℕ → Parcel
 mark_parcel to = record { to = to; note = End }
 
--- the batches stand before the end marks
+-- every batch is before every end mark
 abbrev pub IsInOrder : List Parcel → Type 0
 IsInOrder queue = queue ≡ map batch_parcel (batches_in queue) ++ map mark_parcel (marks_in queue)
 
--- a batch of at most so many records, or an end mark
+-- a batch of at most `most` records, or an end mark
 abbrev pub IsFew : ℕ → Note → Type 0
 IsFew most (Batch rows) = length rows ≤ most
 IsFew most End = Unit {0}
 
--- each note of a queue is
+-- each note of a queue satisfies `IsFew`
 abbrev pub AreFew : ℕ → List Parcel → Type 0
 AreFew most queue = AllByRecursion (λ p. IsFew most p.note) queue
 
@@ -56,14 +56,14 @@ AreFew most queue = AllByRecursion (λ p. IsFew most p.note) queue
 abbrev pub IsBatchFor : ℕ → ℕ → ℕ × Bag → Type 0
 IsBatchFor fields to w = (w.0 ≡ to) × (0 < length w.1) × AreWide fields w.1
 
--- batches that carry these records to the worker came behind the others
+-- batches that carry these records to the worker were added at the end of the queue
 pub record AreCarried (fields to : ℕ) (rows : Bag) (old new : List Parcel) : Type 0 where
   pub more : List (ℕ × Bag)
   pub behind : new ≡ old ++ map batch_parcel more
   pub batches : AllByRecursion (IsBatchFor fields to) more
   pub carried : rows_for to more ≡ rows
 
--- some of them have come, and the others are held
+-- batches with some of the records were added at the end of the queue, and the others are held
 pub record AreCarriedBut (fields to : ℕ) (rows : Bag) (old new : List Parcel) (held : Bag) : Type 0 where
   pub more : List (ℕ × Bag)
   pub behind : new ≡ old ++ map batch_parcel more
@@ -73,7 +73,7 @@ pub record AreCarriedBut (fields to : ℕ) (rows : Bag) (old new : List Parcel) 
 
 -- ---- all receivers
 
--- a part for each worker, of the rows that their key values send there
+-- one part for each worker: the rows that their key values send to it
 abbrev pub IsSplit : List ℕ → (workers : ℕ) → Bag → List Bag → Type 0
 IsSplit keys workers rows parts = (length parts ≡ workers) × ((from to : ℕ) → to < workers → slice_get parts to ≡ Some (sent (Partition keys) workers from to rows))
 
@@ -84,7 +84,7 @@ HasPipe workers ship from to = (to < workers) × (has_pipe ship from to ≡ true
 abbrev pub IsSent : (fields workers : ℕ) → Ship → (from : ℕ) → ℕ × Bag → Type 0
 IsSent fields workers ship from w = HasPipe workers ship from w.0 × (0 < length w.1) × AreWide fields w.1
 
--- a queue of batches that carry the records to those workers to which they go
+-- a queue of batches that carry each record to the workers that it goes to
 pub record AreSent (fields workers : ℕ) (ship : Ship) (from : ℕ) (rows : Bag) (queue : List Parcel) : Type 0 where
   pub list : List (ℕ × Bag)
   pub is : queue ≡ map batch_parcel list
@@ -92,11 +92,11 @@ pub record AreSent (fields workers : ℕ) (ship : Ship) (from : ℕ) (rows : Bag
   pub each : (to : ℕ) → to < workers → rows_for to list ≡ sent ship workers from to rows
   pub others : (to : ℕ) → workers ≤ to → rows_for to list ≡ []
 
--- the receiver after n others: a sender begins with the worker of its own number and goes around
+-- The receiver after n others. A sender begins with the worker of its own number and goes around.
 abbrev pub IsTurn : (workers from n to : ℕ) → Type 0
 IsTurn workers from n to = (from + n ≡ to) ⊎ (from + n ≡ to + workers)
 
--- batches for the first n receivers
+-- the batches for the first n receivers
 pub record AreSentSoFar (fields workers : ℕ) (ship : Ship) (from n : ℕ) (rows : Bag) (queue : List Parcel) : Type 0 where
   pub list : List (ℕ × Bag)
   pub is : queue ≡ map batch_parcel list
@@ -105,7 +105,7 @@ pub record AreSentSoFar (fields workers : ℕ) (ship : Ship) (from n : ℕ) (row
   pub later : (turn to : ℕ) → n ≤ turn → turn < workers → to < workers → IsTurn workers from turn to → rows_for to list ≡ []
   pub others : (to : ℕ) → workers ≤ to → rows_for to list ≡ []
 
--- end marks for those of the first n workers to which the edge leads came behind the others
+-- end marks for those of the first n workers to which the edge leads were added at the end of the queue
 pub record AreMarked (workers : ℕ) (ship : Ship) (from n : ℕ) (old new : List Parcel) : Type 0 where
   pub list : List ℕ
   pub behind : new ≡ old ++ map mark_parcel list

@@ -1,4 +1,4 @@
--- What a program and a physical plan say of the instances of one source or operator.
+-- What a program and a physical plan say about the instances of one source or operator.
 use Rattle.std.specs.Prelude.{ℕ, Bool, Option, Some, None, List, [], ◌∷◌}
 use Rattle.tac_syntax.specs.declared.declarations.OpKind.{OpKind}
 use Rattle.plan_trees.specs.declared.physicals.Ship.{Ship}
@@ -10,22 +10,22 @@ use Rattle.pact_operators.specs.Allowed.{Bag}
 use Rattle.pact_operators.specs.PlanOps.{PlanOps, plan_ops}
 use Rattle.pact_operators.specs.Programs.{ProgramData}
 
--- What the sources and operators do, how many fields a record has, and a physical plan.
+-- What the sources and operators do, the number of fields of a record, and a physical plan.
 pub record Setting : Type 0 where
   pub ops : PlanOps
   pub fields : ℕ
   pub physical : PhysicalData
 
--- of a program with the rows of its sources
+-- the setting of a program with the rows of its sources
 abbrev pub setting : ProgramData → List Bag → PhysicalData → Setting
 setting p inputs physical = record { ops = plan_ops p inputs; fields = p.fields; physical = physical }
 
--- An edge that comes in at a port: the number of what sends along it, and how.
+-- An edge that comes in at a port: the number of its sender, and how records are shipped.
 pub record Port : Type 0 where
   pub edge : ℕ
   pub ship : Ship
 
--- One source or operator: its number, kind and ports, and how its records go to its consumer, which the root doesn't have.
+-- One source or operator: its number, kind and ports, and how its records go to its consumer. The root has no consumer.
 pub record Spot : Type 0 where
   pub at : ℕ
   pub kind : OpKind
@@ -39,13 +39,13 @@ pub record Spot : Type 0 where
 abbrev pub port_from : PhysicalData → PlanTree → Port
 port_from p t = record { edge = root_of t; ship = ship_of p t }
 
--- those of the root of a tree
+-- the ports of a tree's root
 abbrev pub ports_of : PhysicalData → PlanTree → List Port
 ports_of p (leaf n) = []
 ports_of p (over n t) = port_from p t ∷ []
 ports_of p (both n t u) = port_from p t ∷ port_from p u ∷ []
 
--- the one at the root of a tree
+-- the source or operator at the root of a tree
 abbrev pub spot : Setting → PlanTree → Spot
 spot setting t = record {
   at = root_of t;
@@ -68,7 +68,7 @@ ship_in (Some port) = Some port.ship
 abbrev pub is_edge : Option Port → (from worker : ℕ) → Bool
 is_edge port from worker = has_out (ship_in port) from worker
 
--- those of a worker's records that go to another
+-- the records of a worker that go to another worker
 abbrev pub sent : Option Ship → (workers from to : ℕ) → Bag → Bag
 sent None workers from to given = []
 sent (Some ship) workers from to given = sending.sent ship workers from to given

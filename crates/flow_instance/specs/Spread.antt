@@ -1,4 +1,4 @@
--- What a run leaves.
+-- The result of a run.
 use Rattle.std.specs.Prelude.{◌≡◌, ◌<◌, ◌+◌, ℕ, zero, suc, true, Some, List, slice_get}
 use Rattle.std.specs.List.Sorted.{IsPermutation}
 use Rattle.plan_trees.specs.Plans.{has, root_of, subtree_of}
@@ -17,16 +17,17 @@ sum_below (suc n) f = sum_below n f + f n
 abbrev pub placed_in : Setting → World → Bag
 placed_in setting w = all_of setting.physical.workers (λ worker. (w.instance (root_of setting.physical.tree) worker).placed)
 
--- how many records the instances of a number gave
+-- the number of records that the instances of an operator gave, saturating
 abbrev pub given_in : Setting → World → ℕ → ℕ
 given_in setting w at = count_of (sum_below setting.physical.workers (λ worker. (w.instance at worker).given))
 
--- the same notes as put and as taken
+-- the history in which every note that was put was taken
 abbrev pub through : (ℕ → ℕ → ℕ → List Note) → History
 through notes = record { put = notes; taken = notes }
 
--- There is one list of notes for each pipe such that every instance is done and follows from these lists, both as what it took and as what it put.
--- The rows are those that the root's instances placed, in some order, and the counts are what the instances gave.
+-- Each pipe has one list of notes. Every instance is done and agrees with these lists, both as the notes that it took
+-- and as the notes that it put. The rows are, in some order, those that the root's instances placed. The counts are the
+-- numbers of records that the instances gave.
 pub record Spread (setting : Setting) (rows : Bag) (counts : List ℕ) : Type 0 where
   pub notes : ℕ → ℕ → ℕ → List Note
   pub world : World

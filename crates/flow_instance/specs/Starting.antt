@@ -1,4 +1,4 @@
--- What an instance keeps of a program and a physical plan, and instances at their start.
+-- The part of a program and a physical plan that an instance keeps, and instances at their start.
 use Rattle.std.specs.Prelude.{◌≡◌, ◌≤◌, ◌<◌, ℕ, true, false, Option, Some, None, List, [], map, slice_get}
 use Rattle.flow_instance.specs.Instances.{Instance}
 use Rattle.flow_instance.specs.Local.{IsLocal}
@@ -19,7 +19,7 @@ use Rattle.flow_instance.specs.declared.before_start.Unstarted.{Unstarted}
 
 -- ---- of the program
 
--- where it is a source, the rows are the worker's share
+-- if the number is a source's, the rows are the worker's share
 abbrev pub IsShareOf : ProgramData → List Bag → (at workers worker : ℕ) → Bag → Type 0
 IsShareOf p inputs at workers worker rows = kind_at p.ops at ≡ Source → rows ≡ share_from 0 workers worker ((plan_ops p inputs).rows at)
 
@@ -32,12 +32,12 @@ pub record IsFunctionAt (p : ProgramData) (at : ℕ) (f : WithFields) : Type 0 w
   pub left_below : AreBelow p.fields (left_keys_in (slice_get p.ops at))
   pub right_below : AreBelow p.fields (right_keys_in (slice_get p.ops at))
 
--- a source calls none
+-- only a source has no function
 abbrev pub IsCalledAt : ProgramData → ℕ → Option WithFields → Type 0
 IsCalledAt p at None = kind_at p.ops at ≡ Source
 IsCalledAt p at (Some f) = IsFunctionAt p at f
 
--- what an instance keeps is what the program and the plan say at its number
+-- the part has what the program and the plan say at this number
 pub record IsPartAt (p : ProgramData) (physical : PhysicalData) (number worker_number size : ℕ) (part : Part) : Type 0 where
   pub at : part.at ≡ number
   pub kind : part.kind ≡ kind_at p.ops number
@@ -54,7 +54,7 @@ pub record IsPartAt (p : ProgramData) (physical : PhysicalData) (number worker_n
 
 -- ---- before the start
 
--- What the instance of a source or operator on a worker starts from; only a source has rows of its own.
+-- The data from which the instance of a source or operator on a worker starts. Only a source has rows of its own.
 pub record IsUnstarted (p : ProgramData) (physical : PhysicalData) (at worker size : ℕ) (share : Bag) (u : Unstarted) : Type 0 where
   pub part : IsPartAt p physical at worker size u.part
   pub rows : u.rows ≡ share
@@ -65,7 +65,7 @@ pub record IsUnstarted (p : ProgramData) (physical : PhysicalData) (at worker si
   pub wide : AreWide p.fields share
   pub none : is_source_kind (kind_at p.ops at) ≡ false → share ≡ []
 
--- it is that of some program's plan
+-- the data belongs to some program's plan
 pub record CanStart (u : Unstarted) : Type 0 where
   pub program : ProgramData
   pub physical : PhysicalData
@@ -84,6 +84,6 @@ pub record IsStartedAt (p : ProgramData) (physical : PhysicalData) (number worke
   pub local : (inputs : List Bag) → IsShareOf p inputs number physical.workers worker_number share
       → IsLocal (spot (setting p inputs physical) (subtree_of number physical.tree)) worker_number i (λ port from. []) (λ to. [])
 
--- It starts as the plan says from which this is.
+-- The instance starts as the plan says, for any plan to which the data belongs.
 abbrev pub IsStartedFrom : Unstarted → Instance → Type 0
 IsStartedFrom u i = (p : ProgramData) (physical : PhysicalData) (at worker size : ℕ) (share : Bag) → IsUnstarted p physical at worker size share u → IsStartedAt p physical at worker size share i

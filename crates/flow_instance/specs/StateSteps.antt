@@ -1,4 +1,4 @@
--- What the steps of an instance do to its fields.
+-- The effect of an instance's steps on its fields.
 use Rattle.std.specs.Prelude.{◌≡◌, ◌+◌, ℕ, Bool, true, List, ◌++◌, length, map}
 use Rattle.flow_instance.specs.Instances.{Part}
 use Rattle.flow_instance.specs.Local.{Placed}
@@ -20,13 +20,13 @@ pub record HasGiven (p : Part) (out placed_before placed : Bag) (queue : List Pa
   pub places : Placed p.out (placed_before ++ out) placed
   pub wide : AreWide p.fields placed
 
--- End marks for all receivers came behind what waits.
+-- End marks for all receivers were added at the end of the queue.
 pub record HasMarked (p : Part) (old new : List Parcel) : Type 0 where
   pub list : List ℕ
   pub behind : new ≡ old ++ map mark_parcel list
   pub marks : (ops : PlanOps) → Mark (spot_of p ops) p.worker true list
 
--- It gave these, and is otherwise as it was.
+-- It gave these records. Only `queue`, `placed` and `given` changed.
 pub record Gives {L : Type 0} (s : State L) (out : Bag) (t : State L) : Type 0 where
   pub same : t ≡ record s { queue = t.queue; placed = t.placed; given = t.given }
   pub counted : t.given ≡ count_of (s.given + length out)
@@ -34,7 +34,7 @@ pub record Gives {L : Type 0} (s : State L) (out : Bag) (t : State L) : Type 0 w
   pub orderly : AreOrderly s.part.workers t.queue.items
   pub batches : AreFew s.part.batch t.queue.items
 
--- It gave these for the groups of what it has kept, which may stand in another order now.
+-- It gave these records for the groups of its kept rows. The kept rows may be in another order afterwards.
 pub record GivesGroups {L : Type 0} (rows : L → Bag) (s t : State L) (out : Bag) : Type 0 where
   pub same : t ≡ record s { left = t.left; right = t.right }
   pub given : AreGivenLast rows s out
@@ -42,7 +42,7 @@ pub record GivesGroups {L : Type 0} (rows : L → Bag) (s t : State L) (out : Ba
   pub right_wide : AreWide s.part.fields (rows t.right)
   pub widths : AreWide s.part.fields out
 
--- It took a note at a port from a sender, and is sound while it may still take.
+-- It took a note at a port from a sender, and is sound as long as it may still take.
 pub record Takes {L : Type 0} (rows : L → Bag) (keys : L → List ℕ) (is_sealed : L → Bool) (s : State L) (port from : ℕ) (note : Note) (t : State L) : Type 0 where
   pub took : HasTaken rows s port from note t
   pub sound : IsSoundIfTaking rows keys is_sealed t

@@ -1,4 +1,4 @@
--- The fields of an instance, and the instance that they stand for.
+-- The fields of an instance, and the instance as data that they represent.
 use Rattle.std.specs.Prelude.{◌≡◌, ◌≤◌, ◌<◌, ◌+◌, ◌&&◌, ◌||◌, ◌==◌, ◌⊎◌, ℕ, Bool, true, false, List, [], filter, length, map, not, slice_get, Option, Some, None}
 use Rattle.flow_instance.specs.Instances.{Instance, Part as PartData, all_ended, ended_at, kept_at, port_ended}
 use Rattle.flow_instance.specs.Local.{Calls, IsGiven, Placed, works_at_once}
@@ -26,7 +26,7 @@ use Rattle.flow_instance.specs.declared.parts.Part.{Part}
 use Rattle.flow_instance.specs.declared.parts.Port.{Port}
 use Rattle.flow_instance.specs.declared.states.State.{State}
 
--- ---- what they stand for
+-- ---- the data that they represent
 
 -- a port as data
 abbrev pub port_of : Port → PortData
@@ -37,7 +37,7 @@ abbrev pub body_in : Option WithFields → Code
 body_in None = stop
 body_in (Some f) = f.function.body
 
--- what an instance keeps of the program and the plan, as data
+-- the part of the program and the plan that an instance keeps, as data
 abbrev pub part_of : Part → PartData
 part_of p = record {
   at = p.at;
@@ -54,7 +54,7 @@ part_of p = record {
   out = p.out;
 }
 
--- the instance that these fields stand for, with the rows that a strategy keeps
+-- the instance as data; `rows` gives the rows that a local strategy keeps
 abbrev pub seen : {L : Type 0} → (L → Bag) → State L → Instance
 seen rows s = record {
   part = part_of s.part;
@@ -70,41 +70,41 @@ seen rows s = record {
   finished = s.finished;
 }
 
--- ---- what its program and plan say
+-- ---- the program and plan of a part
 
--- what a part says of its operator, and the sources and operators of its program the rest
+-- the spot with the part's own fields, and the rest from the sources and operators of its program
 abbrev pub spot_of : PartData → PlanOps → Spot
 spot_of p ops = record { at = p.at; kind = p.kind; workers = p.workers; fields = p.fields; ports = p.ports; out = p.out; ops = ops }
 
--- its function and its keys are those of its operator
+-- the part's function, keys and setting for Nulls are those of its operator
 pub record AreOpsOf (ops : PlanOps) (p : PartData) : Type 0 where
   pub calls : Calls (spot_of p ops) p.kind p.fields p.body
   pub left_keys : p.left_keys ≡ ops.left_keys p.at
   pub right_keys : p.right_keys ≡ ops.right_keys p.at
   pub nulls : p.nulls ≡ ops.nulls
 
--- what waits stands in order, for workers that there are
+-- the waiting notes are in order, and their receivers are workers
 pub record AreOrderly (workers : ℕ) (queue : List Parcel) : Type 0 where
   pub order : IsInOrder queue
   pub receivers : AllByRecursion (λ p. p.to < workers) queue
 
--- one more sender has ended at a port, and what is kept of port 0 may stand in another order
+-- one more sender has ended at a port; the rows kept for port 0 may be in another order
 pub record HasEnded {L : Type 0} (rows : L → Bag) (s : State L) (port from : ℕ) (t : State L) : Type 0 where
   pub same : t ≡ record s { left_ended = t.left_ended; right_ended = t.right_ended; left = t.left }
   pub ended : (p k : ℕ) → ended_at (seen rows t) p k ≡ (((p == port) && (k == from)) || ended_at (seen rows s) p k)
   pub kept : IsPermutation (rows s.left) (rows t.left)
 
--- what is given once all senders have ended, where that is waited for
+-- the output once all senders have ended; an operator that works at once (`true`) gives nothing more
 abbrev pub GivesLast : Bool → (Bag → Type 0) → Bag → Type 0
 GivesLast true Given out = out ≡ []
 GivesLast false Given out = Given out
 
--- what a Reduce or a CoGroup gives for what it has kept
+-- the output of a Reduce or a CoGroup for the rows that it has kept
 abbrev pub AreGivenLast : {L : Type 0} → (L → Bag) → State L → Bag → Type 0
 AreGivenLast rows s out = (ops : PlanOps) → AreOpsOf ops (part_of s.part)
     → GivesLast (works_at_once s.part.kind) (IsGiven (spot_of (part_of s.part) ops) s.part.kind (map port_of s.part.ports.items) s.part.worker (kept_at (seen rows s))) out
 
--- what the function gives for the pairs of the kept left records and these right ones that match, in some order
+-- the function's output for the matching pairs of a kept left record and one of these right records, in some order
 abbrev pub ArePairsGiven : {L : Type 0} → (L → Bag) → (L → List ℕ) → State L → (rights out : Bag) → Type 0
 ArePairsGiven rows keys s rights out = (f : WithFields) → s.part.called ≡ Some f
     → IsPermutation (crossed (matched s.part.nulls (λ l r. Out f.fields f.function.body (of_pair l r)) (keys s.left) s.part.right_keys) (rows s.left) rights) out
@@ -134,7 +134,7 @@ pub record IsFresh {L : Type 0} (rows : L → Bag) (keys : L → List ℕ) (is_s
   pub given : s.given ≡ 0
   pub finished : s.finished ≡ false
 
--- it gave these, and owes end marks where nothing is to come
+-- it gave these records, and queued its end marks if no sender is still to come
 pub record HasBegun {L : Type 0} (rows : L → Bag) (s : State L) (out : Bag) (t : State L) : Type 0 where
   pub same : t ≡ record s { queue = t.queue; placed = t.placed; given = t.given }
   pub counted : t.given ≡ count_of (s.given + length out)
@@ -144,7 +144,7 @@ pub record HasBegun {L : Type 0} (rows : L → Bag) (s : State L) (out : Bag) (t
   pub wide : AreWide s.part.fields t.placed
   pub orderly : AreOrderly s.part.workers t.queue.items
 
--- ---- what is always true of one that still takes
+-- ---- invariants of an instance that still takes notes
 
 -- it calls a function of its kind, its keys are fields, and it has the ports of its kind
 pub record IsOperator (p : Part) : Type 0 where
@@ -157,7 +157,7 @@ pub record IsOperator (p : Part) : Type 0 where
   pub right_below : AreBelow p.fields p.right_keys
   pub arity : takes p.kind ≡ length p.ports.items
 
--- whether the kind is the one that it is named for
+-- whether the kind is a Map, a Match, and so on
 abbrev pub is_map : OpKind → Bool
 is_map Map = true
 is_map kind = false
@@ -174,21 +174,22 @@ abbrev pub is_match : OpKind → Bool
 is_match Match = true
 is_match kind = false
 
--- the rows that are kept of those that come to port 0: a Match keeps those that may match
+-- The rows that are kept of those that come to port 0. A Match keeps only those that may match.
 abbrev pub needed_of : Part → OpKind → Bag → Bag
 needed_of p Match rows = filter (may_match p.nulls p.left_keys) rows
 needed_of p kind rows = rows
 
--- what is kept of port 0 is sealed once port 0 has ended, where each row of port 1 asks for it
+-- A Match or a Cross seals the rows kept for port 0 once that port has ended, since each row of port 1 looks them up.
 abbrev pub is_built : OpKind → (left_ended : Bool) → Bool
 is_built kind left_ended = is_pair_kind kind && left_ended
 
--- what isn't the root places nothing
+-- only the root places records
 abbrev pub PlacesAtRoot : Option Ship → Bag → Type 0
 PlacesAtRoot None placed = Unit {0}
 PlacesAtRoot (Some ship) placed = placed ≡ []
 
--- one that can take notes: its fields fit its part, and what it has kept and placed has the program's fields
+-- The invariant of an instance that can take notes: its fields fit its part, and all rows that it has kept and placed
+-- have the program's number of fields.
 pub record IsSound {L : Type 0} (rows : L → Bag) (keys : L → List ℕ) (is_sealed : L → Bool) (s : State L) : Type 0 where
   pub batch : 1 ≤ s.part.batch
   pub worker : s.part.worker < s.part.workers
@@ -213,18 +214,19 @@ pub record IsReady {L : Type 0} (rows : L → Bag) (keys : L → List ℕ) (is_s
   pub not_ended : port_ended (seen rows s) port ≡ false
   pub which : (port ≡ 0) ⊎ ((port ≡ 1) × (port_ended (seen rows s) 0 ≡ true))
 
--- no more flags than workers
+-- there are at most as many flags as workers
 pub record HasFlags {L : Type 0} (s : State L) : Type 0 where
   pub left : length s.left_ended ≤ s.part.workers
   pub right : length s.right_ended ≤ s.part.workers
 
--- once every sender has ended, nothing more is taken
+-- The instance is sound until every sender has ended. After that nothing more is taken.
 abbrev pub IsSoundIfTaking : {L : Type 0} → (L → Bag) → (L → List ℕ) → (L → Bool) → State L → Type 0
 IsSoundIfTaking rows keys is_sealed s = all_ended (seen rows s) ≡ false → IsSound rows keys is_sealed s
 
--- ---- what is always true of one
+-- ---- the invariant of every instance
 
--- There are no more flags than workers, what waits stands in order, and where a note is out there is room to take it back.
+-- There are at most as many flags as workers. The waiting notes are in order. While a note is out, the queue has room
+-- to take it back.
 pub record IsWhole {L : Type 0} (rows : L → Bag) (keys : L → List ℕ) (is_sealed : L → Bool) (s : State L) : Type 0 where
   pub taking : IsSoundIfTaking rows keys is_sealed s
   pub flags : HasFlags s

@@ -1,4 +1,4 @@
--- What a note does to an instance.
+-- The effect of a note on an instance.
 use Rattle.std.specs.Prelude.{◌≡◌, ◌≢◌, ◌<◌, ◌+◌, ◌&&◌, ◌||◌, ◌⊎◌, ◌==◌, ℕ, suc, Bool, true, false, cond, List, [], ◌∷◌, ◌++◌, filter, length, slice_get}
 use Rattle.std.specs.List.{AllByRecursion}
 use Rattle.std.specs.List.Sorted.{IsPermutation}
@@ -25,14 +25,14 @@ note_rows End = []
 
 -- ---- a note is taken
 
--- what an operator that works at once gives for one note, over the rows that it keeps of port 0
+-- the output for one note of an operator that works at once; `kept` are the rows kept for port 0
 abbrev pub GivesAtOnce : Spot → OpKind → (port : ℕ) → (kept : Bag) → Note → Bag → Type 0
 GivesAtOnce s Map port kept (Batch rows) out = Gives s.ops Map s.at rows out
 GivesAtOnce s Match (suc port) kept (Batch rows) out = GivesBoth s.ops Match s.at kept rows out
 GivesAtOnce s Cross (suc port) kept (Batch rows) out = GivesBoth s.ops Cross s.at kept rows out
 GivesAtOnce s kind port kept note out = out ≡ []
 
--- the rows that are kept, with those of a note at a port
+-- the kept rows of each port, with the rows of a note at one port
 abbrev pub kept_with : (ℕ → Bag) → (port : ℕ) → Note → ℕ → Bag
 kept_with kept port note p = kept p ++ cond (p == port) (note_rows note) []
 
@@ -41,22 +41,22 @@ abbrev pub KeepsMore : Spot → OpKind → (old : ℕ → Bag) → (port : ℕ) 
 KeepsMore s Match old port note new = IsPermutation (old 0 ++ filter (may_match s) (cond (0 == port) (note_rows note) [])) (new 0)
 KeepsMore s kind old port note new = KeepsRows s kind (kept_with old port note) new
 
--- what an instance gives for one note
+-- the output of an instance for one note
 abbrev pub GivesNow : (at_once : Bool) → Spot → (worker : ℕ) → (i j : Instance) → (port : ℕ) → Note → Bag → Type 0
 GivesNow true s worker i j port note out = GivesAtOnce s s.kind port (kept_at i 0) note out
 GivesNow false s worker i j port note out = Gave (all_ended j) (IsGiven s s.kind s.ports worker (kept_with (kept_at i) port note)) out
 
--- batches carry these records to all that they go to
+-- the waiting batches carry these records to all workers that they go to
 pub record Carry (s : Spot) (worker : ℕ) (out : Bag) (waiting : List (ℕ × Bag)) : Type 0 where
   pub notes : AllByRecursion (IsWaiting s worker) waiting
   pub sent_on : (to : ℕ) → to < s.workers → IsPermutation (sent s.out s.workers worker to out) (rows_for to waiting)
 
--- one end mark waits for each receiver where they are owed, and else none does
+-- if end marks are owed, one waits for each receiver; otherwise none waits
 pub record Mark (s : Spot) (worker : ℕ) (owed : Bool) (marks : List ℕ) : Type 0 where
   pub receivers : AllByRecursion (IsReceiver s worker) marks
   pub each : (to : ℕ) → to < s.workers → marks_for to marks ≡ one_if (has_out s.out worker to && owed)
 
--- An instance i, with nothing that waits, took a note at a port from a sender, and is j.
+-- An instance i, for which no note waits, took a note at a port from a sender and became j.
 pub record Took (s : Spot) (worker : ℕ) (i : Instance) (port from : ℕ) (note : Note) (j : Instance) : Type 0 where
   pub out : Bag
   pub gives : GivesNow (works_at_once s.kind) s worker i j port note out
@@ -78,7 +78,7 @@ abbrev pub next_note : (waiting : List (ℕ × Bag)) → Note
 next_note [] = End
 next_note (w ∷ waiting) = Batch w.1
 
--- without the first
+-- the list without its first element
 abbrev pub later : {A : Type 0} → List A → List A
 later [] = []
 later (x ∷ xs) = xs
@@ -88,37 +88,37 @@ abbrev pub later_marks : (waiting : List (ℕ × Bag)) → List ℕ → List ℕ
 later_marks [] marks = later marks
 later_marks (w ∷ waiting) marks = marks
 
--- and for whom
+-- the receiver of that note
 abbrev pub next_receiver : (waiting : List (ℕ × Bag)) → List ℕ → ℕ
 next_receiver [] [] = 0
 next_receiver [] (m ∷ marks) = m
 next_receiver (w ∷ waiting) marks = w.0
 
--- without it
+-- the instance after its next note is taken out
 abbrev pub offered : Instance → Instance
 offered i = record i { waiting = later i.waiting; marks = later_marks i.waiting i.marks; receiver = next_receiver i.waiting i.marks }
 
 -- ---- an instance ends
 
--- nothing else changes
+-- only `finished` changes
 abbrev pub finish : Instance → Instance
 finish i = record i { finished = true }
 
 -- ---- lists of notes
 
--- one note more on one of the lists
+-- one of the lists has one more note
 pub record Added (old : ℕ → ℕ → List Note) (a b : ℕ) (note : Note) (new : ℕ → ℕ → List Note) : Type 0 where
   pub here : new a b ≡ old a b ++ note ∷ []
   pub elsewhere : (c d : ℕ) → (c ≢ a) ⊎ (d ≢ b) → new c d ≡ old c d
 
--- one note more on one of an instance's lists
+-- one of an instance's lists has one more note
 pub record AddedTo (old : ℕ → List Note) (a : ℕ) (note : Note) (new : ℕ → List Note) : Type 0 where
   pub here : new a ≡ old a ++ note ∷ []
   pub elsewhere : (c : ℕ) → c ≢ a → new c ≡ old c
 
 -- ---- an instance at its start
 
--- Nothing was taken or put. A source has given its share, which waits or is placed, and owes its end marks.
+-- Nothing was taken or put. A source has given its share, which waits or is placed, and its end marks wait.
 pub record Started (s : Spot) (worker : ℕ) (i : Instance) : Type 0 where
   pub out : Bag
   pub gives : Gave (works_at_once s.kind || all_ended i) (IsGiven s s.kind s.ports worker (λ port. [])) out

@@ -14,8 +14,8 @@ use pact_operators::{Physical, Program};
 use pact_record::OutOfMemory;
 use std::alloc::Global;
 
-/// What an instance starts from: its part of the plan and, for a source, the worker's share of the rows. It can move to
-/// the worker's thread and start there.
+/// The data from which an instance starts: its part of the plan and, for a source, the worker's share of the rows. It
+/// can move to the worker's thread and start there.
 #[derive(Drop)]
 pub struct Unstarted {
     pub(crate) part: Part,
@@ -23,8 +23,9 @@ pub struct Unstarted {
 }
 
 impl Unstarted {
-    /// What the instance of an operator or a source of the plan starts from on a worker, with batches of at most `batch`
-    /// records. `rows` is the worker's share if it is a source, and otherwise empty. Out of memory is the only error.
+    /// The data from which the instance of an operator or a source of the plan starts on a worker, with batches of at
+    /// most `batch` records. `rows` is the worker's share if it is a source, and otherwise empty. Out of memory is the
+    /// only error.
     pub fn new(
         alloc: Global,
         program: &Program,
@@ -46,7 +47,7 @@ impl Unstarted {
         Ok(Unstarted { part, rows })
     }
 
-    /// How many rows it has of its own.
+    /// The number of its own rows: those of a source's share, and 0 for an operator.
     pub fn share_len(&self) -> usize
         ensures { result ≡ length self.now.rows }
     {

@@ -12,7 +12,7 @@ use pact_bag::Rows;
 use pact_record::OutOfMemory;
 
 impl<L: Local> State<L> {
-    // What a Match or a Cross keeps is sealed once its left side has come.
+    // A Match or a Cross seals the rows that it keeps once its left side has ended.
     fn end_left(&mut self, from: u32) -> Result<(), OutOfMemory>
         requires sound { IsSound L.rows L.key_fields L.is_sealed self.old }
         requires from { from < self.old.part.workers }
@@ -43,7 +43,7 @@ impl<L: Local> State<L> {
         Ok(())
     }
 
-    // What a Reduce or a CoGroup gives for all groups.
+    // What a Reduce or a CoGroup emits for all groups.
     fn groups(&mut self) -> Result<Rows, OutOfMemory>
         requires sound { IsSound L.rows L.key_fields L.is_sealed self.old }
         ensures { IfOk result (GivesGroups L.rows self.old self.new) }
@@ -68,7 +68,7 @@ impl<L: Local> State<L> {
         )
     }
 
-    // Nothing is kept any more. The rows are freed here, on the worker that kept them.
+    // Keeps no rows any more. They are freed here, on the worker that kept them.
     fn forget(&mut self) -> Result<(), OutOfMemory>
         ensures same { OnOk result (self.new ≡ record self.old { left = self.new.left; right = self.new.right }) }
         ensures left { OnOk result (L.rows self.new.left ≡ []) }
@@ -79,7 +79,7 @@ impl<L: Local> State<L> {
         Ok(())
     }
 
-    // What is given for all groups, after which nothing is kept.
+    // What is emitted for all groups. Afterwards no rows are kept.
     fn last_groups(&mut self) -> Result<Rows, OutOfMemory>
         requires sound { IsSound L.rows L.key_fields L.is_sealed self.old }
         ensures { IfOk result (GivesGroups L.rows self.old self.new) }
@@ -89,7 +89,7 @@ impl<L: Local> State<L> {
         Ok(out)
     }
 
-    /// Takes an end mark at a port. With the last one, what waited for it is given, and end marks go out.
+    /// Takes an end mark at a port. The last one makes it emit what waited for all input, and queues its own end marks.
     pub(crate) fn take_end(&mut self, port: u32, from: u32) -> Result<(), OutOfMemory>
         requires ready { IsReady L.rows L.key_fields L.is_sealed self.old port }
         requires from { from < self.old.part.workers }
@@ -104,7 +104,7 @@ impl<L: Local> State<L> {
         self.mark()
     }
 
-    /// Nothing is wanted any more.
+    /// Afterwards the instance wants nothing.
     pub(crate) fn close(&mut self)
         ensures { IsWhole L.rows L.key_fields L.is_sealed self.new }
     {

@@ -44,7 +44,7 @@ fn reduce_one<L: Local>(
     group_into(alloc, f, keys, group, scratch, out)
 }
 
-/// What a Reduce gives for its kept records, in any order.
+/// What a Reduce emits for its kept records, in any order.
 pub(crate) fn reduce_kept<L: Local>(
     alloc: Global,
     f: &Valid,
@@ -68,21 +68,21 @@ pub(crate) fn reduce_kept<L: Local>(
     Ok(out)
 }
 
-// The side whose keys are gone through.
+// The side whose keys are visited.
 #[derive(Clone, Copy)]
 enum Side {
     Left,
     Right,
 }
 
-// The groups of one key, as they are lent.
+// The groups of one key, borrowed.
 #[derive(Clone, Copy)]
 struct Groups<'a> {
     own: &'a Rows,
     other: &'a Rows,
 }
 
-// Both groups of the key with this number of one side. Only the other one may be empty.
+// Both groups of the key with this number on this side. Only the other side's group may be empty.
 fn groups_at<'a, L: Local>(keys: &Keys, own: &'a L, others: &'a L, n: usize) -> Groups<'a>
     requires own_sealed { L.is_sealed own.now ≡ true }
     requires others_sealed { L.is_sealed others.now ≡ true }
@@ -101,7 +101,8 @@ fn groups_at<'a, L: Local>(keys: &Keys, own: &'a L, others: &'a L, n: usize) -> 
     }
 }
 
-// Appends what the call for the groups of a key emits. For a key of the right side it is made if the left side has none, so that each key has one call.
+// Appends what the call for the groups of a key emits. A key of the right side is called only if the left side lacks
+// it, so that each key has exactly one call.
 fn call_from(
     alloc: Global,
     f: &Valid,
@@ -131,7 +132,7 @@ fn call_from(
     }
 }
 
-// The calls for the keys of one side.
+// What the calls for the keys of one side emit.
 fn cogroup_side<L: Local>(
     alloc: Global,
     f: &Valid,
@@ -166,7 +167,7 @@ fn cogroup_side<L: Local>(
     Ok(out)
 }
 
-/// What a CoGroup gives for its kept records, in any order.
+/// What a CoGroup emits for its kept records, in any order.
 pub(crate) fn cogroup_kept<L: Local>(
     alloc: Global,
     f: &Valid,

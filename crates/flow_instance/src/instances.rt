@@ -26,10 +26,11 @@ use pact_record::OutOfMemory;
 use std::alloc::Global;
 use std::marker::Model;
 
-/// A batch has at most so many records.
+/// The most records of a batch.
 pub const MAX_BATCH: u32 = 1024;
 
-/// One operator or source on one worker. It tells what it wants next, and is handed the notes that it takes and asked for those that it puts.
+/// One operator or source on one worker. `want` returns what it can do next. The caller hands it the notes that it
+/// takes, and fetches the notes that it puts.
 #[derive(Drop)]
 pub struct Instance<L: Local> {
     state: State<L>,
@@ -50,8 +51,8 @@ impl<L: Local> Model for Instance<L> {
 }
 
 impl<L: Local> Instance<L> {
-    /// The instance of an operator or a source of the plan on a worker, with batches of at most so many records. `rows` is the worker's share where
-    /// it is a source, else empty. Want of memory is the only error.
+    /// The instance of an operator or a source of the plan on a worker, with batches of at most `batch` records. `rows`
+    /// is the worker's share if it is a source, and otherwise empty. Out of memory is the only error.
     pub fn start(
         alloc: Global,
         program: &Program,
@@ -113,7 +114,8 @@ impl<L: Local> Instance<L> {
         }
     }
 
-    /// Takes a note that a worker sent, at the port that is wanted. After want of memory it may only be dropped.
+    /// Takes a note that worker `from` sent, at the port that it wants. After an out-of-memory error it may only be
+    /// dropped.
     pub fn took(&mut self, port: u32, from: u32, note: Note) -> Result<(), OutOfMemory>
         requires want { want self.old ≡ Want.Take port }
         requires edge { is_edge (slice_get self.old.part.ports port) from self.old.part.worker ≡ true }
@@ -134,7 +136,7 @@ impl<L: Local> Instance<L> {
         Ok(())
     }
 
-    /// Takes the note that a Put is wanted for out of it.
+    /// Removes and returns the next note, which it wants to put.
     pub fn offer(&mut self) -> Note
         requires put { (to : ℕ) × (want self.old ≡ Want.Put to) }
         ensures note { result ≡ next_note self.old.waiting }
@@ -152,7 +154,7 @@ impl<L: Local> Instance<L> {
         }
     }
 
-    /// Takes back the note that `offer` gave last, where nothing was done since. Then no note is out.
+    /// Puts back the note that the last `offer` returned, if nothing was done since. Afterwards no note is out.
     pub fn back(&mut self, note: Note)
         requires offered { (before : InstanceData) × (to : ℕ) × (want before ≡ Want.Put to) × (self.old ≡ offered before) × (note ≡ next_note before.waiting) }
         requires out { self.old.receiver < self.old.part.workers }
@@ -166,7 +168,7 @@ impl<L: Local> Instance<L> {
         self.state.receiver = self.state.part.workers;
     }
 
-    /// It ends, where it wants to. It is done then.
+    /// Ends it, if it wants to end. Afterwards it is done.
     pub fn end(&mut self)
         requires { want self.old ≡ Want.End }
         ensures ended { self.new ≡ finish self.old }
@@ -175,14 +177,14 @@ impl<L: Local> Instance<L> {
         self.state.finished = true;
     }
 
-    /// The records that an instance of the root has given so far; none of another.
+    /// The records that an instance of the root has given so far. Any other instance has none.
     pub fn placed(&self) -> &Rows
         ensures { result.now ≡ self.now.placed }
     {
         &self.state.placed
     }
 
-    /// The same, of an instance that isn't used any more.
+    /// Like `placed`, but takes the records out of an instance that isn't used any more.
     pub fn into_placed(self) -> Rows
         ensures { result ≡ self.placed }
     {
@@ -190,14 +192,14 @@ impl<L: Local> Instance<L> {
         state.placed
     }
 
-    /// How many records it has given so far, where the greatest u64 stands for more.
+    /// The number of records given so far. It saturates at the greatest u64.
     pub fn given(&self) -> u64
         ensures { result ≡ self.now.given }
     {
         self.state.given
     }
 
-    /// The number of what sends along the edge of the port.
+    /// The number of the source or operator that sends along the edge of the port.
     pub fn edge(&self, port: u32) -> u32
         requires { port < length self.now.part.ports }
         ensures { slice_get (map (λ p. p.edge) self.now.part.ports) port ≡ Some result }
@@ -205,7 +207,7 @@ impl<L: Local> Instance<L> {
         self.state.part.ports[port as usize].edge
     }
 
-    /// Whether the worker's end mark was taken at the port. Of a worker that doesn't send there nothing is waited for.
+    /// Whether the end mark of worker `from` was taken at the port. A worker that doesn't send there counts as ended.
     pub fn ended(&self, port: u32, from: u32) -> bool
         requires port { port < length self.now.part.ports }
         requires from { from < self.now.part.workers }

@@ -1,4 +1,4 @@
-//! Records that are kept until they are asked for.
+//! Records that are kept until they are looked up.
 
 ghost use Rattle.std.specs.Prelude.{◌≡◌, ◌||◌, false, filter, length, not, OnOk};
 ghost use Rattle.pact_bag.specs.Pairs.{has_null};
@@ -10,7 +10,7 @@ use local_strategy::Local;
 use pact_bag::{Rows, has_null};
 use pact_record::{Keys, OutOfMemory, Record};
 
-/// Whether a record may match another one, where Nulls match in keys or don't.
+/// Whether a record may match another one by these keys. `nulls` says whether Nulls match in keys.
 pub(crate) fn may_match(nulls: bool, keys: &Keys, row: &Record) -> bool
     requires { AreBelow (length row.now) keys.now }
     ensures { result ≡ may_match nulls keys.now row.now }
@@ -18,7 +18,7 @@ pub(crate) fn may_match(nulls: bool, keys: &Keys, row: &Record) -> bool
     nulls || !has_null(row, keys)
 }
 
-// Keeps the row, where it may match by these keys.
+// Keeps the row if it may match by these keys.
 fn keep_row<L: Local>(
     kept: &mut L,
     nulls: bool,
@@ -37,7 +37,7 @@ fn keep_row<L: Local>(
     kept.add(row)
 }
 
-/// Keeps those of the rows, which all have so many fields, that may match by these keys.
+/// Keeps those of the rows that may match by these keys. All rows have `fields` fields.
 pub(crate) fn keep<L: Local>(
     kept: &mut L,
     fields: u32,

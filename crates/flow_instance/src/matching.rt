@@ -1,4 +1,4 @@
-//! Calls for the pairs of kept records and those of a batch.
+//! Calls for the pairs of a kept record and a record of a batch.
 
 ghost use Rattle.std.specs.Prelude.{◌≡◌, ◌⊎◌, ◌++◌, [], true, flat_map, length, IfOk, OnOk};
 ghost use Rattle.std.specs.List.Sorted.{IsPermutation};
@@ -15,7 +15,7 @@ use std::alloc::Global;
 use tac_interp::{Scratch, cross_rows, pair_into};
 use tac_syntax::Valid;
 
-// The calls for the pairs of one right record, behind what was given before.
+// Appends what the calls for the pairs of one right record emit.
 fn append_pairs(
     alloc: Global,
     f: &Valid,
@@ -37,8 +37,8 @@ fn append_pairs(
     Ok(())
 }
 
-// The calls for the pairs of one right record and the kept ones, behind what was given before. Where Nulls don't match, no
-// group is asked for by a key that has one.
+// Appends what the calls for the pairs of one right record and the kept ones emit. If Nulls don't match, a key with a
+// Null is never looked up.
 fn append_matches<L: Local>(
     alloc: Global,
     nulls: bool,
@@ -66,7 +66,8 @@ fn append_matches<L: Local>(
     append_pairs(alloc, f, lefts, right, scratch, out)
 }
 
-/// What a Match gives for its kept left records and these right ones, in any order, where Nulls match in keys or don't.
+/// What a Match emits for its kept left records and these right ones, in any order. `nulls` says whether Nulls match in
+/// keys.
 pub(crate) fn match_kept<L: Local>(
     alloc: Global,
     nulls: bool,
@@ -101,7 +102,8 @@ pub(crate) fn match_kept<L: Local>(
     Ok(out)
 }
 
-/// What a Cross gives for its kept left records, which have no keys, and these right ones, in any order. The kept ones are asked for once.
+/// What a Cross emits for its kept left records, which have no keys, and these right ones, in any order. It looks the
+/// kept records up once.
 pub(crate) fn cross_kept<L: Local>(
     alloc: Global,
     f: &Valid,

@@ -1,4 +1,4 @@
-//! What goes along pipes, what an instance wants, and what can happen.
+//! The notes on pipes, the wants of an instance, and the events of a run.
 
 use pact_bag::Rows;
 
@@ -16,13 +16,13 @@ pub enum Want {
     Take(u32),
     /// Put a note on the pipe to this worker.
     Put(u32),
-    /// End: every port has ended, and every note has gone out.
+    /// End, since every port has ended and every note has gone out.
     End,
-    /// Nothing: it has ended.
+    /// Nothing, since it has ended.
     Done,
 }
 
-/// A pipe, by the operator or source that sends along it, and by the two workers.
+/// A pipe, identified by the operator or source that sends along it, and by the two workers.
 #[derive(Clone, Copy, Debug, PartialEq, Eq)]
 pub struct PipeId {
     pub edge: u32,

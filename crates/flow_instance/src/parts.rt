@@ -1,4 +1,4 @@
-//! What an instance keeps of a program and of a physical plan.
+//! The part of a program and of a physical plan that an instance keeps.
 
 ghost use Rattle.std.specs.Prelude.{◌≡◌, ◌||◌, not, Some, IsSome};
 ghost use Rattle.flow_instance.specs.Local.{works_at_once};
@@ -9,7 +9,7 @@ use pact_record::Keys;
 use plan_trees::Ship;
 use tac_syntax::{OpKind, Valid};
 
-/// An edge that comes in at a port, by the number of what sends along it.
+/// An edge that comes in at a port, by the number of its sender.
 #[derive(Clone, Copy)]
 pub(crate) struct Port {
     pub(crate) edge: u32,
@@ -21,7 +21,7 @@ pub(crate) struct Port {
 pub(crate) struct Part {
     pub(crate) at: u32,
     pub(crate) kind: OpKind,
-    /// A source has none.
+    /// `None` for a source.
     pub(crate) called: Option<Valid>,
     pub(crate) left_keys: Keys,
     pub(crate) right_keys: Keys,
@@ -30,10 +30,10 @@ pub(crate) struct Part {
     pub(crate) fields: u32,
     pub(crate) worker: u32,
     pub(crate) workers: u32,
-    /// A batch has at most so many records.
+    /// The most records of a batch.
     pub(crate) batch: u32,
     pub(crate) ports: Vec<Port>,
-    /// The root has none.
+    /// `None` for the root.
     pub(crate) out: Option<Ship>,
 }
 
@@ -66,7 +66,7 @@ impl Part {
         self.kind == OpKind::Cross
     }
 
-    /// Whether a record that comes to port 0 is kept though its key has Null.
+    /// Whether a record that comes to port 0 is kept even if its key has a Null.
     pub(crate) fn keeps_nulls(&self) -> bool
         ensures { result ≡ (self.now.nulls || not (is_match self.now.kind)) }
     {
@@ -79,7 +79,7 @@ impl Part {
         self.kind == OpKind::Reduce
     }
 
-    /// Whether it gives records before all have come.
+    /// Whether it emits records before it has taken all input.
     pub(crate) fn works_at_once(&self) -> bool
         ensures { result ≡ works_at_once self.now.kind }
     {

@@ -8,7 +8,7 @@ use pact_record::OutOfMemory;
 use plan_trees::EndedSenders;
 use std::alloc::Global;
 
-/// Those of a port before any note has come. Nobody sends to a port that isn't there.
+/// The senders of a port before any note has come. A port that doesn't exist has none.
 pub(crate) fn senders_at(
     alloc: Global,
     part: &Part,

@@ -16,7 +16,8 @@ use std::alloc::Global;
 use std::collections::VecDeque;
 use std::mem;
 
-// Puts the rows away as a batch where they are enough. `more` come behind them: the next batch has room for as many of these as it takes.
+// Queues the rows as a batch if there are at least `least` of them, and otherwise returns them. `more` rows are still
+// to come; the next batch has room for up to `least` of them.
 fn stow(
     alloc: Global,
     to: u32,
@@ -40,7 +41,7 @@ fn stow(
     Rows::with_capacity(alloc, more.min(least as usize))
 }
 
-// Puts the rows behind the queue in batches of at most so many.
+// Appends the rows to the queue in batches of at most `batch`.
 fn cut(
     alloc: Global,
     to: u32,
@@ -52,7 +53,7 @@ fn cut(
     ensures carried { OnOk result ((fields : ℕ) → AreWide fields rows → AreCarried fields to rows queue.old.items queue.new.items) }
     ensures batches { OnOk result (AreFew batch queue.old.items → AreFew batch queue.new.items) }
 {
-    // they have one width
+    // this call shows the prover that all rows have one width
     let _same = rows.rows();
     let mut more = rows.len();
     let mut held = Rows::with_capacity(alloc, more.min(batch as usize))?;
@@ -65,7 +66,7 @@ fn cut(
     Ok(())
 }
 
-// The same, at once where they are few.
+// Like `cut`, but rows that fit into one batch are queued as they are.
 fn send_to(
     alloc: Global,
     to: u32,
@@ -95,12 +96,12 @@ fn no_rows(alloc: Global, workers: u32) -> Result<Vec<Rows>, OutOfMemory>
     Ok(parts)
 }
 
-// The rows for each worker, where their key values tell it.
+// The rows for each worker, by their key values.
 fn split(alloc: Global, keys: &Keys, workers: u32, rows: Rows) -> Result<Vec<Rows>, OutOfMemory>
     requires { 1 ≤ workers }
     ensures { IfOk result (λ parts. IsSplit keys.now workers rows parts.items) }
 {
-    // they have one width
+    // this call shows the prover that all rows have one width
     let _same = rows.rows();
     let mut parts = no_rows(alloc, workers)?;
     for row in rows.into_records() {
@@ -110,8 +111,8 @@ fn split(alloc: Global, keys: &Keys, workers: u32, rows: Rows) -> Result<Vec<Row
     Ok(parts)
 }
 
-// The receiver after `n` others. Each sender begins with the worker of its own number and goes around, so that they don't all feed the same worker
-// at the same time while the others wait.
+// The receiver after `n` others. Each sender begins with the worker of its own number and goes around. Otherwise all
+// senders would feed the same worker at the same time, and the others would wait.
 fn receiver(workers: u32, from: u32, n: u32) -> u32
     requires from { from < workers }
     requires n { n < workers }
@@ -126,7 +127,7 @@ fn receiver(workers: u32, from: u32, n: u32) -> u32
     }
 }
 
-// Part `to` is for worker `to`.
+// Queues part `to` for worker `to`.
 fn send_parts(
     alloc: Global,
     from: u32,
@@ -152,7 +153,7 @@ fn send_parts(
     Ok(())
 }
 
-// Each worker has them all, the last one the rows themselves.
+// Queues all rows for each worker. The last one gets the rows themselves instead of a copy.
 fn send_all(
     alloc: Global,
     from: u32,
@@ -176,7 +177,7 @@ fn send_all(
     send_to(alloc, to, batch, rows, queue)
 }
 
-// Puts the records into the queue for all workers to which an edge takes them.
+// Queues the records for all workers to which an edge leads.
 fn send(
     alloc: Global,
     ship: &Ship,
@@ -202,8 +203,8 @@ fn send(
     }
 }
 
-/// The queue, which is empty, with the records in batches of at most so many for all workers to which an edge takes them. Want of memory is the only
-/// error, and the queue is gone then.
+/// Takes an empty queue. Returns it with the records, in batches of at most `batch`, for all workers to which an edge
+/// leads. Out of memory is the only error, and the queue is lost then.
 pub fn queue_rows(
     alloc: Global,
     ship: &Ship,
@@ -224,7 +225,7 @@ pub fn queue_rows(
     Ok(queue)
 }
 
-// One end mark more, where there is a pipe.
+// Adds an end mark if there is a pipe.
 fn mark_along(
     ship: &Ship,
     from: u32,
@@ -242,7 +243,8 @@ fn mark_along(
     Ok(())
 }
 
-/// The queue, and behind it an end mark for each worker to which the edge leads. Want of memory is the only error, and the queue is gone then.
+/// Returns the queue with an end mark added for each worker to which the edge leads. Out of memory is the only error,
+/// and the queue is lost then.
 pub fn queue_end_marks(
     ship: &Ship,
     from: u32,

@@ -17,7 +17,7 @@ fn port_from(physical: &Physical, input: &Plan) -> Port
     requires { has (root_of input.now) physical.now.tree ≡ true }
     ensures { port_of result ≡ spots.port_from physical.now input.now }
 {
-    // it is a physical plan
+    // this call shows the prover that the physical plan is a valid one
     let _workers = physical.workers();
     let edge = input.root();
     let ship = match physical.ship(edge) {
@@ -54,7 +54,7 @@ fn function_at(alloc: Global, program: &Program, at: u32) -> Result<Option<Valid
     Ok(Some(function.copy(alloc)?))
 }
 
-/// What an instance keeps of a program and a physical plan of it.
+/// What an instance keeps of a program and of a physical plan for it.
 pub(crate) fn part_at(
     alloc: Global,
     program: &Program,

@@ -20,8 +20,8 @@ use std::alloc::Global;
 use std::collections::VecDeque;
 use std::mem;
 
-/// For each port the senders that have ended, and the rows that are kept; what waits, with its receivers, batches before end
-/// marks; what the root gave, and how many records were given.
+/// For each port, the state has the senders that have ended and the kept rows. It also has the waiting notes with their
+/// receivers, batches before end marks, and the records that the root gave, and it counts the given records.
 #[derive(Drop)]
 pub(crate) struct State<L: Local> {
     pub(crate) alloc: Global,
@@ -37,7 +37,8 @@ pub(crate) struct State<L: Local> {
     pub(crate) finished: bool,
 }
 
-// What a fresh state needs memory for: made while its part is lent, so that no part has to be given up where memory is wanting.
+// The fields of a fresh state that need memory. They are made while the part is only borrowed, so that the part isn't
+// lost if memory runs out.
 #[derive(Drop)]
 struct Held<L: Local> {
     left_ended: EndedSenders,
@@ -62,7 +63,7 @@ fn held_at_start<L: Local>(alloc: Global, part: &Part) -> Result<Held<L>, OutOfM
 }
 
 impl<L: Local> State<L> {
-    /// Nothing was taken or given, and nothing waits.
+    /// A state for which nothing was taken or given, and nothing waits.
     pub(crate) fn fresh(alloc: Global, part: Part) -> Result<State<L>, OutOfMemory>
         ensures { IfOk result (IsFresh L.rows L.key_fields L.is_sealed part) }
     {
@@ -91,7 +92,7 @@ impl<L: Local> State<L> {
         self.left_ended.have_all_ended() && self.right_ended.have_all_ended()
     }
 
-    /// A source gives its rows and owes its end marks.
+    /// A source gives its rows and queues its end marks.
     pub(crate) fn begin(&mut self, rows: Rows) -> Result<(), OutOfMemory>
         requires batch { 1 ≤ self.old.part.batch }
         requires worker { self.old.part.worker < self.old.part.workers }
@@ -110,7 +111,7 @@ impl<L: Local> State<L> {
         self.mark()
     }
 
-    /// Sends the records on, or places them where no edge leaves.
+    /// Sends the records on, or places them if no edge leaves.
     pub(crate) fn give(&mut self, rows: Rows) -> Result<(), OutOfMemory>
         requires batch { 1 ≤ self.old.part.batch }
         requires worker { self.old.part.worker < self.old.part.workers }
@@ -138,7 +139,7 @@ impl<L: Local> State<L> {
         Ok(())
     }
 
-    /// Puts the end marks behind what waits.
+    /// Queues the end marks after the waiting notes.
     pub(crate) fn mark(&mut self) -> Result<(), OutOfMemory>
         ensures same { OnOk result (self.new ≡ record self.old { queue = self.new.queue }) }
         ensures marked { OnOk result (HasMarked (part_of self.old.part) self.old.queue.items self.new.queue.items) }

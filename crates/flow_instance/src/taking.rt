@@ -1,4 +1,4 @@
-//! Notes that an instance takes: what a batch does to it.
+//! Notes that an instance takes, and the effect of a batch on it.
 
 ghost use Rattle.std.specs.Prelude.{◌≡◌, ◌<◌, ◌∷◌, [], ℕ, true, IfOk, OnOk};
 ghost use Rattle.flow_instance.specs.Notes.{AreNotes};
@@ -18,7 +18,7 @@ use pact_record::OutOfMemory;
 use tac_interp::map_rows;
 
 impl<L: Local> State<L> {
-    // What a Match or a Cross gives for right records.
+    // What a Match or a Cross emits for right records.
     fn pairs(&self, rows: &Rows) -> Result<Rows, OutOfMemory>
         requires ready { IsReady L.rows L.key_fields L.is_sealed self.now 1 }
         requires kind { is_pair_kind self.now.part.kind ≡ true }
@@ -40,7 +40,7 @@ impl<L: Local> State<L> {
         )
     }
 
-    // Takes a batch at port 0. A Map gives records at once.
+    // Takes a batch at port 0. A Map emits records at once.
     fn take_left(&mut self, rows: Rows) -> Result<(), OutOfMemory>
         requires ready { IsReady L.rows L.key_fields L.is_sealed self.old 0 }
         requires wide { AreWide self.old.part.fields rows }
@@ -55,7 +55,7 @@ impl<L: Local> State<L> {
         keep(&mut self.left, part.fields, nulls, &part.left_keys, rows)
     }
 
-    // Takes a batch at port 1. A Match or a Cross gives records at once.
+    // Takes a batch at port 1. A Match or a Cross emits records at once.
     fn take_right(&mut self, rows: Rows) -> Result<(), OutOfMemory>
         requires ready { IsReady L.rows L.key_fields L.is_sealed self.old 1 }
         requires wide { AreWide self.old.part.fields rows }

@@ -9,7 +9,8 @@ ghost use Rattle.pact_record.specs.declared.records.TheConstants.{MAX_FIELDS};
 use pact_record::{Keys, MAX_FIELDS, OutOfMemory, Record, Value};
 use std::alloc::Global;
 
-// Goes through all, and so tells too that each is a field that some record has.
+// It looks at every key instead of stopping at the first that is too large, so that its contract bounds all keys by
+// `MAX_FIELDS`.
 fn are_below(keys: &Keys, fields: u32) -> bool
     ensures below { IsTrue result ↔ AreBelow fields keys.now }
     ensures fields { AreBelow MAX_FIELDS keys.now }
@@ -21,7 +22,7 @@ fn are_below(keys: &Keys, fields: u32) -> bool
     below
 }
 
-// The record with Null in each field that it lacks.
+// The record, with Null in each field that it lacks.
 fn filled_up(alloc: Global, row: &Record) -> Result<Record, OutOfMemory>
     ensures { IfOk result (λ r. r ≡ row.now ++ replicate (MAX_FIELDS - length row.now) Value.Null) }
 {
@@ -32,7 +33,7 @@ fn filled_up(alloc: Global, row: &Record) -> Result<Record, OutOfMemory>
     Ok(filled)
 }
 
-/// A key field that the record lacks counts as Null.
+/// The worker to which the record's key values send it. A key field that the record lacks counts as Null.
 pub(crate) fn target(
     alloc: Global,
     row: &Record,

@@ -1,6 +1,6 @@
 //! Pipes are closed, and what is left on them is read out.
 
-ghost use Rattle.std.specs.Prelude.{◌≡◌, ◌++◌, ℕ, None, Some, IfOk, OnOk};
+ghost use Rattle.std.specs.Prelude.{◌≡◌, ◌++◌, ◌∷◌, [], ℕ, None, Some, IfOk, OnOk};
 ghost use Rattle.flow_run.specs.Ends.{IsEndOf, notes_in};
 ghost use Rattle.flow_run.specs.Remains.{AreEnds, AreGathered, Goes, IsBeyond};
 ghost use Rattle.flow_run.specs.Returns.{all_remains};
@@ -57,6 +57,14 @@ fn close_one<W: Width, R: Wait>(
     read_out(rt, alloc, left)
 }
 
+// Lists the notes that are left on a pipe.
+fn list_left(lists: &mut NoteLists, id: PipeId, notes: VecDeque<Note>) -> Result<(), OutOfMemory>
+    ensures { OnOk result (lists.new ≡ lists.old ++ record { pipe = id; notes = notes.items } ∷ []) }
+{
+    lists.push(id, notes)?;
+    Ok(())
+}
+
 // Closes a pipe, where it is there, and lists what is left.
 fn close_at<L: Local, W: Width, R: Wait>(
     rt: &R,
@@ -76,7 +84,7 @@ fn close_at<L: Local, W: Width, R: Wait>(
     let put = put_end(workers, id);
     let take = take_end(workers, id);
     let notes = close_one(rt, alloc, pipe, put, take)?;
-    lists.push(id, notes)
+    list_left(lists, id, notes)
 }
 
 /// Closes all pipes, one after the other, and lists the notes that are left on each. After want of memory those that were read out are gone.

@@ -1,4 +1,4 @@
--- A key among those that have its hash code.
+-- A key among those with its hash code.
 use Rattle.std.proofs.Common.{◌≡◌, ◌⊎◌, inl, inr, ◌<◌, ◌≤◌, ◌||◌, ℕ, suc, false, List, [], ◌∷◌, length, map, get_or, refl, ap, sym, ◌∙◌, subst, arith, Option, Some, None}
 use Rattle.std.proofs.lemmas.Bool.{both_ways, cases_lt, false_from_ne_true}
 use Rattle.std.proofs.lemmas.List.{get_or-map, length-map}
@@ -9,12 +9,13 @@ use Rattle.group_table.specs.declared.buckets.Buckets.{Buckets}
 use Rattle.group_table.specs.Codes.{code}
 use Rattle.group_table.specs.Tables.{IsIndex, IsLastBelow, head_of, next_at}
 
--- the key stands at no place behind this one, whose key has its code; at no place where there is none
+-- The key at this place has the key's code, and the key isn't at any later place. Without a place, the key isn't at any
+-- place.
 abbrev pub IsLeft : List (List Value) → List Value → Option ℕ → Type 0
 IsLeft order key None = (i : ℕ) → i < length order → get_or order i [] ≡ key → ⊥
 IsLeft order key (Some n) = (n < length order) × (code (get_or order n []) ≡ code key) × ((i : ℕ) → n < i → i < length order → get_or order i [] ≡ key → ⊥)
 
--- how many places may still be looked at
+-- the number of places that may still be searched
 abbrev pub places : Option ℕ → ℕ
 places None = 0
 places (Some n) = suc n
@@ -29,7 +30,7 @@ length-codes order = length-map order code
 has-code : (order : List (List Value)) (key : List Value) (c i : ℕ) → code key ≡ c → i < length order → get_or order i [] ≡ key → get_or (map code order) i 0 ≡ c
 has-code order key c i own lt e = code-at order i lt ∙ ap code e ∙ own
 
--- every place may still be looked at
+-- at first every place may still be searched
 pub left_all : (buckets : Buckets) (order : List (List Value)) (key : List Value) (c : ℕ) (at : Option ℕ) → IsIndex buckets order → c ≡ code key → at ≡ head_of buckets c → IsLeft order key at
 left_all buckets order key c at index own e = by at (subst (IsLastBelow (map code order) c (length (map code order))) (sym e) (index.head c)) where
   by : (at : Option ℕ) → IsLastBelow (map code order) c (length (map code order)) at → IsLeft order key at
@@ -38,7 +39,7 @@ left_all buckets order key c at index own e = by at (subst (IsLastBelow (map cod
       let within : n < length order = subst (λ l. n < l) (length-codes order) h.0 in
       (within, sym (code-at order n within) ∙ h.1 ∙ own, λ i more lt same. h.2 i more (subst (λ n. i < n) (sym (length-codes order)) lt) (has-code order key c i (sym own) lt same))
 
--- another key stands at this place
+-- this place has another key, so the search goes on to the next place
 pub left_next : (buckets : Buckets) (order : List (List Value)) (key : List Value) (n : ℕ) (next : Option ℕ) → IsIndex buckets order → IsLeft order key (Some n) → is_same_key (get_or order n []) key ≡ false
     → next ≡ next_at buckets.nexts.items n → IsLeft order key next
 left_next buckets order key n next index left other e =

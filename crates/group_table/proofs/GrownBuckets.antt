@@ -1,4 +1,4 @@
--- One group more in the buckets.
+-- One more group in the buckets.
 use Rattle.std.proofs.Common.{◌≡◌, ◌⊎◌, inl, inr, ◌<◌, ◌≤◌, ◌+◌, ℕ, Bool, true, false, cond, List, [], ◌∷◌, ◌++◌, length, map, get_or, refl, ap, sym, ◌∙◌, subst, arith, Option, Some, None}
 use Rattle.std.specs.Prelude.{nat_eq}
 use Rattle.std.proofs.lemmas.Bool.{both_ways, cases_lt, eq-eqb, eqb-true}
@@ -8,7 +8,7 @@ use Rattle.group_table.specs.declared.buckets.Buckets.{Buckets}
 use Rattle.group_table.specs.Codes.{code}
 use Rattle.group_table.specs.Tables.{AreLinked, IsIndex, IsLastBelow, head_of, next_at}
 
--- what is behind a place tells nothing of the places below it
+-- a code at the end doesn't change the result for the places below it
 longer : (codes : List ℕ) (more c below : ℕ) (found : Option ℕ) → below ≤ length codes → IsLastBelow codes c below found → IsLastBelow (codes ++ more ∷ []) c below found
 longer codes more c below None le h = λ i lt e. h i lt (sym (get_or_append_left codes (more ∷ []) 0 i (omega (arith, lt, le))) ∙ e)
 longer codes more c below (Some n) le h = (
@@ -17,7 +17,7 @@ longer codes more c below (Some n) le h = (
   λ i after lt e. h.2 i after lt (sym (get_or_append_left codes (more ∷ []) 0 i (omega (arith, lt, le))) ∙ e),
 )
 
--- another code behind the others
+-- another code is appended
 past : (codes : List ℕ) (more c : ℕ) (found : Option ℕ) (below : ℕ) → below ≡ length codes + 1 → (more ≡ c → ⊥) → IsLastBelow codes c (length codes) found → IsLastBelow (codes ++ more ∷ []) c below found
 past codes more c found below b other h = by found (longer codes more c (length codes) found (omega arith) h) where
   at : (i : ℕ) → i < below → ((i < length codes) → ⊥) → get_or (codes ++ more ∷ []) i 0 ≡ c → ⊥
@@ -30,7 +30,7 @@ past codes more c found below b other h = by found (longer codes more c (length 
   by None h = λ i lt e. at i lt (λ less. h i less e) e
   by (Some n) h = (let l = h.0 in omega (arith, l, b), h.1, λ i after lt e. at i lt (λ less. h.2 i after less e) e)
 
--- the code itself
+-- the code itself is appended
 here : (codes : List ℕ) (more below : ℕ) → below ≡ length codes + 1 → IsLastBelow (codes ++ more ∷ []) more below (Some (length codes))
 here codes more below b = (omega (arith, b), get_or_push codes more 0 (length codes) refl, λ i after lt e. absurd (omega (arith, after, lt, b)))
 

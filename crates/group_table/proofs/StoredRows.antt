@@ -1,4 +1,4 @@
--- Rows behind the first ones of their keys.
+-- Rows other than the first of their keys.
 use Rattle.std.proofs.Common.{◌≡◌, ◌⊎◌, inl, inr, ◌<◌, ◌≤◌, ◌+◌, ℕ, zero, suc, Bool, true, true≢false, List, [], ◌∷◌, ◌++◌, length, get_or, refl, ap, sym, ◌∙◌, subst, arith, append_assoc, append-nil, Some}
 use Rattle.std.specs.Prelude.{slice_set}
 use Rattle.std.specs.List.{AllByRecursion}
@@ -28,23 +28,23 @@ past-end (l ∷ lists) (suc n) le = past-end lists n (omega (arith, le))
 rows-new_list : (lists : List (List (List Value))) → rows_of (lists ++ [] ∷ []) ≡ rows_of lists
 rows-new_list lists = flat_map-append (λ l. l) lists ([] ∷ []) ∙ append-nil (rows_of lists)
 
--- a row behind those of a list
+-- a row is appended to a list
 rows-pushed : (lists : List (List (List Value))) (n : ℕ) (row : List Value) → n < length lists → Perm (rows_of lists ++ row ∷ []) (rows_of (slice_set lists n (get_or lists n [] ++ row ∷ [])))
 rows-pushed [] n row lt = absurd (omega (arith, lt))
 rows-pushed (l ∷ lists) zero row lt =
     chains (is_same (append_assoc l (rows_of lists) (row ∷ []))) (chains (before l (crossed_over (rows_of lists) (row ∷ []))) (is_same (sym (append_assoc l (row ∷ []) (rows_of lists)))))
 rows-pushed (l ∷ lists) (suc n) row lt = chains (is_same (append_assoc l (rows_of lists) (row ∷ []))) (before l (rows-pushed lists n row (omega (arith, lt))))
 
--- a list without its first row
+-- the first row of a list is removed
 rows-taken : (lists : List (List (List Value))) (n : ℕ) (row : List Value) (rest : List (List Value)) → n < length lists → get_or lists n [] ≡ row ∷ rest → Perm (rows_of lists) (row ∷ rows_of (slice_set lists n rest))
 rows-taken [] n row rest lt e = absurd (omega (arith, lt))
 rows-taken (l ∷ lists) zero row rest lt e = is_same (ap (λ (l : List (List Value)). l ++ rows_of lists) e)
 rows-taken (l ∷ lists) (suc n) row rest lt e =
     chains (before l (rows-taken lists n row rest (omega (arith, lt)) e)) (turned (middle row l (rows_of (slice_set lists n rest))))
 
--- ---- one row more
+-- ---- one more row
 
--- as wide as that row
+-- a row of the same width
 abbrev IsAsWide : List Value → List Value → Type 0
 IsAsWide row r = length r ≡ length row
 
@@ -54,7 +54,7 @@ HasKey keys order n row = key_of keys row ≡ get_or order n []
 pub none_behind : (keys : List ℕ) → AreBehind keys [] []
 none_behind keys = record { count = refl; keyed = λ n. tt; width = 0; wide = tt; below = tt }
 
--- a group of its own, with an empty list
+-- a new group is added, with an empty list
 behind_new : (keys : List ℕ) (row : List Value) (groups more lists : List (List (List Value))) → AreBehind keys groups lists → AreWide (length row) (rows_of groups ++ rows_of lists)
     → order_of keys more ≡ order_of keys groups ++ key_of keys row ∷ [] → IsPermutation (rows_of groups ++ row ∷ []) (rows_of more) → AreBehind keys more (lists ++ [] ∷ [])
 behind_new keys row groups more lists h wide order rows = record {
@@ -71,7 +71,7 @@ behind_new keys row groups more lists h wide order rows = record {
       (subst (λ (k : List Value). AllByRecursion (λ r. key_of keys r ≡ k) (get_or lists n [])) (sym (get_or_append_left (order_of keys groups) (key_of keys row ∷ []) [] n (subst (λ l. n < l) h.count less))) (h.keyed n))
   keyed n (inr le) = subst (AllByRecursion (HasKey keys (order_of keys groups ++ key_of keys row ∷ []) n)) (sym (past-end lists n le)) tt
 
--- behind those of its list
+-- the row is appended to its key's list
 behind_more : (keys : List ℕ) (row : List Value) (groups lists : List (List (List Value))) (n : ℕ) → AreBehind keys groups lists → IsFound (order_of keys groups) (key_of keys row) (Some n)
     → AreWide (length row) (rows_of groups ++ rows_of lists) → AreBelow (length row) keys → AreBehind keys groups (slice_set lists n (get_or lists n [] ++ row ∷ []))
 behind_more keys row groups lists n h found wide below = record {
@@ -115,7 +115,7 @@ added_behind row old lists more buckets n index h found wide below e = record {
 
 -- ---- from lists to groups
 
--- A row is taken off the list of its key.
+-- A row is removed from the list of its key.
 pub record IsOff (keys : List ℕ) (groups lists : List (List (List Value))) (n : ℕ) (row : List Value) (left : List (List (List Value))) : Type 0 where
   pub found : IsFound (order_of keys groups) (key_of keys row) (Some n)
   pub wide : AreWide (length row) (rows_of groups)
@@ -158,7 +158,7 @@ moved_further old mid new lists some left m n = record {
   rows = IsPermutation-trans (rows_of old.groups ++ rows_of lists) (rows_of mid.groups ++ rows_of some) (rows_of new.groups ++ rows_of left) m.rows n.rows;
 }
 
--- the row taken off stands in its group
+-- the removed row is in its group
 pub one_moved : (old new : GroupsData) (lists left : List (List (List Value))) (n : ℕ) (row : List Value) → AreBehind old.keys old.groups lists → IsOff old.keys old.groups lists n row left → new.keys ≡ old.keys
     → order_of new.keys new.groups ≡ order_of old.keys old.groups → IsPermutation (rows_of old.groups ++ row ∷ []) (rows_of new.groups) → AreMoved old lists new left
 one_moved old new lists left n row h off keys order put = record {
@@ -182,7 +182,7 @@ empty_list : {X : Type 0} (xs : List X) → length xs ≡ 0 → xs ≡ []
 empty_list [] e = refl
 empty_list (x ∷ xs) e = absurd (omega (arith, e))
 
--- the other lists stay
+-- the other lists don't change
 pub others_stay : (all left rest : List (List (List Value))) (n : ℕ) → left ≡ slice_set all n (get_or left n []) → rest ≡ slice_set left n (get_or rest n []) → rest ≡ slice_set all n (get_or rest n [])
 others_stay all left rest n l r = r ∙ ap (λ (ls : List (List (List Value))). slice_set ls n (get_or rest n [])) l ∙ set-set all n (get_or left n []) (get_or rest n [])
 
@@ -212,7 +212,7 @@ all_emptied [] n le h = refl
 all_emptied (l ∷ lists) zero le h = absurd (omega (arith, le))
 all_emptied (l ∷ lists) (suc n) le h = λ i. h 0 (omega arith) i ++ all_emptied lists n (omega (arith, le)) (λ j lt. h (suc j) (omega (arith, lt))) i
 
--- as many lists as at first
+-- the number of lists doesn't change
 pub count-left : (old now : GroupsData) (lists left : List (List (List Value))) → AreBehind old.keys old.groups lists → AreMoved old lists now left → length left ≡ length lists
 count-left old now lists left h m = m.behind.count ∙ ap length m.order ∙ sym h.count
 
@@ -228,6 +228,6 @@ stored_none buckets groups lists is_sealed index g l = record {
 pub stored_all : (buckets : Buckets) (old new : GroupsData) (lists left none : List (List (List Value))) → IsIndex buckets (order_of old.keys old.groups) → AreMoved old lists new left → none ≡ [] → IsStored buckets new none true
 stored_all buckets old new lists left none index m e = record { index = subst (IsIndex buckets) (sym m.order) index; behind = λ still. absurd (true≢false still); emptied = λ sealed. ap rows_of e }
 
--- all rows stand in the groups
+-- all rows are in the groups
 pub rows_gathered : (old new : GroupsData) (lists left : List (List (List Value))) → AreMoved old lists new left → rows_of left ≡ [] → IsPermutation (rows_of old.groups ++ rows_of lists) (rows_of new.groups)
 rows_gathered old new lists left m e = subst (IsPermutation (rows_of old.groups ++ rows_of lists)) (ap (λ (l : List (List Value)). rows_of new.groups ++ l) e ∙ append-nil (rows_of new.groups)) m.rows

@@ -1,4 +1,4 @@
--- Records by key: the first one of each key in its group, and those behind it in a list until the table is sealed.
+-- Records by key. The first record of each key is in its group. The later ones are in a list until the table is sealed.
 use Rattle.std.specs.Prelude.{◌≡◌, ℕ, Bool, true, false, List, [], ◌∷◌, ◌++◌, get_or, length}
 use Rattle.std.specs.List.{AllByRecursion}
 use Rattle.std.specs.List.Sorted.{IsPermutation}
@@ -9,7 +9,8 @@ use Rattle.local_strategy.specs.Grouped.{AreAllBelow, GroupsData, order_of, rows
 use Rattle.group_table.specs.declared.buckets.Buckets.{Buckets}
 use Rattle.group_table.specs.Tables.{IsIndex}
 
--- The key fields; the groups, in the order in which their keys came; the lists, by the same numbers; and whether no more will come.
+-- The key fields, the groups in the order in which their keys came, the lists by the same numbers, and whether the
+-- table is sealed.
 pub record TableData : Type 0 where
   pub keys : List ℕ
   pub groups : List (List (List Value))
@@ -21,7 +22,8 @@ abbrev pub held : Bool → List (List (List Value)) → List (List (List Value))
 held false groups lists = rows_of groups ++ rows_of lists
 held true groups lists = rows_of groups
 
--- There are as many lists as groups, and each has records of its group's key. All records are of one width, and the key fields are below it.
+-- There are as many lists as groups, and each list has records of its group's key. All records have one width, and the
+-- key fields are below it.
 pub record AreBehind (keys : List ℕ) (groups lists : List (List (List Value))) : Type 0 where
   pub count : length lists ≡ length (order_of keys groups)
   pub keyed : (n : ℕ) → AllByRecursion (λ row. key_of keys row ≡ get_or (order_of keys groups) n []) (get_or lists n [])
@@ -29,13 +31,14 @@ pub record AreBehind (keys : List ℕ) (groups lists : List (List (List Value)))
   pub wide : AreWide width (rows_of groups ++ rows_of lists)
   pub below : AreAllBelow keys (rows_of lists)
 
--- What is always true of a table: while it is open, lists stand behind the groups, and once it is sealed none has a record.
+-- The invariant of a table. Until it is sealed, there is a list for each group. Once it is sealed, no list has a
+-- record.
 pub record IsStored (buckets : Buckets) (groups : GroupsData) (lists : List (List (List Value))) (is_sealed : Bool) : Type 0 where
   pub index : IsIndex buckets (order_of groups.keys groups.groups)
   pub behind : is_sealed ≡ false → AreBehind groups.keys groups.groups lists
   pub emptied : is_sealed ≡ true → rows_of lists ≡ []
 
--- A row of a new key stands in a group of its own, with an empty list.
+-- A row with a new key is in a new group, with an empty list.
 pub record IsNewGroup (row : List Value) (old : GroupsData) (lists : List (List (List Value))) (buckets : Buckets) (new : GroupsData) (more : List (List (List Value))) : Type 0 where
   pub keys : new.keys ≡ old.keys
   pub order : order_of new.keys new.groups ≡ order_of old.keys old.groups ++ key_of old.keys row ∷ []
@@ -43,14 +46,14 @@ pub record IsNewGroup (row : List Value) (old : GroupsData) (lists : List (List 
   pub rows : IsPermutation (rows_of old.groups ++ row ∷ []) (rows_of new.groups)
   pub listed : more ≡ lists ++ [] ∷ []
 
--- One row more is stored.
+-- One more row is stored.
 pub record IsAdded (row : List Value) (old : GroupsData) (lists : List (List (List Value))) (buckets : Buckets) (new : GroupsData) (more : List (List (List Value))) : Type 0 where
   pub keys : new.keys ≡ old.keys
   pub index : IsIndex buckets (order_of new.keys new.groups)
   pub behind : AreBehind new.keys new.groups more
   pub rows : IsPermutation ((rows_of old.groups ++ rows_of lists) ++ row ∷ []) (rows_of new.groups ++ rows_of more)
 
--- Records have gone from lists to their groups.
+-- Records were moved from lists to their groups.
 pub record AreMoved (old : GroupsData) (lists : List (List (List Value))) (new : GroupsData) (left : List (List (List Value))) : Type 0 where
   pub keys : new.keys ≡ old.keys
   pub order : order_of new.keys new.groups ≡ order_of old.keys old.groups

@@ -5,7 +5,7 @@ use Rattle.pact_record.specs.declared.values.Value.{Value}
 use Rattle.group_table.specs.declared.buckets.Buckets.{Buckets}
 use Rattle.group_table.specs.Codes.{code}
 
--- the last place below this one at which a number stands, if it does
+-- the last place below this one that has the number, if there is one
 abbrev pub IsLastBelow : List ℕ → ℕ → ℕ → Option ℕ → Type 0
 IsLastBelow codes c below None = (i : ℕ) → i < below → get_or codes i 0 ≡ c → ⊥
 IsLastBelow codes c below (Some n) = (n < below) × (get_or codes n 0 ≡ c) × ((i : ℕ) → n < i → i < below → get_or codes i 0 ≡ c → ⊥)
@@ -13,7 +13,7 @@ IsLastBelow codes c below (Some n) = (n < below) × (get_or codes n 0 ≡ c) × 
 abbrev pub next_at : List (Option ℕ) → ℕ → Option ℕ
 next_at nexts n = get_or nexts n None
 
--- Each code leads to the last group that has it, and each group to the one before it that has the same.
+-- Each code leads to the last group with that code, and each group to the previous group with the same code.
 pub record AreLinked (codes : List ℕ) (heads : ℕ → Option ℕ) (nexts : List (Option ℕ)) : Type 0 where
   pub long : length nexts ≡ length codes
   pub head : (c : ℕ) → IsLastBelow codes c (length codes) (heads c)
@@ -23,6 +23,6 @@ pub record AreLinked (codes : List ℕ) (heads : ℕ → Option ℕ) (nexts : Li
 abbrev pub head_of : Buckets → ℕ → Option ℕ
 head_of buckets c = get nat_eq buckets.heads c
 
--- The buckets are those of the keys' hash codes.
+-- The buckets are for the hash codes of the keys.
 abbrev pub IsIndex : Buckets → List (List Value) → Type 0
 IsIndex buckets order = AreLinked (map code order) (head_of buckets) buckets.nexts.items

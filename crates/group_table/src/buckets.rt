@@ -7,12 +7,13 @@ use indexmap::IndexMap;
 use pact_record::OutOfMemory;
 use std::alloc::Global;
 
-/// Numbers of groups by the hash codes of their keys. A bucket has those with one code, as a linked list from the last one to the first.
+/// Numbers of groups by the hash codes of their keys. A bucket has the groups with one code, as a linked list from the
+/// last one to the first.
 #[derive(Drop)]
 pub(crate) struct Buckets {
     // the last group, by code
     pub(crate) heads: IndexMap<u64, usize>,
-    // by group: the one before it in its bucket
+    // by group: the previous one in its bucket
     pub(crate) nexts: Vec<Option<usize>>,
 }
 
@@ -34,7 +35,7 @@ impl Buckets {
         self.heads.get(&code).copied()
     }
 
-    /// The group before this one in its bucket.
+    /// The previous group in this group's bucket.
     pub(crate) fn next(&self, n: usize) -> Option<usize>
         requires { n < length self.now.nexts.items }
         ensures { result ≡ get_or self.now.nexts.items n None }
@@ -42,7 +43,8 @@ impl Buckets {
         self.nexts[n]
     }
 
-    /// Puts one group more into the bucket of this code. After want of memory nothing is known of the buckets.
+    /// Adds one more group to the bucket of this code. After an out-of-memory error the contents of the buckets are
+    /// unspecified.
     pub(crate) fn add(&mut self, code: u64) -> Result<(), OutOfMemory>
         ensures heads { OnOk result ((c : ℕ) → get nat_eq self.new.heads c ≡ cond (nat_eq code c) (Some (length self.old.nexts.items)) (get nat_eq self.old.heads c)) }
         ensures nexts { OnOk result (self.new.nexts.items ≡ self.old.nexts.items ++ get nat_eq self.old.heads code ∷ []) }

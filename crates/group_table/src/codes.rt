@@ -7,14 +7,16 @@ ghost use Rattle.group_table.specs.Codes.{code, mixed, with_value};
 
 use pact_record::{Keys, Record, Value};
 
-// The kinds of values, as numbers that are no bytes: a text doesn't pass for a value of another kind, and two texts in a row not for two others.
+// The kinds of values, as numbers that aren't bytes. So a text can't be taken for a value of another kind, nor two
+// texts in a row for two other texts.
 const NULL: u64 = 256;
 
 const NUMBER: u64 = 257;
 
 const TEXT: u64 = 258;
 
-// A code with one number more. The factor is 2^64 divided by the golden ratio; it is odd, so that different codes stay different.
+// A code with one more number. The factor is 2^64 divided by the golden ratio. It is odd, so different codes stay
+// different.
 fn mixed(hash: u64, number: u64) -> u64
     ensures { result ≡ mixed hash number }
 {
@@ -32,7 +34,7 @@ fn with_text(start: u64, bytes: &[u8]) -> u64
     hash
 }
 
-// A code with one value more.
+// A code with one more value.
 fn with_value(hash: u64, value: &Value) -> u64
     ensures { result ≡ with_value hash value.now }
 {
@@ -43,7 +45,7 @@ fn with_value(hash: u64, value: &Value) -> u64
     }
 }
 
-/// The hash code of the values of the key fields, in the order of the key. It takes no memory.
+/// The hash code of the values of the key fields, in the order of the key. It allocates no memory.
 #[tactic(auto, unfolding(crate::specs::Codes::code))]
 pub(crate) fn row_code(row: &Record, keys: &Keys) -> u64
     requires { AreBelow (length row.now) keys.now }

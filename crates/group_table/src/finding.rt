@@ -1,4 +1,4 @@
-//! The group with the key values of a row, found by its hash code.
+//! Finds the group with the key values of a row by its hash code.
 
 ghost use Rattle.std.specs.Prelude.{◌≡◌, ◌<◌, [], get_or, length};
 ghost use Rattle.pact_bag.specs.Groups.{is_same_key};
@@ -22,7 +22,8 @@ fn has_key(groups: &Groups, n: usize, row: &Record, keys: &Keys) -> bool
     groups.key_compare(n, row, keys).is_eq()
 }
 
-/// Where the groups have the key values that the row has at these fields. Only the keys in one bucket are compared. It takes no memory.
+/// The place of the group with the key values that the row has at these fields. Only the keys in one bucket are
+/// compared. It allocates no memory.
 pub(crate) fn find(buckets: &Buckets, groups: &Groups, row: &Record, keys: &Keys) -> Option<usize>
     requires index { IsIndex buckets.now (order_of groups.now.keys groups.now.groups) }
     requires length { length keys.now ≡ length groups.now.keys }

@@ -1,4 +1,4 @@
-//! The records of lists in their groups.
+//! Moves the records of lists to their groups.
 
 ghost use Rattle.std.specs.Prelude.{◌≡◌, ◌<◌, [], length, slice_set, OnOk};
 ghost use Rattle.local_strategy.specs.Grouped.{rows_of};
@@ -22,7 +22,8 @@ fn gather_list(groups: &mut Groups, lists: &mut Chains<Record>, n: usize) -> Res
     Ok(())
 }
 
-/// Moves the records of all lists to the groups with their numbers. After want of memory some may be lost.
+/// Moves the records of all lists to the groups with their numbers. After an out-of-memory error some of them may be
+/// lost.
 pub(crate) fn gather(groups: &mut Groups, lists: &mut Chains<Record>) -> Result<(), OutOfMemory>
     requires { AreBehind groups.old.keys groups.old.groups lists.old.lists }
     ensures moved { OnOk result (AreMoved groups.old lists.old.lists groups.new lists.new.lists) }

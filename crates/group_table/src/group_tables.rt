@@ -1,4 +1,4 @@
-//! Records by key in groups that are found by hashing.
+//! Records by key, in groups that are found by hashing.
 
 ghost use Rattle.std.specs.Prelude.{◌≡◌, ◌<◌, ◌++◌, ◌∷◌, [], true, false, length, map, slice_get, IfOk, IfSome, OnOk};
 ghost use Rattle.std.specs.List.Sorted.{IsPermutation};
@@ -20,7 +20,7 @@ use pact_record::{Keys, OutOfMemory, Record};
 use std::alloc::Global;
 use std::marker::Model;
 
-// Begins anew, without a record: after want of memory the three may not belong together.
+// Starts again without records. After an out-of-memory error the three may not fit together.
 fn clear(alloc: Global, buckets: &mut Buckets, groups: &mut Groups, lists: &mut Chains<Record>)
     ensures index { IsIndex buckets.new [] }
     ensures groups { groups.new.groups ≡ [] }
@@ -38,7 +38,7 @@ pub struct GroupTable {
     alloc: Global,
     buckets: Buckets,
     groups: Groups,
-    // by the groups' numbers: the records behind the first one, until it is sealed
+    // by the groups' numbers: the records after the first one, until it is sealed
     lists: Chains<Record>,
     sealed: bool,
 }
@@ -90,7 +90,7 @@ impl Local for GroupTable {
     fn seal(&mut self) -> Result<(), OutOfMemory> {
         match gather(&mut self.groups, &mut self.lists) {
             Ok(()) => {
-                // its memory isn't needed any more
+                // free the lists, which aren't needed any more
                 self.lists = Chains::new(self.alloc);
                 self.sealed = true;
                 Ok(())

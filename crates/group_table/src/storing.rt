@@ -1,4 +1,4 @@
-//! One row more in a table that is open.
+//! Stores one more row in a table that isn't sealed.
 
 ghost use Rattle.std.specs.Prelude.{◌≡◌, ◌<◌, ◌++◌, ◌∷◌, [], None, get_or, length, slice_set, OnOk};
 ghost use Rattle.pact_record.specs.Record.{key_of};
@@ -14,7 +14,7 @@ use chain_arena::Chains;
 use local_strategy::Groups;
 use pact_record::{OutOfMemory, Record};
 
-// The row behind those of a list.
+// Appends the row to a list.
 fn put_behind(lists: &mut Chains<Record>, n: usize, row: Record) -> Result<(), OutOfMemory>
     requires { n < length lists.old.lists }
     ensures { OnOk result (lists.new.lists ≡ slice_set lists.old.lists n (get_or lists.old.lists n [] ++ row ∷ [])) }
@@ -24,7 +24,7 @@ fn put_behind(lists: &mut Chains<Record>, n: usize, row: Record) -> Result<(), O
     Ok(())
 }
 
-// The row as the first of a group, with an empty list for those behind it.
+// Adds the row as the first of a new group, with an empty list for later rows.
 fn put_new(
     buckets: &mut Buckets,
     groups: &mut Groups,
@@ -44,7 +44,7 @@ fn put_new(
     Ok(())
 }
 
-/// The row with those of its key. After want of memory nothing is known of the three.
+/// Stores the row with those of its key. After an out-of-memory error the contents of the three are unspecified.
 pub(crate) fn put(
     buckets: &mut Buckets,
     groups: &mut Groups,

@@ -1,6 +1,7 @@
-//! Tests of records by key, over what the libraries make public: lists in an arena, and both strategies beside the plain one.
+//! Tests of records by key, over what the libraries make public: lists in an arena, and both strategies beside the
+//! plain one.
 //!
-//! A crate with tests is proved twice, with them and without, so the tests stand apart.
+//! A crate with tests is proved twice, with them and without, so the tests have a crate of their own.
 #![tactic(auto)]
 
 #[cfg(test)]

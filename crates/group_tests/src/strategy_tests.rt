@@ -1,4 +1,4 @@
-//! Both strategies beside the one that goes through all groups.
+//! Both strategies beside the one that searches all groups.
 
 ghost use Rattle.std.specs.Prelude.{◌≡◌, ◌<◌, ◌∷◌, [], true, length, IfOk};
 ghost use Rattle.pact_record.specs.Widths.{AreBelow, AreWide};
@@ -37,7 +37,7 @@ fn are_same(alloc: Global, found: &Rows, wanted: &Rows) -> Result<bool, Fail> {
     Ok(found == wanted)
 }
 
-// Whether both lend the same records for the key values of each of these, and give copies of them.
+// Whether both strategies lend the same records for the key values of each of these records, and give copies of them.
 fn find_same<L: Local, M: Local>(
     alloc: Global,
     local: &L,
@@ -64,7 +64,7 @@ fn find_same<L: Local, M: Local>(
     Ok(true)
 }
 
-// Whether the records of the key of each of these are the wanted ones.
+// Whether the records with the key of each of these records are the wanted ones.
 fn has_groups<L: Local>(
     alloc: Global,
     local: &L,
@@ -85,7 +85,7 @@ fn has_groups<L: Local>(
     Ok(true)
 }
 
-// How many records the groups have together, if each has one and a copy of it has the same.
+// How many records the groups have together. None if a group has no record, or if a copy of a group differs from it.
 fn grouped<L: Local>(alloc: Global, local: &L) -> Result<Option<usize>, Fail>
     requires { L.is_sealed local.now ≡ true }
 {
@@ -100,7 +100,8 @@ fn grouped<L: Local>(alloc: Global, local: &L) -> Result<Option<usize>, Fail>
     Ok(Some(count))
 }
 
-// Whether a strategy groups the records by these keys as the plain one does, and finds for each record, and for each of the others, what that finds.
+// Whether a strategy groups the records by these keys as the plain one does. For each of the records, and for each of
+// the others, it must find what the plain one finds.
 fn agrees<L: Local>(alloc: Global, keys: &Keys, rows: &Rows, others: &Rows) -> Result<bool, Fail>
     requires wide { AreWide 2 rows.now }
     requires others_wide { AreWide 2 others.now }
@@ -155,7 +156,8 @@ fn both_agree(alloc: Global, keys: &Keys, rows: &Rows, others: &Rows) -> Result<
     agrees::<SortLocal>(alloc, keys, rows, others)
 }
 
-// Whether they do by no key, by each of the fields, and by both in either order.
+// Whether both strategies agree with the plain one by no key, by each of the fields, and by both fields in either
+// order.
 fn agree_by_all(alloc: Global, rows: &Rows, others: &Rows) -> Result<bool, Fail>
     requires wide { AreWide 2 rows.now }
     requires others_wide { AreWide 2 others.now }
@@ -224,7 +226,7 @@ fn keys_of_one_bucket_are_told_apart(rt: HostRuntime) -> Result<(), Fail> {
     Ok(())
 }
 
-// Whether a key's records are found, and none of a key that no record has.
+// Whether a key's records are found, and no records for a key that no record has.
 fn finds<L: Local>(alloc: Global) -> Result<bool, Fail> {
     let rows = table(alloc, &[(Some(1), "5"), (Some(2), "-3"), (Some(1), "7")])?;
     let of_one = table(alloc, &[(Some(1), "5"), (Some(1), "7")])?;

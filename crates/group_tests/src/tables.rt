@@ -8,7 +8,7 @@ use pact_record::{Record, Text, Value};
 use std::alloc::Global;
 use std::test::Fail;
 
-// A number, which may be missing, and a text, which is missing where it is empty.
+// A number, or Null, and a text, which is Null if it is empty.
 fn row(alloc: Global, number: Option<i64>, text: &str) -> Result<Record, Fail>
     ensures { IfOk result (λ row. length row ≡ 2) }
 {
@@ -36,8 +36,8 @@ pub fn table(alloc: Global, cells: &[(Option<i64>, &str)]) -> Result<Rows, Fail>
     Ok(rows)
 }
 
-// Two numbers of which the hash codes of `GroupTable` are the same for every `n`: a step of the code multiplies by 11400714819323198485, modulo 2^64,
-// and between the two numbers there are two steps.
+// Two numbers whose hash codes in `GroupTable` are the same for every `n`. A step of the code multiplies by
+// 11400714819323198485, modulo 2^64, and there are two steps between the two numbers.
 fn colliding_row(alloc: Global, n: u64) -> Result<Record, Fail>
     ensures { IfOk result (λ row. length row ≡ 2) }
 {
@@ -48,7 +48,7 @@ fn colliding_row(alloc: Global, n: u64) -> Result<Record, Fail>
     Ok(row)
 }
 
-/// So many keys of two numbers, all in one bucket of `GroupTable`, with two records each.
+/// Records with `keys` different keys of two numbers, all in one bucket of `GroupTable`, with two records for each key.
 pub fn colliding(alloc: Global, keys: u64) -> Result<Rows, Fail>
     ensures { IfOk result (AreWide 2) }
 {
@@ -60,8 +60,8 @@ pub fn colliding(alloc: Global, keys: u64) -> Result<Rows, Fail>
     Ok(rows)
 }
 
-// Numbers with different hash codes. `IndexMap` hashes a code again and folds that to 32 bits, of which the last 22 are nought here: a map of at most
-// 2^22 places has one place for all.
+// Numbers with different hash codes. `IndexMap` hashes a code again and folds that to 32 bits, of which the last 22 are
+// zero here. A map of at most 2^22 places has one place for all of them.
 const CROWDED: [i64; 40] = [
     367865, 3550971, 6486396, 6943846, 7445927, 10489089, 11952364, 16310173, 19878105, 25846963,
     29510973, 31745248, 32297415, 33738784, 52226990, 52383558, 54233256, 54684893, 58012086,
@@ -70,7 +70,8 @@ const CROWDED: [i64; 40] = [
     123314639, 132504787, 134150263, 142765379,
 ];
 
-/// Keys of one number that all come to one place of the map under `GroupTable`, with two records each.
+/// Records whose keys of one number all have the same place in the map inside `GroupTable`, with two records for each
+/// key.
 pub fn crowded(alloc: Global) -> Result<Rows, Fail>
     ensures { IfOk result (AreWide 2) }
 {

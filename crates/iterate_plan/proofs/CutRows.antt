@@ -19,7 +19,7 @@ length-cut : (columns : List Column) (k : ℕ) (row : List Value) → length (cu
 length-cut columns k [] = refl
 length-cut columns k (v ∷ row) = ap suc (length-cut columns (k + 1) row)
 
--- a field's value, where the record is cut from another field on
+-- a field's value, if the record is cut from another field on
 at-cut : (columns : List Column) (n k m : ℕ) (row : List Value) → m ≡ n + k → k < length row
     → at_field (cut_from columns n row) k ≡ cond (is_column columns m) (at_field row k) Null
 at-cut columns n k m [] e h = absurd (omega arith)
@@ -28,7 +28,7 @@ at-cut columns n (suc k) m (v ∷ row) e h = at-cut columns (n + 1) k m row (ome
 
 -- ---- rows of a source
 
--- the test tells that some column goes to the field
+-- the test decides whether some column goes to the field
 one_more_column : (c : Column) (columns : List Column) (k : ℕ) (t : Bool) → (c.field == k) ≡ t → (t || is_column columns k) ≡ true
     → (is_column columns k ≡ true → IsColumnField k columns) → (k ≡ c.field) ⊎ IsColumnField k columns
 one_more_column c columns k true e h rest = inl (grind (arith, e))
@@ -68,7 +68,7 @@ cut_are_source_rows fields columns (row ∷ rows) h =
 
 -- ---- loops
 
--- one value more of a record
+-- one more value of a record
 pub cut-next : (columns : List Column) (row : List Value) (k : ℕ) (items now : List Value) (v : Value) → k < length row
     → items ≡ take k (cut_from columns 0 row) → v ≡ cond (is_column columns k) (at_field row k) Null → now ≡ items ++ v ∷ []
     → now ≡ take (k + 1) (cut_from columns 0 row)
@@ -80,7 +80,7 @@ pub cut-done : (columns : List Column) (row : List Value) (k : ℕ) (items : Lis
     → items ≡ cut_from columns 0 row
 cut-done columns row k items e f = f ∙ take_all k (cut_from columns 0 row) (omega (arith, e, length-cut columns 0 row))
 
--- the next row is as wide as those that are cut
+-- the next row is as wide as the rows that are cut
 pub widths-next : (columns : List Column) (rows made : List (List Value)) (n : ℕ) (row next : List Value) → HaveOneWidth rows
     → n < length rows → row ≡ get_or rows n row → made ≡ cut_to columns (take n rows) → next ≡ cut_from columns 0 row
     → AllByRecursion (λ held. length held ≡ length next) made

@@ -1,4 +1,4 @@
--- A program that allows one bag alone allows one iteration alone, up to the order of its bags.
+-- A program that allows only one bag allows only one iteration, up to the order of its bags.
 use Rattle.std.proofs.Common.{◌≡◌, ◌≤◌, ◌+◌, ◌++◌, ◌⊎◌, inl, inr, ℕ, zero, suc, Bool, true, false, List, [], ◌∷◌}
 use Rattle.std.proofs.Common.{get_or, slice_set, length, refl, sym, ap, subst, ◌∙◌, arith}
 use Rattle.std.specs.List.Sorted.{IsPermutation}
@@ -63,14 +63,14 @@ module _ (p : ProgramData) (one : AllowsOne p) (inputs : List Bag) (at : ℕ) (c
   one_bag : (now other : List Bag) (bag again : Bag) → AreAlike now other → AllowsOn p now bag → AllowsOn p other again → IsPermutation bag again
   one_bag now other bag again alike a b = one other bag again (allows_alike p now other alike p.plan bag a) b
 
-  -- a round that is stable here is stable there
+  -- a round that is stable in one iteration is stable in the other
   both_stable : (rows others bag again : Bag) → IsPermutation rows others → IsPermutation bag again → IsStable columns rows bag
       → IsStable columns others again
   both_stable rows others bag again q r stable =
       IsPermutation-trans others rows (cut_to columns again) (IsPermutation-sym rows others q)
       (IsPermutation-trans rows (cut_to columns bag) (cut_to columns again) stable (cut_alike columns bag again r))
 
-  -- one iteration can't end where the other goes on
+  -- one iteration can't end if the other goes on
   no_end : (rows others last first : Bag) (rest : List Bag) (left : ℕ) (stable : Bool) (end : Bag) → IsPermutation rows others
       → IsPermutation last first → IsOver columns rows left stable [] last (length {A = Bag} [] + 1)
       → IsOver columns others left stable (first ∷ rest) end (length (first ∷ rest) + 1) → length (first ∷ rest) + 1 ≤ left → ⊥

@@ -1,4 +1,4 @@
--- One round more, and what it begins with.
+-- One more round, and the rows that it begins with.
 use Rattle.std.proofs.Common.{◌≡◌, ◌<◌, ◌++◌, ℕ, zero, suc, List, [], ◌∷◌, Some, slice_get, slice_set, length, refl, sym, subst, arith}
 use Rattle.std.proofs.lemmas.Option.{none-some, same_Some}
 use Rattle.pact_record.specs.declared.columns.Column.{Column}
@@ -14,7 +14,7 @@ use Rattle.pact_operators.proofs.SoundPrograms.{are_ops}
 use Rattle.iterate_plan.specs.Rounds.{AllowsOn, AreRounds, IsSourceAt, IsStable, NoneStable, cut_to, rows_behind, with_rows}
 use Rattle.iterate_plan.proofs.CutRows.{cut_are_source_rows}
 
--- ---- one round more
+-- ---- one more round
 
 pub rounds-last : (p : ProgramData) (inputs : List Bag) (at : ℕ) (columns : List Column) (now front : List Bag) (bag next : Bag)
     → AreRounds p inputs at columns now (front ++ bag ∷ []) → AllowsOn p (with_rows inputs at (cut_to columns bag)) next
@@ -33,7 +33,7 @@ pub behind-last : (columns : List Column) (rows : Bag) (front : List Bag) (bag :
 behind-last columns rows [] bag = refl
 behind-last columns rows (b ∷ front) bag = behind-last columns (cut_to columns b) front bag
 
--- ---- rows in the place of others
+-- ---- rows that replace others
 
 -- a source's place among the sources is one among their rows
 pub place-below : (fields : ℕ) (sources : List Op) (inputs : List Bag) (at : ℕ) (source : Op) → HaveRows fields sources inputs
@@ -45,7 +45,7 @@ place-below fields (s ∷ sources) (z ∷ zs) (suc at) source h e =
     let below = place-below fields sources zs at source h.1 e in
     omega (arith, below)
 
--- the sources still have rows of theirs where one has other rows of its own
+-- the sources still have rows that fit them if one of them gets other rows that fit it
 have-set : (fields : ℕ) (sources : List Op) (inputs : List Bag) (at : ℕ) (source : Op) (rows : Bag) → HaveRows fields sources inputs
     → slice_get sources at ≡ Some source → AreSourceRows fields source.columns rows → HaveRows fields sources (slice_set inputs at rows)
 have-set fields [] inputs at source rows h e r = absurd (none-some source e)
@@ -54,14 +54,14 @@ have-set fields (s ∷ sources) (z ∷ zs) zero source rows h e r =
     (subst (λ (o : Op). AreSourceRows fields o.columns rows) (sym (same_Some s source e)) r, h.1)
 have-set fields (s ∷ sources) (z ∷ zs) (suc at) source rows h e r = (h.0, have-set fields sources zs at source rows h.1 e r)
 
--- ---- what the next round begins with
+-- ---- the rows that the next round begins with
 
 allowed_wide : (p : ProgramData) (inputs : List Bag) (bag : Bag) → IsProgram p → AreInputsOf p inputs → AllowsOn p inputs bag → AreWide p.fields bag
 allowed_wide p inputs bag program h a =
     let within = lawful_bags p.fields p.functions p.ops (plan_ops p inputs) (are_ops p inputs program h) p.plan bag a in
     all_wide p.fields (HasAttribute p.functions p.ops p.plan) bag within
 
--- an allowed bag, cut to a source's columns, may be what that source has
+-- an allowed bag, cut to a source's columns, may be the source's rows
 pub next_inputs : (p : ProgramData) (now : List Bag) (at : ℕ) (columns : List Column) (bag : Bag) → IsProgram p → AreInputsOf p now
     → IsSourceAt p at columns → AllowsOn p now bag → AreInputsOf p (with_rows now at (cut_to columns bag))
 next_inputs p now at columns bag program h s a =

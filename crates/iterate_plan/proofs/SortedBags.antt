@@ -1,4 +1,4 @@
--- Bags are the same where, sorted, their lists are.
+-- Bags are equal exactly if their sorted lists are.
 use Rattle.std.proofs.Common.{Bor, ◌≡◌, ◌<◌, ◌+◌, true, List, [], ◌∷◌, length, map, ap, subst, ◌∙◌, arith}
 use Rattle.std.specs.Bool.{Decides}
 use Rattle.std.specs.List.Sorted.{IsPermutation, IsSorted}
@@ -14,13 +14,13 @@ use Rattle.pact_bag.proofs.KeyGroups.{key_itself, same_keys}
 
 -- ---- records by reference
 
--- what is moved by reference is moved
+-- a permutation of references is one of the records
 pub permuted_refs : (rows : List (List Value)) (old new : List (Bor (List Value))) → map (λ r. r.now) old ≡ rows → IsPermutation old new
     → IsPermutation rows (map (λ r. r.now) new)
 permuted_refs rows old new e p =
     subst (λ (l : List (List Value)). IsPermutation l (map (λ r. r.now) new)) e (IsPermutation-map (λ r. r.now) old new p)
 
--- what is sorted by reference is sorted
+-- sorted references are sorted records
 pub sorted_refs : (refs : List (Bor (List Value))) → IsSorted (λ a b. record_cmp a.now b.now) refs → IsSorted record_cmp (map (λ r. r.now) refs)
 sorted_refs [] up k d from below = absurd (omega (arith, below))
 sorted_refs (r ∷ refs) up k d from below =
@@ -30,20 +30,20 @@ sorted_refs (r ∷ refs) up k d from below =
     let first = get_or-map (λ s. s.now) (r ∷ refs) k r d this in
     (λ i. is_lt (record_cmp (second i) (first i))) ∙ up k r from next
 
--- ---- lists in order
+-- ---- sorted lists
 
--- the test of two records tells whether they are equal
+-- the test of two records decides whether they are equal
 pub Decides-record : (a b : List Value) → Decides (eq_by_cmp record_cmp a b) (a ≡ b)
 Decides-record a b = (λ e. same_keys a b e, λ e. subst (λ (r : List Value). eq_by_cmp record_cmp a r ≡ true) e (key_itself a))
 
--- bags that are the same are one list once they are sorted
+-- equal bags have the same sorted list
 pub sorted_same : (a b left right : List (List Value)) → IsPermutation a left → IsPermutation b right → IsSorted record_cmp left
     → IsSorted record_cmp right → IsPermutation a b → left ≡ right
 sorted_same a b left right p q up other_up h =
     let both = IsPermutation-trans left a right (IsPermutation-sym a left p) (IsPermutation-trans a b right h q) in
     one_sorted records_total (λ x y e. same_keys x y (ap is_eq e)) left right (from_permutation left right both) up other_up
 
--- and bags that are moved to one list are the same
+-- and bags that can be reordered to one list are equal
 pub same_moved : (a b left right : List (List Value)) → IsPermutation a left → IsPermutation b right → left ≡ right → IsPermutation a b
 same_moved a b left right p q e =
     IsPermutation-trans a right b (subst (λ (l : List (List Value)). IsPermutation a l) e p) (IsPermutation-sym b right q)

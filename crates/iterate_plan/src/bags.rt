@@ -1,4 +1,4 @@
-//! Whether two lists of rows are one bag.
+//! Whether two lists of rows are the same bag.
 
 ghost use Rattle.std.specs.Prelude.{◌≡◌, ◌↔◌, map, IfOk, IsTrue};
 ghost use Rattle.std.specs.List.Sorted.{IsPermutation, IsSorted};
@@ -15,7 +15,7 @@ fn by_reference(alloc: Global, rows: &Rows) -> Result<Vec<&Record>, OutOfMemory>
     rows.rows().iter().collect(alloc)
 }
 
-// The rows by reference, in their order.
+// The rows by reference, sorted.
 #[tactic(auto, using(crate::proofs::SortedBags::sorted_refs, crate::proofs::SortedBags::permuted_refs))]
 fn sorted(alloc: Global, rows: &Rows) -> Result<Vec<&Record>, OutOfMemory>
     ensures permuted { IfOk result (λ refs. IsPermutation rows.now (map (λ r. r.now) refs.items)) }
@@ -26,14 +26,14 @@ fn sorted(alloc: Global, rows: &Rows) -> Result<Vec<&Record>, OutOfMemory>
     Ok(refs)
 }
 
-// Whether the rows that are referred to are equal, one after the other.
+// Whether the referenced rows are equal, one after the other.
 fn same_rows(rows: &[&Record], others: &[&Record]) -> bool
     ensures { IsTrue result ↔ (map (λ r. r.now) rows.now ≡ map (λ r. r.now) others.now) }
 {
     rows == others
 }
 
-/// Whether the rows are the same up to their order. Takes memory for a reference to each row.
+/// Whether the rows are the same up to their order. It takes memory for a reference to each row.
 pub fn same_bag(alloc: Global, a: &Rows, b: &Rows) -> Result<bool, OutOfMemory>
     ensures { IfOk result (λ same. IsTrue same ↔ IsPermutation a.now b.now) }
 {

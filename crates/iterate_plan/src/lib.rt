@@ -1,6 +1,6 @@
-//! Rounds of an iteration: what a round goes on with, and whether it gave back what it began with.
+//! Rounds of an iteration: what a round goes on with, and whether it returned what it began with.
 //!
-//! `specs/Rounds` says which bags follow each other, and when an iteration ends.
+//! `specs/Rounds` defines which bags follow each other, and when an iteration ends.
 #![tactic(auto)]
 
 mod bags;

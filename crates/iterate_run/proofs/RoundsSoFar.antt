@@ -1,4 +1,4 @@
--- What is known of an iteration behind a round that may be followed by another.
+-- What is known of an iteration after a round that may be followed by another.
 use Rattle.std.proofs.Common.{◌≡◌, ◌≤◌, ◌<◌, ◌+◌, ◌++◌, inl, inr, ℕ, Bool, true, false, Some, None, List, [], ◌∷◌}
 use Rattle.std.proofs.Common.{length, slice_get, refl, sym, ap, subst, ◌∙◌, length-append, arith}
 use Rattle.std.proofs.lemmas.List.{get_or-set_same, set-set}
@@ -13,8 +13,8 @@ use Rattle.iterate_plan.specs.Rounds.{cut_to, rows_at, rows_behind, with_rows}
 use Rattle.iterate_plan.proofs.RoundLaws.{behind-last, next_inputs, place-below, rounds-last, unstable-last}
 use Rattle.iterate_run.specs.NextRows.{AreNextRows}
 
--- The bags before this one, of which none was stable where the iteration may end early, and this one, which is allowed
--- on what the sources have now.
+-- The bags before this one and this one. If the iteration may end early, none of the bags before was stable. This one
+-- is allowed on what the sources have now.
 pub record IsSoFar (p : ProgramData) (inputs : List Bag) (at : ℕ) (columns : List Column) (stable : Bool) (now : List Bag)
     (bag : Bag) (count : ℕ) : Type 0 where
   pub front : List Bag
@@ -83,7 +83,7 @@ module _ {p : ProgramData} {inputs now : List Bag} {at : ℕ} {columns : List Co
           over = over_early columns (rows_at inputs at) rounds stable h.front bag count given.0 h.unstable same;
         }
 
-    -- ---- one round more
+    -- ---- one more round
 
     module _ {next : Bag} {later : List Bag} (program : IsProgram p) (source : IsSourceAt p at columns)
         (given : AreNextRows columns own bag stable (Some next)) (is_later : later ≡ with_rows now at next) where

@@ -21,7 +21,7 @@ pub struct Iterated {
     pub rounds: u32,
 }
 
-// The rows of the source in the next round, or none where they are those of this round and the iteration may end early.
+// The rows of the source in the next round, or none if they are those of this round and the iteration may end early.
 fn next_rows(
     alloc: Global,
     rows: &Rows,
@@ -38,9 +38,9 @@ fn next_rows(
     Ok(Some(next))
 }
 
-/// Runs the program so many rounds. From the second round on the source at this place among the sources has the records
-/// that the round before gave, cut to its columns. Where that is asked for (`stable`), it ends early, behind the first
-/// round whose records, so cut, are those that the source had in it, in any order. Want of memory is the only error.
+/// Runs the program `rounds` times. From the second round on, the source at this place among the sources has the
+/// records of the round before, cut to its columns. With `stable` the iteration ends early, after the first round whose
+/// records, once cut, are those that the source had in it, in any order. Out of memory is the only error.
 pub fn iterate<R: Round>(
     alloc: Global,
     round: &mut R,
@@ -59,7 +59,7 @@ pub fn iterate<R: Round>(
     ensures same { R.program round.new ≡ R.program round.old }
     ensures rounds { IfOk result (λ i. IsIterated (R.program round.old) inputs source columns.now rounds stable i.rows i.rounds) }
 
-    // A program that allows one bag alone allows one iteration alone.
+    // A program that allows only one bag allows only one iteration.
     ensures only { IfOk result (λ i. AllowsOne (R.program round.old) → (other : Bag) (count : ℕ)
         → IsIterated (R.program round.old) inputs source columns.now rounds stable other count
         → IsPermutation i.rows other × (i.rounds ≡ count)) }

@@ -9,15 +9,16 @@ use pact_bag::{Inputs, Rows};
 use pact_record::OutOfMemory;
 use std::alloc::Global;
 
-/// A program that runs on the rows of its sources, as often as it is asked to.
+/// A program that runs on the rows of its sources, each time that it is called.
 pub trait Round {
     /// The program.
     ghost program: { Self → ProgramData };
 
-    /// What has to hold of it for a round: for one that calls a function, that this one can be called and gives an allowed bag.
+    /// What has to hold before a round. For a round that calls a function: the function can be called, and it returns
+    /// an allowed bag.
     ghost ready: { Self → Type 0 };
 
-    /// A bag that the plan as written allows. Want of memory is the only error.
+    /// A bag that the plan as written allows. Out of memory is the only error.
     fn round(&mut self, alloc: Global, inputs: &Inputs) -> Result<Rows, OutOfMemory>
         requires ready { ready self.old }
         requires inputs { AreInputsOf (program self.old) inputs.now }

@@ -31,7 +31,7 @@ group-none keys j k [] f h = refl
 group-none keys j k (row ∷ group) f h =
     ap (λ b. cond b (row ∷ group_of_key keys group k) (group_of_key keys group k)) (ap (λ i. is_same_key i k) h.0 ∙ f) ∙ group-none keys j k group f h.1
 
--- no record has a key that no group has
+-- no record has a key without a group
 pub group_absent : (keys : List ℕ) (groups : List (List (List Value))) (k : List Value) → AllByRecursion (IsGroup keys) groups → occurs k (order_of keys groups) ≡ false → group_of_key keys (rows_of groups) k ≡ []
 group_absent keys [] k h o = refl
 group_absent keys (g ∷ gs) k h o =
@@ -89,7 +89,7 @@ keys-occur keys (g ∷ gs) k h =
     ap (occurs k) (map-append (key_of keys) g (rows_of gs)) ∙ list_any-append (λ j. is_same_key j k) (map (key_of keys) g) (map (key_of keys) (rows_of gs))
     ∙ (λ i. same-occurs keys (first_key keys g) k g h.0.same h.0.some i || keys-occur keys gs k h.1 i)
 
--- each key that records have is that of one group
+-- each key of the records is the key of one group
 pub groups_have_keys : (keys : List ℕ) (groups : List (List (List Value))) → AreGroups keys groups → IsPermutation (distinct_keys (map (key_of keys) (rows_of groups))) (order_of keys groups)
 groups_have_keys keys groups h =
     let ks = map (key_of keys) (rows_of groups) in

@@ -1,4 +1,4 @@
--- One row more in groups.
+-- Groups with one more row.
 use Rattle.std.proofs.Common.{◌≡◌, ◌<◌, ◌||◌, ℕ, zero, suc, false, List, [], ◌∷◌, ◌++◌, length, get_or, refl, ap, sym, ◌∙◌, subst, arith, append_assoc, Option, Some, None}
 use Rattle.std.specs.Prelude.{slice_get, slice_set, OnErr, OnOk}
 use Rattle.std.specs.declared.result.Result.{Result}
@@ -88,7 +88,7 @@ put_new keys row gs more h f m = subst (IsPut keys row None gs) (sym m) (record 
   grown : order_of keys (gs ++ (row ∷ []) ∷ []) ≡ order_of keys gs ++ key_of keys row ∷ []
   grown = map-append (first_key keys) gs ((row ∷ []) ∷ [])
 
--- what holds of all rows holds of those of a group
+-- a property of all rows holds for those of each group
 pub of_group : (P : List Value → Type 0) (gs : List (List (List Value))) (n : ℕ) → AllByRecursion P (rows_of gs) → AllByRecursion P (get_or gs n [])
 of_group P [] zero h = tt
 of_group P [] (suc n) h = tt
@@ -102,7 +102,7 @@ on_ok_one (Err e) f p = tt
 all-permutation : {X : Type 0} (P : X → Type 0) (xs ys : List X) → IsPermutation xs ys → AllByRecursion P xs → AllByRecursion P ys
 all-permutation P xs ys p h = recursion_from_All P ys (All-permutation P xs ys p (All-from_recursion P xs h))
 
--- what holds of the rows and of one more holds of them once that one is put to them
+-- a property of all rows and of one more row holds for the rows with it
 pub all_put : (P : List Value → Type 0) (keys : List ℕ) (row : List Value) (found : Option ℕ) (gs more : List (List (List Value))) → IsPut keys row found gs more → AllByRecursion P (rows_of gs) → P row → AllByRecursion P (rows_of more)
 all_put P keys row found gs more put h p = all-permutation P (rows_of gs ++ row ∷ []) (rows_of more) put.rows (AllByRecursion-last P (rows_of gs) row h p)
 
@@ -116,7 +116,7 @@ group-is gs n group lt e = e ∙ get_or_default gs n group [] lt
 pub some_first : (keys : List ℕ) (gs : List (List (List Value))) (n : ℕ) (group : List (List Value)) → n < length gs → AllByRecursion (IsGroup keys) gs → group ≡ get_or gs n group → 0 < length group
 some_first keys gs n group lt each e = subst (λ (g : List (List Value)). 0 < length g) (sym (group-is gs n group lt e)) (group-at keys gs n lt each).some
 
--- the key fields are below the first row of a group
+-- the key fields are fields of the first row of a group
 pub first_below : (keys : List ℕ) (gs : List (List (List Value))) (n : ℕ) (group : List (List Value)) (row : List Value) → n < length gs → AllByRecursion (IsGroup keys) gs → AreAllBelow keys (rows_of gs) → group ≡ get_or gs n group
     → slice_get group 0 ≡ Some row → AllByRecursion (λ k. k < length row) keys
 first_below keys gs n group row lt each h g e =

@@ -29,21 +29,21 @@ pub record AreGroups (keys : List ℕ) (groups : List (List (List Value))) : Typ
   pub each : AllByRecursion (IsGroup keys) groups
   pub once : AreOnce (order_of keys groups)
 
--- each key field is one of each row
+-- each key field is a field of each row
 abbrev pub AreAllBelow : List ℕ → List (List Value) → Type 0
 AreAllBelow keys rows = AllByRecursion (λ row. AreBelow (length row) keys) rows
 
--- where a key stands in a list, if it does
+-- the place of a key in a list, if the list has it
 abbrev pub IsFound : List (List Value) → List Value → Option ℕ → Type 0
 IsFound keys key None = occurs key keys ≡ false
 IsFound keys key (Some n) = (n < length keys) × (get_or keys n [] ≡ key)
 
--- the key behind the others, where it wasn't found
+-- the keys, with the key appended if it wasn't found
 abbrev pub order_with : List (List Value) → List Value → Option ℕ → List (List Value)
 order_with keys key None = keys ++ key ∷ []
 order_with keys key (Some n) = keys
 
--- One row more stands in the group of its key.
+-- One more row is in the group of its key.
 pub record IsPut (keys : List ℕ) (row : List Value) (found : Option ℕ) (old all : List (List (List Value))) : Type 0 where
   pub groups : AreGroups keys all
   pub order : order_of keys all ≡ order_with (order_of keys old) (key_of keys row) found
@@ -54,7 +54,7 @@ pub record GroupsData : Type 0 where
   pub keys : List ℕ
   pub groups : List (List (List Value))
 
--- what is always true of groups
+-- the invariant of groups
 pub record AreHeld (keys : List ℕ) (groups : List (List (List Value))) (none : List (List Value)) : Type 0 where
   pub grouped : AreGroups keys groups
   pub below : AreAllBelow keys (rows_of groups)

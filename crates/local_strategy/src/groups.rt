@@ -15,7 +15,7 @@ use std::alloc::Global;
 use std::cmp::Ordering;
 use std::marker::Model;
 
-// The row behind those of its group.
+// Appends the row to its group.
 fn put_behind(groups: &mut Vec<Rows>, n: usize, row: Record) -> Result<(), OutOfMemory>
     requires number { n < length groups.old.items }
     requires wide { AllByRecursion (λ held. length held ≡ length row) (get_or groups.old.items n []) }
@@ -26,7 +26,7 @@ fn put_behind(groups: &mut Vec<Rows>, n: usize, row: Record) -> Result<(), OutOf
     Ok(())
 }
 
-// A row alone.
+// A list of one row.
 fn alone(alloc: Global, row: Record) -> Result<Rows, OutOfMemory>
     ensures { IfOk result (λ rows. rows ≡ row ∷ []) }
 {
@@ -35,7 +35,7 @@ fn alone(alloc: Global, row: Record) -> Result<Rows, OutOfMemory>
     Ok(rows)
 }
 
-// The row as a group of its own.
+// Adds the row as a new group.
 fn put_new(alloc: Global, groups: &mut Vec<Rows>, row: Record) -> Result<(), OutOfMemory>
     ensures ok { OnOk result (groups.new.items ≡ groups.old.items ++ (row ∷ []) ∷ []) }
     ensures err { OnErr result (groups.new.items ≡ groups.old.items) }
@@ -45,7 +45,7 @@ fn put_new(alloc: Global, groups: &mut Vec<Rows>, row: Record) -> Result<(), Out
     Ok(())
 }
 
-// The row in the group of its key.
+// Adds the row to the group of its key, which may be a new one.
 fn put(
     alloc: Global,
     keys: &Keys,
@@ -85,7 +85,7 @@ impl Model for Groups {
 }
 
 impl Groups {
-    /// No groups, by these key fields.
+    /// No groups yet; they will be by these key fields.
     pub fn new(alloc: Global, keys: &Keys) -> Groups
         ensures keys { result.keys ≡ keys.now }
         ensures none { result.groups ≡ [] }
@@ -104,7 +104,7 @@ impl Groups {
         &self.keys
     }
 
-    /// How many different keys the records have.
+    /// The number of different keys of the records.
     pub fn len(&self) -> usize
         ensures count { result ≡ length (order_of self.now.keys self.now.groups) }
         ensures order { IsPermutation (distinct_keys (map (key_of self.now.keys) (rows_of self.now.groups))) (order_of self.now.keys self.now.groups) }
@@ -130,7 +130,7 @@ impl Groups {
         &self.held[n]
     }
 
-    /// The records of the key that was found there; none where it wasn't found.
+    /// The records of the key that was found there, and no records if it wasn't found.
     pub fn of(&self, found: Option<usize>) -> &Rows
         requires { (key : List FieldValue) × IsFound (order_of self.now.keys self.now.groups) key found }
         ensures { (key : List FieldValue) → IsFound (order_of self.now.keys self.now.groups) key found → group_of_key self.now.keys (rows_of self.now.groups) key ≡ result.now }
@@ -141,7 +141,7 @@ impl Groups {
         }
     }
 
-    /// Puts a row to those of its key, which was found there, or as a group behind the others where it wasn't.
+    /// Appends a row to the group of its key, if the key was found there, and adds it as a new last group otherwise.
     pub fn put(&mut self, found: Option<usize>, row: Record) -> Result<(), OutOfMemory>
         requires found { IsFound (order_of self.old.keys self.old.groups) (key_of self.old.keys row) found }
         requires wide { AreWide (length row) (rows_of self.old.groups) }

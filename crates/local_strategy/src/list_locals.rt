@@ -1,4 +1,4 @@
-//! Records by key in groups that are gone through.
+//! Records grouped by key, in a list of groups that is scanned.
 
 ghost use Rattle.std.specs.Prelude.{◌≡◌, ◌<◌, ◌++◌, ◌∷◌, [], true, false, length, map, slice_get, IfOk, IfSome, OnOk};
 ghost use Rattle.std.specs.List.Sorted.{IsPermutation};
@@ -15,8 +15,8 @@ use pact_record::{Keys, OutOfMemory, Record};
 use std::alloc::Global;
 use std::marker::Model;
 
-/// Records in a group for each key. Each question, and each record that is added, goes through all groups, so it is slow where there are many
-/// keys: it is a yardstick for the others, and no command uses it.
+/// Records in a group for each key. Each lookup and each added record scans all groups, so it is slow if there are many
+/// keys. It is a baseline for the other implementations, and no command uses it.
 #[derive(Drop)]
 pub struct ListLocal {
     groups: Groups,

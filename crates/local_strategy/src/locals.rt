@@ -1,4 +1,4 @@
-//! Records by key.
+//! The trait of objects that keep records by key.
 
 ghost use Rattle.std.specs.Prelude.{◌≡◌, ◌<◌, ◌++◌, ◌∷◌, [], ℕ, Bool, true, false, List, length, map, slice_get, IfOk, IfSome, OnOk};
 ghost use Rattle.std.specs.List.Sorted.{IsPermutation};
@@ -11,8 +11,8 @@ use pact_bag::Rows;
 use pact_record::{Keys, OutOfMemory, Record};
 use std::alloc::Global;
 
-/// Records by the values of their key fields. They are added while it is open; once it is sealed it lends the records of a key, side by side. It may
-/// have them in any order of its own, and numbers their key values in any order.
+/// Records by the values of their key fields. Records are added until it is sealed. After that it lends the records of
+/// a key, side by side. It may keep the records in any order, and number their key values in any order.
 pub trait Local: Sized + Send + Drop {
     ghost rows: { Self → List (List FieldValue) };
 
@@ -23,13 +23,13 @@ pub trait Local: Sized + Send + Drop {
     /// The key values, by their numbers.
     ghost order: { Self → List (List FieldValue) };
 
-    /// Keeps nothing yet, by the values of these fields.
+    /// Starts without records, with these key fields.
     fn start(alloc: Global, keys: &Keys) -> Result<Self, OutOfMemory>
         ensures rows { IfOk result (λ local. rows local ≡ []) }
         ensures keys { IfOk result (λ local. key_fields local ≡ keys.now) }
         ensures not_sealed { IfOk result (λ local. is_sealed local ≡ false) };
 
-    /// Keeps one more. After want of memory it may only be dropped.
+    /// Keeps one more record. After an out-of-memory error it may only be dropped.
     fn add(&mut self, row: Record) -> Result<(), OutOfMemory>
         requires not_sealed { is_sealed self.old ≡ false }
         requires width { AreWide (length row) (rows self.old) }
@@ -38,34 +38,34 @@ pub trait Local: Sized + Send + Drop {
         ensures keys { OnOk result (key_fields self.new ≡ key_fields self.old) }
         ensures not_sealed { OnOk result (is_sealed self.new ≡ false) };
 
-    /// No more will come. After want of memory it may only be dropped.
+    /// Seals it: no more records will come. After an out-of-memory error it may only be dropped.
     fn seal(&mut self) -> Result<(), OutOfMemory>
         requires { is_sealed self.old ≡ false }
         ensures rows { OnOk result (IsPermutation (rows self.old) (rows self.new)) }
         ensures keys { OnOk result (key_fields self.new ≡ key_fields self.old) }
         ensures sealed { OnOk result (is_sealed self.new ≡ true) };
 
-    /// How many different key values the records have. Each stands at one number below that.
+    /// The number of different key values of the records. The key values are numbered from 0 to this number less one.
     fn key_count(&self) -> usize
         requires { is_sealed self.now ≡ true }
         ensures count { result ≡ length (order self.now) }
         ensures order { IsPermutation (distinct_keys (map (key_of (key_fields self.now)) (rows self.now))) (order self.now) };
 
-    /// Lends the records of the key values with this number, in any order. It takes no memory.
+    /// Lends the records of the key values with this number, in any order. It allocates no memory.
     fn borrow_group_at(&self, n: usize) -> &Rows
         requires sealed { is_sealed self.now ≡ true }
         requires below { n < length (order self.now) }
         ensures { IfSome (slice_get (order self.now) n) (λ key. IsPermutation (group_of_key (key_fields self.now) (rows self.now) key) result.now) };
 
-    /// Lends the records with the key values that the row has at these fields, in any order; none where there is none. It takes
-    /// no memory.
+    /// Lends the records with the key values that the row has at these fields, in any order. If there are none, it
+    /// lends an empty list. It allocates no memory.
     fn borrow_group_of(&self, row: &Record, keys: &Keys) -> &Rows
         requires sealed { is_sealed self.now ≡ true }
         requires length { length keys.now ≡ length (key_fields self.now) }
         requires below { AreBelow (length row.now) keys.now }
         ensures { IsPermutation (group_of_key (key_fields self.now) (rows self.now) (key_of keys.now row.now)) result.now };
 
-    /// A copy of what `borrow_group_at` lends. Want of memory is the only error.
+    /// A copy of what `borrow_group_at` lends. Out of memory is the only error.
     fn group_at(&self, alloc: Global, n: usize) -> Result<Rows, OutOfMemory>
         requires sealed { is_sealed self.now ≡ true }
         requires below { n < length (order self.now) }
@@ -74,7 +74,7 @@ pub trait Local: Sized + Send + Drop {
         self.borrow_group_at(n).copy(alloc)
     }
 
-    /// A copy of what `borrow_group_of` lends. Want of memory is the only error.
+    /// A copy of what `borrow_group_of` lends. Out of memory is the only error.
     fn group_of(&self, alloc: Global, row: &Record, keys: &Keys) -> Result<Rows, OutOfMemory>
         requires sealed { is_sealed self.now ≡ true }
         requires length { length keys.now ≡ length (key_fields self.now) }

@@ -1,4 +1,4 @@
-//! A group with the key values of a row, found by going through all groups.
+//! Finds the group with the key values of a row by scanning all groups.
 
 ghost use Rattle.std.specs.Prelude.{◌≡◌, ◌<◌, length};
 ghost use Rattle.pact_record.specs.Record.{key_of};
@@ -9,7 +9,7 @@ use crate::groups::Groups;
 use pact_record::{Keys, Record};
 use std::cmp::Ordering;
 
-/// Where the groups have the key values that the row has at these fields.
+/// The place of the group with the key values that the row has at these fields.
 pub(crate) fn find(groups: &Groups, row: &Record, keys: &Keys) -> Option<usize>
     requires length { length keys.now ≡ length groups.now.keys }
     requires below { AreBelow (length row.now) keys.now }

@@ -1,4 +1,4 @@
--- What an accumulator holds after operands, which it may take in any order.
+-- The value of an accumulator after operands, which it may take in any order.
 use Rattle.std.proofs.Common.{◌≡◌, ℤ, ◌+ℤ◌, List, [], ◌∷◌, ◌++◌, refl, sym, ap, ◌∙◌}
 use Rattle.std.proofs.lemmas.Int.{int_wrap-add_left}
 use Rattle.std.proofs.Math.IntN.{+ℤ_assoc, +ℤ_comm}
@@ -12,7 +12,7 @@ use Rattle.order_free.specs.declared.accumulators.Accumulation.TheVariants.{Sum,
 use Rattle.order_free.specs.Accumulators.{op_of}
 use Rattle.order_free.proofs.ValueOrder.{smaller_swap, greater_swap}
 
--- what it holds after these operands, one after the other
+-- its value after these operands, one after the other
 abbrev pub accumulated : Accumulation → Value → List Value → Value
 accumulated by held [] = held
 accumulated by held (a ∷ rest) = accumulated by (applied2 (op_of by) held a) rest
@@ -23,7 +23,7 @@ wrapped_swap x a b =
     ∙ ap (int_wrap w64) (+ℤ_assoc x a b ∙ ap (λ (z : ℤ). x +ℤ z) (+ℤ_comm a b) ∙ sym (+ℤ_assoc x b a))
     ∙ sym (int_wrap-add_left w64 (x +ℤ b) a)
 
--- of two operands either may come first
+-- either of two operands may come first
 applied_swap : (by : Accumulation) (x a b : Value) → applied2 (op_of by) (applied2 (op_of by) x a) b ≡ applied2 (op_of by) (applied2 (op_of by) x b) a
 applied_swap Sum x a b = ap Int (wrapped_swap (number_or_zero x) (number_or_zero a) (number_or_zero b))
 applied_swap Least x a b = smaller_swap x a b

@@ -1,4 +1,5 @@
--- Two stores that agree on what is live before a statement of one line agree behind it, and emit the same.
+-- If two stores agree on the registers that are live before a statement of one line, they agree on those that are live
+-- after it, and emit the same.
 use Rattle.std.proofs.Common.{◌≡◌, ◌<◌, ◌==◌, ◌-◌, ℕ, true, false, not, ◌&&◌, ◌||◌, List, [], ◌∷◌, ◌++◌, get_or, slice_set, refl, sym, ap, ◌∙◌, append-nil, arith}
 use Rattle.std.proofs.lemmas.Bool.{and_from, or_left, or_right, eq-eqb}
 use Rattle.std.proofs.lemmas.List.{get_or-take}
@@ -36,7 +37,7 @@ named_record-agree kind n set s t Join can f has h = λ i. joined_record (h.inpu
 named_record-agree kind n set s t First can f has h = cc
 
 module _ (kind : Kind) (F n : ℕ) (set : RegisterSet) (s t : Store) where
-  -- what isn't assigned stays live
+  -- registers that aren't assigned stay live
   unassigned : (a : Simple) → Agree n (live_before a set) s t → Agree n (λ r. set r && not (assigns a r)) s t
   unassigned a h = Agree-fewer (live_before a set) (λ r. set r && not (assigns a r)) (λ r e. or_right (has_operand a r) (set r && not (assigns a r)) e) h
 
@@ -97,7 +98,7 @@ module _ (kind : Kind) (F n : ℕ) (set : RegisterSet) (s t : Store) where
         records = λ k e. kept.records k (and_from (set (record_at k)) true e refl);
       }
 
--- ---- what a statement emits
+-- ---- the records that a statement emits
 
 abbrev pub emitted_by : Simple → Store → List (List Value)
 emitted_by (emit_record from) s = record_in s from ∷ []

@@ -1,4 +1,5 @@
--- Two stores inside some loops that agree on a set of registers, and what writing a register and going into a loop and out of it does to that.
+-- Two stores inside loops that agree on a set of registers. Writing a register, and entering and leaving a loop,
+-- preserve this.
 use Rattle.std.proofs.Common.{◌≡◌, ◌≢◌, ◌≤◌, ◌<◌, ◌==◌, ◌+◌, ◌-◌, ℕ, true, not, ◌&&◌, inl, inr, List, [], ◌∷◌, ◌++◌, length, take, refl, sym, ap, subst, ◌∙◌, arith}
 use Rattle.std.proofs.lemmas.Bool.{cases_Bool, eqb-true, eqb-false, and_from, not_from_false}
 use Rattle.std.proofs.lemmas.List.{get_or-set_same, get_or-set_other, length-set, take-take, length-take-le, length-append}
@@ -9,7 +10,7 @@ use Rattle.tac_syntax.specs.Call.{Store, value_in, record_in, put_value, put_rec
 use Rattle.order_free.specs.Registers.{Register, value_at, record_at, RegisterSet, is_value, is_record}
 use Rattle.order_free.proofs.ReorderedInputs.{SameUpToOrder, input_itself, inputs_turned, inputs_chained}
 
--- a store inside so many loops: it has every register, and a record for each of the loops
+-- a store inside n loops: it has every register, and a record for each of the loops
 pub record IsWhole (n : ℕ) (s : Store) : Type 0 where
   pub values : length s.values ≡ value_registers
   pub records : length s.records ≡ record_registers
@@ -70,7 +71,7 @@ IsWhole-put_value {s = s} to v h = record { values = length-set s.values to v �
 pub IsWhole-put_record : {n : ℕ} {s : Store} (to : ℕ) (r : List Value) → IsWhole n s → IsWhole n (put_record s to r)
 IsWhole-put_record {s = s} to r h = record { values = h.values; records = length-set s.records to r ∙ h.records; loops = h.loops }
 
--- the register holds it, and the others what they held
+-- the register holds the new value, and the others are unchanged
 pub value_in-put : (n : ℕ) (s : Store) (to : ℕ) (v : Value) → IsWhole n s → to < value_registers → value_in (put_value s to v) to ≡ v
 value_in-put n s to v h lt = get_or-set_same s.values to v Null (omega (arith, h.values, lt))
 
@@ -125,7 +126,7 @@ Agree-put_record {n} set {s} {t} to v w lt h e = record {
         record_in-put_other s to v k apart ∙ h.records k (and_from (set (record_at k)) (not (k == to)) i (not_from_false (k == to) p)) ∙ sym (record_in-put_other t to w k apart)
   ]
 
--- ---- going into a loop, and out of it
+-- ---- entering and leaving a loop
 
 pub loops-bind : (n name : ℕ) (s : Store) (row : List Value) → name ≡ n + 1 → (bind s name row).loops ≡ take n s.loops ++ row ∷ []
 loops-bind n name s row e = let d : name - 1 ≡ n = omega (arith, e) in ap (λ (k : ℕ). take k s.loops ++ row ∷ []) d

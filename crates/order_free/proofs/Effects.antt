@@ -1,4 +1,5 @@
--- What a body does besides what it leaves in registers: it emits records, and gives operands to accumulators.
+-- The effect of a body, besides the values it leaves in registers: it emits records, and feeds operands to
+-- accumulators.
 use Rattle.std.proofs.Common.{◌≡◌, ◌≢◌, ◌==◌, ℕ, true, not, ◌&&◌, List, [], ◌++◌, refl, sym, ap, subst, ◌∙◌, append-nil, append_assoc}
 use Rattle.std.proofs.lemmas.Bool.{and_parts, not-true, eq-eqb, eqb-true, eqb-false}
 use Rattle.pact_record.specs.declared.values.Value.{Value}
@@ -14,7 +15,7 @@ use Rattle.order_free.proofs.Accumulated.{accumulated, accumulated-append}
 
 -- ---- effects
 
--- records emitted, and the operands of each accumulator
+-- the records emitted, and the operands of each accumulator
 pub record Effect : Type 0 where
   pub emits : List (List Value)
   pub operands : ℕ → List Value
@@ -25,7 +26,7 @@ both e f = record { emits = e.emits ++ f.emits; operands = λ d. e.operands d ++
 abbrev pub no_effect : Effect
 no_effect = record { emits = []; operands = λ d. [] }
 
--- these registers are accumulators, each by its operation
+-- the accumulators, and the operation of each
 module _ (accumulators : RegisterSet) (by : ℕ → Accumulation) where
   pub record HasEffect (e : Effect) (s t : Store) : Type 0 where
     pub emitted : t.emitted ≡ s.emitted ++ e.emits

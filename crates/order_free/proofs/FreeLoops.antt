@@ -1,4 +1,4 @@
--- What the order test finds of one loop, and of one statement after the other.
+-- The result of the order test for one loop, and for one statement after the other.
 use Rattle.std.proofs.Common.{◌≡◌, ◌↔◌, ◌<◌, ◌+◌, ℕ, zero, suc, Bool, true, false, not, ◌&&◌, ◌||◌, IsTrue, List, [], ◌∷◌, length, drop, get_or, refl, sym, ap, subst, ◌∙◌}
 use Rattle.std.proofs.lemmas.Bool.{or_right, and_from, and_right, not_from_false, both_ways}
 use Rattle.tac_syntax.specs.declared.statements.LoopList.{LoopList}
@@ -27,7 +27,7 @@ assigned_record-otherwise by k s h =
     and_from (occurs s (record_at k)) (not (accumulates by (record_at k) s)) (or_right (has_operand s (record_at k)) (assigns s (record_at k)) h)
     (not_from_false (accumulates by (record_at k) s) (accumulates-record by k s))
 
--- so a record register that is assigned is no accumulator
+-- so a record register that is assigned isn't an accumulator
 occurs_otherwise-record : (by : Accumulation) (k : ℕ) (c : Code) → is_assigned c (record_at k) ≡ true → occurs_otherwise by (record_at k) c ≡ true
 occurs_otherwise-record by k stop h = h
 occurs_otherwise-record by k (plain s next) h =
@@ -58,7 +58,7 @@ all_otherwise : (a p q r : Bool) → (a ≡ true → p ≡ true) → (a ≡ true
 all_otherwise true p q r f g h = rw (f refl, g refl, h refl) refl
 all_otherwise false p q r f g h = refl
 
--- what is assigned and occurs otherwise by each of the operations is no accumulator
+-- a register that is assigned and occurs otherwise for each of the operations isn't an accumulator
 pub assigned_otherwise-is : (c : Code) (r : Register)
     → (((is_assigned c r && occurs_otherwise Sum r c) && occurs_otherwise Least r c) && occurs_otherwise Greatest r c) ≡ (is_assigned c r && not (is_accumulator c r))
 assigned_otherwise-is c (value_at d) = both_otherwise (is_assigned c (value_at d)) (occurs_otherwise Sum (value_at d) c) (occurs_otherwise Least (value_at d) c) (occurs_otherwise Greatest (value_at d) c)
@@ -68,7 +68,7 @@ assigned_otherwise-is c (record_at k) =
 
 -- ---- a statement
 
--- where these are live behind it: of an `if`, the second body decides where the first one's loops are free
+-- An `if` whose first body's loops are free: the second body decides.
 pub free-if : (on : ℕ) (body other : Code) (behind : RegisterSet) (stmt : Stmt) (found : Bool) → stmt ≡ If on body other → AreLoopsFree body behind → (IsTrue found ↔ AreLoopsFree other behind)
     → IsTrue found ↔ AreLoopsFree (only stmt) behind
 free-if on body other behind stmt found e first second =
@@ -79,7 +79,7 @@ pub not_free-if : (on : ℕ) (body other : Code) (behind : RegisterSet) (stmt : 
 not_free-if on body other behind stmt found e none first =
     subst (λ (s : Stmt). IsTrue found ↔ AreLoopsFree (only s) behind) (sym e) (λ h. absurd (both_ways found none h), λ free. first.1 free.0)
 
--- a set that is the one live at the end of each turn
+-- the set has the registers that are live at the end of each turn
 abbrev IsLiveAtEnd : Code → RegisterSet → RegisterSet → Type 0
 IsLiveAtEnd body behind set = (r : Register) → set r ≡ (behind r || is_live body r (behind r))
 
@@ -117,7 +117,7 @@ is_live-onto (choice on body other) c r b = refl
 is_live-onto (turning count body) c r b = refl
 is_live-onto (going_through name list body) c r b = refl
 
--- a statement by its place, what is live behind it, and what follows it from the next place on
+-- A statement by its place, the registers that are live after the statements, and those that are live after it.
 module _ (stmts : List Stmt) (at next : ℕ) (stmt : Stmt) (behind here : RegisterSet) (is_next : next ≡ at + 1) (lt : at < length stmts) (is_at : stmt ≡ get_or stmts at stmt)
     (is_here : (r : Register) → here r ≡ is_live (code_of (drop next stmts)) r (behind r)) where
   split : code_of (drop at stmts) ≡ before stmt (code_of (drop next stmts))
@@ -135,7 +135,7 @@ module _ (stmts : List Stmt) (at next : ℕ) (stmt : Stmt) (behind here : Regist
       subst (λ (c : Code). AreLoopsFree c behind) (sym split)
       ((AreLoopsFree-onto (statement_of stmt) (code_of (drop next stmts)) behind).1 (subst (AreLoopsFree (only stmt)) same own, rest))
 
-  -- where its own loops aren't free, those of the whole aren't
+  -- if the statement's own loops aren't free, those of the whole body aren't
   pub not_free-at : (found : Bool) → found ≡ false → (IsTrue found ↔ AreLoopsFree (only stmt) here) → (body : Code) → code_of stmts ≡ body → IsTrue false ↔ AreLoopsFree body behind
   not_free-at found none test body whole = (
     λ h. cc,

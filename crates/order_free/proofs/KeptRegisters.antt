@@ -1,4 +1,4 @@
--- What a body leaves as it was: the registers that it doesn't assign, and the records of the loops around it.
+-- A body doesn't change the registers that it doesn't assign, nor the records of the loops around it.
 use Rattle.std.proofs.Common.{◌≡◌, ◌+◌, ℕ, zero, suc, Bool, true, false, ◌||◌, if◌then◌else◌, List, [], ◌∷◌, get_or, slice_set, take, refl, sym, ap, ◌∙◌, arith}
 use Rattle.std.proofs.lemmas.Bool.{or_parts, eqb-false}
 use Rattle.std.proofs.lemmas.List.{take-take, take-append-le, length-take-le}

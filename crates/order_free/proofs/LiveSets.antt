@@ -1,4 +1,5 @@
--- Laws of liveness. Whether a register is live before a body is one of three functions of whether it is live behind it, so few facts are needed.
+-- Laws of liveness. Whether a register is live before a body is one of three functions of whether it is live after the
+-- body, so few facts are needed.
 use Rattle.std.proofs.Common.{◌≡◌, ◌==◌, ◌⊎◌, inl, inr, ℕ, Bool, true, false, ◌||◌, refl, subst}
 use Rattle.std.proofs.lemmas.Bool.{cases_Bool, or_cases, or_left, or_right, eq-eqb}
 use Rattle.tac_syntax.specs.Code.{Code, branch}
@@ -11,12 +12,12 @@ or_weaker x y z w f g h = elim (or_cases x y h) as (λ _. (z || w) ≡ true) [
   | inr e ↦ or_right z w (g e)
 ]
 
--- what is live before a body is so whatever is live behind it, or else is live behind it
+-- a register that is live before a body is live before it with nothing live after it, or is live after it
 pub is_live-from : (c : Code) (r : Register) (b : Bool) → is_live c r b ≡ true → (is_live c r false ≡ true) ⊎ (b ≡ true)
 is_live-from c r true h = inr refl
 is_live-from c r false h = inl h
 
--- a second turn makes no more of it live
+-- a second turn makes no more registers live
 pub is_live-again : (c : Code) (r : Register) (b : Bool) → is_live c r (b || is_live c r b) ≡ true → is_live c r b ≡ true
 is_live-again c r true h = h
 is_live-again c r false h = elim (cases_Bool (is_live c r false)) as (λ _. is_live c r false ≡ true) [
@@ -26,15 +27,15 @@ is_live-again c r false h = elim (cases_Bool (is_live c r false)) as (λ _. is_l
 
 -- ---- loops
 
--- what is live before the first turn, is live before the body where these are live at its end
+-- a register that is live before the first turn is also live before the body when no other turn may follow
 pub live-first_turn : (body : Code) (behind : RegisterSet) (r : Register) → live body (live_at_end body behind) r ≡ true → live body behind r ≡ true
 live-first_turn body behind r h = is_live-again body r (behind r) h
 
--- what is live before a turn is live at the end of each
+-- a register that is live before a turn is live at the end of each turn
 pub live-at_end : (body : Code) (behind : RegisterSet) (r : Register) → live body (live_at_end body behind) r ≡ true → live_at_end body behind r ≡ true
 live-at_end body behind r h = or_right (behind r) (live body behind r) (is_live-again body r (behind r) h)
 
--- and so is what is live behind the loop
+-- a register that is live after the loop is live at the end of each turn
 pub live_at_end-behind : (body : Code) (behind : RegisterSet) (r : Register) → behind r ≡ true → live_at_end body behind r ≡ true
 live_at_end-behind body behind r h = or_left (behind r) (live body behind r) h
 

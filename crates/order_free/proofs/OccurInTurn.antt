@@ -1,4 +1,4 @@
--- What occurs in a body otherwise, statement by statement.
+-- The registers that occur otherwise in a body, statement by statement.
 use Rattle.std.proofs.Common.{◌≡◌, Bool, false, ◌||◌, refl, sym, ap, ◌∙◌}
 use Rattle.std.proofs.Math.Bool.{or_assoc, or-false}
 use Rattle.tac_syntax.specs.Code.{Code, stop}
@@ -25,7 +25,7 @@ onto-otherwise by r (choice on body other) next =
 onto-otherwise by r (turning count body) next = ends (occurs_otherwise by r body) (occurs_otherwise by r next)
 onto-otherwise by r (going_through name list body) next = ends (occurs_otherwise by r body) (occurs_otherwise by r next)
 
--- what was found before a statement and in it, and what follows
+-- the result for the statements so far, with the next one, and the statements that follow
 pub otherwise_next : (by : Accumulation) (r : Register) (s : Statement) (next : Code) (found one all whole : Bool) → all ≡ (found || one) → one ≡ occurs_otherwise by r (onto s stop)
     → (found || occurs_otherwise by r (onto s next)) ≡ whole → (all || occurs_otherwise by r next) ≡ whole
 otherwise_next by r s next found one all whole both here before =

@@ -1,4 +1,4 @@
--- What the order test finds of a function: a valid one names no other registers than there are, and one that passes permutes.
+-- The order test of a function: a valid function names only existing registers, and one that passes permutes.
 use Rattle.std.proofs.Common.{◌≡◌, ◌↔◌, ◌⊎◌, ◌+◌, ℕ, Bool, false, IsTrue, inl, inr, sym, ap, subst, ◌∙◌}
 use Rattle.tac_syntax.specs.declared.functions.Function.{Function}
 use Rattle.tac_syntax.specs.declared.functions.Kind.{Kind}
@@ -57,7 +57,7 @@ module _ (kind : Kind) (F : ℕ) where
   well_formed_in_range depth (again count body next) h = (well_formed_in_range depth body h.1, well_formed_in_range depth next h.2)
   well_formed_in_range depth (each name list body next) h = (well_formed_in_range (depth + 1) body h.2, well_formed_in_range depth next h.3)
 
--- a function as the code finds it
+-- a function as the code holds it
 pub valid_in_range : (f g : Function) (fields : ℕ) → g ≡ f → IsValid f fields → AreRegistersInRange g.body
 valid_in_range f g fields e h = subst (λ (x : Function). AreRegistersInRange x.body) (sym e) (well_formed_in_range f.kind fields 0 f.body (valid_is_well_formed f fields h))
 

@@ -1,4 +1,4 @@
--- A function that passes the order test gives the same outputs, up to order, whatever the order inside the groups.
+-- A function that passes the order test gives the same outputs, up to order, for any order inside the groups.
 use Rattle.std.proofs.Common.{◌≡◌, ℕ, List, refl, sym, subst, arith}
 use Rattle.std.proofs.lemmas.List.{length-replicate}
 use Rattle.std.proofs.lemmas.List.Sorted.{IsPermutation-refl}
@@ -46,7 +46,7 @@ group-permutes kind F body x y w free h =
     let p = exec-along kind F body 0 no_registers (start_store F x) (start_store F y) w free.0 free.1 (start-along F (live body no_registers) x y h) in
     to_permutation (chains (is_same (Out-exec F body x)) (chains p.emitted (is_same (sym (Out-exec F body y)))))
 
--- without groups the inputs are equal
+-- without groups both inputs are equal
 equal-permutes : (F : ℕ) (body : Code) (x y : CallInput) → x ≡ y → IsPermutation (Out F body x) (Out F body y)
 equal-permutes F body x y e = subst (λ (z : CallInput). IsPermutation (Out F body x) (Out F body z)) e (IsPermutation-refl (Out F body x))
 

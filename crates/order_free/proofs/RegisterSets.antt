@@ -1,4 +1,4 @@
--- When a set of registers is empty.
+-- Conditions under which a set of registers is empty.
 use Rattle.std.proofs.Common.{◌≡◌, ◌↔◌, ℕ, Bool, false, not, IsTrue, Option, Some, None, sym}
 use Rattle.std.proofs.lemmas.Bool.{both_ways, not-true, not-false}
 use Rattle.std.specs.Option.{IfSome, IfNone, is_some}
@@ -7,7 +7,7 @@ use Rattle.order_free.specs.declared.registers.Registers.{Registers}
 use Rattle.order_free.specs.Registers.{Register, value_at, record_at}
 use Rattle.order_free.specs.Views.{registers_of}
 
--- where there is no least number
+-- if a set has no least number, it is empty
 pub no_least : (least : Option ℕ) (s : ℕ) (is_none : Bool) → is_some least ≡ not is_none → IfSome least (IsLeast s) → IfNone least (IsEmpty s) → IsTrue is_none ↔ IsEmpty s
 no_least None s is_none e some none = (λ _. none, λ _. not-false is_none (sym e))
 no_least (Some k) s is_none e some none = (

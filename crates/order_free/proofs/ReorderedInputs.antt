@@ -1,4 +1,4 @@
--- Inputs of two calls that are the same but for the order inside their groups.
+-- Inputs of two calls that differ only in the order inside their groups.
 use Rattle.std.proofs.Common.{◌≡◌, List, refl, sym, ◌∙◌}
 use Rattle.std.specs.List.Sorted.{IsPermutation}
 use Rattle.pact_record.specs.declared.values.Value.{Value}
@@ -7,7 +7,7 @@ use Rattle.tac_syntax.specs.declared.statements.LoopList.{LoopList}
 use Rattle.tac_syntax.specs.declared.statements.LoopList.TheVariants.{Group, Left as LeftGroup, Right as RightGroup}
 use Rattle.tac_syntax.specs.Call.{CallInput, of_group, of_groups, key_values, input_record, left_record, right_record, rows_of}
 
--- the same records for each loop, up to order, and all else that is named the same
+-- each loop has the same records, up to order, and all other parts of the inputs are equal
 pub record SameUpToOrder (x y : CallInput) : Type 0 where
   pub rows : (list : LoopList) → Perm (rows_of x list) (rows_of y list)
   pub key : key_values x ≡ key_values y

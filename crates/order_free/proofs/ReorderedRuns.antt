@@ -1,4 +1,5 @@
--- A free body keeps what two stores agree on, where the inputs differ in the order inside their groups; and what both emit is the same up to order.
+-- A free body keeps two stores in agreement if their inputs differ only in the order inside groups. Both emit the same
+-- records, up to order.
 use Rattle.std.proofs.Common.{◌≡◌, ◌+◌, ℕ, zero, suc, Bool, true, false, ◌||◌, if◌then◌else◌, List, [], ◌∷◌, sym, subst, arith}
 use Rattle.std.proofs.lemmas.Bool.{or_parts}
 use Rattle.pact_record.specs.declared.values.Value.{Value}
@@ -17,7 +18,7 @@ use Rattle.order_free.proofs.AgreeingStores.{IsWhole, Agree, Agree-itself, Agree
 use Rattle.order_free.proofs.AgreeAfter.{after-agree, emitted-after, emitted_by-agree}
 use Rattle.order_free.proofs.SwappedTurns.{turns-swapped}
 
--- two stores that agree on a set, and what was emitted is the same up to order
+-- two stores agree on a set and emitted the same records, up to order
 pub record Along (n : ℕ) (set : RegisterSet) (s t : Store) : Type 0 where
   pub agree : Agree n set s t
   pub emitted : Perm s.emitted t.emitted
@@ -42,7 +43,7 @@ times-along : (n : ℕ) (set : RegisterSet) (f : Store → Store) → ((s t : St
 times-along n set f turn zero s t h = h
 times-along n set f turn (suc k) s t h = times-along n set f turn k (f s) (f t) (turn s t h)
 
--- a loop whose turns go along, and of which two turns may change places
+-- a loop each of whose turns keeps two stores in agreement, and two of whose turns may change places
 module _ (n name : ℕ) (set : RegisterSet) (f : Store → Store)
     (turn : (row : List Value) (s t : Store) → Along n set s t → Along n set (f (bind s name row)) (f (bind t name row)))
     (swapped : (s : Store) (a b : List Value) → IsWhole n s → Along n set (f (bind (f (bind s name a)) name b)) (f (bind (f (bind s name b)) name a))) where
@@ -50,7 +51,7 @@ module _ (n name : ℕ) (set : RegisterSet) (f : Store → Store)
   for_each-along [] s t h = h
   for_each-along (row ∷ rows) s t h = for_each-along rows (f (bind s name row)) (f (bind t name row)) (turn row s t h)
 
-  -- the records in another order
+  -- the loop over the records in another order
   for_each-reordered : {rows others : List (List Value)} → Perm rows others → (s t : Store) → Along n set s t → Along n set (for_each name rows f s) (for_each name others f t)
   for_each-reordered nothing s t h = h
   for_each-reordered (keeps {x = row} p) s t h = for_each-reordered p (f (bind s name row)) (f (bind t name row)) (turn row s t h)

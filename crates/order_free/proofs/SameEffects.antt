@@ -1,4 +1,5 @@
--- Two stores with one input that agree on all that is live but accumulators: a statement of one line has the same effect on both.
+-- Two stores with one input agree on all live registers except accumulators. A statement of one line has the same
+-- effect on both.
 use Rattle.std.proofs.Common.{◌≡◌, ◌<◌, ◌==◌, ◌⊎◌, ℕ, Bool, true, false, not, ◌&&◌, inl, inr, if◌then◌else◌, List, [], ◌∷◌, ◌++◌, refl, sym, ap, subst, ◌∙◌, append-nil}
 use Rattle.std.proofs.lemmas.Bool.{cases_Bool, or_cases, or_parts, or_left, or_right, and_cases, and_parts, and_from, both_ways, false_from_ne_true, not-true, not-false, not_from_false, eq-eqb, eqb-true, eqb-false}
 use Rattle.pact_record.specs.declared.values.Value.{Value}
@@ -23,14 +24,14 @@ one_operand : ℕ → Value → ℕ → List Value
 one_operand d v k = if d == k then v ∷ [] else []
 
 module _ (accumulators : RegisterSet) (by : ℕ → Accumulation) where
-  -- a set without the accumulators
+  -- the set without the accumulators
   abbrev pub beside : RegisterSet → RegisterSet
   beside set r = set r && not (accumulators r)
 
   pub beside-fewer : (set fewer : RegisterSet) → ((r : Register) → fewer r ≡ true → set r ≡ true) → (r : Register) → beside fewer r ≡ true → beside set r ≡ true
   beside-fewer set fewer f r e = let p = and_parts (fewer r) (not (accumulators r)) e in and_from (set r) (not (accumulators r)) (f r p.0) p.1
 
-  -- One effect leads from s to u and from t to v, and these agree on the set but for accumulators.
+  -- One effect leads from s to u and from t to v, and u and v agree on the set without the accumulators.
   pub record HaveSameEffect (n : ℕ) (set : RegisterSet) (s t u v : Store) : Type 0 where
     pub effect : Effect
     pub own : HasEffect accumulators by effect s u
@@ -53,7 +54,7 @@ module _ (accumulators : RegisterSet) (by : ℕ → Accumulation) where
   pub same-fewer : {n : ℕ} (set fewer : RegisterSet) {s t u v : Store} → ((r : Register) → fewer r ≡ true → set r ≡ true) → HaveSameEffect n set s t u v → HaveSameEffect n fewer s t u v
   same-fewer set fewer f h = record { effect = h.effect; own = h.own; other = h.other; agree = Agree-fewer (beside set) (beside fewer) (beside-fewer set fewer f) h.agree; input = h.input }
 
-  -- no accumulator stands in the statement in another way
+  -- each accumulator occurs in the statement only as one, with its own operation
   abbrev pub KeepsAccumulators : Simple → Type 0
   KeepsAccumulators a = (d : ℕ) → accumulators (value_at d) ≡ true → is_used_otherwise (by d) (value_at d) a ≡ false
 
@@ -66,7 +67,7 @@ module _ (accumulators : RegisterSet) (by : ℕ → Accumulation) where
     ]
     operand-assigned a keeps (record_at k) i h = absurd (both_ways (accumulators (record_at k)) (values_only k) i)
 
-    -- what is live before a statement, but for accumulators
+    -- the registers that are live before a statement, without the accumulators
     beside-live_before : (a : Simple) (set : RegisterSet) → KeepsAccumulators a → ((r : Register) → accumulators r ≡ true → assigns a r ≡ false) → (r : Register) → live_before a (beside set) r ≡ true
         → beside (live_before a set) r ≡ true
     beside-live_before a set keeps spares r i = elim (or_cases (has_operand a r) (beside set r && not (assigns a r)) i) as (λ _. beside (live_before a set) r ≡ true) [
@@ -136,7 +137,7 @@ module _ (accumulators : RegisterSet) (by : ℕ → Accumulation) where
       same_operand : value_in s c ≡ value_in t c
       same_operand = h.values c (and_from (live_before a set (value_at c)) (not (accumulators (value_at c))) (live_before-operand a set (value_at c) read) (not_from_false (accumulators (value_at c)) free))
 
-      -- what is assigned is an accumulator
+      -- the assigned register is an accumulator
       spares : (r : Register) → beside set r ≡ true → assigns a r ≡ false
       spares (value_at k) j =
           let p = and_parts (set (value_at k)) (not (accumulators (value_at k))) j in
@@ -157,7 +158,7 @@ module _ (accumulators : RegisterSet) (by : ℕ → Accumulation) where
     ]
     unmentioned a other keeps (record_at k) i = absurd (both_ways (accumulators (record_at k)) (values_only k) i)
 
-    -- it assigns no accumulator, or is the statement of one
+    -- a statement assigns no accumulator, or accumulates into one
     either : (a : Simple) → KeepsAccumulators a → ((r : Register) → accumulators r ≡ true → assigns a r ≡ false) ⊎ ((d : ℕ) × (accumulators (value_at d) ≡ true) × IsAccumulating (by d) d a)
     either (apply_two to op b c) keeps = elim (cases_Bool (accumulators (value_at to))) [
       | inl i ↦ inr (to, i, accumulates-is (by to) to a (its_own i))

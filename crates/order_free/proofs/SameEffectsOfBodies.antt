@@ -1,4 +1,4 @@
--- A body has the same effect on two stores with one input that agree on all that is live but its accumulators.
+-- A body has the same effect on two stores with one input that agree on all live registers except its accumulators.
 use Rattle.std.proofs.Common.{◌≡◌, ◌==◌, ◌+◌, ℕ, zero, suc, Bool, true, false, not, ◌||◌, if◌then◌else◌, List, [], ◌∷◌, refl, subst, arith}
 use Rattle.std.proofs.lemmas.Bool.{or_parts, and_from, both_ways, false_from_ne_true, not_from_false, eq-eqb}
 use Rattle.pact_record.specs.declared.values.Value.{Value}
@@ -57,11 +57,11 @@ module _ (accumulators : RegisterSet) (by : ℕ → Accumulation) where
 
   -- ---- bodies
 
-  -- no accumulator stands in the body in another way
+  -- each accumulator occurs in the body only as one, with its own operation
   abbrev KeepsAll : Code → Type 0
   KeepsAll c = (d : ℕ) → accumulators (value_at d) ≡ true → occurs_otherwise (by d) (value_at d) c ≡ false
 
-  -- the condition of an `if` is no accumulator
+  -- the condition of an `if` isn't an accumulator
   condition : (on : ℕ) (body other next : Code) → KeepsAll (branch on body other next) → accumulators (value_at on) ≡ false
   condition on body other next keeps = false_from_ne_true (accumulators (value_at on)) (λ i.
       let rest = occurs_otherwise (by on) (value_at on) body || (occurs_otherwise (by on) (value_at on) other || occurs_otherwise (by on) (value_at on) next) in

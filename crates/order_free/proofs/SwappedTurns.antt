@@ -23,7 +23,7 @@ use Rattle.order_free.proofs.Effects.{Effect, HasEffect, HasEffect-both}
 use Rattle.order_free.proofs.SameEffects.{HaveSameEffect}
 use Rattle.order_free.proofs.SameEffectsOfBodies.{exec-same}
 
--- which operation an accumulator has
+-- the operation of an accumulator
 accumulation_of : Code → ℕ → Accumulation
 accumulation_of body d = if not (occurs_otherwise Sum (value_at d) body) then Sum else (if not (occurs_otherwise Least (value_at d) body) then Least else Greatest)
 
@@ -38,7 +38,7 @@ occurs_otherwise-accumulation_of : (body : Code) (d : ℕ) → is_accumulator bo
 unfolding accumulation_of
 occurs_otherwise-accumulation_of body d h = first_kept body d (occurs_otherwise Sum (value_at d) body) (occurs_otherwise Least (value_at d) body) (occurs_otherwise Greatest (value_at d) body) refl refl refl h
 
--- a loop's body inside n loops, with what is live behind the loop
+-- a loop's body inside n loops, and the registers that are live after the loop
 module _ (kind : Kind) (F n name : ℕ) (body : Code) (behind : RegisterSet) (e : name ≡ n + 1) (w : IsWellFormed kind F (n + 1) body) (no_first : has_first body ≡ false) (free : IsLoopFree body behind) where
   abbrev turn : List Value → Store → Store
   turn row s = exec body (bind s name row)
@@ -46,9 +46,9 @@ module _ (kind : Kind) (F n name : ℕ) (body : Code) (behind : RegisterSet) (e 
   abbrev Has : Effect → Store → Store → Type 0
   Has effect s t = HasEffect (is_accumulator body) (accumulation_of body) effect s t
 
-  -- ---- what isn't assigned
+  -- ---- registers that aren't assigned
 
-  -- a register other than an accumulator that is live before a turn or behind the loop
+  -- a turn doesn't assign a register that is live before a turn or after the loop, unless it is an accumulator
   not_assigned : (r : Register) → is_accumulator body r ≡ false → (is_live body r false ≡ true) ⊎ (behind r ≡ true) → is_assigned body r ≡ false
   not_assigned r other h = false_from_ne_true (is_assigned body r) (λ i. elim (or_cases (is_accumulator body r) (is_local body behind r) (free r i)) as (λ _. ⊥) [
     | inl p ↦ both_ways (is_accumulator body r) other p
@@ -60,7 +60,7 @@ module _ (kind : Kind) (F n name : ℕ) (body : Code) (behind : RegisterSet) (e 
         ]
   ])
 
-  -- beside accumulators, what a turn reads, and what is live at the end of each
+  -- the registers that a turn reads, and those that are live at the end of each turn, both without the accumulators
   abbrev read : RegisterSet
   read r = live body no_registers r && not (is_accumulator body r)
 
@@ -88,7 +88,7 @@ module _ (kind : Kind) (F n name : ℕ) (body : Code) (behind : RegisterSet) (e 
 
   -- ---- effects
 
-  -- a turn has the same effect before and behind another turn
+  -- a turn has the same effect whether or not another turn came before it
   turn-same : (s : Store) (first row : List Value) → IsWhole n s
       → HaveSameEffect (is_accumulator body) (accumulation_of body) (n + 1) no_registers (bind s name row) (bind (turn first s) name row) (turn row s) (turn row (turn first s))
   turn-same s first row h =
@@ -101,7 +101,7 @@ module _ (kind : Kind) (F n name : ℕ) (body : Code) (behind : RegisterSet) (e 
 
   -- ---- two turns, in either order
 
-  -- a, then b; b, then a
+  -- turn a and then turn b; turn b and then turn a
   abbrev this_way : Store → List Value → List Value → Store
   this_way s a b = turn b (turn a s)
 

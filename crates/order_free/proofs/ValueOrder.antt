@@ -1,4 +1,4 @@
--- The smaller and the greater of two values: the order in which values are compared is free.
+-- The smaller and the greater of two values. Values may be compared in any order.
 use Rattle.std.proofs.Common.{◌≡◌, inl, inr, Bool, true, false, if◌then◌else◌, refl, sym, ap, ◌∙◌}
 use Rattle.std.proofs.lemmas.Bool.{cases_Bool}
 use Rattle.std.proofs.lemmas.Cmp.{back_total, upto}
@@ -27,7 +27,7 @@ neither_above Less h k = cc
 neither_above Equal h k = refl
 neither_above Greater h k = cc
 
--- ---- in any total order in which what is equal is the same
+-- ---- any total order in which equal elements are identical
 
 abbrev lesser : {A : Type 0} → (A → A → Ordering) → A → A → A
 lesser cmp a b = if is_gt (cmp a b) then b else a
@@ -65,16 +65,16 @@ module _ {A : Type 0} (cmp : A → A → Ordering) (total : IsTotalOrder cmp) (s
     ]
   ]
 
-  -- of two operands either may come first
+  -- either of two operands may come first
   pub lesser_swap : (x a b : A) → lesser cmp (lesser cmp x a) b ≡ lesser cmp (lesser cmp x b) a
   lesser_swap x a b = lesser_assoc x a b ∙ ap (lesser cmp x) (lesser_comm a b) ∙ sym (lesser_assoc x b a)
 
--- ---- of values
+-- ---- values
 
 pub smaller_swap : (x a b : Value) → smaller_of (smaller_of x a) b ≡ smaller_of (smaller_of x b) a
 smaller_swap x a b = lesser_swap value_cmp values_total equal_values x a b
 
--- the greater one is the smaller one of the order turned round
+-- the greater of two values is the smaller one in the reversed order
 greater_of-turned : (a b : Value) → greater_of a b ≡ lesser (flip_args value_cmp) a b
 greater_of-turned a b = ap (λ (t : Bool). if t then b else a) (sym (is_gt-reverse (value_cmp a b)) ∙ ap is_gt (sym (values_total.antisymm b a)))
 

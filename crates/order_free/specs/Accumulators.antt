@@ -1,4 +1,4 @@
--- Accumulators of a loop's body: registers that take a sum, a least or a greatest value over all turns.
+-- Accumulators of a loop's body: registers that collect a sum, a least or a greatest value over all turns.
 use Rattle.std.specs.Prelude.{Bool, true, false, not, ◌&&◌, ◌||◌}
 use Rattle.pact_record.specs.declared.operations.Op2.{Op2}
 use Rattle.pact_record.specs.declared.operations.Op2.TheVariants.{AddW, Min, Max}
@@ -18,16 +18,16 @@ is_op_of Least Min = true
 is_op_of Greatest Max = true
 is_op_of by op = false
 
--- the statement is `vD = OP vD vA` with that operation, where vD is the register and vA another one
+-- the statement is `vD = OP vD vA` with that operation, where vD is the register and vA is another one
 abbrev pub accumulates : Accumulation → Register → Simple → Bool
 accumulates by r (apply_two to op a b) = is_op_of by op && (is_value to r && (is_value a r && not (is_value b r)))
 accumulates by r statement = false
 
--- the register occurs in the statement in another way
+-- the register occurs in the statement in any other way
 abbrev pub is_used_otherwise : Accumulation → Register → Simple → Bool
 is_used_otherwise by r s = occurs s r && not (accumulates by r s)
 
--- somewhere in a body, at any depth, or as the condition of an `if`
+-- the register occurs so in a body, at any depth, or is the condition of an `if`
 abbrev pub occurs_otherwise : Accumulation → Register → Code → Bool
 occurs_otherwise by r stop = false
 occurs_otherwise by r (plain s next) = is_used_otherwise by r s || occurs_otherwise by r next
@@ -35,8 +35,9 @@ occurs_otherwise by r (branch on body other next) = is_value on r || (occurs_oth
 occurs_otherwise by r (again count body next) = occurs_otherwise by r body || occurs_otherwise by r next
 occurs_otherwise by r (each name list body next) = occurs_otherwise by r body || occurs_otherwise by r next
 
--- A value register that a body assigns is an accumulator where all its assignments in the body are such statements, with one and the same
--- operation, and it occurs nowhere else in the body. Of registers that a body doesn't assign nothing is asked.
+-- A value register that a body assigns is an accumulator if all its assignments in the body are such statements, all
+-- with the same operation, and it doesn't occur in the body in any other way. The order test asks this only about
+-- registers that the body assigns.
 abbrev pub is_accumulator : Code → Register → Bool
 is_accumulator body (value_at d) =
     not (occurs_otherwise Sum (value_at d) body) || (not (occurs_otherwise Least (value_at d) body) || not (occurs_otherwise Greatest (value_at d) body))

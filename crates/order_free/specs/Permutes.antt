@@ -1,4 +1,4 @@
--- Functions whose outputs stay the same, up to order, where the records inside the groups change places.
+-- Functions whose outputs are the same, up to order, if the records inside the groups change places.
 use Rattle.std.specs.Prelude.{◌≡◌, ℕ}
 use Rattle.std.specs.List.Sorted.{IsPermutation}
 use Rattle.tac_syntax.specs.declared.functions.Kind.{Kind}
@@ -6,7 +6,7 @@ use Rattle.tac_syntax.specs.declared.functions.Kind.TheVariants.{Map, Match, Cro
 use Rattle.tac_syntax.specs.Code.{Code}
 use Rattle.tac_syntax.specs.Call.{CallInput, of_record, of_pair, of_group, of_groups, Out}
 
--- two inputs for a function of the kind that differ in the order inside their groups, and in nothing else
+-- two inputs for a function of the kind that differ only in the order inside their groups
 abbrev pub AreReordered : Kind → CallInput → CallInput → Type 0
 AreReordered Map (of_record r) (of_record q) = r ≡ q
 AreReordered Match (of_pair l r) (of_pair m q) = (l ≡ m) × (r ≡ q)

@@ -1,10 +1,10 @@
--- Registers, and what statements do with them.
+-- Registers, and how statements use them.
 use Rattle.std.specs.Prelude.{ℕ, Bool, true, false, ◌||◌, ◌==◌}
 use Rattle.tac_syntax.specs.declared.statements.Rec.{Rec}
 use Rattle.tac_syntax.specs.declared.statements.Rec.TheVariants.{Reg, First}
 use Rattle.tac_syntax.specs.Code.{Simple, load_int, load_text, load_null, move_value, get_field, get_at, get_key, apply_one, apply_two, new_record, copy_record, set_field, set_at, emit_record, Code, stop, plain, branch, again, each}
 
--- a register for values or for records, by its number
+-- a value register or a record register, by its number
 pub data Register : Type 0 where
   value_at : (k : ℕ) → Register
   record_at : (k : ℕ) → Register
@@ -15,7 +15,7 @@ RegisterSet = Register → Bool
 abbrev pub no_registers : RegisterSet
 no_registers r = false
 
--- the value register, the record register of that number
+-- whether it is the value register with this number; below, the record register
 abbrev pub is_value : ℕ → Register → Bool
 is_value k (value_at j) = j == k
 is_value k (record_at j) = false
@@ -31,8 +31,9 @@ is_register_of from r = false
 
 -- ---- statements of one line
 
--- The register is an operand. Those of a `set` are its record register, whose other fields it keeps, and its value; that of an `emit` is its record register.
--- The register that a field's number is taken from is one, too.
+-- The register is an operand. The operands of a `set` are its record register, whose other fields it keeps, and its
+-- value. The operand of an `emit` is its record register. If a field's number is taken from a register, that register
+-- is an operand, too.
 abbrev pub has_operand : Simple → Register → Bool
 has_operand (move_value to from) r = is_value from r
 has_operand (get_field to from field) r = is_register_of from r
@@ -70,7 +71,7 @@ abbrev pub is_first : Rec → Bool
 is_first First = true
 is_first from = false
 
--- it reads the first record of a group
+-- the statement reads the first record of a group
 abbrev pub reads_first : Simple → Bool
 reads_first (get_field to from field) = is_first from
 reads_first (get_at to from at) = is_first from

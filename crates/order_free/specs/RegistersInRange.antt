@@ -1,4 +1,4 @@
--- Bodies that name no other registers than there are.
+-- Bodies that name only existing registers.
 use Rattle.std.specs.Prelude.{◌<◌}
 use Rattle.tac_syntax.specs.declared.statements.Rec.{Rec}
 use Rattle.tac_syntax.specs.declared.statements.Rec.TheVariants.{Reg}

@@ -12,7 +12,7 @@ use crate::uses::{assigned_in, operands, target};
 use pact_record::Op2;
 use tac_syntax::{Body, Stmt};
 
-/// What an accumulator holds of its operands. The operation of each takes them in any order.
+/// What an accumulator computes from its operands. Each operation takes them in any order.
 #[derive(Clone, Copy)]
 pub enum Accumulation {
     Sum,
@@ -33,7 +33,7 @@ impl Accumulation {
     }
 }
 
-// The registers that occur in a statement in another way than vD in `vD = OP vD vA`.
+// The registers that occur in a statement in any other way than as vD in `vD = OP vD vA`.
 #[cycle(otherwise)]
 fn occur_otherwise(stmt: &Stmt, by: Accumulation) -> Registers
     requires { AreRegistersInRange (only stmt.now) }
@@ -45,13 +45,13 @@ fn occur_otherwise(stmt: &Stmt, by: Accumulation) -> Registers
             Registers::value(*on).union(&inside)
         }
         Stmt::Repeat { body, .. } | Stmt::Each { body, .. } => occur_otherwise_in(body, by),
-        // `vTO = OP vTO vB`: vB occurs in another way, also where it is vTO
+        // `vTO = OP vTO vB`: vB occurs otherwise, even if it is vTO
         Stmt::Two { to, op, a, b } if by.has_op(*op) && *to == *a => Registers::value(*b),
         _ => operands(stmt).union(&target(stmt)),
     }
 }
 
-// The registers that occur in a body in another way than vD in `vD = OP vD vA`.
+// The registers that occur in a body in any other way than as vD in `vD = OP vD vA`.
 #[cycle(otherwise)]
 fn occur_otherwise_in(body: &Body, by: Accumulation) -> Registers
     requires { AreRegistersInRange body.now }
@@ -64,7 +64,7 @@ fn occur_otherwise_in(body: &Body, by: Accumulation) -> Registers
     found
 }
 
-/// The registers that a body assigns, but for its accumulators.
+/// The registers that a body assigns, except its accumulators.
 pub(crate) fn assigned_otherwise(body: &Body) -> Registers
     requires { AreRegistersInRange body.now }
     ensures { (r : Register) → registers_of result r ≡ (is_assigned body.now r && not (is_accumulator body.now r)) }

@@ -1,7 +1,7 @@
 //! Whether the outputs of a function depend on the order of the records inside its groups.
 //!
-//! `order_test` judges the loops of a function by its registers: which are live, which are accumulators, and which
-//! are of use within a turn alone. The rules are in `specs/`: `Registers`, `Liveness`, `Accumulators` and `OrderFree`;
+//! `order_test` judges the loops of a function by its registers: which are live, which are accumulators, and which are
+//! used only within a turn. The rules are in `specs/`: `Registers`, `Liveness`, `Accumulators` and `OrderFree`.
 //! `Permutes` says what a function that passes promises.
 #![tactic(auto)]
 

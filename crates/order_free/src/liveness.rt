@@ -11,7 +11,7 @@ use crate::registers::Registers;
 use crate::uses::{operands, target};
 use tac_syntax::{Body, Stmt};
 
-/// The registers that are live before a statement, where these are live behind it.
+/// The registers that are live before a statement, given those that are live after it.
 #[cycle(live)]
 pub(crate) fn live_before(stmt: &Stmt, behind: &Registers) -> Registers
     requires { AreRegistersInRange (only stmt.now) }
@@ -28,7 +28,7 @@ pub(crate) fn live_before(stmt: &Stmt, behind: &Registers) -> Registers
     }
 }
 
-/// The registers that are live before the statements of a body.
+/// The registers that are live before the statements of a body, given those that are live after them.
 #[cycle(live)]
 pub(crate) fn live_at_start(body: &Body, behind: &Registers) -> Registers
     requires { AreRegistersInRange body.now }
@@ -42,7 +42,7 @@ pub(crate) fn live_at_start(body: &Body, behind: &Registers) -> Registers
     live
 }
 
-/// The registers that are live at the end of each turn of a loop, where these are live behind the loop.
+/// The registers that are live at the end of each turn of a loop, given those that are live after the loop.
 pub(crate) fn live_at_end(body: &Body, behind: &Registers) -> Registers
     requires { AreRegistersInRange body.now }
     ensures { (r : Register) → registers_of result r ≡ (registers_of behind.now r || is_live body.now r (registers_of behind.now r)) }

@@ -11,17 +11,18 @@ use crate::liveness::{live_at_end, live_at_start, live_before};
 use crate::registers::Registers;
 use tac_syntax::{Body, Stmt};
 
-// Whether each register that the body of a loop assigns is an accumulator or a local, where these are live behind the loop.
+// Whether each register that the body of a loop assigns is an accumulator or a local, given the registers that are
+// live after the loop.
 fn is_loop_free(body: &Body, behind: &Registers) -> bool
     requires { AreRegistersInRange body.now }
     ensures { IsTrue result ↔ IsLoopFree body.now (registers_of behind.now) }
 {
-    // a register other than a local is live before a turn, or behind the loop
+    // a register that isn't a local is live before a turn or after the loop
     let lasting = live_at_start(body, &Registers::none()).union(behind);
     assigned_otherwise(body).meet(&lasting).is_empty()
 }
 
-// Whether the loops of a statement are free, where these registers are live behind it.
+// Whether the loops of a statement are free, given the registers that are live after it.
 #[cycle(loops)]
 fn are_its_loops_free(stmt: &Stmt, behind: &Registers) -> bool
     requires { AreRegistersInRange (only stmt.now) }
@@ -39,7 +40,7 @@ fn are_its_loops_free(stmt: &Stmt, behind: &Registers) -> bool
     }
 }
 
-/// Whether the loops of a body are free, where these registers are live behind it.
+/// Whether the loops of a body are free, given the registers that are live after it.
 #[cycle(loops)]
 pub(crate) fn are_loops_free(body: &Body, behind: &Registers) -> bool
     requires { AreRegistersInRange body.now }

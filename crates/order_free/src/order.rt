@@ -10,9 +10,9 @@ use crate::registers::Registers;
 use crate::uses::has_first;
 use tac_syntax::{Body, Kind, Valid};
 
-/// Whether the loops of a function may take the records of its groups in any order, as its code shows: each register
-/// that a loop assigns takes a sum, a least or a greatest value over all turns, or is of use within a turn alone.
-/// The outputs then are the same, up to order, whatever the order inside the groups. A function without groups passes.
+/// Whether the loops of a function may take the records of its groups in any order, judged by its code. Each register
+/// that a loop assigns must collect a sum, a least or a greatest value over all turns, or be used only within a turn.
+/// Then the outputs are the same, up to order, for any order inside the groups. A function without groups passes.
 pub fn order_test(f: &Valid) -> bool
     ensures test { IsTrue result ↔ IsOrderFree f.now.function.kind f.now.function.body }
     ensures permutes { result ≡ true → Permutes f.now.function.kind f.now.fields f.now.function.body }

@@ -7,7 +7,7 @@ ghost use Rattle.order_free.specs.Views.{registers_of};
 
 use pact_record::Fields;
 
-/// A set of registers. `Fields` serves for any set of small numbers.
+/// A set of registers. It is made of `Fields`, which can hold any set of small numbers.
 #[derive(Clone, Copy)]
 pub(crate) struct Registers {
     values: Fields,
@@ -24,7 +24,7 @@ impl Registers {
         }
     }
 
-    /// The value register of that number alone.
+    /// The set of the one value register with this number.
     pub(crate) fn value(k: u32) -> Registers
         requires { k < value_registers }
         ensures { (r : Register) → registers_of result r ≡ is_value k r }
@@ -35,7 +35,7 @@ impl Registers {
         }
     }
 
-    /// The record register of that number alone.
+    /// The set of the one record register with this number.
     pub(crate) fn record(k: u32) -> Registers
         requires { k < record_registers }
         ensures { (r : Register) → registers_of result r ≡ is_record k r }

@@ -10,7 +10,7 @@ ghost use Rattle.order_free.specs.RegistersInRange.{AreRegistersInRange, IsRecor
 use crate::registers::Registers;
 use tac_syntax::{Body, Rec, Stmt};
 
-// The register of the record that a statement reads, if it is one's.
+// The register that a statement reads its record from, if it reads a record register.
 fn register_of(from: Rec) -> Registers
     requires { IsRecordInRange from }
     ensures { (r : Register) → registers_of result r ≡ specs.is_register_of from r }
@@ -63,7 +63,7 @@ pub(crate) fn target(stmt: &Stmt) -> Registers
     }
 }
 
-// The registers that a statement assigns, those that its blocks assign among them.
+// The registers that a statement or one in its blocks assigns.
 #[cycle(assigned)]
 fn assigned_by(stmt: &Stmt) -> Registers
     requires { AreRegistersInRange (only stmt.now) }

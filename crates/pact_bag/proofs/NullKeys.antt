@@ -21,14 +21,14 @@ other_at (Text x ∷ key) zero m s lt e = ap (λ (k : ℕ). has_null (drop k (Te
 other_at (v ∷ key) (suc n) zero s lt e = absurd (omega (arith, s))
 other_at (v ∷ key) (suc n) (suc m) s lt e = other_at key n m (omega (arith, s)) (omega (arith, lt)) e
 
--- behind the last
+-- after the last value there is no Null
 pub none_behind : (key : List Value) (n : ℕ) → length key ≡ n → has_null (drop n key) ≡ false
 none_behind [] zero e = refl
 none_behind [] (suc n) e = absurd (omega (arith, e))
 none_behind (v ∷ key) zero e = absurd (omega (arith, e))
 none_behind (v ∷ key) (suc n) e = none_behind key n (omega (arith, e))
 
--- a value that is tested
+-- a value that isn't Null by the test
 pub not_null : (v w : Value) (found : Bool) → v ≡ w → found ≡ has_null (v ∷ []) → found ≡ false → w ≢ Null
 not_null v w found here test out e =
     let null : has_null (v ∷ []) ≡ true = ap (λ (x : Value). has_null (x ∷ [])) (here ∙ e) in

@@ -18,7 +18,7 @@ more_few : (t : List ℕ) → more t ≤ 1
 more_few [] = omega arith
 more_few (x ∷ t) = omega arith
 
--- the digits before these decide
+-- if the digits before these differ, they decide
 packed-high : (n : ℕ) (a b : ℕ) (s t : List ℕ) → a < b → BeginsWithBytes n s → BeginsWithBytes n t → packed n a s < packed n b t
 packed-high zero a b s t h p q = let few = more_few s in omega (arith, few)
 packed-high (suc n) a b s t h p q = packed-high n (a * 257 + digit s) (b * 257 + digit t) (tail s) (tail t) (omega (arith, p.0)) p.1 q.1
@@ -111,7 +111,7 @@ no_more-drop (suc n) (x ∷ t) h = no_more-drop n t (grind (arith, nat_tests, h)
 
 -- ---- texts with a prefix
 
--- what the places of two texts say of how these compare
+-- what the places of two texts determine about how these compare
 abbrev Orders : TextPlace → TextPlace → Ordering → Type 0
 Orders Before Before c = Unit {0}
 Orders Before (Within t) c = c ≡ Less
@@ -174,7 +174,7 @@ placed-then Greater b q = refl
 place-cons : (x y : ℕ) (prefix t : List ℕ) → place (x ∷ prefix) (y ∷ t) ≡ placed (nat_cmp y x) (place prefix t)
 place-cons x y prefix t = placed-then (nat_cmp y x) (slice_cmp nat_cmp (take (length prefix) t) prefix) (Within (drop (length prefix) t))
 
--- places order texts, whatever the prefix
+-- places order texts, for any prefix
 ordered : (prefix s t : List ℕ) → Orders (place prefix s) (place prefix t) (slice_cmp nat_cmp s t)
 ordered [] s t = refl
 ordered (x ∷ prefix) [] [] = tt

@@ -15,10 +15,10 @@ has_null [] = false
 has_null (Null ∷ key) = true
 has_null (v ∷ key) = has_null key
 
--- a call unless the key has a Null; where Nulls match, a call always
+-- a call, unless the key has a Null and Nulls don't match
 abbrev pub unless_null : Bool → (List Value → List Value → List (List Value)) → List ℕ → List Value → List Value → List (List Value)
 unless_null nulls f left_keys l r = cond (nulls || not (has_null (key_of left_keys l))) (f l r) []
 
--- a call where the pair matches, and nothing where it doesn't: its keys are equal and, unless Nulls match, have no Null
+-- a call if the pair matches, and nothing otherwise: its keys are equal and, unless Nulls match, have no Null
 abbrev pub matched : Bool → (List Value → List Value → List (List Value)) → List ℕ → List ℕ → List Value → List Value → List (List Value)
 matched nulls f left_keys right_keys l r = cond (do_match left_keys right_keys l r) (unless_null nulls f left_keys l r) []

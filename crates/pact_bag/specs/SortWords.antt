@@ -34,12 +34,12 @@ BeginsWithBytes (suc n) t = (digit t ≤ 256) × BeginsWithBytes n (tail t)
 
 -- ---- numbers
 
--- the numbers in their order, from 0 on
+-- the rank of a number among all of 64 bits, from 0 on
 abbrev pub rank : ℤ → ℕ
 rank (pos n) = 9223372036854775808 + n
 rank (negsuc n) = 9223372036854775808 - (n + 1)
 
--- the words of texts are greater, that of Null is less than 1
+-- the words of texts are greater; that of Null is 0
 abbrev pub last_number : ℕ
 last_number = 18158513697557839871
 
@@ -54,7 +54,7 @@ number_word r = cond (nat_lt 1 r) (cond (nat_lt r last_number) r last_number) 1
 
 pub data TextPlace : Type 0 where
   Before : TextPlace
-  -- it begins with the prefix; the rest follows that
+  -- it begins with the prefix; `rest` is what follows
   Within : (rest : List ℕ) → TextPlace
   After : TextPlace
 
@@ -89,7 +89,7 @@ word_of prefix (Null ∷ vs) = 0
 word_of prefix (Int z ∷ vs) = number_word (rank z)
 word_of prefix (Text t ∷ vs) = word_at (place prefix t)
 
--- what orders lists that have the same word; nothing if the word doesn't determine the value
+-- the values that order lists with the same word; none if the word doesn't determine the first value
 abbrev pub rest_of : List ℕ → List Value → List Value
 rest_of prefix [] = []
 rest_of prefix (Null ∷ vs) = vs

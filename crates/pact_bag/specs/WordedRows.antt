@@ -19,6 +19,6 @@ row_of worded = worded.row
 abbrev pub placed_cmp : List ℕ → WordedRow → WordedRow → Ordering
 placed_cmp fields a b = ordering_then (record_cmp (cut fields a.row) (cut fields b.row)) (nat_cmp a.place b.place)
 
--- by the words, and then so
+-- by the words, and then as above
 abbrev pub worded_cmp : List ℕ → WordedRow → WordedRow → Ordering
 worded_cmp fields a b = ordering_then (nat_cmp a.first b.first) (ordering_then (nat_cmp a.second b.second) (placed_cmp fields a b))

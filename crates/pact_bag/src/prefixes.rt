@@ -6,7 +6,7 @@ use crate::sort_words::TEXT_DIGITS;
 use pact_record::{OutOfMemory, Record, Value};
 use std::alloc::Global;
 
-/// One for each word. Any prefixes sort rows correctly; those that most texts share save most comparisons.
+/// A prefix for each word. Any prefixes sort rows correctly; those that most texts share save the most comparisons.
 #[derive(Drop)]
 pub(crate) struct Prefixes {
     pub(crate) first: Vec<u8>,

@@ -44,7 +44,7 @@ fn digits_word(bytes: &[u8]) -> u64
     LAST_NUMBER + 1 + (g * 2 + more)
 }
 
-// The numbers in their order, from 0 on.
+// The rank of a number among all of 64 bits, from 0 on.
 fn rank(number: i64) -> u64
     ensures { result ≡ specs.rank number }
 {

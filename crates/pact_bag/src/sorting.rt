@@ -101,7 +101,7 @@ fn are_sorted(fields: &[u32], rows: &[Record]) -> bool
     rows.is_sorted_by(|a, b| compare_fields(fields, b, a) != Ordering::Less)
 }
 
-// Words that are all the same in a sample would hardly save a comparison.
+// Words that are all equal in a sample would hardly save a comparison.
 fn words_differ(prefixes: &Prefixes, fields: &[u32], rows: &[Record]) -> bool {
     let Some(first) = rows.first() else {
         return false;

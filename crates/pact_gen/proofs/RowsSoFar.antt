@@ -1,10 +1,10 @@
--- The rows that were made so far, and the number from which the next one goes on.
+-- The rows made so far, and the number from which the next one goes on.
 use Rattle.std.proofs.Common.{◌≡◌, ◌+◌, ◌++◌, ℕ, zero, suc, List, [], ◌∷◌, length, refl, sym, ap, subst, ◌∙◌, arith}
 use Rattle.std.specs.List.{AllByRecursion}
 use Rattle.pact_record.specs.declared.values.Value.{Value}
 use Rattle.pact_gen.specs.Generated.{behind_row, generated, row_behind}
 
--- the number behind so many rows
+-- the number after `n` rows
 abbrev pub behind_rows : ℕ → ℕ → ℕ
 behind_rows x zero = x
 behind_rows x (suc n) = behind_rows (behind_row x) n
@@ -17,7 +17,7 @@ generated-last : (x n : ℕ) → generated x (suc n) ≡ generated x n ++ row_be
 generated-last x zero = refl
 generated-last x (suc n) = ap (λ (rows : List (List Value)). row_behind x ∷ rows) (generated-last (behind_row x) n)
 
--- ---- one row more
+-- ---- one more row
 
 pub behind-next : (seed n x next : ℕ) → x ≡ behind_rows seed n → next ≡ behind_row x → next ≡ behind_rows seed (n + 1)
 behind-next seed n x next e f =

@@ -12,7 +12,7 @@ use std::alloc::Global;
 
 const MODULUS: u64 = 2_147_483_647;
 
-// The number behind a number.
+// The next number.
 #[tactic(auto, unfolding(crate::specs::Generated::stepped))]
 fn stepped(x: u32) -> u32
     ensures { result ≡ specs.stepped x }
@@ -61,7 +61,7 @@ fn row_of(alloc: Global, first: u32, second: u32, third: u32) -> Result<Record, 
     Ok(Record::from_vec(values))
 }
 
-// The row behind a number, which becomes the one behind the row.
+// The row that follows from a number. The number then becomes the one after the row.
 fn next_row(alloc: Global, x: &mut u32) -> Result<Record, OutOfMemory>
     ensures row { IfOk result (λ row. row ≡ row_behind x.old) }
     ensures behind { x.new ≡ behind_row x.old }
@@ -72,7 +72,7 @@ fn next_row(alloc: Global, x: &mut u32) -> Result<Record, OutOfMemory>
     row_of(alloc, first, second, *x)
 }
 
-/// So many rows of four fields, the last of which is Null. Want of memory is the only error.
+/// This number of rows with four fields, the last of which is Null. Out of memory is the only error.
 pub fn make_input(alloc: Global, seed: u32, rows: u32) -> Result<Rows, OutOfMemory>
     requires { seed ≤ seed_limit }
     ensures { IfOk result (λ made. made ≡ generated seed rows) }

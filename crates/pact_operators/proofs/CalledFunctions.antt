@@ -40,7 +40,7 @@ module _ (p : ProgramData) (program : IsProgram p) (at : ℕ) (op : Op) (operato
     | inr h ↦ h
   ]
 
-  -- from what `get` gives for the two numbers
+  -- if `get` returns them for the two numbers
   pub called_at : (v : WithFields) → slice_get p.ops at ≡ Some op → slice_get p.functions op.function ≡ Some v → IsCalled p at op v
   called_at v found function =
       let h = is_operator found in
@@ -65,11 +65,11 @@ module _ (p : ProgramData) (program : IsProgram p) (at : ℕ) (op : Op) (operato
     pub function_below : op.function < length p.functions
     function_below = let h = is_operator operator_read in slice_get_within p.functions op.function h.called h.function
 
-    -- from what indexing gives
+    -- if indexing returns them
     pub is_called : (v : WithFields) → v ≡ get_or p.functions op.function v → IsCalled p at op v
     is_called v found = called_at v operator_read (slice_get_read p.functions (length p.functions) op.function v refl function_below found)
 
--- an operator is told by its number alone
+-- an operator is given by its number only
 module _ (p : ProgramData) (program : IsProgram p) (at : ℕ) (v : WithFields) (operator : kind_at p.ops at ≡ Source → ⊥) where
   by_op : (g : Option Op) → slice_get p.ops at ≡ g → (kind_in g ≡ Source → ⊥) → slice_get p.functions (function_in g) ≡ Some v → (op : Op) × IsCalled p at op v
   by_op None e o function = absurd (o refl)

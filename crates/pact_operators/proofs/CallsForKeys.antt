@@ -1,4 +1,4 @@
--- What is given for one key after another, each for its own group, is given by groups.
+-- What is emitted for one key after another, each for its own group, is emitted by groups.
 use Rattle.std.proofs.Common.{◌≡◌, ℕ, List, [], ◌∷◌, refl}
 use Rattle.std.specs.Prelude.{flat_map}
 use Rattle.std.proofs.lemmas.List.Sorted.{IsPermutation-refl}

@@ -1,4 +1,4 @@
--- For each key an output that is allowed for it, one after another: what a Reduce or a CoGroup gives is chosen so.
+-- An allowed output for each key, one after another: the output of a Reduce or a CoGroup is chosen in this way.
 use Rattle.std.proofs.Common.{◌≡◌, ◌∙◌, ℕ, true, List, [], ◌∷◌, ◌++◌, refl, sym, ap, append_assoc}
 use Rattle.std.proofs.lemmas.Bool.{or_left, or_right}
 use Rattle.pact_bag.specs.Groups.{group_of_key, is_same_key}
@@ -16,7 +16,7 @@ pub AreChosen-weaker : (P Q : Key → Bag → Type 0) → ((k : Key) (out : Bag)
 AreChosen-weaker P Q f [] out h = h
 AreChosen-weaker P Q f (k ∷ ks) out h = (h.0, h.1, f k h.0 h.2, h.3, AreChosen-weaker P Q f ks h.1 h.4)
 
--- the first key of a list, and those behind it
+-- the first key of a list, and those after it
 pub first_occurs : (k : Key) (ks : List Key) → occurs k (k ∷ ks) ≡ true
 first_occurs k ks = or_left (is_same_key k k) (occurs k ks) (key_itself k)
 
@@ -44,9 +44,9 @@ AreChosen-permuted P (chains p q) out h =
     let two = AreChosen-permuted P q one.0 one.1 in
     (two.0, two.1, chains one.2 two.2)
 
--- ---- what is given for the groups of keys
+-- ---- what is emitted for the groups of keys
 
--- what may be given for a key, over the records of one side and of the other
+-- what may be emitted for a key, over the records of one side and of the other
 abbrev pub IsGivenFor : (List Value → Bag → Bag → Bag) → List ℕ → List ℕ → Bag → Bag → Key → Bag → Type 0
 IsGivenFor g keys others ls rs k out = (xs : Bag) × (zs : Bag) × Perm (group_of_key keys ls k) xs × Perm (group_of_key others rs k) zs × (out ≡ g k xs zs)
 

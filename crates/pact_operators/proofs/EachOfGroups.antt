@@ -1,4 +1,4 @@
--- What holds of what is given for each group, or for each pair, holds of all that an operator gives.
+-- What holds for each output for a group, or for a pair, holds for all that an operator emits.
 use Rattle.std.proofs.Common.{◌≡◌, ◌<◌, ◌+◌, ◌⊎◌, inl, inr, ℕ, List, [], ◌∷◌, length, sym, subst, arith}
 use Rattle.std.specs.Prelude.{flat_map}
 use Rattle.std.specs.List.{AllByRecursion}

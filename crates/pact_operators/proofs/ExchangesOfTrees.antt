@@ -1,4 +1,4 @@
--- A tree in which two neighbours have changed places has the attributes of the one before it, and sides as far apart.
+-- A tree in which two neighbours have changed places has the same attributes as before, and its sides still share none.
 use Rattle.std.proofs.Common.{◌⊎◌, inl, inr, ℕ, List}
 use Rattle.tac_syntax.specs.Valid.{WithFields}
 use Rattle.plan_trees.specs.Plans.{PlanTree, over, both}
@@ -10,7 +10,8 @@ use Rattle.pact_operators.specs.declared.operators.Op.{Op}
 use Rattle.pact_operators.specs.Programs.{HasAttribute, Owns}
 use Rattle.pact_operators.proofs.PlanInPlace.{IsExchange}
 
--- the upper operator owns no attribute of the side that it no longer stands over, and the lower one none of the side that it comes to stand over
+-- the upper operator owns no attribute of the side that it is no longer above, and the lower one none of the side that
+-- it is newly above
 abbrev pub KeepsSides : List WithFields → List Op → Shape → PlanTree → Type 0
 KeepsSides v ops IntoLeft (over f (both g t u)) = (k : ℕ) → Owns v ops f k → HasAttribute v ops u k → ⊥
 KeepsSides v ops IntoRight (over f (both g t u)) = (k : ℕ) → Owns v ops f k → HasAttribute v ops t k → ⊥

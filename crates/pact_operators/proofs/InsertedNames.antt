@@ -1,4 +1,4 @@
--- Names still differ, and the rows of sources stay theirs, where an operator is put in or calls another function.
+-- Names still differ, and the rows of sources stay the same, if an operator is inserted or calls another function.
 use Rattle.std.proofs.Common.{◌≡◌, ◌≢◌, ◌==◌, ℕ, zero, suc, Bool, true, false, cond, inl, inr, List, [], ◌∷◌, ◌++◌, Some, None, length, slice_get, refl, sym, ap, subst, ◌∙◌, append-nil}
 use Rattle.std.specs.Prelude.{IsTrue}
 use Rattle.std.proofs.lemmas.Bool.{cases_Bool, eqb-true, eqb-false}
@@ -38,7 +38,7 @@ no_name : (b : Bool) → b ≡ false → IsTrue b → ⊥
 no_name true e h = cc
 no_name false e h = cc
 
--- what no text can have is no name of a text's program
+-- a name that no text can have isn't a name of a text's program
 pub unlike_names : (ops : List Op) (name : List ℕ) → AreNames ops → is_name name ≡ false → (n : ℕ) (o : Op) → slice_get ops n ≡ Some o → o.name ≢ name
 unlike_names ops name names none n o e same = no_name (is_name name) none (subst (λ (x : List ℕ). IsTrue (is_name x)) same (names n o e))
 

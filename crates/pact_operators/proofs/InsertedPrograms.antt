@@ -1,4 +1,4 @@
--- A program with an operator put in, or with another function for an operator, keeps what every program keeps.
+-- A program with an inserted operator, or with another function for an operator, keeps what every program keeps.
 use Rattle.std.proofs.Common.{◌≡◌, ◌≢◌, ◌<◌, ◌≤◌, ◌+◌, ◌==◌, ◌⊎◌, ℕ, zero, suc, Bool, true, false, cond, inl, inr, if◌then◌else◌, List, [], ◌∷◌, ◌++◌, Option, Some, None, length, slice_get, refl, sym, ap, subst, ◌∙◌, arith, length-append, append-nil}
 use Rattle.std.specs.Prelude.{filter}
 use Rattle.std.specs.List.{AllByRecursion}
@@ -71,7 +71,7 @@ owns_by-fewer fs gs Match op k lt h = function_names-fewer fs gs op.function k (
 owns_by-fewer fs gs Cross op k lt h = function_names-fewer fs gs op.function k (lt (λ e. cc)) h
 owns_by-fewer fs gs CoGroup op k lt h = function_names-fewer fs gs op.function k (lt (λ e. cc)) h
 
--- what an operator owns are the fields that its function names
+-- an operator owns the fields that its function names
 owns_by-names : (fs : List WithFields) (kind : OpKind) (op : Op) (k : ℕ) → (kind ≡ Source → ⊥) → OwnsBy kind fs op k → FunctionNames fs op.function k
 owns_by-names fs Source op k ne h = absurd (ne refl)
 owns_by-names fs Map op k ne h = h
@@ -92,7 +92,7 @@ function_in_range : (F : ℕ) (fs : List WithFields) (op : Op) → IsOpOf F fs o
 function_in_range F fs op (inl s) ne = absurd (ne s)
 function_in_range F fs op (inr h) ne = slice_get_within fs op.function h.called h.function
 
--- a number with the same operator as before owns what it owned
+-- a number with the same operator as before owns the same fields
 owns_same : (F : ℕ) (fs gs : List WithFields) (ops others : List Op) (n k : ℕ) → AllByRecursion (IsOpOf F fs) ops → slice_get others n ≡ slice_get ops n → Owns (fs ++ gs) others n k → Owns fs ops n k
 owns_same F fs gs ops others n k all e h = by (slice_get ops n) refl where
   by : (g : Option Op) → slice_get ops n ≡ g → Owns fs ops n k
@@ -117,7 +117,7 @@ no_pair : (kind : OpKind) (op : Op) → (kind ≡ Map) ⊎ (kind ≡ Reduce) →
 no_pair kind op (inl e) = ap (λ (k : OpKind). length (cond (is_pair_kind k) (op ∷ []) [])) e
 no_pair kind op (inr e) = ap (λ (k : OpKind). length (cond (is_pair_kind k) (op ∷ []) [])) e
 
--- ---- an operator put in
+-- ---- an inserted operator
 
 module _ (p : ProgramData) (program : IsProgram p) (tree : PlanTree) (below : ℕ) (op : Op) (f : WithFields) (valid : IsValid f.function f.fields) (c : CanInsert p tree below op f) where
   abbrev plan : IsPlanOf p.functions p.ops tree
@@ -189,7 +189,7 @@ module _ (p : ProgramData) (program : IsProgram p) (tree : PlanTree) (below : �
   owns_old : (n k : ℕ) → n < new → Owns u.functions u.ops n k → Owns p.functions p.ops n k
   owns_old n k lt h = owns_same p.fields p.functions (f ∷ []) p.ops u.ops n k program.ops (slice_get-other p.ops own n (λ e. omega (arith, lt, e))) h
 
-  -- where the number is a tree's root, the new function names attributes of this tree alone
+  -- if the number is a tree's root, the new function names only attributes of this tree
   abbrev NamedIn : PlanTree → Type 0
   NamedIn t = root_of t ≡ below → (k : ℕ) → Names p.fields k f.function.body → HasAttribute p.functions p.ops t k
 
@@ -252,7 +252,7 @@ module _ (p : ProgramData) (program : IsProgram p) (tree : PlanTree) (below : �
     apart = apart tree named_below plan.arity plan.apart;
   }
 
-  -- ---- attributes stay the same at each number that there was
+  -- ---- attributes stay the same at each earlier number
 
   owns_more : (n k : ℕ) → Owns p.functions p.ops n k → Owns u.functions u.ops n k
   owns_more n k h = by (slice_get p.ops n) refl where

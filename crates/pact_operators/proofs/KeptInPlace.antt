@@ -1,4 +1,5 @@
--- What a subtree and another tree in its place have alike, the whole trees have alike: the bags, the attributes, and sides that are apart.
+-- If a subtree and its replacement agree, the whole trees agree: in the bags, in the attributes, and in sides that
+-- share none.
 use Rattle.std.proofs.Common.{◌≡◌, ◌⊎◌, inl, inr, ℕ, true, List}
 use Rattle.tac_syntax.specs.Valid.{WithFields}
 use Rattle.plan_trees.specs.Plans.{PlanTree, over, both, has, subtree_of, replaced}

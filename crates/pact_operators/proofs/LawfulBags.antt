@@ -38,7 +38,7 @@ input_has_none fields s t k out off (of_pair l r) h j v = elim v as (λ _. ⊥) 
 input_has_none fields s t k out off (of_group key group) h j v = none_has fields s k out group h v
 input_has_none fields s t k out off (of_groups key l r) h j v = elim v as (λ _. ⊥) [ inl a ↦ none_has fields s k out l h a | inr b ↦ none_has fields t k off r j b ]
 
--- ---- what each kind of operator is called for
+-- ---- the inputs that each kind of operator is called for
 
 pub IsCallOf-record : (kind : OpKind) (ks js : List ℕ) (row : List Value) → kind ≡ Map → IsCallOf kind ks js (of_record row)
 IsCallOf-record kind ks js row e = subst (λ (q : OpKind). IsCallOf q ks js (of_record row)) (sym e) (record { operator = no_source Map refl; called = tt; some = tt; keyed = tt })
@@ -57,7 +57,7 @@ pub IsCallOf-groups : (kind : OpKind) (ks js : List ℕ) (key : List Value) (l r
 IsCallOf-groups kind ks js key l r e some h j =
     subst (λ (q : OpKind). IsCallOf q ks js (of_groups key l r)) (sym e) (record { operator = no_source CoGroup refl; called = tt; some = some; keyed = (h, j) })
 
--- the fields of an operator, and those of its one input or of its two
+-- the fields of an operator, and those of its one or two inputs
 abbrev pub Over : List WithFields → List Op → ℕ → (ℕ → Type 0) → ℕ → Type 0
 Over v ops n s k = Owns v ops n k ⊎ s k
 
@@ -75,7 +75,7 @@ module _ (fields : ℕ) (v : List WithFields) (ops : List Op) (o : PlanOps) (goo
       ])
       (good.calls n x c (all_wide fields s (left_records x) h) (all_wide fields t (right_records x) j))
 
-  -- of one input
+  -- with one input
   pub call_fits_one : (n : ℕ) (s : ℕ → Type 0) (x : CallInput) → IsCallOf (o.kind n) (o.left_keys n) (o.right_keys n) x → AllByRecursion (IsWithin fields s) (left_records x)
       → AllByRecursion (IsWithin fields (λ k. ⊥)) (right_records x) → AllByRecursion (IsWithin fields (Over v ops n s)) (called o n x)
   call_fits_one n s x c h j =
@@ -92,7 +92,7 @@ module _ (fields : ℕ) (v : List WithFields) (ops : List Op) (o : PlanOps) (goo
   pub cross_fits : (n : ℕ) (s t : ℕ → Type 0) → o.kind n ≡ Cross → (l r : List Value) → IsWithin fields s l → IsWithin fields t r → AllByRecursion (IsWithin fields (OverBoth v ops n s t)) (o.of_pair n l r)
   cross_fits n s t e l r h j = call_fits n s t (of_pair l r) (IsCallOf-cross (o.kind n) (o.left_keys n) (o.right_keys n) l r e) (h, tt) (j, tt)
 
-  -- ---- what an operator gives
+  -- ---- what an operator emits
 
   gives_fits : (n : ℕ) (s : ℕ → Type 0) (kind : OpKind) → o.kind n ≡ kind → (ls out : Bag) → AllByRecursion (IsWithin fields s) ls → Gives o kind n ls out → AllByRecursion (IsWithin fields (Over v ops n s)) out
   gives_fits n s Map e ls out h p =

@@ -1,4 +1,4 @@
--- A program has at most two sources and operators for each operator, and one.
+-- A program has at most 2n + 1 sources and operators if n of them are operators.
 use Rattle.std.proofs.Common.{◌≡◌, ◌<◌, ◌≤◌, ◌+◌, ◌*◌, ℕ, zero, suc, Bool, true, false, cond, inl, inr, List, [], ◌∷◌, ◌++◌, Some, length, slice_get, refl, sym, ap, subst, ◌∙◌, arith, length-append}
 use Rattle.std.specs.Prelude.{filter}
 use Rattle.std.proofs.lemmas.Option.{same_Some}
@@ -12,7 +12,7 @@ use Rattle.tac_syntax.specs.declared.declarations.OpKind.TheVariants.{Source, Ma
 use Rattle.pact_operators.specs.declared.operators.Op.{Op}
 use Rattle.pact_operators.specs.Programs.{IsPlanOf, HasArity, takes, is_operator_kind, operator_limit, times_of_kind}
 
--- ---- numbers from one on
+-- ---- numbers from a first one on
 
 upto : (at count : ℕ) → List ℕ
 upto at zero = []
@@ -135,6 +135,6 @@ few_numbers valids ops tree plan =
     let operators = length-le_from_different (inner tree) (places 0 ops) (different_inner tree plan.different) (inner_places ops tree plan.arity) in
     omega (arith, all, operators, length_upto 0 (length ops), length_places 0 ops, few_leaves tree)
 
--- a further operator gets a number that a program can have
+-- a further operator has a number that a program can have
 pub next_below : (valids : List WithFields) (ops : List Op) (tree : PlanTree) → IsPlanOf valids ops tree → times_of_kind is_operator_kind ops < operator_limit → length ops < node_limit
 next_below valids ops tree plan room = omega (arith, few_numbers valids ops tree plan, room)

@@ -6,7 +6,7 @@ use Rattle.pact_operators.specs.declared.operators.Op.{Op}
 use Rattle.pact_operators.specs.Insertions.{calling, replaced_in}
 use Rattle.pact_operators.specs.Programs.{ProgramData, body_of}
 
--- ---- lists with one item more
+-- ---- lists with one more item
 
 pub slice_get-last : {A : Type 0} (xs : List A) (x : A) → slice_get (xs ++ x ∷ []) (length xs) ≡ Some x
 slice_get-last [] x = refl
@@ -43,7 +43,7 @@ calling-at at k [] op e = cc
 calling-at zero k (o ∷ ops) op e = ap (λ (x : Op). Some (record x { function = k })) (same_Some o op e)
 calling-at (suc at) k (o ∷ ops) op e = calling-at at k ops op e
 
--- and as it is written
+-- and in the form in which the code writes it
 pub set_calling : (at k : ℕ) (ops : List Op) (now : Op) → at < length ops → now ≡ get_or ops at now → set ops at (record now { function = k }) ≡ calling at k ops
 set_calling at k [] now lt e = absurd (omega (arith, lt))
 set_calling zero k (op ∷ ops) now lt e = ap (λ (x : Op). record x { function = k } ∷ ops) e

@@ -1,4 +1,4 @@
--- A draft has at most one plan as written: one tree alone follows what is read from a root on.
+-- A draft has at most one plan as written: from a root on, only one tree follows what is read.
 use Rattle.std.proofs.Common.{◌≡◌, ◌<◌, ℕ, Some, List, [], ◌∷◌, length, slice_get, ap, sym, ◌∙◌, subst}
 use Rattle.std.proofs.lemmas.Option.{slice_get_within}
 use Rattle.plan_trees.specs.Plans.{PlanTree, leaf, over, both, root_of}

@@ -1,4 +1,4 @@
--- What sources and operators have of their own, one after the other.
+-- What sources and operators own, one after the other.
 use Rattle.std.proofs.Common.{true, false, ltb, ◌≡◌, ◌<◌, ◌+◌, ◌⊎◌, ◌↔◌, ◌||◌, ◌==◌, ℕ, zero, suc, IsTrue, List, [], ◌∷◌, length, get_or, slice_get, drop, Some, None, inl, inr, refl, sym, ◌∙◌, ap, subst, arith}
 use Rattle.std.specs.List.{AllByRecursion}
 use Rattle.std.proofs.lemmas.Bool.{ltb-true, ltb-false, eqb-true, eq-eqb, or_cases, or_left, or_right}
@@ -54,7 +54,7 @@ body_of-some [] n v e = let bad : None ≡ Some v = e in absurd cc
 body_of-some (w ∷ valids) zero v e = let same : w ≡ v = cc in ap (λ (x : WithFields). x.function.body) same
 body_of-some (w ∷ valids) (suc n) v e = body_of-some valids n v e
 
--- where there is no function of a number, its body has no statement
+-- a function number that is out of range has a body without statements
 pub body_of-none : (valids : List WithFields) (n : ℕ) → slice_get valids n ≡ None → body_of valids n ≡ stop
 body_of-none [] n e = refl
 body_of-none (v ∷ valids) zero e = let bad : Some v ≡ None = e in absurd cc
@@ -66,7 +66,7 @@ names_of-some (w ∷ valids) zero k v e =
     let same : w ≡ v = cc in subst (λ (x : WithFields). Names w.fields k w.function.body ↔ Names x.fields k x.function.body) same (λ h. h, λ h. h)
 names_of-some (w ∷ valids) (suc n) k v e = names_of-some valids n k v e
 
--- and sets nothing
+-- and such a body sets nothing
 pub names_of-none : (valids : List WithFields) (n k : ℕ) → slice_get valids n ≡ None → FunctionNames valids n k → ⊥
 names_of-none [] n k e h = h
 names_of-none (v ∷ valids) zero k e h = let bad : Some v ≡ None = e in absurd cc
@@ -90,7 +90,7 @@ columns-below bound (o ∷ ops) zero op h e =
     subst (λ (x : Op). AllByRecursion (λ k. k < bound) (fields_of x.columns)) same (AllByRecursion-left (λ k. k < bound) (fields_of o.columns) (source_fields ops) h)
 columns-below bound (o ∷ ops) (suc n) op h e = columns-below bound ops n op (AllByRecursion-right (λ k. k < bound) (fields_of o.columns) (source_fields ops) h) e
 
--- ---- what `get` tells
+-- ---- what `get` returns
 
 pub got : {X : Type 0} (xs : List X) (i : ℕ) (x : X) → true ≡ ltb i (length xs) → x ≡ get_or xs i x → slice_get xs i ≡ Some x
 got xs i x within e = slice_get_read xs (length xs) i x refl (ltb-true i (length xs) (sym within)) e

@@ -1,4 +1,5 @@
--- An evaluation of a plan gives its bag in any order, tells what follows of what it tells, and the bag is allowed.
+-- An evaluation of a plan may yield its bag in any order; what holds for its counts may be weakened; and its bag is
+-- allowed.
 use Rattle.std.proofs.Common.{ℕ, List, [], ◌∷◌, length, subst}
 use Rattle.std.specs.List.{AllByRecursion}
 use Rattle.pact_record.proofs.Lists.{AllByRecursion-left, AllByRecursion-right}
@@ -7,7 +8,7 @@ use Rattle.plan_trees.specs.Plans.{PlanTree, leaf, over, both, nodes}
 use Rattle.pact_operators.specs.Allowed.{Allows, Bag, Evaluates}
 use Rattle.pact_operators.specs.PlanOps.{PlanOps}
 
--- one evaluation, where what is told of its nodes tells something else
+-- the same evaluation, if what holds for the counts of its nodes implies something weaker
 pub evaluates_told : (P Q : ℕ → ℕ → Type 0) (o : PlanOps) (t : PlanTree) (bag : Bag) → AllByRecursion (λ n. (k : ℕ) → P n k → Q n k) (nodes t) → Evaluates P o t bag → Evaluates Q o t bag
 evaluates_told P Q o (leaf n) bag f h = (h.0, f.0 (length bag) h.1)
 evaluates_told P Q o (over n t) bag f h =

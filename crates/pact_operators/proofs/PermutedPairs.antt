@@ -1,4 +1,4 @@
--- What a function gives for each pair of two lists is the same, up to order, for lists in another order.
+-- What a function emits for each pair of two lists is the same, up to order, if the lists are reordered.
 use Rattle.std.proofs.Common.{List, [], ◌∷◌}
 use Rattle.std.specs.Prelude.{flat_map}
 use Rattle.pact_record.proofs.Permutations.{Perm, both_parts, chains, flat_map_perm, nothing}

@@ -24,7 +24,7 @@ right-below fields v ops (leaf n) k h c a = absurd a
 right-below fields v ops (over n t) k h c a = absurd a
 right-below fields v ops (both n t u) k h c a = attribute-below fields v ops u k h c a
 
--- a set of fields of which each is below
+-- a set in which each field is below the number of fields
 pub set-below : (fields s : ℕ) → ((k : ℕ) → IsTrue (has_field s k) → k < fields) → IsBelow fields (has_field s)
 set-below fields s h k past = false_from_ne_true (has_field s k) (λ e. let lt = h k e in absurd (omega (arith, past, lt)))
 

@@ -1,4 +1,4 @@
--- A plan of a program stays one where a subtree is exchanged for a tree over the same nodes with the same attributes.
+-- A plan of a program stays one if a tree over the same nodes, with the same attributes, replaces a subtree.
 use Rattle.std.proofs.Common.{◌≡◌, ℕ, true, List}
 use Rattle.pact_record.proofs.Permutations.{Perm}
 use Rattle.tac_syntax.specs.Valid.{WithFields}
@@ -9,7 +9,7 @@ use Rattle.pact_operators.specs.declared.operators.Op.{Op}
 use Rattle.pact_operators.specs.Programs.{HasArity, IsPlanOf}
 use Rattle.pact_operators.proofs.KeptInPlace.{StaysApart, apart_kept, arity_kept}
 
--- another tree over the same nodes, with the same attributes, and sides as far apart
+-- another tree over the same nodes, with the same attributes, and sides that share none if the first tree's don't
 pub record IsExchange (v : List WithFields) (ops : List Op) (t u : PlanTree) : Type 0 where
   pub stays : StaysApart v ops t u
   pub arity : HasArity ops t → HasArity ops u

@@ -1,4 +1,4 @@
--- What holds of the calls of an operator in a context holds in one with fewer fields.
+-- What holds for the calls of an operator in a context holds in one with fewer fields.
 use Rattle.std.proofs.Common.{◌≡◌, ◌⊎◌, inl, inr, ℕ, List, length, sym, subst}
 use Rattle.pact_record.specs.declared.values.Value.{Value}
 use Rattle.tac_syntax.specs.declared.contexts.Side.{Side}
@@ -15,7 +15,7 @@ use Rattle.pact_operators.specs.SoundOps.{called}
 use Rattle.pact_operators.proofs.SoundPrograms.{all_called}
 use Rattle.pact_operators.proofs.WithinFields.{IsCovered, all_within_larger}
 
--- fewer fields and the same keys, and two sides that share none where those of the larger share none
+-- fewer fields and the same keys; the two sides share no field if those of the larger context share none
 pub record IsSmaller (c d : Ports) : Type 0 where
   pub left : IsCovered c.left d.left
   pub right : IsCovered c.right d.right
@@ -55,7 +55,7 @@ groups_in_smaller fields c d keys call s h = record {
   larger : (r : List Value) → IsLawful kinds.Map fields c (of_record r) → IsLawful kinds.Map fields d (of_record r)
   larger r lr = lawful_in_larger kinds.Map fields c d (of_record r) s lr
 
--- ---- of a body, and of the operator that calls it
+-- ---- a body, and the operator that calls it
 
 pub form_of_ops : (p : ProgramData) (inputs : List Bag) (n : ℕ) (kind : Kind) (c : Ports) (reads writes : FieldSet) (side : Side) → HasForm kind p.fields c reads writes side (Out p.fields (body_at p n))
     → HasForm kind p.fields c reads writes side (called (plan_ops p inputs) n)

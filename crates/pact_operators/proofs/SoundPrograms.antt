@@ -1,4 +1,5 @@
--- The sources and operators of a program are sound: their rows and calls have values in their own fields and those of their input alone.
+-- The sources and operators of a program are sound: their rows and calls have values only in their own fields and those
+-- of their input.
 use Rattle.std.proofs.Common.{◌≡◌, ◌<◌, ◌≤◌, ◌+◌, ◌⊎◌, inl, inr, ℕ, zero, suc, Bool, true, false, cond, Option, Some, None, List, [], ◌∷◌, length, take, get_or, slice_get, refl, sym, ap, subst, arith}
 use Rattle.std.proofs.lemmas.Bool.{both_ways}
 use Rattle.std.proofs.lemmas.List.{length-map}
@@ -27,7 +28,7 @@ use Rattle.pact_operators.specs.Programs.{FunctionNames, HasKeyLists, IsKindFor,
 use Rattle.pact_operators.specs.SoundOps.{AreOpsOf, IsCallOf, called, function_kind, keyed_by}
 use Rattle.pact_operators.proofs.OwnFields.{body_of-some, names_of-some, owned_at}
 
--- ---- what the operator of a number gives is the meaning of a call
+-- ---- what the operator of a number emits is the meaning of a call
 
 pub called_is : (p : ProgramData) (inputs : List Bag) (n : ℕ) (x : CallInput) → called (plan_ops p inputs) n x ≡ Out p.fields (body_at p n) x
 called_is p inputs n (of_record row) = refl
@@ -79,7 +80,7 @@ named_is_owned v op Match k operator h = h
 named_is_owned v op Cross k operator h = h
 named_is_owned v op CoGroup k operator h = h
 
--- key values are as many as key fields
+-- there are as many key values as key fields
 key_long : (keys : List ℕ) (key : List Value) (rows : Bag) → 0 < length rows → HaveKey keys key rows → length keys ≤ length key
 key_long keys key [] some h = absurd (omega (arith, some))
 key_long keys key (row ∷ rows) some h = omega (arith, length-map keys (at_field row), ap length h.0)

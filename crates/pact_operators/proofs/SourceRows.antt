@@ -28,7 +28,7 @@ place_among_sources [] n h k = absurd (omega arith)
 place_among_sources (op ∷ ops) zero h k = first_kept (is_source_kind op.kind) op (sources_of ops) (ap is_source_kind k)
 place_among_sources (op ∷ ops) (suc n) h k = fewer (is_source_kind op.kind) op (sources_of (take n ops)) (sources_of ops) (place_among_sources ops n (omega arith) k)
 
--- the sources among one operator more
+-- the sources, if one more operator is taken into account
 pub sources_of-next : (ops : List Op) (n : ℕ) (op : Op) → n < length ops → op ≡ get_or ops n op → sources_of (take (n + 1) ops) ≡ sources_of (take n ops) ++ cond (is_source_kind op.kind) (op ∷ []) []
 sources_of-next ops n op less is =
     ap sources_of (take_more ops n op less ∙ ap (λ (o : Op). take n ops ++ o ∷ []) (sym is)) ∙ filter-append (λ (o : Op). is_source_kind o.kind) (take n ops) (op ∷ [])

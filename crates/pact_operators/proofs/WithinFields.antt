@@ -1,4 +1,5 @@
--- Records that are Null outside a set of fields are so outside a larger one, and records that agree on their keys have the same key values.
+-- Records that are Null outside a set of fields are Null outside a larger one, and records that agree on their keys
+-- have the same key values.
 use Rattle.std.proofs.Common.{◌≡◌, ℕ, List, [], ◌∷◌, refl}
 use Rattle.std.specs.List.{AllByRecursion, AllZip}
 use Rattle.pact_record.proofs.Lists.{AllByRecursion-weaker}

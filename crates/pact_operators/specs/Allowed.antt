@@ -14,7 +14,7 @@ use Rattle.pact_operators.specs.PlanOps.{PlanOps}
 abbrev pub Bag : Type 0
 Bag = List (List Value)
 
--- ---- what an operator gives
+-- ---- what an operator emits
 
 -- one call for each of the key values, over the records that have them, in some order
 abbrev pub Grouped : (List Value → Bag → Bag) → List ℕ → Bag → List (List Value) → Bag → Type 0
@@ -22,7 +22,7 @@ Grouped f keys rows [] out = out ≡ []
 Grouped f keys rows (k ∷ ks) out =
     (group : Bag) × (rest : Bag) × IsPermutation (group_of_key keys rows k) group × (out ≡ f k group ++ rest) × Grouped f keys rows ks rest
 
--- the same over the records of either side, of which there may be none on one
+-- one call for each of the key values, over the records of either side; one of the sides may have none
 abbrev pub CoGrouped : (List Value → Bag → Bag → Bag) → List ℕ → List ℕ → Bag → Bag → List (List Value) → Bag → Type 0
 CoGrouped f left_keys right_keys ls rs [] out = out ≡ []
 CoGrouped f left_keys right_keys ls rs (k ∷ ks) out =
@@ -36,13 +36,13 @@ keys_in keys rows = distinct_keys (map (key_of keys) rows)
 abbrev pub keys_in_either : List ℕ → List ℕ → Bag → Bag → List (List Value)
 keys_in_either left_keys right_keys ls rs = distinct_keys (map (key_of left_keys) ls ++ map (key_of right_keys) rs)
 
--- what an operator of one input may give for a bag
+-- what an operator of one input may emit for a bag
 abbrev pub Gives : PlanOps → OpKind → ℕ → Bag → Bag → Type 0
 Gives o Map n ls out = out ≡ flat_map (o.of_record n) ls
 Gives o Reduce n ls out = Grouped (o.of_group n) (o.left_keys n) ls (keys_in (o.left_keys n) ls) out
 Gives o kind n ls out = ⊥
 
--- what an operator of two inputs may give for two bags
+-- what an operator of two inputs may emit for two bags
 abbrev pub GivesBoth : PlanOps → OpKind → ℕ → Bag → Bag → Bag → Type 0
 GivesBoth o Match n ls rs out = out ≡ crossed (matched o.nulls (o.of_pair n) (o.left_keys n) (o.right_keys n)) ls rs
 GivesBoth o Cross n ls rs out = out ≡ crossed (o.of_pair n) ls rs
@@ -57,7 +57,7 @@ pub record FromSource (o : PlanOps) (n : ℕ) (bag : Bag) : Type 0 where
   pub source : o.kind n ≡ Source
   pub permuted : IsPermutation (o.rows n) bag
 
--- What an operator gives for a bag of its input, in any order; and for bags of its two inputs.
+-- What an operator emits for a bag of its input, in any order; and below for bags of its two inputs.
 pub record AboveOne (Below : Bag → Type 0) (Given : Bag → Bag → Type 0) (bag : Bag) : Type 0 where
   pub rows : Bag
   pub out : Bag
@@ -74,7 +74,7 @@ pub record AboveTwo (Left Right : Bag → Type 0) (Given : Bag → Bag → Bag �
   pub given : Given left_rows right_rows out
   pub permuted : IsPermutation out bag
 
--- One evaluation gives the bag, and what is told of each number stands for the number of records that it gives there.
+-- One evaluation yields the bag, and `Told` holds for each number and the count of records that it emits there.
 abbrev pub Evaluates : (ℕ → ℕ → Type 0) → PlanOps → PlanTree → Bag → Type 0
 Evaluates Told o (leaf n) bag = FromSource o n bag × Told n (length bag)
 Evaluates Told o (over n t) bag = AboveOne (Evaluates Told o t) (Gives o (o.kind n) n) bag × Told n (length bag)
@@ -84,11 +84,11 @@ Evaluates Told o (both n t u) bag = AboveTwo (Evaluates Told o t) (Evaluates Tol
 abbrev pub Allows : PlanOps → PlanTree → Bag → Type 0
 Allows o t bag = Evaluates (λ n k. Unit {0}) o t bag
 
--- a count, where a greater number counts as the greatest of 64 bits
+-- a 64-bit count, which stays at its greatest value
 abbrev pub count_of : ℕ → ℕ
 count_of k = min k (2 ^ 64 - 1)
 
--- The counts, by number, are those of one evaluation that gives the bag.
+-- The counts, by number, are those of one evaluation that yields the bag.
 abbrev pub Counted : PlanOps → PlanTree → Bag → List ℕ → Type 0
 Counted o t bag counts = Evaluates (λ n k. slice_get counts n ≡ Some (count_of k)) o t bag
 

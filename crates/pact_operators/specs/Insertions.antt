@@ -1,4 +1,4 @@
--- A program with an operator put in on an edge of a plan, and one in which an operator calls another function.
+-- A program with an operator inserted on an edge of a plan, and one in which an operator calls another function.
 use Rattle.std.specs.List.{AllByRecursion}
 use Rattle.std.specs.Prelude.{◌≡◌, ◌≢◌, ◌<◌, ◌⊎◌, ℕ, zero, suc, List, [], ◌∷◌, ◌++◌, Some, length, slice_get, true}
 use Rattle.plan_trees.specs.Plans.{PlanTree, root_of, subtree_of, has}
@@ -36,7 +36,7 @@ replaced_in p at f = record {
   sink = p.sink;
 }
 
--- The operator may stand on the edge from a number of a plan of the program, and call the function.
+-- The operator may be inserted on the edge from a number of a plan of the program, and may call the function.
 pub record CanInsert (p : ProgramData) (tree : PlanTree) (below : ℕ) (op : Op) (f : WithFields) : Type 0 where
   pub plan : IsPlanOf p.functions p.ops tree
   pub there : has below tree ≡ true
@@ -51,7 +51,7 @@ pub record CanInsert (p : ProgramData) (tree : PlanTree) (below : ℕ) (op : Op)
   pub room : times_of_kind is_operator_kind p.ops < operator_limit
   pub function_room : length p.functions < function_limit
 
--- The operator of the number may call the function in place of its own.
+-- The operator of the number may call this function instead of its own.
 pub record CanReplace (p : ProgramData) (at : ℕ) (f : WithFields) : Type 0 where
   pub op : Op
   pub found : slice_get p.ops at ≡ Some op

@@ -8,8 +8,9 @@ use Rattle.pact_operators.specs.Programs.{ProgramData, body_of, nulls_match}
 use Rattle.tac_syntax.specs.Code.{Code}
 use Rattle.tac_syntax.specs.Call.{of_record, of_pair, of_group, of_groups, Out}
 
--- Whether Nulls match in the keys of a Match; and by number the kind, a source's rows, what one call gives for a record, for a pair, for the key
--- values and the records of a group, and for those of the groups of either side, and the key fields of either side.
+-- Whether Nulls match in the keys of a Match. The rest is by number: the kind; a source's rows; what one call emits for
+-- a record, for a pair, for the key values and the records of a group, and for the key values and the groups of both
+-- sides; and the key fields of both sides.
 pub record PlanOps : Type 0 where
   pub nulls : Bool
   pub kind : ℕ → OpKind
@@ -21,7 +22,7 @@ pub record PlanOps : Type 0 where
   pub left_keys : ℕ → List ℕ
   pub right_keys : ℕ → List ℕ
 
--- ---- those of a program
+-- ---- of a program
 
 abbrev pub kind_in : Option Op → OpKind
 kind_in None = Source

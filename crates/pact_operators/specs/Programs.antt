@@ -19,8 +19,9 @@ use Rattle.tac_syntax.specs.Versions.{IsVersion, field_limit}
 use Rattle.plan_trees.specs.Plans.{PlanTree, leaf, over, both, root_of, nodes, has}
 use Rattle.pact_operators.specs.Resolved.{Inputs, no_input, one_input, two_inputs, function_names, inputs_of, node_names, ops_of, place_among, sink_fields, sink_inputs}
 
--- The version of the language, the number of fields, the functions and the sources and operators in text order, the plan as written, and the fields of
--- the sink. Where an operator was put in, it and its function come last, and the plan is the one that has it.
+-- The version of the language, the number of fields, the functions and the sources and operators in text order, the
+-- plan as written, and the fields of the sink. If an operator was inserted, it and its function come last, and the plan
+-- is the one that has it.
 pub record ProgramData : Type 0 where
   pub version : ℕ
   pub fields : ℕ
@@ -39,13 +40,13 @@ AreNames ops = (n : ℕ) (op : Op) → slice_get ops n ≡ Some op → IsTrue (i
 
 -- ---- the plan as written
 
--- each node reads what it is declared to read
+-- each node reads the inputs that it is declared with
 abbrev pub Follows : List Inputs → PlanTree → Type 0
 Follows inputs (leaf n) = slice_get inputs n ≡ Some no_input
 Follows inputs (over n t) = (slice_get inputs n ≡ Some (one_input (root_of t))) × Follows inputs t
 Follows inputs (both n t u) = (slice_get inputs n ≡ Some (two_inputs (root_of t) (root_of u))) × Follows inputs t × Follows inputs u
 
--- the tree of all sources and operators below what the sink names
+-- the tree of all sources and operators below the one that the sink names
 pub record IsWrittenPlan (d : DraftData) (tree : PlanTree) : Type 0 where
   pub root : map (λ input. place_among input (node_names d.decls)) (sink_inputs d.decls) ≡ root_of tree ∷ []
   pub follows : Follows (inputs_of (node_names d.decls) d.decls) tree
@@ -85,7 +86,7 @@ FunctionNames [] n k = ⊥
 FunctionNames (v ∷ valids) zero k = Names v.fields k v.function.body
 FunctionNames (v ∷ valids) (suc n) k = FunctionNames valids n k
 
--- a source's own are its columns, an operator's those that its function names in a `set`
+-- a source owns its columns, an operator the fields that its function names in a `set`
 abbrev pub OwnsBy : OpKind → List WithFields → Op → ℕ → Type 0
 OwnsBy Source valids op k = IsColumnField k op.columns
 OwnsBy kind valids op k = FunctionNames valids op.function k
@@ -101,7 +102,7 @@ HasAttribute valids ops (leaf n) k = Owns valids ops n k
 HasAttribute valids ops (over n t) k = Owns valids ops n k ⊎ HasAttribute valids ops t k
 HasAttribute valids ops (both n t u) k = Owns valids ops n k ⊎ HasAttribute valids ops t k ⊎ HasAttribute valids ops u k
 
--- those of the inputs of a tree's root
+-- the attributes of the inputs of a tree's root
 abbrev pub HasLeftAttribute : List WithFields → List Op → PlanTree → ℕ → Type 0
 HasLeftAttribute valids ops (leaf n) k = ⊥
 HasLeftAttribute valids ops (over n t) k = HasAttribute valids ops t k
@@ -111,7 +112,7 @@ abbrev pub HasRightAttribute : List WithFields → List Op → PlanTree → ℕ 
 HasRightAttribute valids ops (both n t u) k = HasAttribute valids ops u k
 HasRightAttribute valids ops tree k = ⊥
 
--- ---- what every program keeps
+-- ---- what holds for every program
 
 -- a node has as many inputs as its kind takes
 abbrev pub takes : OpKind → ℕ
@@ -136,7 +137,7 @@ AreSidesApart valids ops (leaf n) = Unit {0}
 AreSidesApart valids ops (over n t) = AreSidesApart valids ops t
 AreSidesApart valids ops (both n t u) = AreApart (HasAttribute valids ops t) (HasAttribute valids ops u) × AreSidesApart valids ops t × AreSidesApart valids ops u
 
--- A plan is of a program where its nodes are the program's sources and operators, each once.
+-- A plan is of a program if its nodes are the program's sources and operators, each once.
 pub record IsPlanOf (valids : List WithFields) (ops : List Op) (tree : PlanTree) : Type 0 where
   pub different : AreDifferent (nodes tree)
   pub all : (n : ℕ) → n < length ops → has n tree ≡ true
@@ -151,7 +152,7 @@ IsKindFor Cross kind = kind ≡ kinds.Cross
 IsKindFor CoGroup kind = kind ≡ kinds.CoGroup
 IsKindFor operator kind = ⊥
 
--- what a kind doesn't have is empty
+-- a kind without keys on a side has an empty list there
 abbrev pub HasKeyLists : OpKind → ℕ → List ℕ → List ℕ → Type 0
 HasKeyLists Reduce keys left right = (length left ≡ keys) × (right ≡ [])
 HasKeyLists Match keys left right = (1 ≤ length left) × (length left ≡ length right)
@@ -177,13 +178,13 @@ fields_of columns = map (λ c. c.field) columns
 abbrev pub source_fields : List Op → List ℕ
 source_fields ops = flat_map (λ op. fields_of op.columns) ops
 
--- some fields of the program, and at most so many
+-- at least one field of the program, and at most `most`
 pub record IsFieldList (most fields : ℕ) (list : List ℕ) : Type 0 where
   pub some : 1 ≤ length list
   pub few : length list ≤ most
   pub below : AllByRecursion (λ k. k < fields) list
 
--- a program has at most so many functions, operators, and operators that pair records
+-- the greatest numbers of functions, of operators, and of operators that pair records
 abbrev pub function_limit : ℕ
 function_limit = 64
 

@@ -1,4 +1,4 @@
--- What the names in a program's declarations stand for.
+-- What the names in a program's declarations refer to.
 use Rattle.std.specs.Prelude.{◌+◌, ℕ, Bool, if◌then◌else◌, List, [], ◌∷◌, map, bytes_eq}
 use Rattle.std.specs.List.{list_any}
 use Rattle.tac_syntax.specs.declared.functions.Function.{Function}
@@ -10,7 +10,7 @@ use Rattle.pact_operators.specs.declared.operators.Op.{Op}
 
 -- ---- names
 
--- of the sources and operators, in text order: a source or operator is named by its place among these
+-- the names of the sources and operators, in text order; a source's or operator's number is its place in this list
 abbrev pub node_names : List Decl → List (List ℕ)
 node_names [] = []
 node_names (Source name file columns ∷ decls) = name ∷ node_names decls
@@ -24,7 +24,7 @@ function_names functions = map (λ f. f.name) functions
 abbrev pub is_among : List ℕ → List (List ℕ) → Bool
 is_among name names = list_any (λ n. bytes_eq name n) names
 
--- the place of the first that is the name, and the length of the list where none is
+-- the place of the first item equal to the name, or the length of the list if there is none
 abbrev pub place_among : List ℕ → List (List ℕ) → ℕ
 place_among name [] = 0
 place_among name (n ∷ names) = if bytes_eq name n then 0 else place_among name names + 1
@@ -81,7 +81,7 @@ inputs_read names Match left right = two_inputs (place_among left names) (place_
 inputs_read names Cross left right = two_inputs (place_among left names) (place_among right names)
 inputs_read names CoGroup left right = two_inputs (place_among left names) (place_among right names)
 
--- of each source and operator, in text order
+-- the inputs of each source and operator, in text order
 abbrev pub inputs_of : List (List ℕ) → List Decl → List Inputs
 inputs_of names [] = []
 inputs_of names (Source name file columns ∷ decls) = no_input ∷ inputs_of names decls

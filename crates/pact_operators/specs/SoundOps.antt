@@ -1,4 +1,4 @@
--- What operators are called for, and in which fields what they give may have values.
+-- The inputs that operators are called for, and the fields in which their outputs may have values.
 use Rattle.std.specs.Prelude.{◌≡◌, ◌⊎◌, ℕ, List}
 use Rattle.std.specs.List.{AllByRecursion}
 use Rattle.pact_record.specs.Widths.{AreWide}
@@ -17,7 +17,7 @@ use Rattle.pact_operators.specs.Allowed.{Bag}
 use Rattle.pact_operators.specs.PlanOps.{PlanOps}
 use Rattle.pact_operators.specs.Programs.{Owns}
 
--- what the operator of a number gives for an input
+-- what the operator of a number emits for an input
 abbrev pub called : PlanOps → ℕ → CallInput → Bag
 called o n (of_record row) = o.of_record n row
 called o n (of_pair left right) = o.of_pair n left right
@@ -32,7 +32,7 @@ function_kind Cross = kinds.Cross
 function_kind CoGroup = kinds.CoGroup
 function_kind kind = kinds.Map
 
--- keys alone
+-- a context without fields, only with these keys
 abbrev pub keyed_by : List ℕ → List ℕ → Ports
 keyed_by left_keys right_keys = record { left = λ k. ⊥; right = λ k. ⊥; left_keys = left_keys; right_keys = right_keys }
 
@@ -43,7 +43,8 @@ pub record IsCallOf (kind : OpKind) (left_keys right_keys : List ℕ) (x : CallI
   pub some : HasSome x
   pub keyed : AreKeyed (keyed_by left_keys right_keys) x
 
--- A source's rows are Null outside its own fields, and what a call gives is so outside its own and those where its input has a value.
+-- A source's rows are Null outside its own fields. What a call emits is Null outside the operator's own fields and
+-- those in which its input has a value.
 pub record AreOpsOf (fields : ℕ) (valids : List WithFields) (ops : List Op) (o : PlanOps) : Type 0 where
   pub rows : (n : ℕ) → o.kind n ≡ Source → AllByRecursion (IsWithin fields (Owns valids ops n)) (o.rows n)
   pub calls : (n : ℕ) (x : CallInput) → IsCallOf (o.kind n) (o.left_keys n) (o.right_keys n) x → AreWide fields (left_records x) → AreWide fields (right_records x)

@@ -1,4 +1,4 @@
-//! The fields that what an operator or source puts out, or reads, may have a value in.
+//! The fields in which the output or the input of an operator or source may have a value.
 
 ghost use Rattle.std.specs.Prelude.{◌≡◌, ◌<◌, ◌↔◌, ℕ, true, IsTrue, slice_get};
 ghost use Rattle.std.specs.List.{AllByRecursion};
@@ -75,8 +75,8 @@ pub fn attributes_of(functions: &[Valid], ops: &[Op], plan: &Plan) -> Fields
     }
 }
 
-/// The attributes of what the operator or source puts out: the columns of the sources and the named
-/// fields of the functions in the plan below it.
+/// The attributes of what the operator or source emits: the columns of the sources and the named fields of the
+/// functions in the plan below it.
 pub fn attrs(program: &Program, plan: &Plan, at: u32) -> Fields
     requires { has at plan.now ≡ true }
     ensures { (k : ℕ) → IsTrue (has_field result k) ↔ HasAttribute program.now.functions program.now.ops (subtree_of at plan.now) k }
@@ -111,8 +111,8 @@ fn keys_of(ops: &[Op], at: u32) -> (Keys, Keys)
     }
 }
 
-/// What the inputs of an operator may hold in the plan, and its keys: the attributes of what it reads. A source reads
-/// nothing.
+/// The context of an operator in the plan: what its inputs may hold, which is the attributes of what it reads, and its
+/// keys. A source reads nothing.
 pub fn context(program: &Program, plan: &Plan, at: u32) -> Context
     requires { has at plan.now ≡ true }
     ensures left { (k : ℕ) → IsTrue (has_field result.left k) ↔ HasLeftAttribute program.now.functions program.now.ops (subtree_of at plan.now) k }

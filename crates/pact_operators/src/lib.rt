@@ -1,9 +1,8 @@
 //! Programs, and what plans of them mean.
 //!
-//! In a `Program` names are resolved to numbers, and the plan is a tree; `program_check` makes it of a
-//! draft that keeps the rules of programs. `attrs` and `context` compute which fields records may have
-//! values in at a place of a plan; `insert` and `replace` change a program's operators. `specs/Allowed`
-//! says which records a plan allows.
+//! In a `Program` names are resolved to numbers, and the plan is a tree. `program_check` makes it from a draft that
+//! follows the rules of programs. `attrs` and `context` compute in which fields records may have values at a place of a
+//! plan. `insert` and `replace` change a program's operators. `specs/Allowed` defines which records a plan allows.
 #![tactic(auto)]
 
 pub mod attributes;

@@ -6,8 +6,8 @@ use pact_record::{Columns, Keys, OutOfMemory, Word};
 use std::alloc::Global;
 use tac_syntax::OpKind;
 
-/// A source or an operator. A source has no function and no keys; an operator has no file and no columns. What a
-/// kind doesn't have is empty or 0.
+/// A source or an operator. A source has no function and no keys; an operator has no file and no columns. A part that
+/// the kind doesn't have is empty or 0.
 #[derive(Debug, Drop)]
 pub struct Op {
     pub name: Word,
@@ -21,7 +21,7 @@ pub struct Op {
 }
 
 impl Op {
-    /// The same operator again. Want of memory is the only error.
+    /// A copy of the operator. Out of memory is the only error.
     pub fn copy(&self, alloc: Global) -> Result<Op, OutOfMemory>
         ensures { IfOk result (λ op. op ≡ self.now) }
     {
@@ -37,7 +37,7 @@ impl Op {
     }
 }
 
-/// The columns again. Running out of memory is the only error.
+/// A copy of the columns. Out of memory is the only error.
 pub fn copied_columns(alloc: Global, columns: &Columns) -> Result<Columns, OutOfMemory>
     ensures { IfOk result (λ copy. copy ≡ columns.now) }
 {

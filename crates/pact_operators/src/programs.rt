@@ -16,8 +16,8 @@ use std::alloc::Global;
 use std::marker::Model;
 use tac_syntax::{Valid, ValidList};
 
-/// A program that keeps every rule. Its functions, and its sources and operators, are named by
-/// their places among them. Those that were put in come last.
+/// A program that follows every rule. The number of a function, or of a source or operator, is its place in the list.
+/// Inserted ones come last.
 #[derive(Debug, Drop)]
 pub struct Program {
     version: u32,
@@ -113,7 +113,7 @@ impl Program {
         &self.functions()[op.function as usize]
     }
 
-    /// The plan as written, or the one in which operators were put in last.
+    /// The plan as written, or the plan with the inserted operators.
     pub fn plan(&self) -> &Plan
         ensures plan { result.now ≡ self.now.plan }
         ensures keeps { IsProgram self.now }
@@ -130,7 +130,7 @@ impl Program {
         &self.sink
     }
 
-    /// The same program again, for calls that take one. Want of memory is the only error.
+    /// A copy of the program, for calls that take one. Out of memory is the only error.
     pub fn copy(&self, alloc: Global) -> Result<Program, OutOfMemory>
         ensures { IfOk result (λ p. p ≡ self.now) }
     {
@@ -204,9 +204,9 @@ fn copied_ops(alloc: Global, ops: &[Op]) -> Result<Vec<Op>, OutOfMemory>
     Ok(copy)
 }
 
-/// The program with the operator, which calls the function, on the edge from `below` to its consumer. It is fed
-/// Forward and ships as that edge did. Its number comes after all others, and the number of the function too. Want of
-/// memory is the only error, and the program is lost then: give a copy.
+/// The program with the operator, which calls the function, on the edge from `below` to its consumer. The edge to it
+/// has Forward, and the edge from it has the ship that the edge had. Its number comes after all others, and so does the
+/// function's. Out of memory is the only error, and the program is lost then: pass a copy.
 pub fn insert(
     program: Program,
     physical: Physical,
@@ -227,8 +227,8 @@ pub fn insert(
     Ok((grown, moved))
 }
 
-/// The program in which the operator calls the function, which comes last. Every plan of it stays one. Want of memory is
-/// the only error, and the program is lost then.
+/// The program in which the operator calls the function, which comes last. Every plan of the program stays one. Out of
+/// memory is the only error, and the program is lost then.
 pub fn replace(program: Program, at: u32, function: Valid) -> Result<Program, OutOfMemory>
     requires { CanReplace program at function }
     ensures value { IfOk result (λ p. p ≡ replaced_in program at function) }

@@ -1,4 +1,4 @@
--- A search for the first file of a name.
+-- A search for the first file with a name.
 use Rattle.std.proofs.Common.{◌≡◌, ◌<◌, ℕ, zero, suc, true, false, List, [], ◌∷◌, length, drop, get_or, Some, bytes_eq, refl, arith}
 use Rattle.pact_outside.specs.declared.files.NamedFile.{NamedFile}
 use Rattle.pact_outside.specs.Outside.{file_named}

@@ -10,8 +10,8 @@ use std::marker::Model;
 use std::rt::Files;
 use std::{fs, str};
 
-/// A feed from the system's files. It opens a name that is UTF-8, as a path, and tells nothing of
-/// what a file holds.
+/// A feed from the system's files. It opens a name that is UTF-8 as a path. Its model doesn't include the contents of
+/// files.
 #[derive(Drop)]
 pub struct FileFeed<'a, R: Files> {
     rt: &'a R,
@@ -49,7 +49,7 @@ impl<'a, R: Files> FileFeed<'a, R> {
     }
 }
 
-// The next bytes of a reader, at the front of `buf`: none exactly at its end.
+// Reads the next bytes into the beginning of `buf`: none exactly at the reader's end.
 fn read_next<S: Read>(from: &mut S, buf: &mut [u8]) -> Result<usize, Failed>
     requires { 0 < length buf.old }
     ensures fits { IfOk result (λ count. count ≤ length buf.new) }

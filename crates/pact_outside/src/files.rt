@@ -1,6 +1,6 @@
 use pact_record::Bytes;
 
-/// A file's name and what it holds.
+/// A file's name and its contents.
 #[derive(Debug, Drop)]
 pub struct NamedFile {
     pub name: Bytes,

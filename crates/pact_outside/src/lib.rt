@@ -1,11 +1,11 @@
 //! Where bytes come from and where they go.
 //!
-//! A `Feed` opens files by name and reads them in pieces; a `Sink` takes bytes. Both say by ghost
-//! members what they hold, where they can tell, and how often they failed, so that a caller's
-//! contract can speak of the outside. `MemFeed` and `MemSink` tell what they hold, and fail at the
-//! calls that a test lists. `FileFeed` and `StreamSink` adapt real files and writers, and tell a
-//! caller no more than their counts and the name opened last. What a writer holds grows by exactly
-//! what `StreamSink` told as taken; of a file that is said of the call below `FileFeed` that reads it.
+//! A `Feed` opens files by name and reads them in pieces; a `Sink` takes bytes. Ghost members of both model their
+//! contents, if these are known, and how often they failed, so that a caller's contract can speak of the outside.
+//! `MemFeed` and `MemSink` have known contents, and fail at the calls that a test lists. `FileFeed` and `StreamSink`
+//! adapt real files and writers; a caller knows only their counts and the name opened last. The contents of a writer
+//! grow by exactly the bytes that `StreamSink` reports as taken. For files, the corresponding clause is that of the
+//! private call with which `FileFeed` reads.
 #![tactic(auto)]
 
 pub mod feeds;
@@ -26,6 +26,6 @@ pub use mem_sink::MemSink;
 pub use sinks::Sink;
 pub use stream_sink::StreamSink;
 
-/// A feed or a sink failed. Its count of faults says how often it did.
+/// A feed or a sink failed. Its count of faults says how often.
 #[derive(Clone, Copy, Debug, PartialEq, Eq)]
 pub struct Failed;

@@ -6,7 +6,7 @@ use crate::NamedFile;
 use std::alloc::{AllocFailed, Global};
 use std::marker::Model;
 
-/// Files in memory, in a fixed order. Of two files of one name the first counts.
+/// Files in memory, in a fixed order. Of two files with the same name the first counts.
 #[derive(Debug, Drop)]
 pub struct MemFiles {
     held: Vec<NamedFile>,
@@ -57,7 +57,7 @@ impl MemFiles {
         &self.held[place]
     }
 
-    /// The place of the first file of that name.
+    /// The place of the first file with that name.
     pub fn find(&self, name: &[u8]) -> Option<usize>
         ensures within { IfSome result (λ place. place < length self.now) }
         ensures first { option_map (bytes_at self.now) result ≡ file_named self.now name.now }

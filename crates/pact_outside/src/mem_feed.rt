@@ -13,8 +13,8 @@ struct Place {
     at: usize,
 }
 
-/// A feed from memory. It gives at most `most` bytes at a time, and fails at the calls that are
-/// listed: opens and reads are counted together, from 1.
+/// A feed from memory. It returns at most `most` bytes at a time, and fails at the calls that are listed; opens and
+/// reads are counted together, from 1.
 #[derive(Debug, Drop)]
 pub struct MemFeed {
     files: MemFiles,

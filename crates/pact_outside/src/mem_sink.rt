@@ -7,8 +7,8 @@ use pact_record::OutOfMemory;
 use std::alloc::Global;
 use std::marker::Model;
 
-/// A sink into memory. It takes at most `most` bytes at a time and none without room, and fails at
-/// the calls that are listed, counted from 1. A write takes no memory: `reserve` makes the room.
+/// A sink into memory. It takes at most `most` bytes at a time, and none if there is no room. It fails at the calls
+/// that are listed, counted from 1. A write takes no memory: `reserve` makes the room.
 #[derive(Debug, Drop)]
 pub struct MemSink {
     held: Vec<u8>,
@@ -31,7 +31,7 @@ impl Model for MemSink {
 }
 
 impl MemSink {
-    /// It allocates nothing, and so never fails.
+    /// It allocates nothing, so it never fails.
     pub fn new(alloc: Global, most: usize, fail: FailList) -> Result<MemSink, OutOfMemory>
         requires { 0 < most }
         ensures { IsOkAnd result (λ sink. sink ≡ new_sink most fail) }

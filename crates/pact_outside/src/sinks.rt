@@ -5,14 +5,13 @@ use crate::Failed;
 
 /// Where bytes go.
 pub trait Sink {
-    /// The bytes taken, where they are told.
+    /// The bytes taken, if they are known.
     ghost taken: { Self → Option (List ℕ) };
 
-    /// How often a call failed. It never falls, and stands still at its last value.
+    /// How often a call failed. It never decreases, and it stays at its greatest value.
     ghost faults: { Self → ℕ };
 
-    /// Takes a front of the piece, at least one byte, and tells its length. A call that failed
-    /// took nothing.
+    /// Takes a prefix of the piece, at least one byte, and returns its length. A call that failed took nothing.
     fn write(&mut self, piece: &[u8]) -> Result<usize, Failed>
         requires { 0 < length piece.now }
         ensures takes { IfOk result (λ count. Takes (taken self.old) (taken self.new) piece.now count) }

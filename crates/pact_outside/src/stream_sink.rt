@@ -6,11 +6,11 @@ ghost use Rattle.pact_outside.specs.Adapters.{faults_after};
 use crate::{Failed, Sink};
 use std::io::Write;
 
-/// A sink into a writer, such as the standard output. As a sink it tells nothing of what was taken;
-/// `write` says of a writer that tells its bytes that it holds them.
+/// A sink into a writer, such as standard output. As a `Sink` it has no known contents. For a writer with known
+/// contents, `write` ensures that they grow by the bytes taken.
 ///
-/// Each write is flushed, so that a writer with a buffer keeps nothing back where the program ends;
-/// where the flush fails, its bytes may be out or not.
+/// Each write is flushed, so that a writer with a buffer holds nothing back when the program ends. If the flush fails,
+/// the bytes may have been written or not.
 #[derive(Drop)]
 pub struct StreamSink<W: Write> {
     to: W,
@@ -54,7 +54,7 @@ impl<W: Write> Sink for StreamSink<W> {
         ensures cause { HasCause self.old.faults self.new.faults result }
     {
         if let Ok(count) = self.to.write(piece) {
-            // A writer that took nothing would be asked for ever.
+            // A writer that takes nothing would be called forever.
             if count > 0 && self.to.flush().is_ok() {
                 return Ok(count);
             }

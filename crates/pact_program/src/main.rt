@@ -11,7 +11,7 @@ use std::thread::Threads;
 use std::{env, io};
 use worker_gate::OpenGate;
 
-// The command line's words, without the program's own name. Words that are no text are none.
+// The command line's words, without the program's own name. If the words aren't valid text, there are none.
 fn read_words<R: Env + AllocGlobal>(rt: &R) -> Result<Vec<String>, OutOfMemory> {
     match env::args(rt) {
         Ok(words) => words.skip(1).collect(rt.alloc()),
@@ -45,7 +45,7 @@ fn main(rt: HostRuntime) -> ExitCode {
     match run(&rt, rt.stdout(), rt.stderr()) {
         Ok(status) => ExitCode::from(status),
         Err(_) => {
-            // where the line can't be written, the status alone tells it
+            // if the line can't be written, only the status reports it
             let _ = eprintln!(rt; "out of memory");
             ExitCode::from(1)
         }

@@ -1,4 +1,4 @@
--- The bytes that a text keeps, wherever it keeps them. No public clause cites this module.
+-- The bytes of a text, wherever they are stored. No public clause cites this module.
 use Rattle.std.specs.Prelude.{ℕ, List}
 use Rattle.pact_record.specs.declared.text_storage.Storage.{Storage}
 use Rattle.pact_record.specs.declared.text_storage.Storage.TheVariants.{InPlace, Small, Medium, Large, Longer}

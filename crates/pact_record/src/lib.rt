@@ -1,9 +1,9 @@
-//! Values, records and byte strings: what every other crate speaks of.
+//! Values, records and byte strings, which every other crate uses.
 //!
-//! A value is Null, a whole number or a text; `apply1` and `apply2` are the operations on values.
-//! A record is a list of values, one for each field of the program, so a field number is a place
-//! in that list. `Fields` is a set of field numbers, `Keys` the list of those of a key, `Columns` those to which a
-//! source's columns go. `Bytes` is a text of any length, `Word` a short one, such as a name.
+//! A value is Null, a whole number or a text; `apply1` and `apply2` are the operations on values. A record is a list of
+//! values, one for each field of the program, so a field number is a place in that list. `Fields` is a set of field
+//! numbers, and `Keys` is a list of key fields. `Columns` are the fields to which a source's columns go. `Bytes` is a
+//! text of any length, `Word` a short one, such as a name.
 #![tactic(auto)]
 
 pub mod bytes;

@@ -6,10 +6,12 @@ use crate::OutOfMemory;
 use std::alloc::Global;
 use std::marker::Model;
 
-// A `Storage` takes 16 bytes, as much as a tag and a pointer do. Beside the tag and the count, that leaves room for 14 bytes of text.
+// A `Storage` takes 16 bytes, as many as a tag and a pointer. Besides the tag and the count, that leaves room for 14
+// bytes of text.
 const IN_PLACE: usize = 14;
 
-// On the heap the count takes one byte more, and the allocator eight. So these lengths fill blocks of 48, 128 and 256 bytes.
+// On the heap the count takes one more byte, and the allocator eight. So these lengths fill blocks of 48, 128 and 256
+// bytes.
 const SMALL: usize = 39;
 
 const MEDIUM: usize = 119;
@@ -66,7 +68,8 @@ impl<const N: usize> Cells<N> {
         joined
     }
 
-    // `joined` on the heap. It fills the block itself, since cells that are filled first and then moved there are copied twice.
+    // `joined` on the heap. It fills the block itself, since cells that are filled first and then moved there are
+    // copied twice.
     fn boxed(alloc: Global, left: &[u8], right: &[u8]) -> Result<Box<Cells<N>>, OutOfMemory>
         requires room { length left.now + length right.now ≤ N }
         requires counted { N ≤ 255 }
@@ -94,8 +97,8 @@ impl<const N: usize> Cells<N> {
     }
 }
 
-/// The bytes of a text: in the value itself if they are few, and otherwise on the heap. Up to `LARGE` bytes take one block of memory, and more take
-/// two.
+/// The bytes of a text: in the value itself if they are few, and otherwise on the heap. Up to `LARGE` bytes take one
+/// block of memory, more take two.
 #[derive(Debug, Drop)]
 pub(crate) enum Storage {
     InPlace(Cells<IN_PLACE>),

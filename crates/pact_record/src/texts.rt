@@ -8,7 +8,7 @@ use std::alloc::Global;
 use std::marker::Model;
 use std::str;
 
-/// A text has at most so many bytes.
+/// A text has at most this number of bytes.
 pub const MAX_TEXT: usize = 4096;
 
 /// A short text: UTF-8 of at most `MAX_TEXT` bytes.
@@ -17,12 +17,12 @@ pub struct Text {
     storage: Storage,
 }
 
-/// Why bytes are no text.
+/// Why bytes aren't a text.
 #[derive(Clone, Copy, Debug, PartialEq, Eq)]
 pub enum NotText {
     /// They aren't UTF-8.
     Utf8,
-    /// They are UTF-8, and too many.
+    /// They are UTF-8, but too many.
     Long,
     Memory,
 }
@@ -83,7 +83,7 @@ impl Text {
         })
     }
 
-    /// The bytes of this text and then those of the other, where they aren't too many.
+    /// The bytes of this text followed by those of the other, if they aren't too many.
     pub(crate) fn concatenated(
         &self,
         alloc: Global,

@@ -20,7 +20,8 @@ pub struct Outcome {
 }
 
 impl Outcome {
-    /// Whether it is this status, with these bytes written and told. The feed fails exactly with status 3.
+    /// Whether the call ended with this status and wrote these bytes to both sinks. The feed must have failed exactly
+    /// if the status is 3.
     pub fn is(&self, status: u8, out: &str, err: &str) -> bool {
         self.status == status
             && self.out.taken() == out.as_bytes()
@@ -48,7 +49,7 @@ pub fn fail_at(alloc: Global, call: u64) -> Result<FailList, OutOfMemory> {
     Ok(fail)
 }
 
-/// A feed that writes down how it is called.
+/// A feed that logs its calls.
 #[derive(Drop)]
 pub struct NotingFeed {
     pub feed: MemFeed,
@@ -56,7 +57,7 @@ pub struct NotingFeed {
     pub calls: Bytes,
 }
 
-// A call that can't be written down leaves a text that no test expects.
+// A call that can't be logged leaves a text that no test expects.
 fn note(calls: &mut Bytes, what: &[u8]) {
     let _ = calls.extend_from_slice(what);
 }
@@ -76,14 +77,14 @@ impl Feed for NotingFeed {
     }
 }
 
-/// A sink that takes at most four bytes at a time, and fails at the call of this number; 0 for none.
+/// A sink that takes at most four bytes at a time, and fails at the call of this number; 0 means never.
 pub fn sink(alloc: Global, fail: u64) -> Result<MemSink, OutOfMemory> {
     let mut sink = MemSink::new(alloc, 4, fail_at(alloc, fail)?)?;
     sink.reserve(65536)?;
     Ok(sink)
 }
 
-/// The status of the call on threads, at a gate that is open, or of the one alone.
+/// The status of `pact_main`, with an open gate, or of `pact_alone`.
 pub fn answer<R: Threads + Wait + Sync, F: Feed, O: Sink, E: Sink>(
     rt: &R,
     on_threads: bool,
@@ -99,7 +100,8 @@ pub fn answer<R: Threads + Wait + Sync, F: Feed, O: Sink, E: Sink>(
     pact_alone(alloc, words, feed, out, err)
 }
 
-/// The words over these files by either call, with the calls of the feed and of the two sinks that fail; 0 for none.
+/// Calls `pact_main` or `pact_alone` with these words and files. `fails` has the numbers of the calls of the feed, of
+/// `out` and of `err` that fail; 0 means none.
 pub fn call<R: Threads + Wait + Sync>(
     rt: &R,
     on_threads: bool,

@@ -1,7 +1,7 @@
-//! Tests of calls over files in memory, of streams and of records: how files are read, and what is left where a read or a write fails. What a user of the program can see is for
-//! `examples/check`.
+//! Tests of calls over files in memory, of streams and of records: how files are read, and what is left if a read or a
+//! write fails. What a user of the program can see is tested by `tests/check`.
 //!
-//! A crate with tests is proved twice, with them and without, so the tests stand apart.
+//! A crate with tests is proved twice, with them and without, so the tests have a crate of their own.
 #![tactic(auto)]
 
 #[cfg(test)]

@@ -36,7 +36,7 @@ fn two_keys(first: u32, second: u32) -> Keys
     keys
 }
 
-// The worker, of four, that a record with these two values goes to by both, by the first, and by the second.
+// The worker, of four, that a record with these two values goes to: by both fields, by the first, and by the second.
 fn targets(rt: &(impl Abort + AllocGlobal), first: Value, second: Value) -> Result<[u32; 3], Fail> {
     let row = pair(rt.alloc(), first, second)?;
     Ok([

@@ -22,8 +22,9 @@ match m both l r by 0 1 = 3 4
 sink m 2 5
 ";
 
-// A file is read until there is none: its bytes, and its end. Nothing is opened behind a program or a row that is refused, and no source for `sets`. So it
-// is with threads too, of which there are four where the words don't tell.
+// A file takes two reads: one for its bytes, and one that finds its end. No file is opened after a refused program or
+// row, and no source's file for `sets`. The same holds with threads, of which there are four unless the words ask for
+// another number.
 #[test]
 fn files_are_read_once_in_order(rt: HostRuntime) -> Result<(), Fail> {
     let alloc = rt.alloc();
@@ -68,7 +69,7 @@ fn files_are_read_once_in_order(rt: HostRuntime) -> Result<(), Fail> {
     Ok(())
 }
 
-// Neither reads a file, and a drill tells the same whatever it runs on.
+// Neither command reads a file, and a drill prints the same text with threads and without.
 #[test]
 fn generated_rows_are_read_from_no_file(rt: HostRuntime) -> Result<(), Fail> {
     let alloc = rt.alloc();
@@ -112,7 +113,8 @@ map m two s
 sink m 0 1
 ";
 
-// The words over TWICE as `p.pact` and two rows, with the calls of the feed and of the two sinks that fail; 0 for none.
+// Calls over TWICE as `p.pact` and two rows. `fails` has the numbers of the calls of the feed and of the two sinks that
+// fail; 0 means none.
 fn faulty<R: Threads + Wait + Sync>(
     rt: &R,
     on_threads: bool,
@@ -126,8 +128,8 @@ fn faulty<R: Threads + Wait + Sync>(
     call(rt, on_threads, alloc, words, files, fails)
 }
 
-// A file is opened, and read in pieces until there is none: three calls a file here. There is an answer though nothing can be told, and what
-// can't be told isn't tried again.
+// A file is opened, and read in pieces until none is left: three calls a file here. The call returns its status even if
+// it can't print anything. What can't be printed isn't tried again.
 #[test]
 fn faults_are_told(rt: HostRuntime) -> Result<(), Fail> {
     for (on_threads, program, fails, status, written, line) in [
@@ -148,7 +150,8 @@ fn faults_are_told(rt: HostRuntime) -> Result<(), Fail> {
     Ok(())
 }
 
-// Whatever a sink takes at a time, the rows and then the counts are written whole; where the counts aren't, that is told.
+// The rows and then the counts are written whole, though a sink takes few bytes at a time. If the counts can't be, that
+// is reported.
 #[test]
 fn counts_are_told(rt: HostRuntime) -> Result<(), Fail> {
     let alloc = rt.alloc();
@@ -171,8 +174,8 @@ fn counts_are_told(rt: HostRuntime) -> Result<(), Fail> {
     Ok(())
 }
 
-// A file is opened, and read in pieces of 65,536 bytes; its limit takes 16 of them, and one byte more
-// shows that it is too long: 18 calls.
+// A file is opened, and read in pieces of 65,536 bytes. Its limit takes 16 of them, and one more byte shows that it is
+// too long: 18 calls.
 #[test]
 fn programs_have_a_limit(rt: HostRuntime) -> Result<(), Fail> {
     let alloc = rt.alloc();
@@ -202,7 +205,8 @@ source s s.csv text:0
 sink s 0
 ";
 
-// A text is written in pieces of at most 65,536 bytes, whatever the sink would take: here seventeen rows of 4,096 bytes with the line feed.
+// A text is written in pieces of at most 65,536 bytes, even if the sink would take more. Here it is seventeen rows of
+// 4,096 bytes each, with the line feed.
 #[test]
 fn texts_are_written_in_pieces(rt: HostRuntime) -> Result<(), Fail> {
     let alloc = rt.alloc();
@@ -244,7 +248,7 @@ reduce r sum s by 0
 sink r 0 2
 ";
 
-// The run of SUM in which these calls of the feed and of the two sinks fail; 0 for none.
+// The run of SUM in which these calls of the feed and of the two sinks fail; 0 means none.
 fn sum_with_faults<R: Threads + Wait + Sync>(
     rt: &R,
     on_threads: bool,
@@ -260,8 +264,8 @@ fn sum_with_faults<R: Threads + Wait + Sync>(
 
 const SUMS: &[u8] = b"1,12\n2,-3\n";
 
-// Whether each of these calls of the feed, of out or of err fails with that status, and what was written is a front of
-// the rows with so many bytes; and whether later ones aren't made.
+// Whether each of these calls of the feed, of `out` or of `err` fails with that status, and a prefix of the rows was
+// written, of a length from `least` to `most` bytes. Also whether later calls aren't made.
 fn each_call_fails<R: Threads + Wait + Sync>(
     rt: &R,
     alloc: Global,
@@ -290,8 +294,8 @@ fn each_call_fails<R: Threads + Wait + Sync>(
     Ok(true)
 }
 
-// Of the feed and of the two sinks each call fails in turn, up to the run in which none does: what was written is nothing,
-// then a front of the rows, then all of them. If no counts are asked for, nothing is written on err.
+// Each call of the feed and of the two sinks fails in turn, up to the run in which none does. What was written is
+// nothing, then a prefix of the rows, then all of them. If no counts are asked for, nothing is written to `err`.
 #[test]
 fn each_call_outside_fails_in_turn(rt: HostRuntime) -> Result<(), Fail> {
     let alloc = rt.alloc();
@@ -318,8 +322,8 @@ fn each_call_outside_fails_in_turn(rt: HostRuntime) -> Result<(), Fail> {
     Ok(())
 }
 
-// Each of two workers waits at its first event until the other has come to its own, so there is a thread for each. A worker ends its part of the source
-// and of the Reduce.
+// Each of two workers waits at its first event until the other has come to its own, so there is a thread for each. Each
+// worker ends its part of the source and of the Reduce.
 #[test]
 fn two_workers_meet(rt: HostRuntime) -> Result<(), Fail> {
     let alloc = rt.alloc();

@@ -45,7 +45,7 @@ fn writers_take_what_is_written(rt: HostRuntime) -> Result<(), Fail> {
     Ok(())
 }
 
-// A writer that holds nothing back, and counts how often it is flushed. The flush of that number fails.
+// A writer without a buffer that counts how often it is flushed. The flush of that number fails.
 #[derive(Debug, Drop)]
 struct Flushed {
     flushes: u64,

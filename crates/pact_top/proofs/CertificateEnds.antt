@@ -5,9 +5,10 @@ use Rattle.swap_certificate.specs.declared.certificates.NotCertificate.{NotCerti
 use Rattle.swap_certificate.specs.declared.certificates.NotCertificate.TheVariants.{Shape, Memory}
 use Rattle.swap_certificate.specs.FaultTexts.{not_certificate_text}
 use Rattle.swap_certificate.specs.Shape.{IsCertificateText}
-use Rattle.pact_top.specs.declared.refusals.Refusal.{Refusal}
-use Rattle.pact_top.specs.declared.refusals.Refusal.TheVariants.{OutOfMemory, Usage, CannotRead, CannotWrite, Decided}
-use Rattle.pact_top.specs.Refusal.{CertificateUnread, Decides, Says}
+use Rattle.pact_load.specs.declared.refusals.Refusal.{Refusal}
+use Rattle.pact_load.specs.declared.refusals.Refusal.TheVariants.{OutOfMemory, Usage, CannotRead, CannotWrite, Decided}
+use Rattle.pact_load.specs.Answers.{Decides, Says}
+use Rattle.pact_top.specs.Refusal.{CertificateUnread}
 use Rattle.pact_top.specs.Work.{certificate}
 
 module _ (text : List ℕ) where

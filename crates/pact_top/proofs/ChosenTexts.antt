@@ -8,8 +8,8 @@ use Rattle.swap_certificate.specs.Checks.{Checks, certificate_of}
 use Rattle.swap_certificate.specs.Shape.{IsCertificateText, certificate_data}
 use Rattle.pact_top.specs.CommandTexts.{AreCounts, AreToldCounts, IsCertificateLine, IsChoice, IsDerived, IsOutcome}
 use Rattle.pact_top.specs.declared.choosing.Choice.{Choice}
-use Rattle.pact_top.specs.declared.loaded.Loaded.{Loaded}
-use Rattle.pact_top.specs.declared.pruned_runs.RunOutcome.{RunOutcome}
+use Rattle.pact_load.specs.declared.loaded.Loaded.{Loaded}
+use Rattle.pact_top.specs.declared.rewriting.RunOutcome.{RunOutcome}
 
 module _ (l : Loaded) (workers plans : ℕ) (choice : Choice) where
   pub told-AreCounts : (prune combine : Bool) (r : RunOutcome) (is : IsOutcome l workers choice.plan choice.chosen.layout prune combine r) (asked : Bool) (told : Option (List ℕ))

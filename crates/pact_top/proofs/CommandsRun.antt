@@ -1,65 +1,36 @@
 -- The commands, from the words to the texts.
 use Rattle.std.proofs.Common.{◌≡◌, inl, inr, ℕ, Bool, true, false, List, Option, Some, None, Result, Ok, Err, refl, sym, subst, arith}
 use Rattle.pact_operators.specs.Allowed.{Bag}
-use Rattle.pact_operators.specs.Inputs.{AreInputsOf}
-use Rattle.pact_operators.specs.Programs.{AreNames, IsProgram, ProgramData}
+use Rattle.pact_operators.specs.Programs.{IsProgram, ProgramData}
 use Rattle.pact_outside.specs.declared.files.NamedFile.{NamedFile}
 use Rattle.pact_outside.specs.Outside.{Feeding}
 use Rattle.plan_trees.specs.Plans.{PlanTree}
 use Rattle.swap_certificate.specs.declared.certificates.Certificate.{Certificate}
 use Rattle.pact_top.specs.CommandTexts.{Accepted, AllowsWritten, AreCounts, AreTextsOf, IsAcceptance, IsAnswerOf, IsOutAlone, Ready, to_accept, to_analyse, to_evaluate, to_justify, to_make, to_repeat, to_show, to_sum_up}
 use Rattle.bag_lines.specs.Lines.{AreLines}
-use Rattle.pact_top.specs.declared.loaded.Loaded.{Loaded}
-use Rattle.pact_top.specs.declared.refusals.Refusal.{Refusal}
-use Rattle.pact_top.specs.declared.refusals.Refusal.TheVariants.{OutOfMemory, Usage, CannotRead, CannotWrite, Decided}
+use Rattle.pact_load.specs.declared.loaded.Loaded.{Loaded}
+use Rattle.pact_load.specs.declared.refusals.Refusal.{Refusal}
+use Rattle.pact_load.specs.declared.refusals.Refusal.TheVariants.{OutOfMemory, Usage, CannotRead, CannotWrite, Decided}
 use Rattle.pact_top.specs.declared.texts.Texts.{Texts}
-use Rattle.pact_top.specs.Refusal.{Answers, AskForMore, Comes, ComesTo, Decides, IsAnswered, IsRefused, IsTold, IsUsageTold}
-use Rattle.pact_top.specs.Stages.{Reading, Stage, and_then, give, gives, stops}
-use Rattle.pact_top.specs.RefusalLines.{usage_line}
-use Rattle.pact_top.specs.Work.{accepted, at_once, certificate_file, command, loaded, program_file, ready_for, rechecked, repeated, sources, texts_for, work}
-use Rattle.pact_words.specs.Words.{AreRefused, Asked, IsAsked, to_certify, to_check, to_drill, to_generate, to_iterate, to_plan, to_run, to_tell_sets}
-use Rattle.pact_top.proofs.AnswersOfStages.{comes_decided, comes_err, comes_then, decides_err, decides_then}
-use Rattle.pact_top.proofs.DecidedStages.{IsKnown, file-AreNames, work_known}
+use Rattle.pact_load.specs.Answers.{Answers, Comes, ComesTo, Decides}
+use Rattle.pact_top.specs.Refusal.{AnswersWords, AskForMore, refusal_of, IsAnswered, IsRefused, IsTold, IsUsageTold}
+use Rattle.pact_load.specs.Stages.{Reading, Stage, and_then, give, gives, stops}
+use Rattle.pact_load.specs.RefusalLines.{usage_line}
+use Rattle.pact_load.specs.Loading.{loaded, program_file}
+use Rattle.pact_top.specs.Work.{accepted, at_once, certificate_file, command, ready_for, rechecked, repeated, texts_for, work}
+use Rattle.pact_words.specs.declared.commands.Command.{Command}
+use Rattle.pact_words.specs.declared.commands.Refused.{Refused}
+use Rattle.pact_words.specs.declared.commands.Refused.TheVariants as refuseds
+use Rattle.pact_words.specs.Words.{Answers as AreAnswersTo, AreRefused, Asked, IsAsked, to_certify, to_check, to_drill, to_generate, to_iterate, to_plan, to_run, to_tell_sets}
+use Rattle.pact_load.proofs.AnswersOfStages.{comes_in_err, comes_decided, comes_err, comes_then, decides_err, decides_then}
+use Rattle.pact_top.proofs.DecidedStages.{IsKnown, work_known}
 use Rattle.pact_top.proofs.OnlyBag.{one_text, only_bag}
 use Rattle.pact_top.proofs.SourceNames.{work_fails}
-use Rattle.pact_top.proofs.Sources.{are_inputs}
-use Rattle.pact_top.proofs.StageLaws.{gave_then}
-
--- ---- a program and its rows
-
-pub load_program : {before now : Feeding} (name : List ℕ) (r : Refusal) → Comes (λ f. program_file f name) before now (Err r) → Comes (λ f. loaded f name) before now (Err r)
-load_program name r h = comes_err (λ f p. and_then (sources p f) (λ inputs. give (λ all. all ≡ record { program = p; inputs = inputs }))) r h
-
-pub load_inputs : {before mid now : Feeding} (name : List ℕ) (p : ProgramData) (r : Refusal) → Comes (λ f. program_file f name) before mid (Ok p)
-    → Comes (sources p) mid now (Err r) → Comes (λ f. loaded f name) before now (Err r)
-load_inputs name p r h g =
-    comes_then (λ f q. and_then (sources q f) (λ inputs. give (λ all. all ≡ record { program = q; inputs = inputs }))) p (Err r) h (comes_err (λ f inputs. give (λ all. all ≡ record { program = p; inputs = inputs })) r g)
-
-pub load_both : {before mid now : Feeding} (name : List ℕ) (p : ProgramData) (inputs : List Bag) → Comes (λ f. program_file f name) before mid (Ok p) → Comes (sources p) mid now (Ok inputs)
-    → Comes (λ f. loaded f name) before now (Ok (record { program = p; inputs = inputs }))
-load_both name p inputs h g =
-    let l : Loaded = record { program = p; inputs = inputs } in
-    comes_then (λ f q. and_then (sources q f) (λ read. give (λ all. all ≡ record { program = q; inputs = read }))) p (Ok l) h
-    (comes_decided {s = sources p} (λ read. give (λ all. all ≡ record { program = p; inputs = read })) inputs (Ok l) g (refl, refl))
-
--- what was loaded has the rows of its sources, and the names of its declarations
-pub record IsLoaded (l : Loaded) : Type 0 where
-  pub inputs : AreInputsOf l.program l.inputs
-  pub names : AreNames l.program.ops
-
-loaded_is : (files : Option (List NamedFile)) (name : List ℕ) (l : Loaded) (r : List Reading) → (loaded files name).Ends r (gives l) → IsLoaded l
-loaded_is files name l r h =
-    let made = gave_then (program_file files name) (λ p. and_then (sources p files) (λ inputs. give (λ all. all ≡ record { program = p; inputs = inputs }))) r l h in
-    let p = made.value in
-    let read = gave_then (sources p files) (λ inputs. give (λ all. all ≡ record { program = p; inputs = inputs })) made.later l made.next in
-    subst IsLoaded (sym read.next.1) (record { inputs = are_inputs p files read.value read.front read.first; names = file-AreNames files name p made.front made.first })
-
-pub is_loaded : {before now : Feeding} (name : List ℕ) (l : Loaded) → Comes (λ f. loaded f name) before now (Ok l) → IsLoaded l
-is_loaded {before} name l h = loaded_is before.files name l h.told.readings h.told.ends
+use Rattle.pact_load.proofs.StageLaws.{gave_then}
 
 -- ---- what is made of what was read
 
--- the order of work of such a command
+-- the order of work of a command that makes its texts from what it has read
 abbrev made : {X : Type 0} → (Option (List NamedFile) → Stage X) → (X → Ready) → Option (List NamedFile) → Stage Ready
 made stage make files = and_then (stage files) (λ x. give (λ r. r ≡ make x))
 
@@ -75,7 +46,7 @@ module _ {X : Type 0} (stage : Option (List NamedFile) → Stage X) (make : X �
 
 -- ---- run
 
--- a bag that the program as written allows, its lines, and the counts of the same evaluation where they are asked for
+-- a bag that the program as written allows, its lines, and the counts of the same evaluation if they are asked for
 pub is_answer : (l : Loaded) (workers plans : ℕ) (counts prune combine : Bool) (t : Texts) (bag : Bag) → IsProgram l.program → AllowsWritten l bag → AreLines l.program.sink bag t.out
     → AreCounts l workers plans prune combine bag counts t.told → IsAnswerOf l workers plans counts prune combine t
 is_answer l workers plans counts prune combine t bag program allowed lines counted =
@@ -90,7 +61,7 @@ is_answer l workers plans counts prune combine t bag program allowed lines count
 
 -- ---- check
 
--- what stands behind the certificate, and behind the program
+-- the stages after the certificate was read, and those after the program was read
 abbrev behind_certificate : ProgramData → Certificate → Stage Accepted
 behind_certificate p c = and_then (rechecked p c) (λ plan. give (λ all. all ≡ record { program = p; certificate = c; plan = plan }))
 
@@ -98,7 +69,7 @@ abbrev behind_program : List ℕ → Option (List NamedFile) → ProgramData →
 behind_program other files p = and_then (certificate_file files other) (behind_certificate p)
 
 module _ {before now : Feeding} (name other : List ℕ) where
-  -- a refusal of the command's own stages is one of the command
+  -- a refusal of the command's own stages is a refusal of the command
   to_check_err : (r : Refusal) → Comes (λ f. accepted f name other) before now (Err r) → Comes (λ f. texts_for f (to_check name other)) before now (Err r)
   to_check_err r h =
       comes_err {A = Ready} {s = λ f. ready_for f (to_check name other)} (λ f y. give (AreTextsOf y)) r (comes_err {A = Accepted} {s = λ f. accepted f name other} (λ f a. give (λ y. y ≡ to_accept a)) r h)
@@ -131,7 +102,7 @@ module _ {before now : Feeding} (name other : List ℕ) where
 
 -- ---- gen and drill
 
--- what is made of no file
+-- what is made without reading a file
 pub made_alone : (y : Ready) (texts : Texts) → AreTextsOf y texts → Decides (at_once y) (Ok texts)
 made_alone y texts are = decides_then (give (λ r. r ≡ y)) (λ r. give (AreTextsOf r)) y (Ok texts) (refl, refl) (refl, are)
 
@@ -153,9 +124,9 @@ refused_so words before now (CannotRead name) usage h = (h, (work_fails words be
 refused_so words before now CannotWrite usage h = absurd h
 refused_so words before now (Decided status line) usage h = stop_refused words before now status line usage h ((work_known words before.files).so status line h.readings h.ends)
 
--- ---- more is told only where that is asked for
+-- ---- a text for standard error only if the words ask for it
 
--- what was read is for a command that tells more
+-- what was read is for a command with a text for standard error
 abbrev IsForMore : Ready → Type 0
 IsForMore (to_evaluate l workers plans counts prune combine) = counts ≡ true
 IsForMore (to_repeat r rounds stable) = stable ≡ true
@@ -173,11 +144,11 @@ told_for (to_accept a) texts text are told = let none = are.1 in absurd cc
 told_for (to_make seed rows) texts text are told = let none = are.1 in absurd cc
 told_for (to_sum_up seed rows) texts text are told = let none = are.1 in absurd cc
 
--- what a command has read is what it makes of what it came to
+-- a command makes `Ready` from the value that its stages give
 gave_made : {A : Type 0} (s : Stage A) (make : A → Ready) (p : List Reading) (y : Ready) → (and_then s (λ x. give (λ r. r ≡ make x))).Ends p (gives y) → (x : A) × (y ≡ make x)
 gave_made s make p y h = let made = gave_then s (λ x. give (λ r. r ≡ make x)) p y h in (made.value, made.next.1)
 
--- and of such a command it is only where the words ask for more
+-- such a command comes only from words that ask for a text on standard error
 asks : (words : List (List ℕ)) (files : Option (List NamedFile)) (c : Asked) (p : List Reading) (y : Ready) → IsAsked words c → (ready_for files c).Ends p (gives y) → IsForMore y → AskForMore words
 asks words files (to_run name o counts) p y asked h more =
     let e = subst IsForMore (gave_made (loaded files name) (λ x. to_evaluate x o.workers o.plans counts o.prune o.combine) p y h).1 more in
@@ -204,7 +175,37 @@ told_so : (words : List (List ℕ)) (before now : Feeding) (x : Result Texts Ref
 told_so words before now (Ok texts) usage h = record { texts_are = h; told = λ text. told_in words before.files h.readings texts text h.ends }
 told_so words before now (Err r) usage h = refused_so words before now r usage h
 
--- what the work comes to is an answer
+-- what the work results in is an answer
 pub answered : {before now : Feeding} {Untouched : Type 0} (words : List (List ℕ)) (x : Result Texts Refusal) → (AreRefused words → IsUsageTold words x) → (AreRefused words → Untouched) → Comes (work words) before now x
     → IsAnswered words Untouched before now x
 answered {before} {now} words x usage untouched h = record { told = told_so words before now x usage h.told; usage = usage; untouched = untouched }
+
+-- ---- words for which no command was read
+
+abbrev IsUsage : Result Command Refused → Type 0
+IsUsage (Err refuseds.Usage) = Unit {0}
+IsUsage read = ⊥
+
+module _ (read : Result Command Refused) (refused : Refused) (feed : Feeding) (Untouched : Type 0) (is : read ≡ Err refused) (same : Untouched) where
+  usage_answered : refused ≡ refuseds.Usage → AnswersWords read Untouched feed feed (Err Usage)
+  usage_answered kind = record {
+    answered = λ words r.
+        let refuses : AreRefused words = subst (λ (x : Refused). AreAnswersTo words (Err x)) kind (subst (AreAnswersTo words) is r.answers) in
+        answered words (Err Usage) (λ _. tt) (λ _. same) (comes_in_err (command words) texts_for feed (refl, (refuses, refl, refl)));
+  }
+
+  memory_answered : refused ≡ refuseds.OutOfMemory → AnswersWords read Untouched feed feed (Err OutOfMemory)
+  memory_answered kind = record {
+    answered = λ words r. record {
+      told = tt;
+      usage = λ _ none. subst (λ (x : Refused). IsUsage (Err x)) kind (subst IsUsage is (subst IsUsage (sym (r.unnamed none)) tt));
+      untouched = λ _. same;
+    };
+  }
+
+pub refused_answered : (read : Result Command Refused) (refused : Refused) (r : Refusal) (feed : Feeding) (Untouched : Type 0) → read ≡ Err refused → r ≡ refusal_of refused → Untouched
+    → AnswersWords read Untouched feed feed (Err r)
+refused_answered read refuseds.Usage r feed Untouched is e same =
+    subst (λ (x : Refusal). AnswersWords read Untouched feed feed (Err x)) (sym e) (usage_answered read refuseds.Usage feed Untouched is same refl)
+refused_answered read refuseds.OutOfMemory r feed Untouched is e same =
+    subst (λ (x : Refusal). AnswersWords read Untouched feed feed (Err x)) (sym e) (memory_answered read refuseds.OutOfMemory feed Untouched is same refl)

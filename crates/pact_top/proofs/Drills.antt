@@ -1,4 +1,4 @@
--- A run of the drill's program is told by one summary, whatever plan was chosen and however it was run.
+-- A run of the drill's program has only one summary, for every plan and every way to run it.
 use Rattle.std.proofs.Common.{◌≡◌, ◌<◌, ℕ, Bool, zero, suc, List, [], ◌∷◌, length, Option, Some, None, slice_get, sym, ap, subst, ◌∙◌, arith}
 use Rattle.std.specs.List.{AllByRecursion}
 use Rattle.std.specs.List.Sorted.{IsPermutation}
@@ -24,7 +24,7 @@ use Rattle.pact_top.proofs.RunPlans.{lines_beside}
 
 -- ---- generated rows
 
--- each has the fields that are written
+-- each row has the fields that are written
 pub listed_within : (x n : ℕ) → AllByRecursion (λ row. AllByRecursion (λ field. field < length row) listed) (generated x n)
 listed_within x zero = tt
 listed_within x (suc n) = ((omega arith, (omega arith, (omega arith, tt))), listed_within (behind_row x) n)
@@ -39,7 +39,7 @@ abbrev is_some : {X : Type 0} → Option X → Type 0
 is_some None = ⊥
 is_some (Some x) = Unit {0}
 
--- the one function that is called for groups passes it
+-- the only function that is called for groups passes the order test
 pub groups_free : AreGroupsFree drill_program
 groups_free zero op called e grouping f = absurd (subst IsGrouping (sym (ap kind_in e)) grouping)
 groups_free (suc zero) op called e grouping f = subst is_free (subst (λ (k : ℕ). slice_get drill_functions k ≡ Some called) (sym (ap function_in e)) f) total_free
@@ -53,7 +53,7 @@ one_summary rows sink bag other text told p its theirs =
     let same = sym (one_text sink bag other its.lines theirs.lines p its.spelled theirs.spelled) in
     theirs.told ∙ (λ i. summary_text rows (length_permutation bag other p i) (same i)) ∙ sym its.told
 
--- the summary of rows is that of a bag that is the same, cut to the sink's fields
+-- a summary of rows is a summary of each bag with the same rows, cut to the sink's fields
 summary_beside : (rows : ℕ) (sink : List ℕ) (bag left : Bag) (text : List ℕ) → HaveSameRows sink bag left → IsSummary rows sink left text → IsSummary rows sink bag text
 summary_beside rows sink bag left text same h =
     let lengths : length left ≡ length bag = sym (length-map left (cut sink)) ∙ ap (λ (cuts : Bag). length cuts) (sym same) ∙ length-map bag (cut sink) in

@@ -16,23 +16,24 @@ use Rattle.iterate_run.specs.declared.iterating.Iterated.{Iterated}
 use Rattle.pact_record.specs.declared.columns.Column.{Column}
 use Rattle.pact_record.specs.Widths.{AreWide}
 use Rattle.plan_trees.specs.Plans.{node_limit}
-use Rattle.pact_top.specs.declared.refusals.Refusal.{Refusal}
+use Rattle.pact_load.specs.declared.refusals.Refusal.{Refusal}
 use Rattle.pact_top.specs.declared.repeating.Repeated.{Repeated}
 use Rattle.pact_top.specs.declared.texts.Texts.{Texts}
 use Rattle.pact_top.specs.Iterations.{HasSource, IsIterationOf, IsIterationText, columns_at, columns_in, told_rounds}
 use Rattle.bag_lines.specs.Lines.{AreLines}
 use Rattle.pact_top.specs.OrderFreePrograms.{AreGroupsFree}
-use Rattle.pact_top.specs.Refusal.{Comes, Decides}
-use Rattle.pact_top.specs.Stages.{Reading, Stage, and_then, give, gives}
-use Rattle.pact_top.specs.Work.{program_file, repeated, source_named, sources}
-use Rattle.pact_top.proofs.AnswersOfStages.{comes_alone, comes_decided, comes_err, comes_then}
+use Rattle.pact_load.specs.Answers.{Comes, Decides}
+use Rattle.pact_load.specs.Stages.{Reading, Stage, and_then, give, gives}
+use Rattle.pact_load.specs.Loading.{program_file, source_named, sources}
+use Rattle.pact_top.specs.Work.{repeated}
+use Rattle.pact_load.proofs.AnswersOfStages.{comes_alone, comes_decided, comes_err, comes_then}
 use Rattle.pact_top.proofs.OnlyBag.{one_text, only_bag}
-use Rattle.pact_top.proofs.Sources.{are_inputs}
-use Rattle.pact_top.proofs.StageLaws.{gave_then}
+use Rattle.pact_load.proofs.Sources.{are_inputs}
+use Rattle.pact_load.proofs.StageLaws.{gave_then}
 
 -- ---- what is read
 
--- what stands behind the source's number, and behind the program
+-- the stages after the source's number is known, and those after the program was read
 abbrev behind_source : ProgramData → ℕ → Option (List NamedFile) → Stage Repeated
 behind_source p at files = and_then (sources p files) (λ inputs. give (λ all. all ≡ record { loaded = record { program = p; inputs = inputs }; at = at }))
 
@@ -60,7 +61,7 @@ module _ {before mid : Feeding} (name source : List ℕ) (p : ProgramData) (h : 
         (comes_then (λ f n. behind_source p n f) at (Ok all) (comes_alone (source_named p source) mid (Ok at) d)
         (comes_decided {s = sources p} (λ read. give (λ x. x ≡ record { loaded = record { program = p; inputs = read }; at = at })) inputs (Ok all) g (refl, refl)))
 
--- what was read has the rows of the sources, and the number is a source's
+-- the rows read are those of the sources, and the number is a source's
 pub record IsRepeated (r : Repeated) : Type 0 where
   pub inputs : AreInputsOf r.loaded.program r.loaded.inputs
   pub source : HasSource r.loaded.program r.at
@@ -96,7 +97,7 @@ source_there (o ∷ ops) (suc n) op e k = place_by (is_source_kind o.kind) o op 
 is_source_at : (p : ProgramData) (at : ℕ) → HasSource p at → IsSourceAt p (source_place p.ops at) (columns_at p at)
 is_source_at p at h = (h.0, source_there p.ops at h.0 h.1 h.2, ap columns_in (sym h.1))
 
--- a program's numbers are few, and one of a source is one of them
+-- a program has few numbers, and a source's number is one of them
 pub few_numbered : (p : ProgramData) (ops : List Op) → IsProgram p → ops ≡ p.ops → length ops ≤ node_limit
 few_numbered p ops h e =
     subst (λ (xs : List Op). length xs ≤ node_limit) (sym e) (let few = few_numbers p.functions p.ops p.plan h.plan in let most = h.few_operators in omega (arith, few, most))
@@ -104,7 +105,7 @@ few_numbered p ops h e =
 pub source_within : (p : ProgramData) (ops : List Op) (at : ℕ) → HasSource p at → ops ≡ p.ops → at < length ops
 source_within p ops at h e = subst (λ (xs : List Op). at < length xs) (sym e) (slice_get_within p.ops at h.0 h.1)
 
--- as the code reads it
+-- the source as the code finds it
 module _ (p : ProgramData) (ops : List Op) (at place : ℕ) (d : Op) (h : HasSource p at) (same : ops ≡ p.ops) (placed : place ≡ source_place ops at) where
   columns_same : (get_or ops at d).columns ≡ columns_at p at
   columns_same =
@@ -154,7 +155,7 @@ is_iteration_text r rounds stable bag count t program h lines told =
       only_text = λ free other times its also spelled. sym (one_text p.sink bag other t.out its (alike free other times also).0 lines spelled);
     }
 
--- what is made of the last round
+-- what is made from the last round
 pub iteration_made : {E : Type 0} (r : Repeated) (rounds : ℕ) (stable : Bool) (i : Iterated) (result : Result Texts E) → IsProgram r.loaded.program → IsIterationOf r rounds stable i.rows i.rounds
     → IfOk result (λ t. AreLines r.loaded.program.sink i.rows t.out) → IfOk result (λ t. t.told ≡ told_rounds stable i.rounds) → IfOk result (IsIterationText r rounds stable)
 iteration_made r rounds stable i (Ok t) program h lines told = is_iteration_text r rounds stable i.rows i.rounds t program h lines told

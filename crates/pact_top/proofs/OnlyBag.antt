@@ -1,4 +1,5 @@
--- A program whose grouping functions pass the order test allows one bag for each plan, and one text is written for it.
+-- If a program's grouping functions pass the order test, each plan allows only one bag, and only one text is written
+-- for it.
 use Rattle.std.proofs.Common.{◌≡◌, inl, inr, ℕ, List, Option, Some, None, map, slice_get, refl, sym, ap, subst, ◌∙◌}
 use Rattle.std.specs.List.Sorted.{IsPermutation}
 use Rattle.std.specs.Ordering.{is_eq}

@@ -7,7 +7,8 @@ use Rattle.pact_operators.specs.Inputs.{HaveRows}
 use Rattle.pact_operators.specs.PlanOps.{is_source_kind, sources_of}
 use Rattle.pact_top.specs.CommandTexts.{row_counts}
 
--- what is counted so far, and what is left: the counts of the sources and operators left, over the rows of the sources left
+-- the counts so far, and those to come: the counts of the remaining sources and operators, over the rows of the
+-- remaining sources
 pub record AreCounted (fields : ℕ) (ops : List Op) (inputs : List Bag) (n k : ℕ) (counts : List ℕ) : Type 0 where
   pub rows : HaveRows fields (sources_of (drop n ops)) (drop k inputs)
   pub all : row_counts ops inputs ≡ counts ++ row_counts (drop n ops) (drop k inputs)

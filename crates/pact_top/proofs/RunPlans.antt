@@ -18,7 +18,7 @@ use Rattle.pact_operators.proofs.PermutedEvaluations.{evaluates_allowed}
 use Rattle.plan_trees.specs.Physicals.{PhysicalData}
 use Rattle.plan_trees.specs.Plans.{PlanTree}
 use Rattle.prune_fields.specs.declared.pruning.Kept.{Kept}
-use Rattle.prune_fields.specs.SameAnswers.{HaveSameRows, IsCountedBeside}
+use Rattle.prune_fields.specs.SameAnswers.{HaveSameRows}
 use Rattle.reorder_pair.specs.Legal.{KeepAnswers}
 use Rattle.ship_strategy.specs.PlanFacts.{facts_of}
 use Rattle.ship_strategy.specs.Ships.{LegalShip}
@@ -26,18 +26,17 @@ use Rattle.pact_bag.specs.declared.outcomes.Outcome.{Outcome}
 use Rattle.pact_record.specs.Widths.{AreWide}
 use Rattle.pact_top.specs.declared.choosing.Choice.{Choice}
 use Rattle.pact_top.specs.declared.running.FinishedRun.{FinishedRun}
-use Rattle.pact_top.specs.declared.loaded.Loaded.{Loaded}
-use Rattle.pact_top.specs.declared.tasks.GroupedRun.{GroupedRun}
-use Rattle.pact_top.specs.declared.pruned_runs.RunOutcome.{RunOutcome}
+use Rattle.pact_load.specs.declared.loaded.Loaded.{Loaded}
+use Rattle.pact_top.specs.declared.rewriting.RunOutcome.{RunOutcome}
 use Rattle.pact_top.specs.declared.tasks.Task.{Task}
 use Rattle.pact_top.specs.declared.texts.Texts.{Texts}
 use Rattle.pact_top.specs.CommandTexts.{AreToldCounts, IsAnswerOf, IsChoice, IsOutcome, IsRun, laid}
 use Rattle.bag_lines.specs.Lines.{AreLines}
-use Rattle.pact_top.specs.Runs.{CanRun, HasRun, IsCombinedTask, IsGroupedLeft, IsPlainRun, IsPrunedTask, IsRunLeft, IsRunOf, IsRunWith}
+use Rattle.pact_top.specs.Runs.{CanRun, HasRun, IsCombinedAs, IsPrunedAs, IsPrunedTask, IsRunLeft, IsRunOf, IsRunWith, IsSameTask, KeepsTask}
 use Rattle.pact_top.proofs.ChosenTexts.{told-AreCounts}
 use Rattle.pact_top.proofs.CommandsRun.{is_answer}
 
--- what is known of every program and history for which the world stands
+-- what is known for every program and history that the world represents
 abbrev AreCountedFor : WorldData → Bag → List ℕ → Type 0
 AreCountedFor w rows counts =
     (p : ProgramData) (inputs : List Bag) (h : History) → IsProgram p → AreInputsOf p inputs → IsPlanOf p.functions p.ops w.physical.tree → LegalShip (facts_of p w.physical.tree) w.physical
@@ -53,73 +52,93 @@ start_counted p inputs physical w (Ok o) same is_program are_inputs of standing 
     (subst (λ (d : PhysicalData). IsStanding (setting p inputs d) w no_history) (sym same) standing))
 start_counted p inputs physical w (Err e) same is_program are_inputs of standing all = tt
 
--- what a run left, from what is known of it by parts
+-- what a run left, from what is known of its parts
 pub has_run : {E : Type 0} (p : ProgramData) (task : Task) (inputs : List Bag) (result : Result Outcome E) → IfOk result (λ o. Spread (setting p inputs task.physical) o.rows o.counts)
     → IfOk result (λ o. LegalShip (facts_of p task.physical.tree) task.physical → Counted (plan_ops p inputs) task.physical.tree o.rows o.counts) → IfOk result (λ o. AreWide p.fields o.rows)
     → IfOk result (HasRun p task inputs)
 has_run p task inputs (Ok o) spread counted widths = record { spread = spread; counted = counted; widths = widths }
 has_run p task inputs (Err e) spread counted widths = tt
 
-pub plain_left : (p : ProgramData) (task : Task) (inputs : List Bag) (o : Outcome) (combined : List (ℕ × ℕ)) → HasRun p task inputs o → combined ≡ [] → IsPlainRun (planned p task.physical) inputs o combined
-plain_left p task inputs o combined h none = record { run = h.spread; none = none }
+-- ---- a rewritten task
 
--- another task of as many workers, with the same options, can be run where this one can
-can_as : (p q : ProgramData) (task other : Task) (inputs : List Bag) → CanRun p task inputs → IsPlanOf q.functions q.ops other.physical.tree → AreInputsOf q inputs → other.options ≡ task.options
-    → other.physical.workers ≡ task.physical.workers → CanRun q other inputs
-can_as p q task other inputs h plan are options workers = record {
-  plan = plan;
-  inputs = are;
-  workers = ap (λ (o : Options). o.workers) options ∙ h.workers ∙ sym workers;
-  batch = subst (λ (o : Options). (1 ≤ o.batch) × (o.batch ≤ batch_limit)) (sym options) h.batch;
-  depth = subst (λ (o : Options). (1 ≤ o.depth) × (o.depth ≤ depth_limit)) (sym options) h.depth;
+-- it can be run if the task can
+kept_can : (p q : ProgramData) (task other : Task) (inputs : List Bag) → CanRun p task inputs → KeepsTask p task q other → CanRun q other inputs
+kept_can p q task other inputs h k = record {
+  plan = k.plan;
+  inputs = k.inputs inputs h.inputs;
+  workers = ap (λ (o : Options). o.workers) k.options ∙ h.workers ∙ sym k.workers;
+  batch = subst (λ (o : Options). (1 ≤ o.batch) × (o.batch ≤ batch_limit)) (sym k.options) h.batch;
+  depth = subst (λ (o : Options). (1 ≤ o.depth) × (o.depth ≤ depth_limit)) (sym k.options) h.depth;
 }
 
--- so can the combined task
-pub combined_can : (p q : ProgramData) (task other : Task) (of : List (ℕ × ℕ)) (inputs : List Bag) → CanRun p task inputs → IsCombinedTask p task q other of → CanRun q other inputs
-combined_can p q task other of inputs h g = can_as p q task other inputs h g.plan (g.inputs inputs h.inputs) g.options g.workers
+same_can : (p q : ProgramData) (task other : Task) (inputs : List Bag) → CanRun p task inputs → IsSameTask p task q other → CanRun q other inputs
+same_can p q task other inputs h s = subst (λ (x : ProgramData). CanRun x other inputs) (sym s.same_program) (subst (λ (t : Task). CanRun p t inputs) (sym s.same_task) h)
 
--- and what its run leaves is that of the task
-pub combined_left : (p q : ProgramData) (task other : Task) (r : GroupedRun) (inputs : List Bag) → AreInputsOf p inputs → IsCombinedTask p task q other r.combined.items → HasRun q other inputs r.outcome
-    → IsGroupedLeft p task inputs true r
-combined_left p q task other r inputs are h left = record {
-  run = record { end = planned q other.physical; combined = h.combined; run = left.spread };
-  counted = λ legal. h.counted inputs r.outcome.rows r.outcome.counts (record { of_inputs = are; legal = legal; run = left.spread });
-  widths = subst (λ (n : ℕ). AreWide n r.outcome.rows) h.fields left.widths;
+pub pruned_can : (asked : Bool) (p q : ProgramData) (task other : Task) (kept : List Kept) (inputs : List Bag) → CanRun p task inputs → IsPrunedAs asked p task q other kept → CanRun q other inputs
+pruned_can true p q task other kept inputs h g = kept_can p q task other inputs h g.keeps
+pruned_can false p q task other kept inputs h g = same_can p q task other inputs h g.0
+
+pub combined_can : (asked : Bool) (p q : ProgramData) (task other : Task) (of : List (ℕ × ℕ)) (inputs : List Bag) → CanRun p task inputs → IsCombinedAs asked p task q other of → CanRun q other inputs
+combined_can true p q task other of inputs h g = kept_can p q task other inputs h g.keeps
+combined_can false p q task other of inputs h g = same_can p q task other inputs h g.0
+
+-- ---- what its run leaves
+
+-- What a run of the task left, with partial groups if these are asked for. If its plan ships legally, the counts are
+-- those of one evaluation that gives the rows.
+record IsGroupedLeft (p : ProgramData) (task : Task) (inputs : List Bag) (combine : Bool) (o : Outcome) (of : List (ℕ × ℕ)) : Type 0 where
+  run : IsRunOf (planned p task.physical) inputs combine o of
+  counted : LegalShip (facts_of p task.physical.tree) task.physical → Counted (plan_ops p inputs) task.physical.tree o.rows o.counts
+  widths : AreWide p.fields o.rows
+
+-- what the run of the combined task leaves, or of the same one, is that of the task
+grouped_left : (combine : Bool) (p q : ProgramData) (task other : Task) (inputs : List Bag) (o : Outcome) (of : List (ℕ × ℕ)) → AreInputsOf p inputs → IsCombinedAs combine p task q other of
+    → HasRun q other inputs o → IsGroupedLeft p task inputs combine o of
+grouped_left true p q task other inputs o of are h left = record {
+  run = record { end = planned q other.physical; combined = h.combined; run = left.spread; put_once = h.put_once inputs o.rows o.counts left.spread };
+  counted = λ legal. h.counted inputs o.rows o.counts (record { of_inputs = are; legal = legal; run = left.spread });
+  widths = subst (λ (n : ℕ). AreWide n o.rows) h.keeps.fields left.widths;
 }
+grouped_left false p q task other inputs o of are h left =
+    let own : HasRun p task inputs o = subst (λ (x : ProgramData). HasRun x task inputs o) h.0.same_program (subst (λ (t : Task). HasRun q t inputs o) h.0.same_task left) in
+    record { run = record { run = own.spread; none = h.1 }; counted = own.counted; widths = own.widths }
 
--- the pruned task can be run where the task can
-pub pruned_can : (p q : ProgramData) (task other : Task) (kept : List Kept) (inputs : List Bag) → CanRun p task inputs → IsPrunedTask p task q other kept → CanRun q other inputs
-pruned_can p q task other kept inputs h g = can_as p q task other inputs h g.plan (g.inputs inputs h.inputs) g.options g.workers
-
--- a run in which nothing is dropped leaves its own bag
-pub whole_left : (p : ProgramData) (task : Task) (inputs : List Bag) (combine : Bool) (g : GroupedRun) (r : RunOutcome) → LegalShip (facts_of p task.physical.tree) task.physical
-    → IsGroupedLeft p task inputs combine g → r.outcome ≡ g.outcome → r.combined.items ≡ g.combined.items → r.kept.items ≡ [] → IsRunLeft p task inputs false combine r
-whole_left p task inputs combine g r legal h same of none = record {
-  run = record { run = subst (λ (o : Outcome). IsRunOf (planned p task.physical) inputs combine o r.combined.items) (sym same) (subst (IsRunOf (planned p task.physical) inputs combine g.outcome) (sym of) h.run); none = none };
-  counted = record {
-    now = r.outcome.rows;
-    counted = subst (λ (o : Outcome). Counted (plan_ops p inputs) task.physical.tree o.rows o.counts) (sym same) (h.counted legal);
-    rows = refl;
-  };
+-- a run that drops no fields leaves the task's own bag
+whole_left : (p : ProgramData) (task : Task) (inputs : List Bag) (combine : Bool) (r : RunOutcome) → LegalShip (facts_of p task.physical.tree) task.physical
+    → IsGroupedLeft p task inputs combine r.outcome r.combined.items → r.kept.items ≡ [] → IsRunLeft p task inputs false combine r
+whole_left p task inputs combine r legal h none = record {
+  run = record { run = h.run; none = none };
+  counted = record { now = r.outcome.rows; counted = h.counted legal; rows = refl };
   whole = λ _. refl;
-  widths = subst (λ (o : Outcome). AreWide p.fields o.rows) (sym same) h.widths;
+  widths = h.widths;
 }
 
--- what a run of the pruned task leaves is that of the task, cut to the sink's fields
-pub pruned_left : (p q : ProgramData) (task other : Task) (inputs : List Bag) (combine : Bool) (g : GroupedRun) (r : RunOutcome) → AreInputsOf p inputs → IsPrunedTask p task q other r.kept.items
-    → IsGroupedLeft q other inputs combine g → r.outcome ≡ g.outcome → r.combined.items ≡ g.combined.items → IsRunLeft p task inputs true combine r
-pruned_left p q task other inputs combine g r are h left same of = record {
-  run = record {
-    end = planned q other.physical;
-    pruned = h.pruned;
-    legal = h.legal;
-    same = h.same;
-    run = subst (λ (o : Outcome). IsRunOf (planned q other.physical) inputs combine o r.combined.items) (sym same) (subst (IsRunOf (planned q other.physical) inputs combine g.outcome) (sym of) left.run);
-  };
-  counted = subst (λ (o : Outcome). IsCountedBeside p.sink o.rows o.counts (plan_ops p inputs) task.physical.tree) (sym same) ((h.same inputs are).back g.outcome.rows g.outcome.counts (left.counted h.legal));
-  whole = λ no. absurd (let wrong : true ≡ false = no in cc);
-  widths = subst (λ (o : Outcome). AreWide p.fields o.rows) (sym same) (subst (λ (n : ℕ). AreWide n g.outcome.rows) h.fields left.widths);
+-- a run of the pruned task leaves what a run of the task can leave, cut to the sink's fields
+dropped_left : (p q : ProgramData) (task other : Task) (inputs : List Bag) (combine : Bool) (r : RunOutcome) → AreInputsOf p inputs → IsPrunedTask p task q other r.kept.items
+    → IsGroupedLeft q other inputs combine r.outcome r.combined.items → IsRunLeft p task inputs true combine r
+dropped_left p q task other inputs combine r are h left = record {
+  run = record { end = planned q other.physical; pruned = h.pruned; legal = h.legal; same = h.same; run = left.run };
+  counted = (h.same inputs are).back r.outcome.rows r.outcome.counts (left.counted h.legal);
+  whole = λ no_drop. absurd (let wrong : true ≡ false = no_drop in cc);
+  widths = subst (λ (n : ℕ). AreWide n r.outcome.rows) h.keeps.fields left.widths;
 }
+
+pruned_left : (prune combine : Bool) (p q : ProgramData) (task other : Task) (inputs : List Bag) (r : RunOutcome) → LegalShip (facts_of p task.physical.tree) task.physical → AreInputsOf p inputs
+    → IsPrunedAs prune p task q other r.kept.items → IsGroupedLeft q other inputs combine r.outcome r.combined.items → IsRunLeft p task inputs prune combine r
+pruned_left true combine p q task other inputs r legal are h left = dropped_left p q task other inputs combine r are h left
+pruned_left false combine p q task other inputs r legal are h left =
+    whole_left p task inputs combine r legal
+    (subst (λ (x : ProgramData). IsGroupedLeft x task inputs combine r.outcome r.combined.items) h.0.same_program
+    (subst (λ (t : Task). IsGroupedLeft q t inputs combine r.outcome r.combined.items) h.0.same_task left))
+    h.1
+
+-- what the run of the task that was rewritten step by step leaves is that of the task
+pub run_left : (prune combine : Bool) (p q s : ProgramData) (task other last : Task) (inputs : List Bag) (r : RunOutcome) → LegalShip (facts_of p task.physical.tree) task.physical
+    → CanRun p task inputs → IsPrunedAs prune p task q other r.kept.items → IsCombinedAs combine q other s last r.combined.items → HasRun s last inputs r.outcome
+    → IsRunLeft p task inputs prune combine r
+run_left prune combine p q s task other last inputs r legal can pruned combined left =
+    pruned_left prune combine p q task other inputs r legal can.inputs pruned
+    (grouped_left combine q s other last inputs r.outcome r.combined.items (pruned_can prune p q task other r.kept.items inputs can pruned).inputs combined left)
 
 pub is_outcome : {E : Type 0} (l : Loaded) (workers : ℕ) (plan : PlanTree) (layout : ℕ) (prune combine : Bool) (task : Task) (result : Result RunOutcome E) → task.physical ≡ (laid l workers plan layout).physical
     → task.physical.tree ≡ plan → AreInputsOf l.program l.inputs → KeepAnswers l.program l.program.plan plan
@@ -138,7 +157,7 @@ is_outcome l workers plan layout prune combine task (Ok r) is_laid same are_inpu
     }
 is_outcome l workers plan layout prune combine task (Err e) is_laid same are_inputs answers left = tt
 
--- the lines of rows are those of a bag that is the same, cut to the sink's fields
+-- the lines of rows are the lines of each bag with the same rows, cut to the sink's fields
 pub lines_beside : (sink : List ℕ) (bag rows : Bag) (text : List ℕ) → HaveSameRows sink bag rows → AreLines sink rows text → AreLines sink bag text
 lines_beside sink bag rows text same h = record { rows = h.rows; permuted = subst (λ (cuts : Bag). IsPermutation cuts h.rows) (sym same) h.permuted; sorted = h.sorted; spelled = h.spelled }
 

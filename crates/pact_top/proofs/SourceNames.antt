@@ -17,12 +17,13 @@ use Rattle.pact_words.specs.Words.{Asked, IsAsked, to_certify, to_check, to_dril
 use Rattle.tac_syntax.specs.declared.functions.Function.{Function as FunctionValue}
 use Rattle.tac_syntax.specs.Names.{is_file_name}
 use Rattle.pact_top.specs.Refusal.{IsNamed, Names}
-use Rattle.pact_top.specs.Stages.{CanEnd, each, gives, Reading}
-use Rattle.pact_top.specs.Work.{certificate_limit, file, loaded, program_file, program_limit, ready_for, repeated, source_file, source_limit, sources, valid, work}
-use Rattle.pact_top.proofs.MadePrograms.{program_made}
-use Rattle.pact_top.proofs.StageLaws.{FailsSo, fails_plain, fails_then}
+use Rattle.pact_load.specs.Stages.{CanEnd, each, gives, Reading}
+use Rattle.pact_load.specs.Loading.{file, loaded, program_file, program_limit, source_file, source_limit, sources, valid}
+use Rattle.pact_top.specs.Work.{certificate_limit, ready_for, repeated, work}
+use Rattle.pact_load.proofs.MadePrograms.{program_made}
+use Rattle.pact_load.proofs.StageLaws.{FailsSo, fails_plain, fails_then}
 
--- a source's file has a name that a program may give it
+-- a source's file has a name that a program can give it
 abbrev HasFileName : Op → Type 0
 HasFileName op = op.kind ≡ SourceKind → IsTrue (is_file_name op.file)
 
@@ -51,7 +52,7 @@ file_sources_named files name p r h =
     let d = m.drafted in
     subst (AllByRecursion HasFileName) (sym m.from.program.ops) (names_in d.version (function_names d.functions) 0 (length d.functions) d.decls m.spelled.writable.spelled.declared)
 
--- ---- the names of the files that may not be read
+-- ---- the names of the files that can't be read
 
 file_fails : (P : List ℕ → Type 0) (files : Option (List NamedFile)) (name : List ℕ) (limit : ℕ) → P name → FailsSo P (file files name limit)
 file_fails P files name limit h = record { so = λ other p e. subst P (sym e.1) h }
@@ -71,7 +72,7 @@ sources_fail P fields files (s ∷ ops) h =
     fails_then P _ (fails_then P _ (file_fails P files s.file source_limit h.0) (λ bytes _. fails_plain P _ _))
     (λ rows _. fails_then P _ (sources_fail P fields files ops h.1) (λ all _. fails_plain P _ _))
 
--- the command names it, or a program may
+-- the command names it, or it is a name that a program can have
 abbrev NamedFor : Asked → List ℕ → Type 0
 NamedFor asked name = Names asked name ⊎ IsTrue (is_file_name name)
 

@@ -1,13 +1,14 @@
--- What a refusal says of the exit status.
+-- What a refusal says about the exit status.
 use Rattle.std.proofs.Common.{◌≡◌, ◌≤◌, ◌⊎◌, inl, inr, ℕ, List, Option, Some, None, Err, refl, ap, subst, sym, arith}
 use Rattle.pact_outside.specs.Outside.{Feeding, Rose}
-use Rattle.pact_top.specs.declared.refusals.Refusal.{Refusal}
-use Rattle.pact_top.specs.declared.refusals.Refusal.TheVariants.{OutOfMemory, Usage, CannotRead, CannotWrite, Decided}
-use Rattle.pact_top.specs.Refusal.{AreTold, ComesTo, HasFailed, IsNamed, IsRefused, IsUsageTold, status_of, refusal_line}
-use Rattle.pact_top.specs.RefusalLines.{line_of, usage_line}
-use Rattle.pact_top.specs.Stages.{CanEnd, gives, stops, misses}
+use Rattle.pact_load.specs.declared.refusals.Refusal.{Refusal}
+use Rattle.pact_load.specs.declared.refusals.Refusal.TheVariants.{OutOfMemory, Usage, CannotRead, CannotWrite, Decided}
+use Rattle.pact_load.specs.Answers.{AreTold, ComesTo, HasFailed, status_of, refusal_line}
+use Rattle.pact_top.specs.Refusal.{IsNamed, IsRefused, IsUsageTold}
+use Rattle.pact_load.specs.RefusalLines.{line_of, usage_line}
+use Rattle.pact_load.specs.Stages.{CanEnd, gives, stops, misses}
 use Rattle.pact_top.specs.CommandTexts.{Ready}
-use Rattle.pact_top.specs.Transfer.{GainsMore}
+use Rattle.pact_top.specs.Writing.{GainsMore}
 use Rattle.pact_top.specs.Work.{ready, work}
 use Rattle.pact_top.specs.declared.texts.Texts.{Texts}
 use Rattle.pact_words.specs.Words.{AreRefused, AreRefusedBy, AreUnnamed}
@@ -27,7 +28,7 @@ stopped words before now (CannotRead name) h large = absurd (omega (arith, large
 stopped words before now CannotWrite h large = absurd h
 stopped words before now (Decided status line) h large = h.2
 
--- where a file can't be read, it is the one opened last
+-- a file that can't be read is the one opened last
 pub unread_there : (words : List (List ℕ)) (before now : Feeding) (r : Refusal) → IsRefused words before now r → status_of r ≡ 3 → HasFailed (work words before.files) before now now.opened
 unread_there words before now OutOfMemory h e = absurd (omega (arith, e))
 unread_there words before now Usage h e = absurd (omega (arith, e))
@@ -35,7 +36,7 @@ unread_there words before now (CannotRead name) h e = subst (HasFailed (work wor
 unread_there words before now CannotWrite h e = absurd h
 unread_there words before now (Decided status line) h e = let l = h.0 in absurd (omega (arith, e, l))
 
--- and the command or a program names it
+-- its name is one that the command or a program can have
 pub unread_named : (words : List (List ℕ)) (before now : Feeding) (r : Refusal) → IsRefused words before now r → status_of r ≡ 3 → IsNamed words now.opened
 unread_named words before now OutOfMemory h e = absurd (omega (arith, e))
 unread_named words before now Usage h e = absurd (omega (arith, e))
@@ -43,7 +44,7 @@ unread_named words before now (CannotRead name) h e = subst (IsNamed words) (sym
 unread_named words before now CannotWrite h e = absurd h
 unread_named words before now (Decided status line) h e = let l = h.0 in absurd (omega (arith, e, l))
 
--- ---- what stands decides the status
+-- ---- the work's stop decides the status
 
 pub where_missing : (words : List (List ℕ)) (before now : Feeding) (r : Refusal) → IsRefused words before now r → AreTold before.files → (name : List ℕ) → CanEnd (work words before.files) (misses name)
     → (status_of r ≡ 1) ⊎ (status_of r ≡ 3)
@@ -69,7 +70,7 @@ where_ready words before now (CannotRead t) h told y g n = absurd (n h.0.rose)
 where_ready words before now CannotWrite h told y g n = absurd h
 where_ready words before now (Decided status line) h told y g n = absurd ((ready_agrees words before.files told).alike (stops status line) (gives y) h.2.readings g.readings h.2.ends g.ends)
 
--- ---- where there is an answer
+-- ---- if the work can end in a text
 
 pub not_missing : (words : List (List ℕ)) (before now : Feeding) (texts : Texts) (Goal : Type 0) → ComesTo (work words before.files) before now (gives texts) → AreTold before.files → (name : List ℕ)
     → CanEnd (work words before.files) (misses name) → Goal
@@ -98,17 +99,41 @@ usage_unnamed words (CannotRead name) none h = absurd h
 usage_unnamed words CannotWrite none h = absurd h
 usage_unnamed words (Decided status line) none h = absurd h
 
--- ---- the other sink
+-- ---- standard error
 
--- nothing is told there unless that is asked for
+-- nothing is written to standard error unless it is asked for
 pub told_quietly : (told old new : Option (List ℕ)) (IsAskedFor : Type 0) → ((text : List ℕ) → told ≡ Some text → IsAskedFor) → GainsMore old new told → ¬ IsAskedFor → new ≡ old
 told_quietly None old new IsAskedFor h gained none = gained
 told_quietly (Some text) old new IsAskedFor h gained none = absurd (none (h text refl))
 
--- and a refusal is no answer
+-- a refusal never has status 0
 pub never_answered : (words : List (List ℕ)) (before now : Feeding) (r : Refusal) → IsRefused words before now r → status_of r ≡ 0 → ⊥
 never_answered words before now OutOfMemory h e = omega (arith, e)
 never_answered words before now Usage h e = omega (arith, e)
 never_answered words before now (CannotRead name) h e = omega (arith, e)
 never_answered words before now CannotWrite h e = h
 never_answered words before now (Decided status line) h e = let least = h.0 in omega (arith, least, e)
+
+-- a refusal never has status 4
+pub never_cut : (words : List (List ℕ)) (before now : Feeding) (r : Refusal) → IsRefused words before now r → status_of r ≡ 4 → ⊥
+never_cut words before now OutOfMemory h e = omega (arith, e)
+never_cut words before now Usage h e = omega (arith, e)
+never_cut words before now (CannotRead name) h e = omega (arith, e)
+never_cut words before now CannotWrite h e = h
+never_cut words before now (Decided status line) h e = let least = h.0 in omega (arith, least, e)
+
+-- ---- the numbers of statuses
+
+pub usage_refused : (words : List (List ℕ)) (before now : Feeding) (r : Refusal) → IsRefused words before now r → status_of r ≡ 2 → AreRefused words
+usage_refused words before now OutOfMemory h e = absurd (omega (arith, e))
+usage_refused words before now Usage h e = h.0
+usage_refused words before now (CannotRead name) h e = absurd (omega (arith, e))
+usage_refused words before now CannotWrite h e = absurd h
+usage_refused words before now (Decided status line) h e = let least = h.0 in absurd (omega (arith, least, e))
+
+pub at_most_nine : (words : List (List ℕ)) (before now : Feeding) (r : Refusal) → IsRefused words before now r → status_of r ≤ 9
+at_most_nine words before now OutOfMemory h = omega arith
+at_most_nine words before now Usage h = omega arith
+at_most_nine words before now (CannotRead name) h = omega arith
+at_most_nine words before now CannotWrite h = omega arith
+at_most_nine words before now (Decided status line) h = h.1

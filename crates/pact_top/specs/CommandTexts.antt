@@ -1,4 +1,4 @@
--- What each command writes, from what it has read.
+-- What each command writes, given what it has read.
 use Rattle.std.specs.Prelude.{◌≡◌, ◌<◌, ◌++◌, ℕ, Bool, true, false, cond, List, [], ◌∷◌, drop, get_or, length, map, Option, Some, None, Ok, codes}
 use Rattle.std.specs.List.Sorted.{IsPermutation}
 use Rattle.serde_json.specs.Written.{compact_text}
@@ -41,13 +41,13 @@ use Rattle.prune_fields.specs.SameAnswers.{HaveSameRows}
 use Rattle.pact_top.specs.Runs.{IsRunWith}
 use Rattle.pact_top.specs.declared.choosing.Choice.{Choice}
 use Rattle.pact_top.specs.declared.choosing.Picked.{Picked}
-use Rattle.pact_top.specs.declared.loaded.Loaded.{Loaded}
+use Rattle.pact_load.specs.declared.loaded.Loaded.{Loaded}
 use Rattle.pact_top.specs.declared.repeating.Repeated.{Repeated}
 use Rattle.pact_top.specs.declared.running.FinishedRun.{FinishedRun}
-use Rattle.pact_top.specs.declared.pruned_runs.RunOutcome.{RunOutcome}
+use Rattle.pact_top.specs.declared.rewriting.RunOutcome.{RunOutcome}
 use Rattle.pact_top.specs.declared.texts.Texts.{Texts}
 
--- a program, a certificate, and the plan that this one leads to
+-- a program, a certificate, and the plan that the certificate leads to
 pub record Accepted : Type 0 where
   pub program : ProgramData
   pub certificate : Certificate
@@ -66,7 +66,7 @@ pub data Ready : Type 0 where
 
 -- ---- the choice
 
--- how many rows each source has, by its number; an operator has none of its own
+-- how many rows each source has, by its number; 0 for an operator
 abbrev pub row_counts : List Op → List Bag → List ℕ
 row_counts [] inputs = []
 row_counts (op ∷ ops) inputs = cond (is_source_kind op.kind) (length (get_or inputs 0 []) ∷ row_counts ops (drop 1 inputs)) (0 ∷ row_counts ops inputs)
@@ -76,7 +76,8 @@ pub record ArePlansOf (p : ProgramData) (entries : List Entry) : Type 0 where
   pub plans : (t : PlanTree) → IsListed t entries → IsPlanOf p.functions p.ops t
   pub answers : (t : PlanTree) → IsListed t entries → KeepAnswers p p.plan t
 
--- One of the listed plans is chosen for these rows: the first that costs least, with one of its layouts for so many workers.
+-- One of the listed plans is chosen for these rows: the first of least cost, with one of its layouts for this number of
+-- workers.
 pub record IsPicked (p : ProgramData) (inputs : List Bag) (workers : ℕ) (entries : List Entry) (c : Picked) : Type 0 where
   pub chosen : IsChosen p (plans_of entries) (row_counts p.ops inputs) workers c.chosen
   pub there : IsAt entries c.chosen.entry c.plan
@@ -86,15 +87,15 @@ pub record IsPicked (p : ProgramData) (inputs : List Bag) (workers : ℕ) (entri
   pub entry : c.chosen.entry < length entries
   pub layout : c.chosen.layout < layout_count p.ops
 
--- Of the plans that legal exchanges lead to, at most so many, one is chosen: the first that costs least, with one of its layouts for so many
--- workers, on the numbers of rows that the sources have.
+-- One plan is chosen from those that legal exchanges lead to, of which at most `plans` are listed. It is the first of
+-- least cost for the sources' numbers of rows, with one of its layouts for `workers` workers.
 pub record IsChoice (l : Loaded) (workers plans : ℕ) (c : Choice) : Type 0 where
   pub listing : IsListing l.program plans c.listed
   pub chosen : IsChosen l.program (plans_of c.listed.entries) (row_counts l.program.ops l.inputs) workers c.chosen
   pub plan : IsAt c.listed.entries c.chosen.entry c.plan
 
--- Its plan is one of the program's and allows the same bags as the plan as written, its facts are the plan's, and its numbers are those of an entry and of
--- a layout.
+-- The choice's plan is one of the program's, and allows the same bags as the plan as written. Its facts are those of
+-- the plan, and its numbers are those of an entry and of a layout.
 pub record IsPlanChosen (l : Loaded) (workers plans : ℕ) (c : Choice) : Type 0 where
   pub choice : IsChoice l workers plans c
   pub plan : IsPlanOf l.program.functions l.program.ops c.plan
@@ -103,7 +104,8 @@ pub record IsPlanChosen (l : Loaded) (workers plans : ℕ) (c : Choice) : Type 0
   pub entry : c.chosen.entry < length c.listed.entries
   pub layout : c.chosen.layout < layout_count l.program.ops
 
--- These are the exchanges by which it was listed: one legal exchange after the other leads to it from the plan as written.
+-- These are the exchanges by which the chosen plan was listed: legal exchanges, one after another, lead to it from the
+-- plan as written.
 pub record IsDerived (l : Loaded) (workers plans : ℕ) (c : Choice) (steps : List Condition) : Type 0 where
   pub choice : IsChoice l workers plans c
   pub steps_to : AreStepsTo c.listed.entries c.chosen.entry steps
@@ -119,8 +121,9 @@ AllowsWritten l bag = Allows (plan_ops l.program l.inputs) l.program.plan bag
 abbrev pub laid : Loaded → (workers : ℕ) → PlanTree → (layout : ℕ) → Planned
 laid l workers plan layout = planned l.program (layout_of (facts_of l.program plan) l.program.ops plan layout workers)
 
--- What a run of a plan in a layout gives, with fields dropped and with partial groups where these are asked for. Cut to the sink's fields the rows are those
--- of such a bag, and where nothing is dropped they are it; the counts are those of one evaluation of the plan that gives the bag.
+-- What a run of a plan in a layout gives, with fields dropped and with partial groups if `prune` and `combine` ask for
+-- these. Cut to the sink's fields, the rows are those of a bag that the program as written allows. If no fields are
+-- dropped, they are that bag. The counts are those of one evaluation of the plan that gives the bag.
 pub record IsOutcome (l : Loaded) (workers : ℕ) (plan : PlanTree) (layout : ℕ) (prune combine : Bool) (r : RunOutcome) : Type 0 where
   pub bag : Bag
   pub rows : HaveSameRows l.program.sink bag r.outcome.rows
@@ -130,30 +133,32 @@ pub record IsOutcome (l : Loaded) (workers : ℕ) (plan : PlanTree) (layout : �
   pub widths : AreWide l.program.fields r.outcome.rows
   pub run : IsRunWith (laid l workers plan layout) l.inputs prune combine r.outcome r.kept.items r.combined.items
 
--- The plan that is chosen was run, and gave this.
+-- The chosen plan was run, and gave this.
 pub record IsRun (l : Loaded) (workers plans : ℕ) (prune combine : Bool) (run : FinishedRun) : Type 0 where
   pub program : run.program ≡ l.program
   pub chosen : IsPlanChosen l workers plans run.choice
   pub outcome : IsOutcome l workers run.choice.plan run.choice.chosen.layout prune combine (record { outcome = run.outcome; kept = run.kept; combined = run.combined })
 
--- the lines of what was kept, where fields were dropped
+-- the `keeps` lines: which fields were kept, for each source and operator that others were dropped of
 abbrev pub keeps_text : ProgramData → List Kept → List ℕ
 keeps_text p [] = []
 keeps_text p (k ∷ kept) = keeps_line_at p k.at k.fields ++ keeps_text p kept
 
--- Counts of a plan as text. Behind them stands which fields were kept where others were dropped, and then how many records each operator gave that was put in
--- to make partial groups.
+-- The counts of a plan as text. After them come the fields that were kept, if others were dropped. Last comes how many
+-- records each operator emitted that was inserted to make partial groups.
 abbrev pub told_text : ProgramData → PlanTree → List ℕ → List Kept → List (ℕ × ℕ) → List ℕ
 told_text p plan counts kept of = (counts_text p plan counts ++ keeps_text p kept) ++ partials_text p counts of
 
--- they are told where that is asked for
+-- the text of the counts if it is asked for, and none otherwise
 abbrev pub AreToldCounts : ProgramData → PlanTree → List ℕ → List Kept → List (ℕ × ℕ) → Bool → Option (List ℕ) → Type 0
 AreToldCounts p plan counts kept of true told = told ≡ Some (told_text p plan counts kept of)
 AreToldCounts p plan counts kept of false told = told ≡ None
 
--- The counts of an evaluation of the chosen plan that gives the bag, as text. A run left these counts, and rows that are the bag's, cut to the sink's fields;
--- where nothing is dropped it left the bag. It is a run with fields dropped and with partial groups where these are asked for; what was kept, and how many
--- partial groups there were, stands behind the counts.
+-- The counts, as text, of an evaluation of the chosen plan that gives the bag. Some run of that plan could leave these
+-- counts; it isn't said that this call made that run.
+-- That run also leaves rows that are the bag's, cut to the sink's fields; if no fields are dropped, it leaves the bag.
+-- It drops fields and makes partial groups if `prune` and `combine` ask for these. The fields that were kept and the
+-- numbers of partial groups come after the counts.
 pub record IsCountsText (l : Loaded) (workers plans : ℕ) (prune combine : Bool) (bag : Bag) (text : List ℕ) : Type 0 where
   pub choice : Choice
   pub is_choice : IsChoice l workers plans choice
@@ -167,14 +172,14 @@ pub record IsCountsText (l : Loaded) (workers plans : ℕ) (prune combine : Bool
   pub run : IsRunWith (laid l workers choice.plan choice.chosen.layout) l.inputs prune combine (record { rows = left; counts = counts }) kept combined
   pub spelled : text ≡ told_text l.program choice.plan counts kept combined
 
--- They are told where they are asked for, and then of the very bag that is written.
+-- The counts are printed if they are asked for, and they are then those of the very bag that is written.
 abbrev pub AreCounts : Loaded → (workers plans : ℕ) → (prune combine : Bool) → Bag → Bool → Option (List ℕ) → Type 0
 AreCounts l workers plans prune combine bag true (Some text) = IsCountsText l workers plans prune combine bag text
 AreCounts l workers plans prune combine bag true None = ⊥
 AreCounts l workers plans prune combine bag false told = told ≡ None
 
--- The sorted lines of a bag that the program as written allows. Where each function that a Reduce or a CoGroup calls passes the order
--- test, each such bag is this one, up to order, and its lines are these.
+-- The sorted lines of a bag that the program as written allows. If each function that a Reduce or a CoGroup calls
+-- passes the order test, every such bag is this one, up to order, and its lines are these.
 pub record IsAnswerOf (l : Loaded) (workers plans : ℕ) (counts prune combine : Bool) (t : Texts) : Type 0 where
   pub bag : Bag
   pub allowed : AllowsWritten l bag
@@ -185,7 +190,7 @@ pub record IsAnswerOf (l : Loaded) (workers plans : ℕ) (counts prune combine :
 
 -- ---- `plan`
 
--- what is shown of a choice
+-- what `plan` shows of a choice
 abbrev pub shown : Loaded → (workers : ℕ) → Choice → List Condition → Shown
 shown l workers c steps = record {
   plans = length c.listed.entries;
@@ -198,7 +203,7 @@ shown l workers c steps = record {
   steps = steps;
 }
 
--- The chosen plan with its layout, what is estimated, and the exchanges that lead to it, as text.
+-- The text of the chosen plan with its layout, the estimates, and the exchanges that lead to it.
 pub record IsPlanText (l : Loaded) (workers plans : ℕ) (text : List ℕ) : Type 0 where
   pub choice : Choice
   pub steps : List Condition
@@ -207,8 +212,8 @@ pub record IsPlanText (l : Loaded) (workers plans : ℕ) (text : List ℕ) : Typ
 
 -- ---- `cert`
 
--- The certificate of the chosen plan and a line feed. It is accepted: read as a certificate, these bytes are that one, and it leads to the
--- chosen plan.
+-- The certificate of the chosen plan, with a line feed after it. It is accepted: these bytes, read as a certificate,
+-- are that certificate, and it leads to the chosen plan.
 pub record IsCertificateLine (l : Loaded) (workers plans : ℕ) (text : List ℕ) : Type 0 where
   pub choice : Choice
   pub steps : List Condition
@@ -219,8 +224,8 @@ pub record IsCertificateLine (l : Loaded) (workers plans : ℕ) (text : List ℕ
 
 -- ---- `check`
 
--- It is told that the certificate is accepted. Then the plan is the one whose line the certificate states, legal exchanges lead to it from the plan as
--- written, and over every input of the program both allow the same bags.
+-- The text says that the certificate is accepted. Then the plan is the one whose line the certificate states, and legal
+-- exchanges lead to it from the plan as written. Over every input of the program both plans allow the same bags.
 pub record IsAcceptance (a : Accepted) (text : List ℕ) : Type 0 where
   pub told : text ≡ codes "accepted\n"
   pub line : a.certificate.plan ≡ line_of a.program.ops a.plan
@@ -235,18 +240,18 @@ IsGeneratedText seed rows text = text ≡ csv_text (map (cut listed) (generated 
 
 -- ---- `drill`
 
--- the program of a drill, with the generated rows in place of its file's
+-- the program of a drill, with the generated rows instead of its file's rows
 abbrev pub drilled : (seed rows : ℕ) → Loaded
 drilled seed rows = record { program = drill_program; inputs = generated seed rows ∷ [] }
 
--- how many rows went in, how many came out, and the check of the bytes that `run` would write of these
+-- how many rows went in, how many came out, and the checksum of the bytes that `run` would write for these
 pub record IsSummary (rows : ℕ) (sink : List ℕ) (bag : Bag) (text : List ℕ) : Type 0 where
   pub lines : List ℕ
   pub spelled : AreLines sink bag lines
   pub told : text ≡ summary_text rows (length bag) lines
 
--- The summary of a bag that the program of the drill allows on the generated rows. Each such bag is this one, up to order, and each summary of it is this
--- text.
+-- The summary of a bag that the drill's program allows on the generated rows. Every such bag is this one, up to order,
+-- and every summary of one is this text.
 pub record IsDrillText (seed rows : ℕ) (text : List ℕ) : Type 0 where
   pub bag : Bag
   pub allowed : AllowsWritten (drilled seed rows) bag
@@ -256,7 +261,7 @@ pub record IsDrillText (seed rows : ℕ) (text : List ℕ) : Type 0 where
 
 -- ---- all commands
 
--- a text for the output, and nothing besides
+-- a text for the output, and none for standard error
 abbrev pub IsOutAlone : (List ℕ → Type 0) → Texts → Type 0
 IsOutAlone IsText t = IsText t.out × (t.told ≡ None)
 

@@ -1,4 +1,4 @@
--- Iterations: a program runs again and again, each time over what it gave the time before.
+-- Iterations: a program runs again and again, each time over the bag that the round before gave.
 use Rattle.std.specs.Prelude.{◌≡◌, ◌++◌, ℕ, Bool, true, false, List, [], Option, Some, None, Result, IfOk, slice_get, codes, decimal}
 use Rattle.std.specs.Borrow.{Bor}
 use Rattle.std.specs.List.Sorted.{IsPermutation}
@@ -14,18 +14,7 @@ use Rattle.pact_top.specs.OrderFreePrograms.{AreGroupsFree}
 use Rattle.pact_top.specs.declared.repeating.Repeated.{Repeated}
 use Rattle.pact_top.specs.declared.texts.Texts.{Texts}
 
--- ---- a source by its name
-
--- the source of this number has this name
-pub record IsSourceNamed (ops : List Op) (name : List ℕ) (at : ℕ) : Type 0 where
-  pub source : Op
-  pub there : slice_get ops at ≡ Some source
-  pub kind : is_source_kind source.kind ≡ true
-  pub named : source.name ≡ name
-
--- no source of a program has it
-abbrev pub LacksSource : List Op → List ℕ → Type 0
-LacksSource ops name = (at : ℕ) → IsSourceNamed ops name at → ⊥
+-- ---- a source by its number
 
 -- a source has this number
 abbrev pub HasSource : ProgramData → ℕ → Type 0
@@ -39,31 +28,33 @@ columns_in (Some op) = op.columns
 abbrev pub columns_at : ProgramData → ℕ → List Column
 columns_at p at = columns_in (slice_get p.ops at)
 
--- ---- what is called for each round
+-- ---- the call made in each round
 
--- it may be called for any rows that are the program's, and what it gives is allowed on them
+-- may be called for any rows that are the program's, and returns a bag that is allowed on them
 pub record IsCallOf (p : ProgramData) {A E : Type 0} (Pre : A → Bor (List Bag) → Type 0) (Post : A → Bor (List Bag) → Result Bag E → Type 0) : Type 0 where
   pub pre : (alloc : A) (inputs : Bor (List Bag)) → AreInputsOf p inputs.now → Pre alloc inputs
   pub post : (alloc : A) (inputs : Bor (List Bag)) (result : Result Bag E) → Post alloc inputs result → IfOk result (AllowsOn p inputs.now)
 
 -- ---- what is written
 
--- The last of these rounds gives this bag, and there are so many. From the second on the source has the bag of the round before, cut to its columns.
+-- The last round gives this bag, and this is the number of rounds. From the second round on the source has the bag of
+-- the round before, cut to its columns.
 abbrev pub IsIterationOf : Repeated → (rounds : ℕ) → (stable : Bool) → Bag → ℕ → Type 0
 IsIterationOf r rounds stable bag count =
     IsIterated r.loaded.program r.loaded.inputs (source_place r.loaded.program.ops r.at) (columns_at r.loaded.program r.at) rounds stable bag count
 
--- the line that tells how many rounds there were
+-- the line that prints the number of rounds
 abbrev pub rounds_line : ℕ → List ℕ
 rounds_line count = codes "rounds " ++ (decimal count ++ codes "\n")
 
--- it is told where an iteration may end early
+-- the number of rounds is printed only if the iteration may end early
 abbrev pub told_rounds : Bool → ℕ → Option (List ℕ)
 told_rounds true count = Some (rounds_line count)
 told_rounds false count = None
 
--- The sorted lines of the last round's bag, and how many rounds there were. Where each function that a Reduce or a CoGroup calls passes the order test, each
--- iteration comes to this bag, up to order, behind so many rounds, and its lines are these.
+-- The sorted lines of the last round's bag, and the number of rounds. If each function that a Reduce or a CoGroup calls
+-- passes the order test, each iteration gives this bag, up to order, after this number of rounds, and its lines are
+-- these.
 pub record IsIterationText (r : Repeated) (rounds : ℕ) (stable : Bool) (t : Texts) : Type 0 where
   pub bag : Bag
   pub count : ℕ

@@ -3,12 +3,8 @@ pub mod Formatters
 pub mod Headline
 pub mod Iterations
 pub mod OrderFreePrograms
-pub mod Readers
-pub mod Readings
 pub mod Refusal
-pub mod RefusalLines
-pub mod Stages
-pub mod Statuses
-pub mod Transfer
-pub mod Work
 pub mod Runs
+pub mod Statuses
+pub mod Work
+pub mod Writing

@@ -1,4 +1,4 @@
-//! The plan that is chosen of a program on the rows of its sources, and what is written of it.
+//! The plan that is chosen for a program and the rows of its sources, and the texts that are made from it.
 
 ghost use Rattle.std.specs.Prelude.{◌≡◌, ◌≤◌, ◌<◌, ◌+◌, ◌++◌, ◌∷◌, [], ℕ, true, cond, get_or, length, IfOk, OnOk};
 ghost use Rattle.pact_operators.specs.Inputs.{AreInputsOf};
@@ -8,15 +8,15 @@ ghost use Rattle.plan_trees.specs.Physicals.{worker_limit};
 ghost use Rattle.plan_enumerate.specs.KnownPlans.{AreKnownPlans};
 ghost use Rattle.plan_enumerate.specs.Listing.{entry_limit, plans_of};
 ghost use Rattle.pact_top.specs.CommandTexts as texts;
-ghost use Rattle.pact_top.specs.declared.loaded.Loaded.{Loaded as LoadedData};
+ghost use Rattle.pact_load.specs.declared.loaded.Loaded.{Loaded as LoadedData};
 ghost use Rattle.ship_strategy.specs.Layouts.{layout_count};
 ghost use Rattle.ship_strategy.specs.PlanFacts.{facts_of};
 ghost use Rattle.ship_strategy.specs.Views.{facts_in};
 ghost use Rattle.pact_top.specs.CommandTexts.{ArePlansOf, IsCertificateLine, IsChoice, IsDerived, IsOutAlone, IsPicked, IsPlanChosen, IsPlanText};
 
-use crate::loaded::{Loaded, is_source};
 use crate::texts::Texts;
 use pact_bag::{Counts, Inputs};
+use pact_load::{Loaded, is_source};
 use pact_operators::{Op, Plan, Program};
 use pact_record::OutOfMemory;
 use plan_enumerate::{Chosen, KnownPlans, Listed, choose_known, enumerate_and_analyse, steps_of};
@@ -26,7 +26,8 @@ use ship_strategy::{Table, layout_known};
 use std::alloc::Global;
 use swap_certificate::{certificate, certificate_line};
 
-/// The plans that are listed, which of them is chosen with which layout, the plan itself, and what is known of its operators.
+/// The listed plans, which of them is chosen and with which layout, the plan itself, and what is known of its
+/// operators.
 #[derive(Drop)]
 pub struct Choice {
     pub listed: Listed,
@@ -35,7 +36,8 @@ pub struct Choice {
     pub facts: Table,
 }
 
-/// The listed plan that is chosen for some rows, with which layout, the plan itself, and what is known of its operators.
+/// Which of the listed plans is chosen for some rows and with which layout, the plan itself, and what is known of its
+/// operators.
 #[derive(Drop)]
 pub struct Picked {
     pub chosen: Chosen,
@@ -43,13 +45,14 @@ pub struct Picked {
     pub facts: Table,
 }
 
-// How many rows a source or operator has of its own, and the place of the next source. `source` is the place of this one, where it is a source.
+// How many rows a source or operator has of its own (0 for an operator), and the place of the next source. If it is a
+// source, its place is `source`.
 fn own_rows(op: &Op, inputs: &Inputs, source: usize) -> (u64, usize)
     requires { is_source_kind op.now.kind ≡ true → source < length inputs.now }
     ensures rows { result.0 ≡ cond (is_source_kind op.now.kind) (length (get_or inputs.now source [])) 0 }
     ensures next { result.1 ≡ cond (is_source_kind op.now.kind) (source + 1) source }
 {
-    // Its clause bounds the places of sources.
+    // `len` makes it known that the places of sources are bounded.
     let _sources = inputs.len();
     if is_source(op.kind) {
         (inputs.at(source).len() as u64, source + 1)
@@ -58,7 +61,7 @@ fn own_rows(op: &Op, inputs: &Inputs, source: usize) -> (u64, usize)
     }
 }
 
-// Puts a number behind the others. Its clause is what a refused push leaves out: only memory refuses it.
+// Appends a count. The clause speaks only of success: only lack of memory makes a push fail.
 fn push_count(counts: &mut Counts, count: u64) -> Result<(), OutOfMemory>
     ensures { OnOk result (counts.new ≡ counts.old ++ count ∷ []) }
 {
@@ -81,7 +84,7 @@ fn row_counts(alloc: Global, program: &Program, inputs: &Inputs) -> Result<Count
     Ok(counts)
 }
 
-/// The first of the listed plans that costs least on these rows, with its layout. No function is analysed for it.
+/// The first listed plan of least cost for these rows, with its layout. No function is analysed here.
 pub fn choose_listed(
     alloc: Global,
     program: &Program,
@@ -108,7 +111,7 @@ pub fn choose_listed(
     })
 }
 
-/// The first plan that costs least, with its layout, of at most so many listed ones.
+/// The first plan of least cost, with its layout, among at most `plans` listed ones.
 pub fn choose_plan(
     alloc: Global,
     loaded: &Loaded,
@@ -143,7 +146,7 @@ fn steps_to(alloc: Global, choice: &Choice) -> Result<ConditionList, OutOfMemory
     steps_of(alloc, &choice.listed, choice.chosen.entry)
 }
 
-// What is shown of the choice.
+// What `plan` shows of the choice.
 fn shown(
     alloc: Global,
     loaded: &Loaded,
@@ -198,7 +201,7 @@ pub fn plan_texts(
     Ok(Texts::out_alone(out))
 }
 
-/// The certificate of the exchanges that lead to the chosen plan, and a line feed.
+/// The certificate of the exchanges that lead to the chosen plan, with a line feed after it.
 pub fn certificate_texts(
     alloc: Global,
     loaded: &Loaded,

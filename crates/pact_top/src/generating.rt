@@ -1,4 +1,4 @@
-//! Generated rows, and what a drill tells of its run on them.
+//! Generated rows, and the summary of a drill's run on them.
 
 ghost use Rattle.std.specs.Prelude.{◌≡◌, ◌≤◌, ◌<◌, length, IfOk};
 ghost use Rattle.pact_gen.specs.Generated.{seed_limit};
@@ -6,17 +6,15 @@ ghost use Rattle.pact_record.specs.Widths.{AreWide};
 ghost use Rattle.pact_words.specs.Words.{AreOptionsInRange};
 ghost use Rattle.pact_top.specs.CommandTexts.{IsDrillText, IsGeneratedText, IsSummary, drilled};
 ghost use Rattle.pact_top.specs.Formatters.{IsFormatter};
-ghost use Rattle.pact_top.specs.Runs.{IsRunner};
 
 use crate::lines::lines_of;
-use crate::loaded::{Loaded, push_rows};
+use crate::runners::Runner;
 use crate::running::{FinishedRun, run_chosen};
-use crate::tasks::Task;
 use csv_sink::write_fields;
 use drill_program::{drill_program, summary_text};
 use pact_bag::{Inputs, Outcome, Rows};
 use pact_gen::make_input;
-use pact_operators::Program;
+use pact_load::{Loaded, push_rows};
 use pact_record::{Bytes, OutOfMemory};
 use pact_words::Options;
 use std::alloc::Global;
@@ -30,7 +28,7 @@ pub fn generated_text(alloc: Global, seed: u32, rows: u32) -> Result<Bytes, OutO
     write_fields(alloc, made.rows(), &[0, 1, 2])
 }
 
-// The program of a drill with the generated rows, as if they had been read.
+// The program of a drill and the generated rows, as loading them from files would return them.
 fn load_drill(alloc: Global, seed: u32, rows: u32) -> Result<Loaded, OutOfMemory>
     requires { seed ≤ seed_limit }
     ensures { IfOk result (λ loaded. loaded ≡ drilled seed rows) }
@@ -42,7 +40,7 @@ fn load_drill(alloc: Global, seed: u32, rows: u32) -> Result<Loaded, OutOfMemory
     Ok(Loaded { program, inputs })
 }
 
-// What is told of a run on so many rows.
+// The summary of a run on `rows` rows.
 fn summary<W: Fn(Rows, &[u32]) -> Result<Bytes, OutOfMemory>>(
     alloc: Global,
     rows: u32,
@@ -64,21 +62,18 @@ fn summary<W: Fn(Rows, &[u32]) -> Result<Bytes, OutOfMemory>>(
     summary_text(alloc, u64::from(rows), out, lines.bytes())
 }
 
-/// Runs the program of a drill on so many generated rows, and tells of the run.
-pub fn drill_text<
-    F: Fn(&Program, &Task, Inputs) -> Result<Outcome, OutOfMemory>,
-    W: Fn(Rows, &[u32]) -> Result<Bytes, OutOfMemory>,
->(
+/// Runs the program of a drill on `rows` generated rows, and returns the summary of the run.
+pub fn drill_text<T: Runner, W: Fn(Rows, &[u32]) -> Result<Bytes, OutOfMemory>>(
     alloc: Global,
     seed: u32,
     rows: u32,
     options: Options,
-    run: &F,
+    run: &T,
     format: &W,
 ) -> Result<Bytes, OutOfMemory>
     requires seed { seed ≤ seed_limit }
     requires options { AreOptionsInRange options }
-    requires runs { IsRunner (F.pre run.now) (F.post run.now) }
+    requires runs { T.ready run.now }
     requires formats { IsFormatter (W.pre format.now) (W.post format.now) }
     ensures { IfOk result (IsDrillText seed rows) }
 {

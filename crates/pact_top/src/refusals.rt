@@ -1,49 +1,15 @@
-//! Why a call gives no answer, and what is told of it.
+//! Prints why a call gives no answer.
 
-ghost use Rattle.std.specs.Prelude.{◌≡◌, ◌≤◌};
-ghost use Rattle.pact_top.specs.Transfer.{Tells, Writes};
-ghost use Rattle.pact_top.specs.Refusal.{status_of, refusal_line};
-ghost use Rattle.pact_top.specs.RefusalLines.{line_of};
-ghost use Rattle.pact_top.specs.declared.refusals.Refusal.TheVariants as refusals;
+ghost use Rattle.std.specs.Prelude.{◌≤◌};
+ghost use Rattle.pact_load.specs.Answers.{refusal_line};
+ghost use Rattle.pact_load.specs.RefusalLines.{line_of};
+ghost use Rattle.pact_top.specs.Writing.{Tells, Writes};
 
-use crate::transfer::write_all;
+use crate::writing::write_all;
+use pact_load::Refusal;
 use pact_outside::{Failed, Sink};
-use pact_record::{Bytes, OutOfMemory};
 
-#[derive(Drop)]
-pub enum Refusal {
-    OutOfMemory,
-    Usage,
-    /// The file of this name can't be read.
-    CannotRead(Bytes),
-    CannotWrite,
-    /// What the files say decides it: the exit status, and all that tells why, one line or more.
-    Decided { status: u8, line: Bytes },
-}
-
-impl From<OutOfMemory> for Refusal {
-    ghost from_gives = { λ _ r. r ≡ refusals.OutOfMemory };
-
-    fn from(_: OutOfMemory) -> Refusal {
-        Refusal::OutOfMemory
-    }
-}
-
-impl Refusal {
-    pub fn status(&self) -> u8
-        ensures { result ≡ status_of self.now }
-    {
-        match self {
-            Refusal::OutOfMemory => 1,
-            Refusal::Usage => 2,
-            Refusal::CannotRead(_) => 3,
-            Refusal::CannotWrite => 4,
-            Refusal::Decided { status, .. } => *status,
-        }
-    }
-}
-
-// A line that can't be written changes no status.
+// A line that can't be written doesn't change the status.
 fn tell_line<E: Sink>(err: &mut E, line: &[u8])
     ensures later { E.faults err.old ≤ E.faults err.new }
     ensures told { Tells (E.taken err.old) (E.taken err.new) (E.faults err.old) (E.faults err.new) line.now }
@@ -70,7 +36,7 @@ fn tell_unreadable<E: Sink>(err: &mut E, name: &[u8])
     }
 }
 
-/// Tells why: in one line, and of a certificate's found sets and plan in more.
+/// Prints the reason in one line. If a certificate states other sets or another plan, further lines show both.
 pub fn tell<E: Sink>(err: &mut E, refusal: &Refusal)
     ensures later { E.faults err.old ≤ E.faults err.new }
     ensures told { Tells (E.taken err.old) (E.taken err.new) (E.faults err.old) (E.faults err.new) (refusal_line refusal.now) }

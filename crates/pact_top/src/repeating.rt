@@ -1,4 +1,4 @@
-//! Programs that run round after round, each time over what they gave the time before.
+//! Programs that run round after round, each time over what the round before gave.
 
 ghost use Rattle.std.specs.Prelude.{◌≡◌, ◌≤◌, length, IfOk};
 ghost use Rattle.iterate_plan.specs.Rounds.{AllowsOn, IsIterated};
@@ -14,16 +14,15 @@ ghost use Rattle.pact_top.specs.Iterations as specs;
 ghost use Rattle.pact_top.specs.Iterations.{HasSource, IsCallOf, IsIterationText, columns_at};
 ghost use Rattle.bag_lines.specs.Lines.{AreLines};
 ghost use Rattle.pact_top.specs.Formatters.{IsFormatter};
-ghost use Rattle.pact_top.specs.Runs.{IsRunner};
 
 use crate::choosing::{Picked, choose_listed};
 use crate::lines::lines_of;
-use crate::loaded::{Loaded, is_source};
+use crate::runners::Runner;
 use crate::running::run_plan;
-use crate::tasks::Task;
 use crate::texts::Texts;
 use iterate_run::{Iterated, Round, iterate};
-use pact_bag::{Inputs, Outcome, Rows};
+use pact_bag::{Inputs, Rows};
+use pact_load::{Loaded, is_source};
 use pact_operators::{Op, Program};
 use pact_record::{Bytes, OutOfMemory};
 use pact_words::Options;
@@ -31,7 +30,8 @@ use plan_enumerate::{KnownPlans, Listed, enumerate_and_analyse};
 use plan_printer::push_number;
 use std::alloc::Global;
 
-/// What an iteration goes on from: a program with the rows of its sources, and the number of the source whose rows each round replaces.
+/// What an iteration starts from: a program with the rows of its sources, and the number of the source whose rows each
+/// round replaces.
 #[derive(Drop)]
 pub struct Repeated {
     pub loaded: Loaded,
@@ -45,7 +45,8 @@ struct Extent {
     stable: bool,
 }
 
-// A program with what is called for each of its rounds. What runs on threads is called: the bounds of an `impl` count for the calling thread alone.
+// A program with the call for each of its rounds. It is a call because a round may run on threads: the bounds of an
+// `impl` hold only for the calling thread.
 #[derive(Drop)]
 struct CalledRounds<'a, C: Fn(Global, &Inputs) -> Result<Rows, OutOfMemory>> {
     program: &'a Program,
@@ -62,22 +63,22 @@ impl<'a, C: Fn(Global, &Inputs) -> Result<Rows, OutOfMemory>> Round for CalledRo
     }
 }
 
-// What a run of the plan gives that is chosen for these rows, without a field dropped: the next round may need it. They are copied, since the rows of a run go
-// into it.
-fn one_round<F: Fn(&Program, &Task, Inputs) -> Result<Outcome, OutOfMemory>>(
+// The rows that a run of the plan chosen for these inputs gives. No fields are dropped, because the next round may need
+// them. The inputs are copied, because a run consumes them.
+fn one_round<T: Runner>(
     alloc: Global,
     program: &Program,
     listed: &Listed,
     known: &KnownPlans,
     options: Options,
     inputs: &Inputs,
-    run: &F,
+    run: &T,
 ) -> Result<Rows, OutOfMemory>
     requires inputs { AreInputsOf program.now inputs.now }
     requires options { AreOptionsInRange options }
     requires plans { ArePlansOf program.now listed.now.entries }
     requires known { AreKnownPlans program.now (plans_of listed.now.entries) known.now }
-    requires runs { IsRunner (F.pre run.now) (F.post run.now) }
+    requires runs { T.ready run.now }
     ensures { IfOk result (AllowsOn program.now inputs.now) }
 {
     let Picked {
@@ -95,7 +96,7 @@ fn one_round<F: Fn(&Program, &Task, Inputs) -> Result<Outcome, OutOfMemory>>(
     Ok(left.outcome.rows)
 }
 
-// The place of a source among the sources.
+// The place of the source of this number among the sources.
 fn source_place(ops: &[Op], at: usize) -> u32
     requires within { at ≤ length ops.now }
     requires few { length ops.now ≤ node_limit }
@@ -111,7 +112,7 @@ fn source_place(ops: &[Op], at: usize) -> u32
 }
 
 // The rounds of a program by the plans that are listed of it.
-fn run_rounds<F: Fn(&Program, &Task, Inputs) -> Result<Outcome, OutOfMemory>>(
+fn run_rounds<T: Runner>(
     alloc: Global,
     program: &Program,
     listed: &Listed,
@@ -120,7 +121,7 @@ fn run_rounds<F: Fn(&Program, &Task, Inputs) -> Result<Outcome, OutOfMemory>>(
     at: usize,
     options: Options,
     extent: Extent,
-    run: &F,
+    run: &T,
 ) -> Result<Iterated, OutOfMemory>
     requires inputs { AreInputsOf program.now inputs }
     requires source { HasSource program.now at }
@@ -128,7 +129,7 @@ fn run_rounds<F: Fn(&Program, &Task, Inputs) -> Result<Outcome, OutOfMemory>>(
     requires plans { ArePlansOf program.now listed.now.entries }
     requires known { AreKnownPlans program.now (plans_of listed.now.entries) known.now }
     requires rounds { 1 ≤ extent.rounds }
-    requires runs { IsRunner (F.pre run.now) (F.post run.now) }
+    requires runs { T.ready run.now }
     ensures { IfOk result (λ i. IsIterated program.now inputs (source_place program.now.ops at) (columns_at program.now at) extent.rounds extent.stable i.rows i.rounds) }
 {
     let ops = program.ops();
@@ -140,7 +141,7 @@ fn run_rounds<F: Fn(&Program, &Task, Inputs) -> Result<Outcome, OutOfMemory>>(
             requires options { AreOptionsInRange options }
             requires plans { ArePlansOf program.now listed.now.entries }
             requires known { AreKnownPlans program.now (plans_of listed.now.entries) known.now }
-            requires runs { IsRunner (F.pre run.now) (F.post run.now) }
+            requires runs { T.ready run.now }
             ensures { IfOk result (AllowsOn program.entry.now inputs.now) }
         { one_round(alloc, program, listed, known, options, inputs, run) },
     };
@@ -156,7 +157,7 @@ fn run_rounds<F: Fn(&Program, &Task, Inputs) -> Result<Outcome, OutOfMemory>>(
     )
 }
 
-// Tells how many rounds there were, where an iteration may end early.
+// The text with the number of rounds, if an iteration may end early.
 fn told_rounds(alloc: Global, rounds: u32, stable: bool) -> Result<Option<Bytes>, OutOfMemory>
     ensures { IfOk result (λ told. told ≡ specs.told_rounds stable rounds) }
 {
@@ -169,7 +170,7 @@ fn told_rounds(alloc: Global, rounds: u32, stable: bool) -> Result<Option<Bytes>
     Ok(Some(line))
 }
 
-// The sorted rows of the last round, and how many rounds there were.
+// The sorted rows of the last round, and the number of rounds if an iteration may end early.
 fn texts_of_rounds<W: Fn(Rows, &[u32]) -> Result<Bytes, OutOfMemory>>(
     alloc: Global,
     program: &Program,
@@ -188,32 +189,29 @@ fn texts_of_rounds<W: Fn(Rows, &[u32]) -> Result<Bytes, OutOfMemory>>(
     Ok(Texts { out, told })
 }
 
-/// The sorted rows of the last of so many rounds. With `stable` an iteration ends behind the first round that gives back the rows with which it began, and
-/// how many rounds there were is told. The plans of the program are listed and their operators analysed once, and one
-/// plan is chosen for the rows of each round.
-pub fn iteration_texts<
-    F: Fn(&Program, &Task, Inputs) -> Result<Outcome, OutOfMemory>,
-    W: Fn(Rows, &[u32]) -> Result<Bytes, OutOfMemory>,
->(
+/// The sorted rows of the last of `rounds` rounds. With `stable` an iteration ends after the first round that gives back
+/// the rows with which it began, and the texts then include the number of rounds. The plans of the program are listed
+/// and their operators analysed once. One plan is chosen for the rows of each round.
+pub fn iteration_texts<T: Runner, W: Fn(Rows, &[u32]) -> Result<Bytes, OutOfMemory>>(
     alloc: Global,
     repeated: Repeated,
     rounds: u32,
     options: Options,
     stable: bool,
-    run: &F,
+    run: &T,
     format: &W,
 ) -> Result<Texts, OutOfMemory>
     requires inputs { AreInputsOf repeated.loaded.program repeated.loaded.inputs }
     requires source { HasSource repeated.loaded.program repeated.at }
     requires options { AreOptionsInRange options }
     requires rounds { 1 ≤ rounds }
-    requires runs { IsRunner (F.pre run.now) (F.post run.now) }
+    requires runs { T.ready run.now }
     requires formats { IsFormatter (W.pre format.now) (W.post format.now) }
     ensures { IfOk result (IsIterationText repeated rounds stable) }
 {
     let Repeated { loaded, at } = repeated;
     let Loaded { program, inputs } = loaded;
-    // a program tells that it is one
+    // `fields` makes it known that `program` keeps the rules of a program.
     let _fields = program.fields();
     let (listed, known) = enumerate_and_analyse(alloc, &program, options.plans)?;
     let extent = Extent { rounds, stable };

@@ -1,4 +1,4 @@
-//! Runs of the plan that is chosen, and what is written of them.
+//! Runs of the chosen plan, and the texts made from them.
 
 ghost use Rattle.std.specs.Prelude.{◌≡◌, ◌≤◌, ◌<◌, ◌++◌, IfOk, OnOk};
 ghost use Rattle.flow_core.specs.Worlds.{depth_limit};
@@ -15,15 +15,15 @@ ghost use Rattle.ship_strategy.specs.Ships.{LegalShip};
 ghost use Rattle.ship_strategy.specs.Views.{facts_in};
 ghost use Rattle.pact_top.specs.CommandTexts.{AreToldCounts, IsAnswerOf, IsOutcome, IsRun, keeps_text};
 ghost use Rattle.pact_top.specs.Formatters.{IsFormatter};
-ghost use Rattle.pact_top.specs.Runs.{IsRunner};
 
 use crate::choosing::{Choice, choose_plan};
 use crate::lines::lines_of;
-use crate::loaded::Loaded;
-use crate::pruned_runs::{RunOutcome, run_task_as};
+use crate::rewriting::{RunOutcome, run_task_as};
+use crate::runners::Runner;
 use crate::tasks::Task;
 use crate::texts::Texts;
 use pact_bag::{Counts, Inputs, Outcome, Rows};
+use pact_load::Loaded;
 use pact_operators::{Plan, Program};
 use pact_record::{Bytes, OutOfMemory};
 use pact_words::Options;
@@ -32,7 +32,7 @@ use prune_fields::Kept;
 use ship_strategy::{Table, layout_known};
 use std::alloc::Global;
 
-/// A run of a program by the plan that was chosen for it, and what it gave.
+/// A run of a program by the plan that was chosen for it, and what the run gave.
 #[derive(Drop)]
 pub struct FinishedRun {
     pub program: Program,
@@ -42,7 +42,8 @@ pub struct FinishedRun {
     pub combined: Vec<(u32, u32)>,
 }
 
-// What is run: a plan in one of its layouts, as the options say. The facts are those of the plan, so that no function is analysed again.
+// The task to run: a plan in one of its layouts, with these options. The facts are those of the plan, so no function is
+// analysed again.
 fn task_of(program: &Program, plan: &Plan, facts: &Table, number: u32, options: Options) -> Task
     requires options { AreOptionsInRange options }
     requires plan { IsPlanOf program.now.functions program.now.ops plan.now }
@@ -78,9 +79,9 @@ fn task_of(program: &Program, plan: &Plan, facts: &Table, number: u32, options: 
     }
 }
 
-/// What a run of a plan in parts gives, in the layout of that number: records that are, cut to the sink's fields, those of a bag that the plan as written
-/// allows too. `facts` has what is known of the plan's operators.
-pub fn run_plan<F: Fn(&Program, &Task, Inputs) -> Result<Outcome, OutOfMemory>>(
+/// What a run of a plan in parts gives, in the layout of this number. Cut to the sink's fields, the records are those of
+/// a bag that the plan as written also allows. `facts` has what is known of the plan's operators.
+pub fn run_plan<T: Runner>(
     alloc: Global,
     program: &Program,
     inputs: Inputs,
@@ -88,7 +89,7 @@ pub fn run_plan<F: Fn(&Program, &Task, Inputs) -> Result<Outcome, OutOfMemory>>(
     facts: &Table,
     number: u32,
     options: Options,
-    run: &F,
+    run: &T,
 ) -> Result<RunOutcome, OutOfMemory>
     requires inputs { AreInputsOf program.now inputs }
     requires options { AreOptionsInRange options }
@@ -96,7 +97,7 @@ pub fn run_plan<F: Fn(&Program, &Task, Inputs) -> Result<Outcome, OutOfMemory>>(
     requires facts { facts_in facts.now ≡ facts_of program.now plan.now }
     requires layout { number < layout_count program.now.ops }
     requires answers { KeepAnswers program.now program.now.plan plan.now }
-    requires runs { IsRunner (F.pre run.now) (F.post run.now) }
+    requires runs { T.ready run.now }
     ensures { IfOk result (IsOutcome (record { program = program.now; inputs = inputs }) options.workers plan.now number options.prune options.combine) }
 {
     let task = task_of(program, plan, facts, number, options);
@@ -111,7 +112,7 @@ pub fn run_plan<F: Fn(&Program, &Task, Inputs) -> Result<Outcome, OutOfMemory>>(
     )
 }
 
-// Puts the lines of what was kept, where fields were dropped, behind the counts.
+// Appends the `keeps` lines to the counts, one for each source or operator whose records lost fields.
 fn push_kept(
     alloc: Global,
     text: &mut Bytes,
@@ -126,7 +127,8 @@ fn push_kept(
     Ok(())
 }
 
-// The counts of a run of the chosen plan, where they are asked for, with what was kept and how many partial groups there were.
+// The counts of a run of the chosen plan, if they are asked for, with the fields that were kept and the numbers of
+// partial groups.
 fn told_counts(
     alloc: Global,
     program: &Program,
@@ -149,15 +151,15 @@ fn told_counts(
 }
 
 /// Chooses a plan and runs it. The rows of the sources go into the run.
-pub fn run_chosen<F: Fn(&Program, &Task, Inputs) -> Result<Outcome, OutOfMemory>>(
+pub fn run_chosen<T: Runner>(
     alloc: Global,
     loaded: Loaded,
     options: Options,
-    run: &F,
+    run: &T,
 ) -> Result<FinishedRun, OutOfMemory>
     requires inputs { AreInputsOf loaded.program loaded.inputs }
     requires options { AreOptionsInRange options }
-    requires runs { IsRunner (F.pre run.now) (F.post run.now) }
+    requires runs { T.ready run.now }
     ensures { IfOk result (IsRun loaded options.workers options.plans options.prune options.combine) }
 {
     let choice = choose_plan(alloc, &loaded, options.workers, options.plans)?;
@@ -186,7 +188,7 @@ pub fn run_chosen<F: Fn(&Program, &Task, Inputs) -> Result<Outcome, OutOfMemory>
     })
 }
 
-// The sorted rows that a run of the chosen plan gave, and its counts where they are asked for.
+// The sorted rows that a run of the chosen plan gave, and its counts if they are asked for.
 fn texts_of_run<W: Fn(Rows, &[u32]) -> Result<Bytes, OutOfMemory>>(
     alloc: Global,
     run: FinishedRun,
@@ -216,21 +218,18 @@ fn texts_of_run<W: Fn(Rows, &[u32]) -> Result<Bytes, OutOfMemory>>(
     Ok(Texts { out, told })
 }
 
-/// The sorted rows of a run of the chosen plan, and its counts where they are asked for.
-pub fn run_texts<
-    F: Fn(&Program, &Task, Inputs) -> Result<Outcome, OutOfMemory>,
-    W: Fn(Rows, &[u32]) -> Result<Bytes, OutOfMemory>,
->(
+/// Chooses a plan and runs it: the sorted rows, and the counts of the run if they are asked for.
+pub fn run_texts<T: Runner, W: Fn(Rows, &[u32]) -> Result<Bytes, OutOfMemory>>(
     alloc: Global,
     loaded: Loaded,
     options: Options,
     counts: bool,
-    run: &F,
+    run: &T,
     format: &W,
 ) -> Result<Texts, OutOfMemory>
     requires inputs { AreInputsOf loaded.program loaded.inputs }
     requires options { AreOptionsInRange options }
-    requires runs { IsRunner (F.pre run.now) (F.post run.now) }
+    requires runs { T.ready run.now }
     requires formats { IsFormatter (W.pre format.now) (W.post format.now) }
     ensures { IfOk result (IsAnswerOf loaded options.workers options.plans counts options.prune options.combine) }
 {

@@ -1,10 +1,10 @@
-//! What a command writes.
+//! The texts that a command writes.
 
 ghost use Rattle.std.specs.Prelude.{◌≡◌, None};
 
 use pact_record::Bytes;
 
-/// The text for the output, and what is told on the other sink where that is asked for: counts, or how many rounds there were.
+/// The text for the output, and the text for standard error if one is asked for: counts, or the number of rounds.
 #[derive(Drop)]
 pub struct Texts {
     pub out: Bytes,
@@ -12,7 +12,7 @@ pub struct Texts {
 }
 
 impl Texts {
-    /// A text for the output alone.
+    /// A text for the output only.
     pub fn out_alone(out: Bytes) -> Texts
         ensures { result ≡ record { out = out; told = None } }
     {

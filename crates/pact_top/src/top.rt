@@ -1,29 +1,31 @@
-//! The call that the program makes, and the same without threads.
+//! The call that the program makes, and its counterpart without threads.
 
-ghost use Rattle.std.specs.Prelude.{◌≡◌, ◌≢◌, ◌≤◌, false, IfOk};
-ghost use Rattle.pact_outside.specs.Outside.{Rose};
+ghost use Rattle.std.specs.Prelude.{◌≡◌, ◌≤◌, IfOk};
 ghost use Rattle.bag_lines.specs.Lines.{AreLines, CanFormat};
-ghost use Rattle.pact_top.specs.Headline.{Answered, AnsweredQuietly, Complete, MissingFile, NoOther, NothingWritten, Refused, RefusedAlways, Told, UnreadName, UnreadOpened, Unwritten, UnwrittenCause, Usage, UsageAlways, UsageUnnamed};
-ghost use Rattle.pact_top.specs.Readers.{CanRead, IsRead};
-ghost use Rattle.pact_top.specs.Refusal.{AskForThreads, status_of, refusal_line};
+ghost use Rattle.pact_top.specs.Headline.{KeepsPromises};
+ghost use Rattle.pact_load.specs.Readers.{CanRead, IsRead};
+ghost use Rattle.pact_load.specs.Answers.{status_of, refusal_line};
+ghost use Rattle.pact_top.specs.Refusal.{AnswersWords, threads_asked};
 ghost use Rattle.pact_top.specs.Runs.{CanRun, HasRun};
-ghost use Rattle.pact_top.specs.Statuses.{TellsMore, WritesTexts};
-ghost use Rattle.pact_top.specs.Transfer.{Tells};
-ghost use Rattle.pact_words.specs.Words.{AreRefused, texts_of};
+ghost use Rattle.pact_top.specs.Statuses.{TellsMore, WritesAnswer, WritesTexts};
+ghost use Rattle.pact_top.specs.Writing.{Tells};
+ghost use Rattle.pact_words.specs.Words.{IsInRange, asked, texts_of};
 
 use crate::answering::answer;
-use crate::refusals::{Refusal, tell};
+use crate::refusals::tell;
+use crate::runners::CalledRuns;
 use crate::tasks::{Task, run_task, run_task_on_threads};
 use crate::texts::Texts;
-use crate::transfer::write_all;
+use crate::writing::write_all;
 use bag_lines::{parts_for_rows, sorted_lines, sorted_lines_on_threads};
 use csv_parts::{parts_for, read_source_on_threads};
 use csv_source::{BadRow, read_source};
 use pact_bag::{Inputs, Outcome, Rows};
+use pact_load::Refusal;
 use pact_operators::Program;
 use pact_outside::{Failed, Feed, Sink};
 use pact_record::{Bytes, Columns, OutOfMemory};
-use pact_words::{Command, read_words};
+use pact_words::{Command, Refused, read_words};
 use std::alloc::Global;
 use std::sync::Wait;
 use std::thread::Threads;
@@ -38,7 +40,7 @@ fn refuse<E: Sink>(err: &mut E, refusal: &Refusal) -> u8
     refusal.status()
 }
 
-// Tells what is told besides, where there is something.
+// Writes the text for standard error, if there is one.
 fn write_more<E: Sink>(err: &mut E, more: &Option<Bytes>) -> u8
     ensures { TellsMore more.now (E.taken err.old) (E.taken err.new) (E.faults err.old) (E.faults err.new) result }
 {
@@ -51,7 +53,7 @@ fn write_more<E: Sink>(err: &mut E, more: &Option<Bytes>) -> u8
     }
 }
 
-// Writes the text, and then tells what is told besides.
+// Writes the text for the output, and then the one for standard error.
 fn write_texts<O: Sink, E: Sink>(out: &mut O, err: &mut E, texts: &Texts) -> u8
     ensures { WritesTexts texts.now (O.taken out.old) (O.taken out.new) (E.taken err.old) (E.taken err.new) (O.faults out.old) (O.faults out.new) (E.faults err.old) (E.faults err.new) result }
 {
@@ -61,10 +63,119 @@ fn write_texts<O: Sink, E: Sink>(out: &mut O, err: &mut E, texts: &Texts) -> u8
     }
 }
 
-/// Does what the command line's words ask for on the calling thread, and answers the exit status.
+// Writes the texts, or prints why there are none.
+fn finish<O: Sink, E: Sink>(out: &mut O, err: &mut E, answered: Result<Texts, Refusal>) -> u8
+    ensures { WritesAnswer answered (O.taken out.old) (O.taken out.new) (E.taken err.old) (E.taken err.new) (O.faults out.old) (O.faults out.new) (E.faults err.old) (E.faults err.new) result }
+{
+    match answered {
+        Ok(texts) => write_texts(out, err, &texts),
+        Err(refusal) => refuse(err, &refusal),
+    }
+}
+
+// The texts of the command that was read, made on the calling thread.
+fn answer_alone<F: Feed>(
+    alloc: Global,
+    command: Result<Command, Refused>,
+    feed: &mut F,
+) -> Result<Texts, Refusal>
+    requires range { IfOk command (λ known. IsInRange (asked known)) }
+    ensures { AnswersWords command.entry (feed.new ≡ feed.old) (F.shows feed.old) (F.shows feed.new) result }
+{
+    let read = |bytes: &[u8], columns: &Columns, fields: u32| -> Result<Rows, BadRow>
+        requires { CanRead fields columns.now }
+        ensures { IsRead fields columns.now bytes.now result }
+    { read_source(alloc, bytes, columns, fields) };
+    let run = CalledRuns {
+        call: |program: &Program, task: &Task, inputs: Inputs| -> Result<Outcome, OutOfMemory>
+            requires { CanRun program.now task.now inputs }
+            ensures { IfOk result (HasRun program.now task.now inputs) }
+        { run_task(alloc, program, task, inputs) },
+    };
+    let format = |bag: Rows, fields: &[u32]| -> Result<Bytes, OutOfMemory>
+        requires { CanFormat fields.now bag }
+        ensures { IfOk result (AreLines fields.now bag) }
+    { sorted_lines(alloc, bag, fields) };
+    answer(alloc, command, feed, &read, &run, &format)
+}
+
+// The texts of the command that was read, with up to `workers` threads for a run, for a long source and for a long
+// text.
+fn answer_on_threads<R: Threads + Wait + Sync, F: Feed, G: Gate>(
+    rt: &R,
+    alloc: Global,
+    command: Result<Command, Refused>,
+    workers: u32,
+    feed: &mut F,
+    gate: &G,
+) -> Result<Texts, Refusal>
+    requires range { IfOk command (λ known. IsInRange (asked known)) }
+    ensures { AnswersWords command.entry (feed.new ≡ feed.old) (F.shows feed.old) (F.shows feed.new) result }
+{
+    let read = |bytes: &[u8], columns: &Columns, fields: u32| -> Result<Rows, BadRow>
+        requires { CanRead fields columns.now }
+        ensures { IsRead fields columns.now bytes.now result }
+    {
+        let parts = parts_for(bytes.len(), workers);
+        read_source_on_threads(rt, alloc, bytes, columns, fields, parts)
+    };
+    let run = CalledRuns {
+        call: |program: &Program, task: &Task, inputs: Inputs| -> Result<Outcome, OutOfMemory>
+            requires { CanRun program.now task.now inputs }
+            ensures { IfOk result (HasRun program.now task.now inputs) }
+        { run_task_on_threads(rt, alloc, program, task, inputs, gate) },
+    };
+    let format = |bag: Rows, fields: &[u32]| -> Result<Bytes, OutOfMemory>
+        requires { CanFormat fields.now bag }
+        ensures { IfOk result (AreLines fields.now bag) }
+    {
+        let parts = parts_for_rows(bag.len(), workers);
+        sorted_lines_on_threads(rt, alloc, bag, fields, parts)
+    };
+    answer(alloc, command, feed, &read, &run, &format)
+}
+
+// The answer, on threads if there are two workers or more.
+fn answer_as_asked<R: Threads + Wait + Sync, F: Feed, G: Gate>(
+    rt: &R,
+    alloc: Global,
+    command: Result<Command, Refused>,
+    workers: u32,
+    feed: &mut F,
+    gate: &G,
+) -> Result<Texts, Refusal>
+    requires range { IfOk command (λ known. IsInRange (asked known)) }
+    ensures { AnswersWords command.entry (feed.new ≡ feed.old) (F.shows feed.old) (F.shows feed.new) result }
+{
+    if workers < 2 {
+        answer_alone(alloc, command, feed)
+    } else {
+        answer_on_threads(rt, alloc, command, workers, feed, gate)
+    }
+}
+
+// How many threads the words ask for. Words that couldn't be read for lack of memory ask for none.
+fn threads_asked(command: &Result<Command, Refused>) -> u32
+    ensures { result ≡ threads_asked command.now }
+{
+    match command {
+        Ok(Command::Run { options, .. }) => options.workers,
+        Ok(Command::Drill { options, .. }) => options.workers,
+        Ok(Command::Iterate { options, .. }) => options.workers,
+        Ok(Command::Plan { .. }) => 0,
+        Ok(Command::Cert { .. }) => 0,
+        Ok(Command::Sets { .. }) => 0,
+        Ok(Command::Check { .. }) => 0,
+        Ok(Command::Gen { .. }) => 0,
+        Err(_) => 0,
+    }
+}
+
+/// Does what the words of the command line ask for on the calling thread, and returns the exit status.
 ///
-/// It does what `pact_main` does, with the same clauses and statuses, and starts no thread: the calling thread reads the
-/// sources, steps the instances of all workers in turn, and makes the text of the answer. So it waits for nobody, and always returns.
+/// It does what `pact_main` does, with the same clause and statuses, and starts no thread. The calling thread reads the
+/// sources, steps the instances of all workers in turn, and makes the text of the answer. So it waits for no other
+/// thread, and always returns.
 pub fn pact_alone<F: Feed, O: Sink, E: Sink>(
     alloc: Global,
     words: &[&str],
@@ -72,100 +183,58 @@ pub fn pact_alone<F: Feed, O: Sink, E: Sink>(
     out: &mut O,
     err: &mut E,
 ) -> u8
-    ensures answered { Answered (texts_of words.now) (F.shows feed.old) (F.shows feed.new) (O.taken out.old) (O.taken out.new) (E.taken err.old) (E.taken err.new) result }
-    ensures answered_quietly { AnsweredQuietly (texts_of words.now) (E.taken err.old) (E.taken err.new) result }
-    ensures complete { Complete (texts_of words.now) (F.shows feed.old) (F.shows feed.new) (O.faults out.old) (O.faults out.new) (E.faults err.old) (E.faults err.new) result }
-
-    ensures usage { Usage (texts_of words.now) result }
-    ensures usage_always { UsageAlways (texts_of words.now) result }
-    ensures usage_unnamed { UsageUnnamed (texts_of words.now) result }
-    ensures usage_untouched { AreRefused (texts_of words.now) → feed.new ≡ feed.old }
-
-    ensures unread { result ≡ 3 → Rose (F.shows feed.old).faults (F.shows feed.new).faults }
-    ensures unread_closed { result ≡ 3 → (F.shows feed.new).is_open ≡ false }
-    ensures unread_name { UnreadName (texts_of words.now) (F.shows feed.new) result }
-    ensures unread_opened { UnreadOpened (texts_of words.now) (F.shows feed.old) (F.shows feed.new) result }
-    ensures missing_file { MissingFile (texts_of words.now) (F.shows feed.old) result }
-
-    ensures unwritten { Unwritten (texts_of words.now) (F.shows feed.old) (F.shows feed.new) (O.taken out.old) (O.taken out.new) (E.taken err.old) (E.taken err.new) (O.faults out.old) (O.faults out.new) (E.faults err.old) (E.faults err.new) result }
-    ensures unwritten_cause { UnwrittenCause (texts_of words.now) (O.faults out.old) (O.faults out.new) (E.faults err.old) (E.faults err.new) result }
-
-    ensures refused { Refused (texts_of words.now) (F.shows feed.old) (F.shows feed.new) (E.taken err.old) (E.taken err.new) (E.faults err.old) (E.faults err.new) result }
-    ensures refused_always { RefusedAlways (texts_of words.now) (F.shows feed.old) result }
-
-    ensures nothing_written { NothingWritten (O.taken out.old) (O.taken out.new) result }
-    ensures output_untouched { result ≢ 0 → result ≢ 4 → O.faults out.new ≡ O.faults out.old }
-    ensures told { Told (F.shows feed.new) (E.taken err.old) (E.taken err.new) (E.faults err.old) (E.faults err.new) result }
-    ensures no_other { NoOther result }
+    ensures { KeepsPromises (texts_of words.now) feed.old feed.new (F.shows feed.old) (F.shows feed.new) (O.taken out.old) (O.taken out.new) (E.taken err.old) (E.taken err.new) (O.faults out.old) (O.faults out.new) (E.faults err.old) (E.faults err.new) result }
 {
-    let read = |bytes: &[u8], columns: &Columns, fields: u32| -> Result<Rows, BadRow>
-        requires { CanRead fields columns.now }
-        ensures { IsRead fields columns.now bytes.now result }
-    { read_source(alloc, bytes, columns, fields) };
-    let run = |program: &Program, task: &Task, inputs: Inputs| -> Result<Outcome, OutOfMemory>
-        requires { CanRun program.now task.now inputs }
-        ensures { IfOk result (HasRun program.now task.now inputs) }
-    { run_task(alloc, program, task, inputs) };
-    let format = |bag: Rows, fields: &[u32]| -> Result<Bytes, OutOfMemory>
-        requires { CanFormat fields.now bag }
-        ensures { IfOk result (AreLines fields.now bag) }
-    { sorted_lines(alloc, bag, fields) };
-    match answer(alloc, words, feed, &read, &run, &format) {
-        Ok(texts) => write_texts(out, err, &texts),
-        Err(refusal) => refuse(err, &refusal),
-    }
+    let command = read_words(alloc, words);
+    let answered = answer_alone(alloc, command, feed);
+    finish(out, err, answered)
 }
 
-// How many threads the words ask for, one for each worker of a run, a drill or an iteration. Every other command asks for none, and so do words for which
-// there is no memory to read them.
-fn threads_asked(alloc: Global, words: &[&str]) -> u32
-    ensures { 2 ≤ result → AskForThreads (texts_of words.now) }
-{
-    match read_words(alloc, words) {
-        Ok(Command::Run { options, .. }) => options.workers,
-        Ok(Command::Drill { options, .. }) => options.workers,
-        Ok(Command::Iterate { options, .. }) => options.workers,
-        _ => 0,
-    }
-}
-
-/// Does what the command line's words ask for, and answers the exit status.
+/// Does what the words of the command line ask for, and returns the exit status. `words` leaves out the program's own
+/// name.
 ///
-/// `words` are without the program's own name. Of `run PROGRAM`, the program's file and then those of
-/// its sources are opened and read, in text order, the plan that is expected to cost least is chosen
-/// and run in parts, and the sorted rows are written on `out`; with `--counts`, how many records each
-/// operator had is told on `err` behind that. With `--prune` fields that nothing above reads are
-/// dropped before records are shipped, and with counts a line `keeps` tells which were kept where. With
-/// `--combine` the plan, pruned or not, is run with partial groups, and with counts a line `partials`
-/// behind all others tells, for each Reduce that was combined, how many partial records went to it. Of
-/// `plan PROGRAM` the chosen plan is written, and of `cert PROGRAM` its certificate. Of `sets PROGRAM`,
-/// its file alone is read, and what the analysis finds of each operator is written. Of `check PROGRAM
-/// CERT`, the program's file is read and then the certificate's, and `accepted` is written where each
-/// step of it is found again. Of `gen SEED ROWS` and `drill SEED ROWS` no file is read: the one writes
-/// rows that the seed determines, the other runs a program of its own on them and writes a summary,
-/// which is the same for every option. Of `iterate PROGRAM SOURCE ROUNDS` the program runs so many
-/// rounds: from the second on the source of that name has the records of the round before, cut to its
-/// columns, in place of its file's rows. The plans are listed once, and one is chosen for the rows of
-/// each round; the sorted rows of the last one are written. With `--stable` rounds end behind the first
-/// that gives back, cut and in any order, the rows with which that round began, and how many there were
-/// is told on `err`.
-/// Nothing is written before all of the texts are made. What goes wrong is told on `err` in one
-/// line; of a certificate with other sets or another plan the lines behind it have both.
-/// `specs/Headline.antt` has the clauses, with what each says.
+/// - `run PROGRAM` reads the program's file and then those of its sources, in text order. It chooses the plan with the
+///   least expected cost, runs it in parts, and writes the sorted rows to `out`. With `--counts` it then prints to
+///   `err` how many records each operator had.
+/// - With `--prune`, fields that nothing above reads are dropped before records are shipped. With counts, a line
+///   `keeps` reports which fields were kept where.
+/// - With `--combine`, the plan, pruned or not, runs with partial groups. With counts, a line `partials` after all
+///   others reports, for each Reduce that was combined, how many partial records went to it.
+/// - `plan PROGRAM` writes the chosen plan, and `cert PROGRAM` writes its certificate.
+/// - `sets PROGRAM` reads only the program's file, and writes what the analysis finds of each operator.
+/// - `check PROGRAM CERT` reads the program's file and then the certificate's. It writes `accepted` if it finds each
+///   step of the certificate again.
+/// - `gen SEED ROWS` reads no file, and writes rows that the seed determines.
+/// - `drill SEED ROWS` reads no file, runs a program of its own on those rows, and writes a summary. The summary is the
+///   same for every option.
+/// - `iterate PROGRAM SOURCE ROUNDS` runs the program for that number of rounds. From the second round on, the source
+///   of that name has the records of the round before, cut to its columns, instead of its file's rows. The plans are
+///   listed once, and one is chosen for the rows of each round. The sorted rows of the last round are written.
+/// - With `--stable`, the rounds end after the first that gives back the rows with which it began, cut and in any
+///   order. The number of rounds is then printed to `err`.
 ///
-/// A run, a drill or an iteration with two workers or more has a thread for each, as far as the system
-/// gives them, and `gate` is called there before each event of the worker's instances. Long sources are
-/// read on at most as many threads, one source after the other (`csv_parts`), and the text of a long
-/// answer is made on at most as many (`bag_lines`). The workers wait
-/// for one another's notes, so the call may wait, and what is promised holds if it returns. With one
-/// worker, and for every other command, it is `pact_alone`, which waits for nobody; that is how it is
-/// built, and no clause tells it.
+/// Nothing is written before all of the texts are made. An error is printed to `err` in one line. If a certificate
+/// states other sets or another plan, the lines after it show both. The clause has every promise by its name, and
+/// `specs/Headline.antt` says what each of them means.
 ///
-/// The statuses: 0 the text was written whole, 1 out of memory, 2 the words are no command, 3 a
-/// file can't be read, 4 `out` failed, or `err` in telling counts or rounds, 5 the program's text is
-/// faulty, 6 a function or a declaration of it breaks a rule, or no source has the name that `iterate`
-/// was given, 7 a row of a source is bad, 8 a file is longer than its limit, 9 the certificate is
-/// refused.
+/// A run, a drill or an iteration with two workers or more has a thread for each worker, as far as the system provides
+/// them. There `gate` is called before each event of the worker's instances. Long sources are read on at most that
+/// number of threads, one source after the other (`csv_parts`). The text of a long answer is made on at most that
+/// number too (`bag_lines`). The workers wait for one another's notes, so the call may wait, and the promises hold if
+/// it returns. With one worker, and for every other command, it does what `pact_alone` does and waits for no other
+/// thread. That follows from how it is built; no clause says so.
+///
+/// Exit statuses:
+/// - 0: the text was written whole.
+/// - 1: out of memory.
+/// - 2: the words aren't a command.
+/// - 3: a file can't be read.
+/// - 4: `out` failed, or `err` failed as counts or rounds were printed.
+/// - 5: the program's text is faulty.
+/// - 6: a function or a declaration of the program breaks a rule, or no source has the name that `iterate` was given.
+/// - 7: a row of a source is bad.
+/// - 8: a file is longer than its limit.
+/// - 9: the certificate is refused.
 pub fn pact_main<R: Threads + Wait + Sync, F: Feed, O: Sink, E: Sink, G: Gate>(
     rt: &R,
     alloc: Global,
@@ -175,56 +244,10 @@ pub fn pact_main<R: Threads + Wait + Sync, F: Feed, O: Sink, E: Sink, G: Gate>(
     err: &mut E,
     gate: &G,
 ) -> u8
-    ensures answered { Answered (texts_of words.now) (F.shows feed.old) (F.shows feed.new) (O.taken out.old) (O.taken out.new) (E.taken err.old) (E.taken err.new) result }
-    ensures answered_quietly { AnsweredQuietly (texts_of words.now) (E.taken err.old) (E.taken err.new) result }
-    ensures complete { Complete (texts_of words.now) (F.shows feed.old) (F.shows feed.new) (O.faults out.old) (O.faults out.new) (E.faults err.old) (E.faults err.new) result }
-
-    ensures usage { Usage (texts_of words.now) result }
-    ensures usage_always { UsageAlways (texts_of words.now) result }
-    ensures usage_unnamed { UsageUnnamed (texts_of words.now) result }
-    ensures usage_untouched { AreRefused (texts_of words.now) → feed.new ≡ feed.old }
-
-    ensures unread { result ≡ 3 → Rose (F.shows feed.old).faults (F.shows feed.new).faults }
-    ensures unread_closed { result ≡ 3 → (F.shows feed.new).is_open ≡ false }
-    ensures unread_name { UnreadName (texts_of words.now) (F.shows feed.new) result }
-    ensures unread_opened { UnreadOpened (texts_of words.now) (F.shows feed.old) (F.shows feed.new) result }
-    ensures missing_file { MissingFile (texts_of words.now) (F.shows feed.old) result }
-
-    ensures unwritten { Unwritten (texts_of words.now) (F.shows feed.old) (F.shows feed.new) (O.taken out.old) (O.taken out.new) (E.taken err.old) (E.taken err.new) (O.faults out.old) (O.faults out.new) (E.faults err.old) (E.faults err.new) result }
-    ensures unwritten_cause { UnwrittenCause (texts_of words.now) (O.faults out.old) (O.faults out.new) (E.faults err.old) (E.faults err.new) result }
-
-    ensures refused { Refused (texts_of words.now) (F.shows feed.old) (F.shows feed.new) (E.taken err.old) (E.taken err.new) (E.faults err.old) (E.faults err.new) result }
-    ensures refused_always { RefusedAlways (texts_of words.now) (F.shows feed.old) result }
-
-    ensures nothing_written { NothingWritten (O.taken out.old) (O.taken out.new) result }
-    ensures output_untouched { result ≢ 0 → result ≢ 4 → O.faults out.new ≡ O.faults out.old }
-    ensures told { Told (F.shows feed.new) (E.taken err.old) (E.taken err.new) (E.faults err.old) (E.faults err.new) result }
-    ensures no_other { NoOther result }
+    ensures { KeepsPromises (texts_of words.now) feed.old feed.new (F.shows feed.old) (F.shows feed.new) (O.taken out.old) (O.taken out.new) (E.taken err.old) (E.taken err.new) (O.faults out.old) (O.faults out.new) (E.faults err.old) (E.faults err.new) result }
 {
-    let workers = threads_asked(alloc, words);
-    if workers < 2 {
-        return pact_alone(alloc, words, feed, out, err);
-    }
-    let read = |bytes: &[u8], columns: &Columns, fields: u32| -> Result<Rows, BadRow>
-        requires { CanRead fields columns.now }
-        ensures { IsRead fields columns.now bytes.now result }
-    {
-        let parts = parts_for(bytes.len(), workers);
-        read_source_on_threads(rt, alloc, bytes, columns, fields, parts)
-    };
-    let run = |program: &Program, task: &Task, inputs: Inputs| -> Result<Outcome, OutOfMemory>
-        requires { CanRun program.now task.now inputs }
-        ensures { IfOk result (HasRun program.now task.now inputs) }
-    { run_task_on_threads(rt, alloc, program, task, inputs, gate) };
-    let format = |bag: Rows, fields: &[u32]| -> Result<Bytes, OutOfMemory>
-        requires { CanFormat fields.now bag }
-        ensures { IfOk result (AreLines fields.now bag) }
-    {
-        let parts = parts_for_rows(bag.len(), workers);
-        sorted_lines_on_threads(rt, alloc, bag, fields, parts)
-    };
-    match answer(alloc, words, feed, &read, &run, &format) {
-        Ok(texts) => write_texts(out, err, &texts),
-        Err(refusal) => refuse(err, &refusal),
-    }
+    let command = read_words(alloc, words);
+    let workers = threads_asked(&command);
+    let answered = answer_as_asked(rt, alloc, command, workers, feed, gate);
+    finish(out, err, answered)
 }

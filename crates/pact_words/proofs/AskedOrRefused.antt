@@ -1,4 +1,4 @@
--- Words ask for a command or are refused.
+-- Words ask for a command, or they are refused.
 use Rattle.std.proofs.Common.{◌≡◌, ◌⊎◌, ◌∙◌, inl, inr, refl, sym, ap, subst, ℕ, List, [], ◌∷◌, Option, Some, None, option_and_then, slice_get}
 use Rattle.std.specs.Borrow.{Bor}
 use Rattle.clap.specs.Kinds.{Kinds}
@@ -16,7 +16,7 @@ pub kind_of_first : (words : List (Bor (List ℕ))) (first : Bor (List ℕ)) (k 
 kind_of_first [] first k there named = ap (option_and_then (λ (word : Bor (List ℕ)). kind_named word.now)) there ∙ named
 kind_of_first (word ∷ words) first k there named = ap (option_and_then (λ (word : Bor (List ℕ)). kind_named word.now)) there ∙ named
 
--- clap takes the words, and finds no command in them
+-- clap takes the words, but the values that it finds give no command
 pub none_found : (k : Kind) (words : List (List ℕ)) → kind_in words ≡ Some k → fault_of (app_for k) words ≡ []
     → asked_of k (matches_of (app_for k) words) ≡ None → AreRefused words
 none_found k words named taken none = refused_by k words named (inr (taken_names_none k words taken none))

@@ -1,6 +1,8 @@
--- In words that clap takes, what it finds fits: each row is of an argument, and its first value passes that argument's parser.
+-- If clap takes the words, the rows that it finds fit: each row belongs to an argument, and its first value passes that
+-- argument's parser.
 --
--- The functions are those of clap's walk over the words, in its order. `c` are the arguments of a command, of which clap knows each by its name.
+-- The functions are those of clap's walk over the words, in its order. `c` are the arguments of a command, each of
+-- which clap finds by its name.
 use Rattle.std.proofs.Common.{◌≡◌, ◌⊎◌, ◌∙◌, inl, inr, refl, sym, ap, subst, ℕ, Bool, zero, suc, cond, List, [], ◌∷◌, ◌++◌, length, drop, Option, Some, None, fold, find, is_some, true, false, ◌&&◌, if◌then◌else◌}
 use Rattle.std.proofs.lemmas.Bool.{or_parts}
 use Rattle.std.specs.Prelude.{encode_utf8, slice_get}
@@ -26,7 +28,7 @@ pub or_both : (a b : Kinds) → or_else a b ≡ [] → (a ≡ []) × (b ≡ [])
 or_both [] b e = (refl, e)
 or_both (k ∷ ks) b e = cc
 
--- what holds after either branch, where it has no fault
+-- a property that holds after either branch if the branch has no fault
 chosen : {A : Type 0} (b : Bool) (k l : Kinds) (x y : A) (P : A → Type 0) → (k ≡ [] → P x) → (l ≡ [] → P y)
     → (if b then k else l) ≡ [] → P (if b then x else y)
 chosen true k l x y P f g e = f e
@@ -34,7 +36,7 @@ chosen false k l x y P f g e = g e
 
 -- ---- rows
 
--- the row is of one of these arguments, and its first value passes that argument's parser
+-- the row belongs to one of these arguments, and its first value passes that argument's parser
 pub record Fits (c : List Rule) (r : Row) : Type 0 where
   pub rule : Rule
   pub found : arg_by_id c r.id ≡ Some rule
@@ -47,7 +49,7 @@ pub record Fits (c : List Rule) (r : Row) : Type 0 where
 abbrev pub AllFit : List Rule → List Row → Type 0
 AllFit c rows = AllByRecursion (Fits c) rows
 
--- where there is no fault, rows that fit before do so after
+-- if there is no fault, rows that fit before a step fit after it
 abbrev pub Keeps : List Rule → Kinds → List Row → List Row → Type 0
 Keeps c fault before after = fault ≡ [] → AllFit c before → AllFit c after
 
@@ -73,15 +75,15 @@ values_absent a source values rows e = at_absent a.id (more_values source values
 
 -- ---- arguments
 
--- one value has to be given
+-- an option, which needs exactly one value
 abbrev IsOption : Rule → Type 0
 IsOption a = (action_of a ≡ action.Set) × (unwrap_or_range a.range ≡ record { start_inclusive = 1; end_inclusive = 1 })
 
--- the value is there without being given
+-- a flag, which has its value without one being given
 abbrev IsFlag : Rule → Type 0
 IsFlag a = (action_of a ≡ action.SetTrue) × ((t : Text) × (ts : List Text) × (a.missing ≡ t ∷ ts))
 
--- the argument is the one of its name, and it takes one value, or none, or asks for help
+-- The argument is found by its name. It is an option or a flag, or asks for help.
 abbrev pub Known : List Rule → Rule → Type 0
 Known c a = (arg_by_id c a.id ≡ Some a) × (IsOption a ⊎ IsFlag a ⊎ (action_of a ≡ action.Help))
 
@@ -153,7 +155,7 @@ module _ (c : List Rule) where
         | inr (inr help) ↦ let bad : kind.DisplayHelp ∷ [] ≡ [] = fault action.Help help in cc
       ]
 
--- ---- the words, one by one
+-- ---- one word at a time
 
 module _ (c : List Rule) (all : AllKnown c c) where
   used_by_id_fits : (o : Option Rule) (ts : List Text) (rows : List Row) → KnownIfSome c o

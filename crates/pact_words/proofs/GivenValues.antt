@@ -1,4 +1,4 @@
--- In words that clap takes, each argument that is required or has a default has a value, which its parser takes.
+-- If clap takes the words, each argument that is required or has a default has a value, which passes its parser.
 use Rattle.std.proofs.Common.{◌≡◌, ◌⊎◌, ◌∙◌, inl, inr, refl, sym, ap, ap₂, subst, Bool, cond, List, [], ◌∷◌, ◌++◌, not, Some, option_map, fold, find, true, false, ◌&&◌, ◌||◌, if◌then◌else◌, true≢false}
 use Rattle.std.proofs.lemmas.Bool.{or_parts}
 use Rattle.std.specs.Prelude.{slice_get, length}
@@ -38,7 +38,7 @@ has_last id (x ∷ rows) r e = go (bytes_eq x.id id) (has_last id rows r e)
 
 -- ---- defaults
 
--- the argument has no row yet, and gets one by its default
+-- the argument has no row yet, and gets one from its default
 record IsAdded (a : Rule) (rows after : List Row) : Type 0 where
   absent : has_row a.id rows ≡ false
   some : HasSome a.defaults
@@ -77,7 +77,7 @@ default_there rows a id some same = go (has_row a.id rows) refl
     go false e = subst (λ (xs : List Text). has_row id (default_rows a.id (reading_by a) xs rows) ≡ true) (sym some.2)
         (subst (λ (xs : List Row). has_row id xs ≡ true) (sym (values_absent a DefaultValue (some.0 ∷ some.1) rows e)) (has_last id rows _ same))
 
--- an argument with a default has a row in the end
+-- an argument with a default has a row at the end
 defaulted : (d : List Rule) (rows : List Row) (id : Text) (a : Rule) → HasSome a.defaults → arg_by_id d id ≡ Some a
     → has_row id (fold with_default rows d) ≡ true
 defaulted [] rows id a some e = cc
@@ -111,7 +111,7 @@ defaults_fit c (a ∷ d) rows known e fit =
           subst (AllFit c) (sym more.is) (fit_more c rows (new_row a DefaultValue a.defaults) fit fits)
     ])
 
--- ---- arguments that are required
+-- ---- required arguments
 
 abbrev is_wanting : List Row → Rule → Bool
 is_wanting rows a = a.required && not (is_given a.id rows)
@@ -151,9 +151,9 @@ none_wanting false true z e = cc
 none_wanting false false true e = cc
 none_wanting false false false e = refl
 
--- ---- what is found
+-- ---- the values found
 
--- the rows have a value of the argument, which passes its parser
+-- the rows have a value for the argument, which passes its parser
 pub record Holds (rows : List Row) (id : Text) (a : Rule) : Type 0 where
   pub text : Text
   pub first : first_of id rows ≡ Some text
@@ -181,7 +181,7 @@ holds_row c (r ∷ rows) id a fit e has = go (bytes_eq r.id id) refl (holds_row 
         let below = rest has in
         record { text = below.text; first = rw same below.first; one = rw same below.one; passes = below.passes }
 
--- it is required, or has a default
+-- the argument is required, or has a default
 abbrev pub IsSure : Rule → Type 0
 IsSure a = (a.required ≡ true) ⊎ HasSome a.defaults
 

@@ -1,4 +1,4 @@
--- The numbers that words ask for lie in their ranges.
+-- The numbers of the command that words ask for are in their ranges.
 use Rattle.std.proofs.Common.{ℕ, List}
 use Rattle.pact_words.specs.Words.{Asked, IsAsked, IsInRange}
 use Rattle.pact_words.proofs.TakenWords.{taken_in_range}

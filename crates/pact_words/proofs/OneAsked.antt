@@ -1,4 +1,4 @@
--- Words ask for one command at most, and for none where they are refused.
+-- Words ask for at most one command, and for none if they are refused.
 use Rattle.std.proofs.Common.{◌≡◌, ◌∙◌, refl, ap, subst, inl, inr, ℕ, List, Option, Some, None, codes}
 use Rattle.clap.specs.Words.{Row, first_of, matches_of}
 use Rattle.pact_words.specs.declared.commands.Kind.{Kind}
@@ -58,7 +58,7 @@ no_options rows h =
     let prune = flag_of (codes "prune") rows in
     ap (λ (o : Option Options). all_three with_flags o combine prune) (no_common_options rows h)
 
--- where `--local` names no strategy, nothing is asked for
+-- if `--local` names no strategy, the values give no command
 pub none_asked : (k : Kind) (rows : List Row) → NamesNoStrategy k rows → asked_of k rows ≡ None
 none_asked Run rows h =
     let program = first_of (codes "program") rows in

@@ -1,4 +1,4 @@
--- What an argument's value says, where its parser takes it.
+-- The meaning of an argument's value, if its parser takes the value.
 use Rattle.std.proofs.Common.{◌≡◌, ◌∙◌, ◌<◌, ◌≤◌, ◌^◌, refl, sym, ap, subst, ℕ, Bool, cond, List, [], ◌∷◌, length, Option, Some, None, option_and_then, true, false, ◌&&◌, ◌||◌, if◌then◌else◌, pos, codes, Result, Ok, Err, nat_lt, true≢false}
 use Rattle.std.specs.List.{list_all}
 use Rattle.std.specs.Char.{digit_value}
@@ -30,7 +30,7 @@ accepted i p t e = go (accepts i p t) e
     go true e = refl
     go false e = cc
 
--- the one value of an argument with this parser, which takes it
+-- the only value of an argument with this parser, which takes it
 taken : (name : Text) (rows : List Row) (a : Rule) (p : ValueParser) → a.parser ≡ Some p → (h : Holds rows name a)
     → (accepts a.ignore_case p h.text ≡ true) × (one_of name rows ≡ Some (read_as (reading_of p) h.text))
 taken name rows a p is h = (
@@ -38,7 +38,7 @@ taken name rows a p is h = (
   subst (λ (o : Option ValueParser). one_of name rows ≡ Some (read_as (reading_of (parser_of_value o)) h.text)) is h.one,
 )
 
--- what is read of the text that was found, where it is what the text says
+-- if the value of the text that was found is r, r is the argument's value in the rows
 pub read-said : {A : Type 0} (said : Text → Option A) (found : Found) (name : Text) (r : Option A) → (one_text found name ≡ None → r ≡ None) → ((t : Text) → one_text found name ≡ Some t → said t ≡ r)
     → r ≡ option_and_then said (one_of name (rows_of found))
 read-said said found name r missing says = go (one_text found name) refl
@@ -59,7 +59,7 @@ digits_pass : (ds : List ℕ) → AllDigits 10 ds → list_all (λ d. nat_lt (di
 digits_pass [] h = refl
 digits_pass (d ∷ ds) h = rw (lt-ltb (digit_value d) 10 h.0) (digits_pass ds h.1)
 
--- digits write a number of 32 bits
+-- the digits write a 32-bit number
 abbrev is_written : List ℕ → Bool
 is_written ds = is_numeral ds && nat_lt (digits_value 10 ds) (2 ^ 32)
 
@@ -75,7 +75,7 @@ numeral_written ds h small = rw (lt-ltb 0 (length ds) h.0, digits_pass ds h.1, l
 abbrev Parses : Text → Result ℕ (Unit {0}) → Type 0
 Parses t r = ParsesUnsigned 32 10 t r
 
--- the number that a text says is what std parses
+-- std parses a text as the number that it means
 said_parses : (t : Text) → ReadsOne Parses t (number_said t)
 said_parses t = go (is_written (without_leading_plus t)) refl
   where
@@ -83,7 +83,7 @@ said_parses t = go (is_written (without_leading_plus t)) refl
     go true e = (written_numeral (without_leading_plus t) e, refl)
     go false e = (tt, λ h. true≢false (sym (numeral_written (without_leading_plus t) h.0 h.1) ∙ e))
 
--- and what std parses is that number
+-- the number that std parses is the one that the text means
 pub parsed_said : (E : Type 0) (gives : Text → Result ℕ E → Type 0) (t : Text) (r : Option ℕ)
     → ((u : Text) (x : Result ℕ E) → gives u x → ParsesUnsigned 32 10 u x) → ReadsOne gives t r → number_said t ≡ r
 parsed_said E gives t (Some n) only h =
@@ -95,7 +95,7 @@ parsed_said E gives t None only h = go (is_written (without_leading_plus t)) ref
     go true e = absurd (only t (Err h.0) h.1 (written_numeral (without_leading_plus t) e))
     go false e = refl
 
--- a number in its range
+-- a number within its range
 pub record HasNumber (name : Text) (rows : List Row) (least most : ℕ) : Type 0 where
   pub number : ℕ
   pub is : number_of name rows ≡ Some number
@@ -115,7 +115,7 @@ has_number name rows a least most small is h =
 
 -- ---- flags
 
--- what std parses is what a flag says
+-- the value that std parses is the one that the flag means
 pub parsed_flag : (E : Type 0) (t : Text) (r : Option Bool) → ReadsOne (ParsesBool {E = E}) t r → flag_said t ≡ r
 parsed_flag E t (Some true) h = rw ((bytes_eq-Decides t (codes "true")).1 h) refl
 parsed_flag E t (Some false) h = rw h refl

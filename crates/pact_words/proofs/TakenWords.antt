@@ -1,4 +1,5 @@
--- Words that clap takes ask for a command, with its numbers in their ranges, where `--local` names a strategy.
+-- If clap takes the words and `--local` names a strategy, the words ask for a command, with its numbers in their
+-- ranges.
 use Rattle.std.proofs.Common.{◌≡◌, ◌⊎◌, ◌∙◌, inl, inr, refl, ap, subst, arith, ℕ, Bool, false, List, [], drop, pos, Option, Some, None, option_map, codes, rules}
 use Rattle.clap.specs.Walk.{Row, Rule, Text, arg_by_id, first_of}
 use Rattle.clap.specs.Simple.{built, matches_of}
@@ -16,7 +17,7 @@ use Rattle.pact_words.proofs.GivenValues.{Holds, IsSure, held}
 use Rattle.pact_words.proofs.OneAsked.{none_asked, not_both, one_of}
 use Rattle.pact_words.proofs.SaidValues.{HasFlag, HasNumber, HasText, has_flag, has_number, has_text}
 
--- ---- what each command has
+-- ---- the arguments of each command
 
 known : (k : Kind) → AllKnown (built (app_for k)).top.rules (built (app_for k)).top.rules
 known Run = search rules
@@ -91,7 +92,7 @@ has_options rows workers plans batch depth w p b d has_workers has_plans has_bat
   depth = has_number (codes "depth") rows depth 1 64 (omega arith) d has_depth;
 }
 
--- the ranges are the same, whatever the flags
+-- the options are in their ranges for any flags
 flagged_in_range : (o : Options) (combine prune : Bool) → AreOptionsInRange o → AreOptionsInRange (with_flags o combine prune)
 flagged_in_range o combine prune h = record {
   limits = h.limits;
@@ -115,13 +116,13 @@ has_operands found seed rows s r has_seed has_rows = record {
 operands_in_range : (found : List Row) (h : HasOperands found) → AreOperandsInRange h.seed.number h.rows.number
 operands_in_range found h = record { most_seed = h.seed.most_of; most_rows = h.rows.most_of }
 
--- clap's definition takes the words: they ask for a command, with its numbers in their ranges
+-- the values that clap finds give a command, with its numbers in their ranges
 pub record Asks (k : Kind) (words : List Text) : Type 0 where
   pub command : Asked
   pub values : asked_of k (matches_of (app_for k) words) ≡ Some command
   pub in_range : IsInRange command
 
--- a command that takes a program, workers and plans
+-- a command with a program, workers and plans
 asks_limited : (k : Kind) (words : List Text) (to : List ℕ → ℕ → ℕ → Asked)
     → ((rows : List Row)
     → asked_of k rows ≡ all_three to (first_of (codes "program") rows) (number_of (codes "workers") rows) (number_of (codes "plans") rows))
@@ -135,7 +136,7 @@ asks_limited k words to is ranged program limits =
       in_range = ranged program.text limits.workers.number limits.plans.number (in_range rows limits);
     }
 
--- a command that runs plans, where `--local` names a strategy
+-- a command that runs plans, if `--local` names a strategy
 asks_chosen : (k : Kind) (words : List Text) (to : Options → Asked)
     → ((o : Options) → common_options_of (matches_of (app_for k) words) ≡ Some o → asked_of k (matches_of (app_for k) words) ≡ Some (to o))
     → ((o : Options) → AreOptionsInRange o → o.combine ≡ false → o.prune ≡ false → IsInRange (to o)) → HasOptions (matches_of (app_for k) words)
@@ -157,7 +158,7 @@ asks_chosen k words to says ranged h =
       }) refl refl;
     })
 
--- one that takes the flags besides
+-- a command that has the flags, too
 asks_flagged : (k : Kind) (words : List Text) (to : Options → Asked)
     → ((o : Options) → options_of (matches_of (app_for k) words) ≡ Some o → asked_of k (matches_of (app_for k) words) ≡ Some (to o))
     → ((o : Options) → AreOptionsInRange o → IsInRange (to o)) → HasOptions (matches_of (app_for k) words)
@@ -249,7 +250,7 @@ asks Iterate words e =
       unpruned = unpruned;
     }) numbers
 
--- where nothing is asked for, `--local` names no strategy
+-- if the values give no command, `--local` names no strategy
 pub taken_names_none : (k : Kind) (words : List Text) → fault_of (app_for k) words ≡ [] → asked_of k (matches_of (app_for k) words) ≡ None
     → NamesNoStrategy k (matches_of (app_for k) words)
 taken_names_none k words taken none = elim (asks k words taken) [
@@ -257,7 +258,7 @@ taken_names_none k words taken none = elim (asks k words taken) [
   | inr other ↦ other
 ]
 
--- what is asked for lies in its range
+-- the numbers of the command are in their ranges
 pub taken_in_range : (k : Kind) (words : List Text) (a : Asked) → fault_of (app_for k) words ≡ []
     → asked_of k (matches_of (app_for k) words) ≡ Some a → IsInRange a
 taken_in_range k words a taken values = elim (asks k words taken) [

@@ -1,4 +1,4 @@
--- The arguments of commands, each by the rule that clap follows at it.
+-- The arguments of commands, each as the rule that clap applies to it.
 use Rattle.std.specs.Prelude.{◌∷◌, [], ℤ, pos, true, Some, codes}
 use Rattle.clap.specs.Words.{Rule, Text, new_rule}
 use Rattle.clap.specs.declared.builder.action.ArgAction.TheVariants.{SetTrue}
@@ -7,20 +7,21 @@ use Rattle.pact_words.specs.Limits.{round_limit, row_limit, seed_limit}
 
 -- ---- the kinds of argument
 
--- a word that has to be there
+-- a required word
 abbrev pub operand_rule : Text → Rule
 operand_rule name = record (new_rule name) { required = true }
 
--- a number from `least` to `most` that has to be there
+-- a required number from `least` to `most`
 abbrev pub number_operand_rule : Text → ℤ → ℤ → Rule
 number_operand_rule name least most = record (new_rule name) { required = true; parser = Some (Signed least most) }
 
--- an option with a number from `least` to `most`, which is `usual` where the option isn't given
+-- an option with a number from `least` to `most`; its default is `usual`
 abbrev pub number_rule : Text → ℤ → ℤ → Text → Rule
 number_rule name least most usual = record (new_rule name) { long = Some name; defaults = usual ∷ []; parser = Some (Signed least most) }
 
--- An option with a word, which is `usual` where the option isn't given. Clap takes any word, and which are right is said where it is read: in
--- clap's rules a list of possible values has the addresses of its texts, which no definition can name.
+-- An option with a word; its default is `usual`. Clap takes any word, and the reader of its value decides which words
+-- are right. A list of possible values in clap's rules would have the addresses of its texts, which no definition can
+-- name.
 abbrev pub word_rule : Text → Text → Rule
 word_rule name usual = record (new_rule name) { long = Some name; defaults = usual ∷ [] }
 

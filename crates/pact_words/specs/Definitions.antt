@@ -5,11 +5,11 @@ use Rattle.pact_words.specs.declared.commands.Kind.{Kind}
 use Rattle.pact_words.specs.declared.commands.Kind.TheVariants.{Run, Plan, Cert, Check, Sets, Gen, Drill, Iterate}
 use Rattle.pact_words.specs.Arguments.{batch_rule, certificate_rule, combine_rule, counts_rule, depth_rule, local_rule, plans_rule, program_rule, prune_rule, rounds_rule, rows_rule, seed_rule, source_rule, stable_rule, workers_rule}
 
--- a command of a program
+-- a command that takes a program
 abbrev pub program_app : Text → App
 program_app name = with_rule (new_app name) program_rule
 
--- with how many workers there are, and how many plans are listed
+-- adds the number of workers, and the number of plans that are listed
 abbrev pub with_limits : App → App
 with_limits app = with_rule (with_rule app workers_rule) plans_rule
 
@@ -17,19 +17,19 @@ with_limits app = with_rule (with_rule app workers_rule) plans_rule
 abbrev pub planning_app : Text → App
 planning_app name = with_limits (program_app name)
 
--- with how many records a batch has, and how many notes a pipe
+-- adds the number of records of a batch, and of notes of a pipe
 abbrev pub with_pipes : App → App
 with_pipes app = with_rule (with_rule app batch_rule) depth_rule
 
--- with the options of each command that runs plans
+-- adds the options of each command that runs plans
 abbrev pub with_common_options : App → App
 with_common_options app = with_rule (with_pipes (with_limits app)) local_rule
 
--- with these, and whether groups are combined and fields dropped
+-- adds these options, and whether groups are combined and fields dropped
 abbrev pub with_options : App → App
 with_options app = with_rule (with_rule (with_common_options app) combine_rule) prune_rule
 
--- with the source that gets what a round gives, and the number of rounds
+-- adds the source that gets the rows of the round before, and the number of rounds
 abbrev pub with_rounds : App → App
 with_rounds app = with_rule (with_rule app source_rule) rounds_rule
 

@@ -1,4 +1,4 @@
--- What the words of the command line ask for.
+-- The command that the words of the command line ask for.
 use Rattle.std.specs.Prelude.{◌≡◌, ◌≢◌, ◌⊎◌, ◌≤◌, ℕ, Bool, false, List, [], ◌∷◌, map, option_map, Option, Some, None, Result, Ok, Err, cond, codes}
 use Rattle.std.specs.Borrow.{Bor}
 use Rattle.std.specs.Str.{bytes_eq}
@@ -21,7 +21,7 @@ texts_of words = map (λ word. word.now) words
 
 -- ---- commands
 
--- a command, with the texts that it was given
+-- a command, with its operands and options
 pub data Asked : Type 0 where
   -- `run PROGRAM`
   to_run : (program : List ℕ) → (options : Options) → (counts : Bool) → Asked
@@ -51,14 +51,14 @@ asked (commands.Gen seed rows) = to_generate seed rows
 asked (commands.Drill seed rows options) = to_drill seed rows options
 asked (commands.Iterate program source rounds options stable) = to_iterate program.now source.now rounds options stable
 
--- workers and plans
+-- the ranges of workers and plans
 pub record AreInRange (workers plans : ℕ) : Type 0 where
   pub least_workers : 1 ≤ workers
   pub most_workers : workers ≤ 16
   pub least_plans : 1 ≤ plans
   pub most_plans : plans ≤ 1000
 
--- these, and how plans run in parts
+-- these ranges, and those of batches and pipes
 pub record AreOptionsInRange (o : Options) : Type 0 where
   pub limits : AreInRange o.workers o.plans
   pub least_batch : 1 ≤ o.batch
@@ -66,12 +66,12 @@ pub record AreOptionsInRange (o : Options) : Type 0 where
   pub least_depth : 1 ≤ o.depth
   pub most_depth : o.depth ≤ 64
 
--- seed and rows
+-- the ranges of seed and rows
 pub record AreOperandsInRange (seed rows : ℕ) : Type 0 where
   pub most_seed : seed ≤ seed_limit
   pub most_rows : rows ≤ row_limit
 
--- rounds, and options by which nothing is combined or dropped
+-- the ranges of rounds and options; nothing is combined or dropped
 pub record AreRoundsInRange (rounds : ℕ) (o : Options) : Type 0 where
   pub least_rounds : 1 ≤ rounds
   pub most_rounds : rounds ≤ round_limit
@@ -79,7 +79,7 @@ pub record AreRoundsInRange (rounds : ℕ) (o : Options) : Type 0 where
   pub uncombined : o.combine ≡ false
   pub unpruned : o.prune ≡ false
 
--- the numbers that are asked for lie in their ranges, and where rounds are run nothing is combined or dropped
+-- The command's numbers are in their ranges. A command that runs rounds combines and drops nothing.
 abbrev pub IsInRange : Asked → Type 0
 IsInRange (to_run program options counts) = AreOptionsInRange options
 IsInRange (to_plan program workers plans) = AreInRange workers plans
@@ -103,11 +103,11 @@ name_of Gen = codes "gen"
 name_of Drill = codes "drill"
 name_of Iterate = codes "iterate"
 
--- a word's command is this one, or that of the others
+-- this command if the word is its name, and `other` if not
 abbrev pub named : List ℕ → Kind → Option Kind → Option Kind
 named word kind other = cond (bytes_eq word (name_of kind)) (Some kind) other
 
--- the command of that name
+-- the command with this name
 abbrev pub kind_named : List ℕ → Option Kind
 kind_named word =
     named word Run (named word Plan (named word Cert (named word Check
@@ -118,30 +118,30 @@ abbrev pub kind_in : List (List ℕ) → Option Kind
 kind_in [] = None
 kind_in (word ∷ words) = kind_named word
 
--- options as one record, by which nothing is combined or dropped
+-- options as one record; nothing is combined or dropped
 abbrev pub common_options : (workers plans batch depth : ℕ) (local : LocalStrategy) → Options
 common_options workers plans batch depth local =
     record { workers = workers; plans = plans; batch = batch; depth = depth; local = local; combine = false; prune = false }
 
--- the same, and whether groups are combined and fields dropped
+-- these options, with whether groups are combined and fields dropped
 abbrev pub with_flags : Options → (combine prune : Bool) → Options
 with_flags options combine prune = record options { combine = combine; prune = prune }
 
--- those of each command that runs plans, where clap found each
+-- the options of each command that runs plans, if clap found all of them
 abbrev pub common_options_of : List Row → Option Options
 common_options_of rows =
     all_five common_options (number_of (codes "workers") rows) (number_of (codes "plans") rows) (number_of (codes "batch") rows)
     (number_of (codes "depth") rows) (local_of (codes "local") rows)
 
--- these, and whether groups are combined and fields dropped
+-- these options, with whether groups are combined and fields dropped
 abbrev pub options_of : List Row → Option Options
 options_of rows = all_three with_flags (common_options_of rows) (flag_of (codes "combine") rows) (flag_of (codes "prune") rows)
 
--- there is no word, or the first is no command
+-- there is no word, or the first isn't a command
 abbrev pub AreUnnamed : List (List ℕ) → Type 0
 AreUnnamed words = kind_in words ≡ None
 
--- what is asked for by the values that clap finds
+-- the command that the values in clap's result give
 abbrev pub asked_of : Kind → List Row → Option Asked
 asked_of Run rows = all_three to_run (first_of (codes "program") rows) (options_of rows) (flag_of (codes "counts") rows)
 asked_of Plan rows = all_three to_plan (first_of (codes "program") rows) (number_of (codes "workers") rows) (number_of (codes "plans") rows)
@@ -154,8 +154,8 @@ asked_of Iterate rows =
     all_five to_iterate (first_of (codes "program") rows) (first_of (codes "source") rows) (number_of (codes "rounds") rows) (common_options_of rows)
     (flag_of (codes "stable") rows)
 
--- The first word is a command, clap takes the words by that command's definition, and these are the values that it finds. To clap the first
--- word is the name under which a program is called, and the others are its arguments.
+-- The first word is a command, clap takes the words by that command's definition, and these are the values that it
+-- finds. Clap takes the first word as the name under which the program was called, and the others as its arguments.
 pub record IsAsked (words : List (List ℕ)) (command : Asked) : Type 0 where
   pub kind : Kind
   pub named : kind_in words ≡ Some kind
@@ -169,16 +169,18 @@ NamesNoStrategy Drill rows = local_of (codes "local") rows ≡ None
 NamesNoStrategy Iterate rows = local_of (codes "local") rows ≡ None
 NamesNoStrategy _ rows = ⊥
 
--- no command takes them, clap refuses them by the named one's definition, or `--local` names no strategy
+-- the first word isn't a command, clap refuses the words by that command's definition, or `--local` names no strategy
 abbrev pub AreRefusedBy : Option Kind → List (List ℕ) → Type 0
 AreRefusedBy None words = Unit {0}
 AreRefusedBy (Some kind) words = (fault_of (app_for kind) words ≢ []) ⊎ NamesNoStrategy kind (matches_of (app_for kind) words)
 
--- there is no word, the first is no command, clap refuses the words by that command's definition, or `--local` names no strategy
+-- there is no word, the first isn't a command, clap refuses the words by that command's definition, or `--local` names
+-- no strategy
 abbrev pub AreRefused : List (List ℕ) → Type 0
 AreRefused words = AreRefusedBy (kind_in words) words
 
--- What is read from words says what they ask for, or that they are refused. Want of memory says nothing.
+-- The result is the command that the words ask for, or says that they are refused. Out of memory says nothing about the
+-- words.
 abbrev pub Answers : List (List ℕ) → Result Command Refused → Type 0
 Answers words (Ok command) = IsAsked words (asked command)
 Answers words (Err Usage) = AreRefused words

@@ -1,4 +1,4 @@
-//! The arguments of commands, each by the rule that clap follows at it.
+//! The arguments of commands, each as the rule that clap applies to it.
 
 ghost use Rattle.std.specs.Prelude.{◌≡◌, false};
 ghost use Rattle.clap.specs.Words.{rule_of};
@@ -113,7 +113,7 @@ pub(crate) fn stable<'a>(alloc: Global) -> Arg<'a>
     flag(alloc, "stable")
 }
 
-// A word that has to be there.
+// A required word.
 fn operand<'a>(alloc: Global, name: &'a str) -> Arg<'a>
     ensures rule { rule_of result ≡ operand_rule name.entry.now }
     ensures local { result.global ≡ false }
@@ -121,7 +121,7 @@ fn operand<'a>(alloc: Global, name: &'a str) -> Arg<'a>
     Arg::new(alloc, name).required(true)
 }
 
-// A number that has to be there.
+// A required number from `least` to `most`.
 fn number_operand<'a>(alloc: Global, name: &'a str, least: i64, most: i64) -> Arg<'a>
     ensures rule { rule_of result ≡ number_operand_rule name.entry.now least most }
     ensures local { result.global ≡ false }
@@ -131,7 +131,7 @@ fn number_operand<'a>(alloc: Global, name: &'a str, least: i64, most: i64) -> Ar
         .value_parser(ValueParser::signed(least, most))
 }
 
-// An option with a number, which is `usual` where the option isn't given.
+// An option with a number from `least` to `most`; its default is `usual`.
 fn number<'a>(alloc: Global, name: &'a str, least: i64, most: i64, usual: &'a str) -> Arg<'a>
     ensures rule { rule_of result ≡ number_rule name.entry.now least most usual.entry.now }
     ensures local { result.global ≡ false }
@@ -142,7 +142,7 @@ fn number<'a>(alloc: Global, name: &'a str, least: i64, most: i64, usual: &'a st
         .default_value(usual)
 }
 
-// An option with any word, which is `usual` where the option isn't given.
+// An option with any word; its default is `usual`.
 fn word<'a>(alloc: Global, name: &'a str, usual: &'a str) -> Arg<'a>
     ensures rule { rule_of result ≡ word_rule name.entry.now usual.entry.now }
     ensures local { result.global ≡ false }

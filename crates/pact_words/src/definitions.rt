@@ -75,14 +75,14 @@ fn iterate<'a>(alloc: Global) -> Result<Command<'a>, AllocError>
     with_common_options(alloc, with_rounds(alloc, command)?)?.arg(stable(alloc))
 }
 
-// With the options of each command that runs plans.
+// Adds the options of each command that runs plans.
 fn with_common_options<'a>(alloc: Global, command: Command<'a>) -> Result<Command<'a>, AllocError>
     ensures { IfOk result (λ c. app_of c ≡ with_common_options (app_of command.entry)) }
 {
     with_pipes(alloc, with_limits(alloc, command)?)?.arg(local(alloc))
 }
 
-// With these, and whether groups are combined and fields dropped.
+// Adds these options, and whether groups are combined and fields dropped.
 fn with_options<'a>(alloc: Global, command: Command<'a>) -> Result<Command<'a>, AllocError>
     ensures { IfOk result (λ c. app_of c ≡ with_options (app_of command.entry)) }
 {
@@ -103,7 +103,7 @@ fn with_pipes<'a>(alloc: Global, command: Command<'a>) -> Result<Command<'a>, Al
     command.arg(batch(alloc))?.arg(depth(alloc))
 }
 
-// With the source that gets what a round gives, and the number of rounds.
+// Adds the source that gets the rows of the round before, and the number of rounds.
 fn with_rounds<'a>(alloc: Global, command: Command<'a>) -> Result<Command<'a>, AllocError>
     ensures { IfOk result (λ c. app_of c ≡ with_rounds (app_of command.entry)) }
 {

@@ -1,15 +1,15 @@
-//! The words of the command line: which command they ask for, and with which options.
+//! The words of the command line: the command that they ask for, and its options.
 //!
-//! Each command is a definition of the library clap, which reads its words. Callers speak of `IsAsked` and `AreRefused`
-//! of `specs/Words`, and of four laws on them: one command is asked for at most (`OneAsked`), none is where the words are
-//! refused, words ask for one or are refused (`AskedOrRefused`), and the numbers that are asked for lie in their ranges
-//! (`NumbersInRange`). How words are read stands here alone.
+//! Each command is a definition of the library clap, which reads its words. Callers use `IsAsked` and `AreRefused` of
+//! `specs/Words`, and four laws about them. Words ask for at most one command, and for none if they are refused
+//! (`OneAsked`). Words ask for a command or are refused (`AskedOrRefused`). The command's numbers are in their ranges
+//! (`NumbersInRange`). Only this crate knows how words are read.
 //!
-//! To clap the word of `--local` is any text. That it names a strategy is seen behind it, so words are refused for that
-//! too (`AreRefusedBy`).
+//! Clap takes any text as the word of `--local`. Whether it names a strategy is checked afterwards, so words can be
+//! refused for that, too (`AreRefusedBy`).
 //!
-//! An option is a rule in `specs/Arguments` with a function of `arguments`, and a line in the definition and in the
-//! reader of each command that takes it.
+//! To add an option, add a rule to `specs/Arguments` with a function in `arguments`, and a line to the definition and
+//! to the reader of each command that takes it.
 #![tactic(auto)]
 
 mod arguments;

@@ -1,4 +1,4 @@
-//! What clap answers.
+//! Calls clap.
 
 ghost use Rattle.std.specs.Prelude.{◌≡◌, ◌≢◌, [], IfOk, Err};
 ghost use Rattle.clap.specs.Words.{fault_of, found_of, matches_of, rows_of};
@@ -11,7 +11,7 @@ use clap::ArgMatches;
 use clap::error::ErrorKind;
 use std::alloc::Global;
 
-/// What clap finds in the words of a command, of which the first is its name.
+/// The values that clap finds in the words of a command. The first word is the command's name.
 pub(crate) fn parse<'a>(
     alloc: Global,
     kind: Kind,

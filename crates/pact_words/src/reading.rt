@@ -1,4 +1,4 @@
-//! From the words to a command.
+//! Reads a command from the words.
 
 ghost use Rattle.std.specs.Prelude.{◌≡◌, Err, IfOk};
 ghost use Rattle.pact_words.specs.Words.{Answers, AreUnnamed, IsInRange, asked, kind_named, texts_of};
@@ -8,10 +8,10 @@ use crate::parsing::parse;
 use crate::values::command_in;
 use std::alloc::Global;
 
-/// The command that the words ask for. They are without the program's own name, so the first is the command's.
+/// The command that the words ask for. They don't include the program's own name, so the first word is the command's.
 ///
-/// Options stand anywhere behind that, also between operands, and each word behind `--` is an operand. An option that
-/// comes twice is refused, and so is `--help`, as any other word that the command doesn't take.
+/// Options may be anywhere after that, also between operands. Each word after `--` is an operand. An option that comes
+/// twice is refused. `--help` is refused, as is any other word that the command doesn't take.
 pub fn read_words<'a>(alloc: Global, words: &'a [&'a str]) -> Result<Command<'a>, Refused>
     ensures answers { Answers (texts_of words.entry.now) result }
     ensures in_range { IfOk result (λ c. IsInRange (asked c)) }
@@ -24,7 +24,7 @@ pub fn read_words<'a>(alloc: Global, words: &'a [&'a str]) -> Result<Command<'a>
         return Err(Refused::Usage);
     };
     let matches = parse(alloc, kind, words)?;
-    // In words that clap takes each argument has a value, and only that of `--local` may be none of its words.
+    // If clap takes the words, each argument has a value. Only the value of `--local` may still be wrong.
     match command_in(kind, &matches) {
         Some(command) => Ok(command),
         None => Err(Refused::Usage),

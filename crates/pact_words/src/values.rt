@@ -8,7 +8,7 @@ ghost use Rattle.pact_words.specs.Words.{asked, asked_of, common_options_of, opt
 use crate::commands::{Command, Kind, LocalStrategy, Options};
 use clap::ArgMatches;
 
-/// The command that the values of its words make, where each of them is there.
+/// The command that the values give, if all of them are there.
 pub(crate) fn command_in<'a>(kind: Kind, matches: &ArgMatches<'a>) -> Option<Command<'a>>
     ensures { option_map asked result ≡ asked_of kind (rows_of (found_of matches.now)) }
 {
@@ -57,7 +57,7 @@ fn common_options(matches: &ArgMatches<'_>) -> Option<Options>
     })
 }
 
-// These, and whether groups are combined and fields dropped.
+// These options, with whether groups are combined and fields dropped.
 fn options(matches: &ArgMatches<'_>) -> Option<Options>
     ensures { result ≡ options_of (rows_of (found_of matches.now)) }
 {

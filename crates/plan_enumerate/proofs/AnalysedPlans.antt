@@ -1,4 +1,5 @@
--- What the analysis finds in the context that an operator has in a plan is what is known of it there, and tables are filled number by number.
+-- What the analysis finds in the context that an operator has in a plan is what is known of it there; and tables are
+-- filled number by number.
 use Rattle.std.proofs.Common.{◌≡◌, ◌==◌, ◌<◌, ◌≤◌, ◌+◌, inl, inr, ℕ, false, List, [], ◌∷◌, ◌++◌, length, slice_get, Some, ap, sym, ◌∙◌, arith}
 use Rattle.std.proofs.lemmas.Bool.{cases_Bool, cases_lt, eqb-true}
 use Rattle.std.proofs.lemmas.Bool.Decides.{nat_tests}
@@ -37,7 +38,7 @@ source_sets p n left right s none source = none ∙ sym (source_none (kind_at p.
 
 -- ---- number by number
 
--- The table says what is known of the numbers before this one, and nothing of the others.
+-- The table has what is known of the numbers before this one, and nothing about the others.
 pub record IsFilledBelow (f : Facts) (n : ℕ) (g : Facts) : Type 0 where
   pub below : (k : ℕ) → k < n → g k ≡ f k
   pub above : (k : ℕ) → n ≤ k → g k ≡ unknown

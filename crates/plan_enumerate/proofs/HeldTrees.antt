@@ -1,4 +1,4 @@
--- A tree whose inputs stand in the rows stands there with a row for its root.
+-- If the inputs of a tree are in the rows, then with a row for its root the tree is.
 use Rattle.std.proofs.Common.{◌≡◌, ◌≤◌, ◌<◌, ◌+◌, ℕ, List, Some, slice_get, refl, ap, sym, subst, ◌∙◌, arith}
 use Rattle.plan_trees.specs.Plans.{PlanTree, over, both}
 use Rattle.pact_operators.specs.Programs.{ProgramData}

@@ -1,4 +1,5 @@
--- The steps to an entry lead there from the plan as written, each legal where it is made, and they are found by going back from entry to entry.
+-- The steps to an entry lead there from the plan as written, each legal where it is made. They are found by going back
+-- from entry to entry.
 use Rattle.std.proofs.Common.{◌≡◌, ◌<◌, inl, inr, ℕ, zero, suc, List, [], ◌∷◌, ◌++◌, slice_get, Some, None, reverse, refl, sym, ap, subst, ◌∙◌, append_assoc}
 use Rattle.std.proofs.lemmas.List.{reverse-append}
 use Rattle.std.proofs.lemmas.Option.{none-some, same_Some}
@@ -19,7 +20,7 @@ module _ (p : ProgramData) (limit : ℕ) where
   none_led_first zero e c h by = none-some c (ap (λ (x : Entry). x.by) (same_Some (first_entry p.plan) e h) ∙ by)
   none_led_first (suc n) e c h by = cc
 
-  -- the exchange of an entry is legal in the plan that it comes from, and gives the entry's plan
+  -- the exchange of an entry is legal in the plan that it comes from, and yields the entry's plan
   came_by : (es : List Entry) → Grows p limit es → (n : ℕ) (e : Entry) (c : Condition) → slice_get es n ≡ Some e → e.by ≡ Some c
       → (t : PlanTree) × IsAt es e.from t × IsLegalIn p t c × (e.plan ≡ after c t)
   came_by _ begins n e c h by = absurd (none_led_first n e c h by)
@@ -48,7 +49,7 @@ module _ (p : ProgramData) (limit : ℕ) where
 
 -- ---- on the way back
 
--- The exchanges that were met on the way back from an entry to a place are, turned round, the steps from there on.
+-- The exchanges met on the way back from an entry to a place, reversed, are the steps from that place on.
 abbrev pub LeadsOn : List Entry → ℕ → ℕ → List Condition → Type 0
 LeadsOn es at entry held = (cs : List Condition) → AreStepsTo es at cs → AreStepsTo es entry (cs ++ reverse held)
 
@@ -64,17 +65,17 @@ pub none_led-first : (es : List Entry) (at : ℕ) (e : Entry) → AreEntries es 
 none_led-first es zero e h there alone = refl
 none_led-first es (suc n) e h there alone = let from = h.each (suc n) e there in absurd (none-some from.0.0 (sym alone ∙ from.0.1))
 
--- and another comes from an earlier one
+-- an entry to which an exchange led comes from an earlier one
 pub led-earlier : (es : List Entry) (at : ℕ) (e : Entry) (c : Condition) → AreEntries es → slice_get es at ≡ Some e → e.by ≡ Some c → e.from < at
 led-earlier es zero e c h there by = absurd (none-some c (sym (h.each zero e there) ∙ by))
 led-earlier es (suc n) e c h there by = (h.each (suc n) e there).1
 
--- what an entry, read twice, says of itself
+-- an entry that is read twice has the same exchange both times
 pub read_again : (es read : List Entry) (at : ℕ) (d e : Entry) (c : Condition) → read ≡ es → slice_get read at ≡ Some d → slice_get read at ≡ Some e → d.by ≡ Some c
     → (slice_get es at ≡ Some e) × (e.by ≡ Some c)
 read_again es read at d e c same once again by =
     (subst (λ (xs : List Entry). slice_get xs at ≡ Some e) same again, ap (λ (x : Entry). x.by) (same_Some e d (sym again ∙ once)) ∙ by)
 
--- at the first entry they are all steps
+-- if the way back has come to the first entry, the exchanges met are all of the steps
 pub all_back : (es : List Entry) (at entry : ℕ) (e : Entry) (held : List Condition) → AreEntries es → slice_get es at ≡ Some e → e.by ≡ None → LeadsOn es at entry held → AreStepsTo es entry (reverse held)
 all_back es at entry e held h there alone leads = leads [] (subst (λ n. AreStepsTo es n []) (sym (none_led-first es at e h there alone)) none)

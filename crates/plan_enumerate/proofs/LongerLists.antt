@@ -1,4 +1,5 @@
--- A list of entries with one more behind it: what stood at a place still does, and the last place has the new one.
+-- A list of entries with one more at its end: every earlier place has its old entry, and the last place has the new
+-- one.
 use Rattle.std.proofs.Common.{◌≡◌, ◌<◌, ◌+◌, ◌⊎◌, inl, inr, ℕ, zero, suc, List, [], ◌∷◌, ◌++◌, length, slice_get, Some, option_map, refl, sym, ap, subst, ◌∙◌, arith, length-append}
 use Rattle.std.proofs.lemmas.List.{length-map, map-append}
 use Rattle.std.proofs.lemmas.Option.{same_Some, slice_get-map, slice_get_within}
@@ -44,7 +45,7 @@ IsAt-within es i t h = subst (λ n. i < n) (length-plans_of es) (slice_get_withi
 pub IsAt-entry : (es : List Entry) (i : ℕ) (e : Entry) → slice_get es i ≡ Some e → IsAt es i e.plan
 IsAt-entry es i e h = slice_get-map (λ (x : Entry). x.plan) es i ∙ ap (option_map (λ (x : Entry). x.plan)) h
 
--- ---- what stays, and what is new
+-- ---- the old entries, and the new one
 
 pub plan_stays : (es : List Entry) (e : Entry) (i : ℕ) → i < length es → slice_get (plans_of (es ++ e ∷ [])) i ≡ slice_get (plans_of es) i
 plan_stays es e i h =

@@ -1,4 +1,4 @@
--- There is one list of plans for a program and a limit, since there is one condition for an operator and a rule.
+-- There is one list of plans for a program and a limit, since there is one condition for each operator and rule.
 use Rattle.std.proofs.Common.{◌≡◌, ◌<◌, ◌≤◌, ◌⊎◌, inl, inr, ℕ, Bool, true, false, List, [], ◌∷◌, ◌++◌, length, Some, refl, sym, ap, subst, ◌∙◌, arith}
 use Rattle.std.proofs.lemmas.Bool.{cases_order}
 use Rattle.plan_trees.specs.Plans.{PlanTree}
@@ -14,11 +14,11 @@ use Rattle.plan_enumerate.proofs.LongerLists.{length-one_more, one_plan}
 use Rattle.plan_enumerate.proofs.PastExchanges.{one_rule}
 use Rattle.plan_enumerate.proofs.ReachedPlans.{some_entry}
 
--- exchanges of the same entry by the same rule of the same operator
+-- exchanges of the same entry by the same rule at the same operator
 abbrev AreAlike : ℕ → Condition → ℕ → Condition → Type 0
 AreAlike i c j d = (i ≡ j) × (c.at ≡ d.at) × (c.rule ≡ d.rule)
 
--- of two exchanges one stands before the other, or they are alike
+-- of two exchanges one comes before the other, or they are alike
 abbrev Order : ℕ → Condition → ℕ → ℕ → Condition → ℕ → Type 0
 Order i c m j d n = IsBefore i c j d.at n ⊎ (IsBefore j d i c.at m ⊎ AreAlike i c j d)
 
@@ -72,7 +72,7 @@ module _ (p : ProgramData) (limit : ℕ) where
       let end : e ≡ f = one_next p fs e f (subst (λ (xs : List Entry). IsNext p xs e) front next) last in
       (λ i. front i ++ end i ∷ [])
 
-  -- a shorter list of so many entries, which has a next one
+  -- a list of `n` entries that is shorter than the limit and has a next entry
   abbrev HasFront : ℕ → Type 0
   HasFront n = (es : List Entry) × Grows p limit es × (length es ≡ n) × (n < limit) × ((e : Entry) × IsNext p es e)
 
@@ -84,7 +84,7 @@ module _ (p : ProgramData) (limit : ℕ) where
     | inr (inr l) ↦ let more = length-one_more fs f in absurd (omega (arith, more, less, l))
   ]
 
-  -- a listing isn't the front of a longer list
+  -- a listing isn't a prefix of a longer list
   not_longer : (l m : ListedPlans) → IsListing p limit l → IsListing p limit m → length l.entries < length m.entries → ⊥
   not_longer l m h k less =
       let x = front_of m.entries k.grows (length l.entries) (some_entry p limit l.entries h.grows) less in

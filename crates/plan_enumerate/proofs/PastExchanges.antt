@@ -1,5 +1,5 @@
--- The walk goes past an exchange that isn't legal, one whose plan is listed, and one whose plan is added; past all of an operator, of an entry, and
--- of all entries.
+-- The walk goes past an exchange that isn't legal, one whose plan is listed, and one whose plan is added; then past all
+-- of an operator, of an entry, and of all entries.
 use Rattle.std.proofs.Common.{◌≡◌, ◌<◌, ◌≤◌, ◌+◌, ◌⊎◌, inl, inr, ℕ, Bool, true, false, List, [], ◌∷◌, ◌++◌, length, get_or, Option, Some, None, IfNone, sym, ap, subst, ◌∙◌, arith}
 use Rattle.std.proofs.lemmas.Bool.{cases_lt}
 use Rattle.std.proofs.lemmas.Option.{same_Some, slice_get-get_or, slice_get_within}
@@ -33,12 +33,12 @@ IfNone-here None P e h = h
 IfNone-here (Some a) P e h = absurd (cc)
 
 module _ (p : ProgramData) where
-  -- what a legal exchange is told as is legal
+  -- the condition of a legal exchange is legal
   told_as : (t : PlanTree) (at : ℕ) (rule : Rule) (c : Condition) → IsConditionOf p t at rule c → IsLegalIn p t c
   told_as t at rule c h =
       subst (λ (r : Rule). IsLegalFor p t c.at r c.upper c.lower) (sym h.same_rule) (subst (λ n. IsLegalFor p t n rule c.upper c.lower) (sym h.place) h.legal)
 
-  -- where a condition is legal, its rule has a legal exchange
+  -- if a condition is legal, its rule has a legal exchange
   legal_there : (s t : PlanTree) (at : ℕ) (rule : Rule) (c : Condition) → s ≡ t → c.at ≡ at → c.rule ≡ rule → IsLegalIn p s c → IsLegal p t at rule
   legal_there s t at rule c same place of_rule h = (
     c.upper,
@@ -57,7 +57,7 @@ module _ (p : ProgramData) where
       let inside : j < length es = omega (arith, earlier, within) in
       IsListed-one_more es e u (h j c u before (g.0, sym (plan_stays es e j inside) ∙ g.1, g.2, g.3))
 
-  -- past the rule at a place, where what it gives is listed
+  -- past the rule at a place, if what it yields is listed
   past_rule : (es : List Entry) (i at n : ℕ) → AreListedBefore p es i at n → ((d : Condition) (u : PlanTree) → d.at ≡ at → IsRuleAt n d.rule → Gives p es i d u → IsListed u es)
       → AreListedBefore p es i at (n + 1)
   past_rule es i at n h here j d u (inl before) g = h j d u (inl before) g
@@ -69,7 +69,7 @@ module _ (p : ProgramData) where
         here d u place (subst (λ k. IsRuleAt k d.rule) last is) (subst (λ k. Gives p es k d u) same g)
   ]
 
-  -- what an exchange of the place gives is the plan after it
+  -- an exchange of the place yields the plan after it
   given : (es : List Entry) (i at n : ℕ) (rule : Rule) (t : PlanTree) → IsAt es i t → IsRuleAt n rule → (d : Condition) (u : PlanTree) → d.at ≡ at → IsRuleAt n d.rule → Gives p es i d u
       → u ≡ swapped rule at t
   given es i at n rule t h k d u place is g = g.3 ∙ (λ q. swapped (one_rule n d.rule rule is k q) (place q) (one_plan es i g.0 t g.1 h q))
@@ -103,7 +103,7 @@ module _ (p : ProgramData) (limit : ℕ) where
     before = past_rule p es i at n w.before (λ d u place is g. subst (λ (s : PlanTree). IsListed s es) (sym (given p es i at n rule t h k d u place is g)) listed);
   }
 
-  -- what it gives
+  -- a legal exchange yields the swapped plan
   gives_swapped : (es : List Entry) (i at : ℕ) (rule : Rule) (t : PlanTree) (c : Condition) → IsAt es i t → IsConditionOf p t at rule c → Gives p es i c (swapped rule at t)
   gives_swapped es i at rule t c h legal = (t, h, told_as p t at rule c legal, λ q. swapped (sym legal.same_rule q) (sym legal.place q) t)
 

@@ -1,4 +1,4 @@
--- The listed plans are plans in reach, and where none is left out they are all of them.
+-- The listed plans are plans in reach, and if none is left out they are all of them.
 use Rattle.std.proofs.Common.{◌≡◌, ◌<◌, ◌≤◌, ◌↔◌, inl, inr, ℕ, zero, suc, Bool, true, false, List, [], ◌∷◌, length, slice_get, Some, refl, sym, subst, ◌∙◌, arith}
 use Rattle.std.proofs.lemmas.Option.{same_Some}
 use Rattle.plan_trees.specs.Plans.{PlanTree}
@@ -51,7 +51,7 @@ module _ (p : ProgramData) (limit : ℕ) where
     by true e open_at = absurd (open_at.3.1 (subst (Ends p limit l.entries) e h.ends open_at.0 open_at.1 open_at.2 open_at.3.0))
     by false e open_at = e
 
-  -- ---- what every list of entries keeps
+  -- ---- what holds for every list of entries
 
   pub some_entry : (es : List Entry) → Grows p limit es → 1 ≤ length es
   some_entry _ begins = omega arith
@@ -87,7 +87,7 @@ module _ (p : ProgramData) (limit : ℕ) where
   pub walked-IsListing : (l : ListedPlans) (es : List Entry) (n : ℕ) → l ≡ record { entries = es; complete = true } → length es ≤ n → IsWalked p limit es n 0 0 → IsListing p limit l
   walked-IsListing l es n is all h = subst (IsListing p limit) (sym is) (record { grows = h.grows; ends = past_entries p limit es n all h })
 
-  -- by what the walk answers
+  -- by the result of the walk
   pub GoesTo-Grows : (es : List Entry) (complete : Bool) → GoesTo p limit es (length es) 0 0 complete → Grows p limit es
   GoesTo-Grows es true h = h.grows
   GoesTo-Grows es false h = h.grows

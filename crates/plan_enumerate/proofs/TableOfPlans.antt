@@ -1,4 +1,5 @@
--- What a table of plans tells of the entries that it keeps: a plan is found exactly where it is listed, and a new one goes behind the others.
+-- What a table of plans knows about the entries that it keeps: a plan is found exactly if it is listed, and a new one
+-- goes after the others.
 use Rattle.std.proofs.Common.{◌≡◌, inl, inr, zero, suc, true, List, [], ◌∷◌, ◌++◌, Some, is_some, refl, sym, ap, subst}
 use Rattle.std.proofs.lemmas.Bool.{cases_Bool}
 use Rattle.std.proofs.lemmas.Option.{same_Some}

@@ -1,4 +1,4 @@
--- What is weighed without a physical plan is what a layout comes to.
+-- A layout's cost and placement, weighed without a physical plan, are those of the layout.
 use Rattle.std.proofs.Common.{◌≡◌, ℕ, List, refl, ap, ◌∙◌}
 use Rattle.cost_model.specs.Costs.{edge_cost, spent}
 use Rattle.cost_model.specs.Estimates.{estimate, plus}
@@ -41,7 +41,7 @@ module _ (p : ProgramData) (counts : List ℕ) (workers : ℕ) (f : Facts) (w : 
         let on_right = h.1 ∙ ap (right_ship (w n) (f n).right_keys) (placed u h.3) in
         λ i. plus (plus (edge_cost (same i) (on_left i) (estimate p counts t)) (edge_cost (same i) (on_right i) (estimate p counts u))) (plus (left i) (right i))
 
--- a layout costs what is weighed where its operators have its ways
+-- a layout costs what is weighed with the ways that it gives to the operators
 pub layout_weighed : (p : ProgramData) (counts : List ℕ) (workers : ℕ) (t : PlanTree) (number : ℕ) → IsPlan t
     → layout_cost p counts workers t number ≡ (weighed p counts workers (facts_of p t) (ways_of p.ops number) t).cost
 layout_weighed p counts workers t number h =

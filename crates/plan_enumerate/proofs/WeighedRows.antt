@@ -14,7 +14,7 @@ use Rattle.plan_enumerate.specs.declared.weights.Weight.{Weight}
 use Rattle.plan_enumerate.specs.RowsOfPlans.{AreWeighed, Holds, row_weight, weight_in, weight_of_reads}
 use Rattle.plan_enumerate.specs.Weights.{weight_both, weight_over, weighed}
 
--- the numbers below one more are those below it, and it
+-- the numbers below i + 1 are those below i, and i
 below_more : (j i : ℕ) → j < i + 1 → (j < i) ⊎ (j ≡ i)
 below_more j i less = elim (cases_lt j i) as (λ _. (j < i) ⊎ (j ≡ i)) [
   | inl below ↦ inl below
@@ -22,7 +22,7 @@ below_more j i less = elim (cases_lt j i) as (λ _. (j < i) ⊎ (j ≡ i)) [
 ]
 
 module _ (p : ProgramData) (counts : List ℕ) (f : Facts) where
-  -- ---- rows that were put behind others
+  -- ---- rows that were added after others
 
   pub holds_kept : (rows others : List Row) (i : ℕ) (t : PlanTree) → Holds p counts f rows i t → ((k : ℕ) → k ≤ i → slice_get others k ≡ slice_get rows k) → Holds p counts f others i t
   holds_kept rows others i (leaf n) (x, e, reads) same = (x, same i (omega arith) ∙ e, reads)
@@ -55,7 +55,7 @@ module _ (p : ProgramData) (counts : List ℕ) (f : Facts) where
     weighed_before w v rows weights count first are le same j less t h =
         are j (omega (arith, less, le)) t h ∙ same_ways w v rows j t h (λ k x below e. same k x (omega (arith, below, less)) e)
 
-    -- ---- one row more
+    -- ---- one more row
 
     pub row_weighed : (w : ℕ → Way) (rows : List Row) (weights : List Weight) (i : ℕ) (x : Row) → slice_get rows i ≡ Some x → AreWeighed p counts workers f w rows weights i
         → (t : PlanTree) → Holds p counts f rows i t → row_weight w workers (λ j. weight_in (slice_get weights j)) x ≡ weighed p counts workers f w t

@@ -1,4 +1,4 @@
--- The entries that a table of plans keeps, in which each plan has where it comes from.
+-- The entries that a table of plans keeps: for each plan, where it comes from.
 use Rattle.std.specs.Prelude.{List, map}
 use Rattle.plan_trees.specs.Plans.{PlanTree}
 use Rattle.plan_enumerate.specs.declared.entries.Entry.{Entry}

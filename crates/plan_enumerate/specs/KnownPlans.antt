@@ -6,7 +6,7 @@ use Rattle.ship_strategy.specs.PlanFacts.{facts_of}
 use Rattle.ship_strategy.specs.Views.{facts_in}
 use Rattle.ship_strategy.specs.declared.tables.Table.{Table}
 
--- each table says what is known in the plan of its place
+-- each table has what is known in the plan at its place
 abbrev pub AreTablesOf : ProgramData → List PlanTree → List Table → Type 0
 AreTablesOf p plans tables = (n : ℕ) (t : PlanTree) (x : Table) → slice_get plans n ≡ Some t → slice_get tables n ≡ Some x → facts_in x ≡ facts_of p t
 

@@ -1,14 +1,15 @@
 -- First places of least numbers.
 use Rattle.std.specs.Prelude.{◌≡◌, ◌<◌, ◌≤◌, ℕ}
 
--- the first of the places below `n` that has the least number
+-- the first of the places below `n` with the least number
 pub record IsLeastBelow (c : ℕ → ℕ) (n at cost : ℕ) : Type 0 where
   pub within : at < n
   pub same : cost ≡ c at
   pub least : (k : ℕ) → k < n → cost ≤ c k
   pub first : (k : ℕ) → k < at → cost < c k
 
--- The same of pairs of places below `n` and below `m`. A pair with an earlier first place stands before the others.
+-- The first of the pairs of a place below `n` and one below `m` with the least number. Pairs are ordered by their first
+-- place, then by their second.
 pub record IsLeastPair (c : ℕ → ℕ → ℕ) (n m first second cost : ℕ) : Type 0 where
   pub first_within : first < n
   pub second_within : second < m

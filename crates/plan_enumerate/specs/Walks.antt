@@ -11,20 +11,21 @@ use Rattle.plan_enumerate.specs.Listing.{AreListedBefore, Grows, IsListed, IsOpe
 
 -- ---- a step
 
--- the entry of what a legal exchange of the plan gives, which is that of entry `from`
+-- the entry of what a legal exchange of the plan of entry `from` yields
 pub record IsNeighbour (p : ProgramData) (plan : PlanTree) (from at : ℕ) (rule : Rule) (e : Entry) : Type 0 where
   pub by : Condition
   pub legal : IsConditionOf p plan at rule by
   pub is : e ≡ record { plan = swapped rule at plan; from = from; by = Some by }
 
--- An entry is added where its plan isn't listed and there is room; false where it isn't listed and there is none.
+-- An entry is added if its plan isn't listed and there is room; the result is false if it isn't listed and there is no
+-- room.
 abbrev pub Adds : ℕ → Entry → List Entry → List Entry → Bool → Type 0
 Adds limit e old new true = (IsListed e.plan old × (new ≡ old)) ⊎ ((IsListed e.plan old → ⊥) × (length old < limit) × (new ≡ old ++ e ∷ []))
 Adds limit e old new false = (IsListed e.plan old → ⊥) × (length old ≡ limit) × (new ≡ old)
 
 -- ---- the way
 
--- The walk has come to a place: the list has grown, and what the exchanges before the place give is listed.
+-- The walk has come to a place: the list has grown, and what the exchanges before the place yield is listed.
 pub record IsWalked (p : ProgramData) (limit : ℕ) (es : List Entry) (entry at n : ℕ) : Type 0 where
   pub grows : Grows p limit es
   pub before : AreListedBefore p es entry at n

@@ -33,7 +33,7 @@ fn facts_there(
     ensures facts { IfOk result (λ x. known_of x ≡ facts_of program.now plan.now at) }
     ensures findings { OnOk result (AreFindings program.now findings.new) }
 {
-    // The call states that the program follows every rule.
+    // `fields` makes it known that the program follows every rule.
     let _fields = program.fields();
     let kind = kind_of(program, at);
     let context = context(program, plan, at);
@@ -75,7 +75,7 @@ fn fill(
     ensures table { OnOk result (facts_in table.new ≡ facts_of program.now plan.now) }
     ensures findings { OnOk result (AreFindings program.now findings.new) }
 {
-    // The call states that the plan's numbers are small.
+    // `root` makes it known that the plan's numbers are below `MAX_NODES`.
     let _root = plan.root();
     for at in 0..MAX_NODES as u32 {
         table.set(at, facts_by_number(program, findings, plan, at)?);
@@ -83,7 +83,7 @@ fn fill(
     Ok(())
 }
 
-// What is known of the operators of each entry's plan, by the findings so far and what is found now.
+// What is known of the operators of each entry's plan, from earlier findings and new ones.
 fn analyse_entries(
     alloc: Global,
     program: &Program,
@@ -102,8 +102,9 @@ fn analyse_entries(
     Ok(known)
 }
 
-/// The list that `enumerate` makes, and what is known of the operators of its plans, for `choose_known`. An operator is analysed once for each context
-/// that it has in them; what the exchanges asked of it isn't analysed again. Out of memory is the only error.
+/// The list that `enumerate` makes, and what is known of the operators of its plans, for `choose_known`. An operator is
+/// analysed once for each context that it has in them, and what was already analysed for the exchanges isn't analysed
+/// again. Out of memory is the only error.
 pub fn enumerate_and_analyse(
     alloc: Global,
     program: &Program,
@@ -120,7 +121,7 @@ pub fn enumerate_and_analyse(
     ensures plans { IfOk result (λ both. (t : PlanTree) → IsListed t both.0.entries → IsPlanOf program.now.functions program.now.ops t) }
     ensures known { IfOk result (λ both. AreKnownPlans program.now (plans_of both.0.entries) both.1) }
 {
-    // The call states that the program follows every rule.
+    // `fields` makes it known that the program follows every rule.
     let _fields = program.fields();
     let mut findings = Findings::new(alloc);
     let listed = list_plans(alloc, program, limit, &mut findings)?;

@@ -43,7 +43,7 @@ struct Least {
     cost: u64,
 }
 
-// The first row whose operator's way has changed, or the number of rows where none has.
+// The first row whose operator's way has changed, or the number of rows if none has.
 fn first_changed(rows: &Rows, old: &Ways, new: &Ways) -> u32
     requires few { rows.now.count ≤ node_limit }
     ensures within { result ≤ rows.now.count }
@@ -59,7 +59,7 @@ fn first_changed(rows: &Rows, old: &Ways, new: &Ways) -> u32
     rows.count
 }
 
-// Weighs the rows from one on, where those before it are weighed.
+// Weighs the rows from `first` on; those before it are weighed already.
 fn weigh_from(rows: &Rows, ways: &Ways, workers: u32, first: u32, weights: &mut [Weight; MAX_NODES])
     requires few { rows.now.count ≤ node_limit }
     requires within { first ≤ rows.now.count }
@@ -71,7 +71,7 @@ fn weigh_from(rows: &Rows, ways: &Ways, workers: u32, first: u32, weights: &mut 
     }
 }
 
-// Weighs the rows anew where operators have other ways, up to the root.
+// Weighs again all rows from the first whose operator's way has changed.
 fn weigh_again(rows: &Rows, old: &Ways, new: &Ways, workers: u32, weights: &mut [Weight; MAX_NODES])
     requires few { rows.now.count ≤ node_limit }
     ensures { (p : ProgramData) (counts : List ℕ) (f : Facts) → AreWeighed p counts workers f (ways_in old.now) rows.now.held weights.old rows.now.count
@@ -81,7 +81,7 @@ fn weigh_again(rows: &Rows, old: &Ways, new: &Ways, workers: u32, weights: &mut 
     weigh_from(rows, new, workers, first, weights);
 }
 
-// The first of so many layouts that costs least, of the plan that stands in the rows.
+// The first layout that costs least, of those with numbers below `count`, for the plan in the rows.
 fn cheapest_in(rows: &Rows, ops: &[Op], workers: u32, count: u32) -> Least
     requires rows { (1 ≤ rows.now.count) × (rows.now.count ≤ node_limit) }
     requires few { length ops.now ≤ node_limit }
@@ -112,20 +112,20 @@ fn cheapest_in(rows: &Rows, ops: &[Op], workers: u32, count: u32) -> Least
     least
 }
 
-// The first layout of a plan that costs least, where the table says what is known of its operators.
+// The first of a plan's layouts that cost least; the table has what is known of its operators.
 fn cheapest(program: &Program, plan: &Plan, table: &Table, counts: &Counts, workers: u32) -> Least
     requires of { IsPlanOf program.now.functions program.now.ops plan.now }
     requires workers { (1 ≤ workers) × (workers ≤ worker_limit) }
     requires table { facts_in table.now ≡ facts_of program.now plan.now }
     ensures { IsLeastBelow (layout_cost program.now counts.now workers plan.now) (layout_count program.now.ops) result.layout result.cost }
 {
-    // The call states that the numbers of a plan are small.
+    // `root` makes it known that the numbers of a plan are below `MAX_NODES`.
     let _root = plan.root();
     let rows = rows_of(program, counts, table, plan);
     cheapest_in(&rows, program.ops(), workers, layouts(program, plan))
 }
 
-// The cheapest layout of an entry's plan, with the table that is made of what was seen of the plans before.
+// The cheapest layout of an entry's plan, with a table made from what was seen of earlier plans.
 fn cheapest_seen(
     program: &Program,
     entries: &Entries,
@@ -146,7 +146,7 @@ fn cheapest_seen(
     cheapest(program, &plan, &table, counts, workers)
 }
 
-// The cheapest layout of an entry's plan, with the table that was made of it.
+// The cheapest layout of an entry's plan, with the table made for it.
 fn cheapest_known(
     program: &Program,
     entries: &Entries,
@@ -165,7 +165,7 @@ fn cheapest_known(
     cheapest(program, &plan, known.table(entry), counts, workers)
 }
 
-// The choice among the entries before this one and this one, whose cheapest layout is `least`.
+// The choice among the entries up to and including this one, whose cheapest layout is `least`.
 fn cheaper(chosen: Chosen, entry: u32, least: Least) -> Chosen
     ensures { (c : ℕ → ℕ → ℕ) (n : ℕ) → IsLeastPair c entry n chosen.entry chosen.layout chosen.cost → IsLeastBelow (c entry) n least.layout least.cost
         → IsLeastPair c (entry + 1) n result.entry result.layout result.cost }
@@ -180,10 +180,10 @@ fn cheaper(chosen: Chosen, entry: u32, least: Least) -> Chosen
     chosen
 }
 
-/// The first pair of a listed plan and one of its layouts that is expected to cost least, where each source has the number of rows that `counts`
-/// has at its number: the entries count first, then the layouts. It takes no memory: what is known of operators is kept on the stack, of the last plans
-/// alone. Time grows with the plans times their layouts, of which there are at most 6,561 each. A caller that chooses more than once has
-/// `choose_known`.
+/// The first pair of a listed plan and one of its layouts that is expected to cost least. Pairs are ordered by entry,
+/// then by layout. `counts` has each source's number of rows at the source's number. It takes no memory: it keeps what
+/// is known of operators on the stack, for the last plans only. Time grows with the plans times their layouts, of which
+/// there are at most 6,561 each. A caller that chooses more than once uses `choose_known`.
 pub fn choose(program: &Program, listed: &Listed, counts: &Counts, workers: u32) -> Chosen
     requires of { (t : PlanTree) → IsListed t listed.now.entries → IsPlanOf program.now.functions program.now.ops t }
     requires workers { (1 ≤ workers) × (workers ≤ worker_limit) }
@@ -204,7 +204,8 @@ pub fn choose(program: &Program, listed: &Listed, counts: &Counts, workers: u32)
     chosen
 }
 
-/// The same pair as `choose` returns, where `known` says what is known of the listed plans. It takes no memory and analyses no function.
+/// The same pair as `choose` returns; `known` has what is known of the listed plans. It takes no memory and analyses no
+/// function.
 pub fn choose_known(
     program: &Program,
     listed: &Listed,

@@ -15,9 +15,10 @@ use std::marker::Model;
 #[derive(Clone, Copy, Debug)]
 pub struct Entry {
     pub plan: Plan,
-    /// The number of the entry that it comes from; entries are numbered from 0. Of the plan as written it is 0 too, and means nothing.
+    /// The number of the entry that it comes from; entries are numbered from 0. For the plan as written it is 0 too,
+    /// and means nothing.
     pub from: u32,
-    /// The exchange of that entry's plan which gives this one; none of the plan as written.
+    /// The exchange of that entry's plan which yields this one; none for the plan as written.
     pub by: Option<Condition>,
 }
 
@@ -28,7 +29,7 @@ struct Origin {
     by: Option<Condition>,
 }
 
-/// Entries in their order. No plan stands in two of them, and an entry is found by its plan in a table.
+/// Entries in their order. No two entries have the same plan, and a table finds an entry by its plan.
 #[derive(Drop)]
 pub struct Entries {
     origins: IndexMap<Plan, Origin>,
@@ -49,7 +50,7 @@ impl Model for Entries {
 }
 
 impl Entries {
-    // A plan alone, to which no exchange led.
+    // A list of one plan, to which no exchange led.
     pub(crate) fn of(alloc: Global, plan: Plan) -> Result<Entries, OutOfMemory>
         ensures { IfOk result (λ entries. entries ≡ first_entry plan ∷ []) }
     {
@@ -84,7 +85,7 @@ impl Entries {
         self.origins.contains_key(plan)
     }
 
-    // Adds the entry where its plan isn't listed yet; false where there is no room for it.
+    // Adds the entry if its plan isn't listed yet; returns false if there is no room for it.
     pub(crate) fn add(&mut self, entry: Entry, limit: u32) -> Result<bool, OutOfMemory>
         requires room { length self.old ≤ limit }
         ensures { IfOk result (Adds limit entry self.old self.new) }
@@ -99,7 +100,7 @@ impl Entries {
         Ok(true)
     }
 
-    // Puts an entry whose plan isn't listed behind the others.
+    // Appends an entry whose plan isn't listed.
     fn push(&mut self, entry: Entry) -> Result<(), OutOfMemory>
         requires { IsListed entry.plan self.old → ⊥ }
         ensures { OnOk result (self.new ≡ self.old ++ entry ∷ []) }

@@ -19,14 +19,15 @@ use reorder_group::{apply, legal_for, other_is_unique};
 use reorder_pair::{Condition, Findings, Rule, kind_of};
 use std::alloc::Global;
 
-// Whether an operator may be the upper one of an exchange by the rule. This is asked first, since what is found at a place takes the plan apart.
+// Whether an operator may be the upper one of an exchange by the rule. This is checked first, since `found_at` takes
+// the plan apart.
 fn may_be_upper(program: &Program, at: u32, rule: Rule) -> bool
     ensures { IsTrue result ↔ Plays (exchange_of rule).upper (kind_at program.now.ops at) }
 {
     rule.exchange().upper.is_played_by(kind_of(program, at))
 }
 
-// The exchange of a listed plan as it is told, where it is legal.
+// The condition of a listed plan's exchange, if it is legal.
 fn legal_exchange(
     program: &Program,
     findings: &mut Findings,
@@ -50,7 +51,7 @@ fn legal_exchange(
     Ok(legal_for(program, plan, at, rule, &upper, &lower, unique).ok())
 }
 
-// The entry of what a legal exchange of a listed plan gives. `from` is the number of the plan's entry.
+// The entry of what a legal exchange of a listed plan yields. `from` is the number of the plan's entry.
 fn neighbour(program: &Program, plan: &Plan, from: u32, at: u32, rule: Rule, by: Condition) -> Entry
     requires plan { IsPlanOf program.now.functions program.now.ops plan.now }
     requires legal { IsConditionOf program.now plan.now at rule by }
@@ -63,7 +64,8 @@ fn neighbour(program: &Program, plan: &Plan, from: u32, at: u32, rule: Rule, by:
     }
 }
 
-// Adds what the exchange by the rule at place `n` gives, where it is legal and not listed; false where there is no room for it.
+// Adds what the exchange by the rule at place `n` yields, if it is legal and not listed; returns false if there is no
+// room for it.
 fn add_neighbour(
     program: &Program,
     findings: &mut Findings,
@@ -91,7 +93,7 @@ fn add_neighbour(
     entries.add(neighbour(program, plan, from, at, rule, by), limit)
 }
 
-// Adds what the exchanges give that have the operator as the upper one.
+// Adds what the exchanges yield that have the operator as the upper one.
 fn add_by_rules(
     program: &Program,
     findings: &mut Findings,
@@ -118,7 +120,7 @@ fn add_by_rules(
     Ok(true)
 }
 
-// Adds what all exchanges of an entry's plan give.
+// Adds what all exchanges of an entry's plan yield.
 fn add_neighbours(
     program: &Program,
     findings: &mut Findings,
@@ -134,10 +136,10 @@ fn add_neighbours(
     ensures within { OnOk result (from < length entries.new) }
     ensures findings { OnOk result (AreFindings program.now findings.new) }
 {
-    // Its clause says that the program keeps every rule.
+    // `fields` makes it known that the program follows every rule.
     let _fields = program.fields();
     let plan = entries.at(from as usize).plan;
-    // Its clause says that the numbers of a plan are small.
+    // `root` makes it known that the numbers of a plan are below `MAX_NODES`.
     let _root = plan.root();
     for at in 0..MAX_NODES as u32 {
         if !add_by_rules(program, findings, entries, from, &plan, at, limit)? {
@@ -147,7 +149,8 @@ fn add_neighbours(
     Ok(true)
 }
 
-// Goes from entry to entry, until there is none left whose exchanges are to be looked at; false where there is no room for what one gives.
+// Adds what the exchanges of every entry yield, including entries added on the way; returns false if there is no room
+// for one.
 fn walk(
     program: &Program,
     findings: &mut Findings,
@@ -171,7 +174,7 @@ fn walk(
     Ok(true)
 }
 
-// The list from the plan as written on.
+// The list that begins with the plan as written.
 pub(crate) fn list_plans(
     alloc: Global,
     program: &Program,
@@ -189,10 +192,10 @@ pub(crate) fn list_plans(
     Ok(Listed::of(entries, complete))
 }
 
-/// The plans that legal exchanges lead to from the plan as written, as many as there is room for: from 1 to 1,000. Want of memory is the only error,
-/// and memory is asked for entries that are made, not for as many as there may be. Time grows with the plans, and for each with the exchanges that have
-/// a place there. An operator is analysed once for each context that it comes to have in them; what was found is kept until the list is made, in memory
-/// of its own.
+/// The plans that legal exchanges lead to from the plan as written, at most `limit` of them; the limit is from 1 to
+/// 1,000. Out of memory is the only error. Memory is taken for entries that are made, not for `limit` of them. Time
+/// grows with the plans, and for each with the exchanges that have a place there. An operator is analysed once for each
+/// context that it has in them; the findings are kept in separate memory until the list is made.
 pub fn enumerate(alloc: Global, program: &Program, limit: u32) -> Result<Listed, OutOfMemory>
     requires some { 1 ≤ limit }
     requires few { limit ≤ entry_limit }
@@ -204,7 +207,7 @@ pub fn enumerate(alloc: Global, program: &Program, limit: u32) -> Result<Listed,
     ensures answers { IfOk result (λ l. (t : PlanTree) → IsListed t l.entries → KeepAnswers program.now program.now.plan t) }
     ensures plans { IfOk result (λ l. (t : PlanTree) → IsListed t l.entries → IsPlanOf program.now.functions program.now.ops t) }
 {
-    // Its clause says that the program keeps every rule.
+    // `fields` makes it known that the program follows every rule.
     let _fields = program.fields();
     let mut findings = Findings::new(alloc);
     list_plans(alloc, program, limit, &mut findings)

@@ -7,11 +7,11 @@ use ship_strategy::Table;
 use std::alloc::Global;
 use std::marker::Model;
 
-/// What is known of the operators of each listed plan, in the order of the list. A caller that chooses among the plans again and again has their
-/// operators analysed once.
+/// What is known of the operators of each listed plan, in the order of the list. A caller that chooses among the plans
+/// repeatedly has their operators analysed only once.
 #[derive(Drop)]
 pub struct KnownPlans {
-    // A table takes some 4 KB, so the list grows without moving them.
+    // A table takes about 4 KB. They are boxed so that the list grows without moving them.
     tables: Vec<Box<Table>>,
 }
 

@@ -6,7 +6,8 @@ ghost use Rattle.plan_enumerate.specs.Listing.{AreEntries};
 use crate::entries::Entries;
 use std::marker::Model;
 
-/// The plans that `enumerate` came to. There is an entry, which is that of the plan as written, and each later one comes from one before it.
+/// The plans that `enumerate` came to. The first entry is the plan as written, and each later one comes from an earlier
+/// one.
 #[derive(Drop)]
 pub struct Listed {
     entries: Entries,
@@ -42,7 +43,7 @@ impl Listed {
         &self.entries
     }
 
-    /// Whether every plan that legal exchanges lead to is listed. Where one isn't, the list is as long as it may be.
+    /// Whether every plan that legal exchanges lead to is listed. If one isn't, the list is as long as it may be.
     pub fn complete(&self) -> bool
         ensures { result ≡ self.now.complete }
     {

@@ -13,7 +13,7 @@ use pact_bag::Counts;
 use pact_operators::{MAX_NODES, Parts, Plan, Program};
 use ship_strategy::{OpFacts, Table};
 
-/// An input of an operator: the row of its root, and how many records it is expected to give.
+/// An input of an operator: the row of its root, and how many records it is expected to have.
 #[derive(Clone, Copy)]
 pub(crate) struct Input {
     pub row: u32,
@@ -36,7 +36,7 @@ pub(crate) struct Row {
     pub reads: Reads,
 }
 
-/// The sources and operators of a plan, each operator behind its inputs.
+/// The sources and operators of a plan, each operator after its inputs.
 #[derive(Clone, Copy)]
 pub(crate) struct Rows {
     pub held: [Row; MAX_NODES],
@@ -57,7 +57,7 @@ impl Rows {
         }
     }
 
-    // Puts a row behind the others, and tells its place.
+    // Appends a row, and returns its place.
     fn push(&mut self, row: &Row) -> u32
         requires { self.old.count < node_limit }
         ensures place { result ≡ self.old.count }
@@ -72,7 +72,7 @@ impl Rows {
     }
 }
 
-// Puts the rows of a tree behind the others, and tells of its root.
+// Appends the rows of a tree, and returns its root as an input.
 fn add_tree(
     program: &Program,
     counts: &Counts,
@@ -128,13 +128,13 @@ fn add_tree(
     }
 }
 
-/// The rows of a plan whose operators have these facts. The last one is that of its root.
+/// The rows of a plan whose operators have these facts. The last row is its root's.
 pub(crate) fn rows_of(program: &Program, counts: &Counts, table: &Table, plan: &Plan) -> Rows
     ensures holds { (root : ℕ) → result.count ≡ root + 1 → Holds program.now counts.now (facts_in table.now) result.held root plan.now }
     ensures some { 1 ≤ result.count }
     ensures few { result.count ≤ node_limit }
 {
-    // Its clause says that the numbers of a plan differ, so that they are few.
+    // `root` makes it known that the numbers of a plan differ, so that there are at most `MAX_NODES`.
     let _root = plan.root();
     let mut rows = Rows::none(table);
     add_tree(program, counts, table, plan, &mut rows);

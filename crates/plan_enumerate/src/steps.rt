@@ -12,8 +12,8 @@ use pact_record::OutOfMemory;
 use reorder_pair::ConditionList;
 use std::alloc::Global;
 
-/// The exchanges that lead from the plan of the first entry to that of the entry with this number, in the order in which they are made. Of the first
-/// entry there are none.
+/// The exchanges that lead from the plan of the first entry to that of the entry with this number, in the order in
+/// which they are made. The first entry has none.
 pub fn steps_of(alloc: Global, listed: &Listed, entry: u32) -> Result<ConditionList, OutOfMemory>
     requires within { entry < length listed.now.entries }
     ensures steps { IfOk result (AreStepsTo listed.now.entries entry) }
@@ -26,7 +26,7 @@ pub fn steps_of(alloc: Global, listed: &Listed, entry: u32) -> Result<ConditionL
         conditions.push(by)?;
         at = entries.at(at).from as usize;
     }
-    // They were met on the way back.
+    // The exchanges were collected on the way back.
     conditions.reverse();
     Ok(ConditionList::of(conditions))
 }

@@ -1,4 +1,4 @@
-//! What a layout of a plan costs, and where its records lie.
+//! What a layout of a plan costs, and how its records are placed.
 
 ghost use Rattle.std.specs.Prelude.{◌≡◌, slice_get};
 ghost use Rattle.ship_strategy.specs.Views.{known_of, ways_in};
@@ -13,7 +13,7 @@ use ship_strategy::{
     OpFacts, Way, Ways, left_ship, only_ship, placed_both, placed_over, right_ship,
 };
 
-/// Where the records of a tree's root lie, and what its operators and edges cost.
+/// How the records of a tree's root are placed, and what its operators and edges cost.
 #[derive(Clone, Copy)]
 pub(crate) struct Weight {
     pub placement: Option<Keys>,

@@ -1,4 +1,4 @@
--- The lines of operators, one more at the end.
+-- The lines of operators, with one more at the end.
 use Rattle.std.proofs.Common.{◌≡◌, ◌<◌, ◌+◌, ◌++◌, ℕ, List, [], ◌∷◌, get_or, length, take, length-take-le, refl, ap, subst, sym, ◌∙◌, append_assoc, append-nil, arith}
 use Rattle.std.proofs.lemmas.List.{take_more}
 use Rattle.pact_operators.specs.declared.operators.Op.{Op}
@@ -21,6 +21,6 @@ lines-more p ops n op text line lt e h k =
     subst (λ (front : List Op). AreLinesFrom p 0 front (text ++ line)) (sym next)
     (AreLinesFrom-last p (take n ops) 0 n op text line (omega (arith, length-take-le n ops (omega (arith, lt)))) h k)
 
--- the numbers of sources and operators are small, since each stands in the plan
+-- the numbers of sources and operators are small, since each is in the plan
 pub small_number : (p : ProgramData) (plan : PlanTree) (ops : List Op) (n : ℕ) → IsProgram p → plan ≡ p.plan → IsPlan plan → ops ≡ p.ops → n < length ops → n < node_limit
 small_number p plan ops n program same is_plan e lt = below_limit n p.plan (subst IsPlan same is_plan) (program.plan.all n (omega (arith, lt, ap length e)))

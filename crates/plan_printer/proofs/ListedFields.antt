@@ -1,4 +1,4 @@
--- Fields with commas between them, one more at the end.
+-- Fields with commas between them, with one more at the end.
 use Rattle.std.proofs.Common.{◌≡◌, ◌≤◌, ◌<◌, ◌+◌, ◌++◌, ℕ, zero, suc, Bool, true, false, cond, List, [], ◌∷◌, length, ap, subst, sym, ◌∙◌, append_assoc, append-nil, length-append, ne_eqb, arith}
 use Rattle.std.specs.List.{AllByRecursion}
 use Rattle.std.specs.Prelude.{◌==◌, if◌then◌else◌, codes, decimal}
@@ -9,7 +9,7 @@ use Rattle.pact_record.proofs.Lists.{AllByRecursion-last}
 use Rattle.plan_printer.specs.FoundText.{behind_commas, rising_fields, with_commas}
 use Rattle.plan_printer.proofs.RisingFields.{rising_fields-with, rising_fields-without}
 
--- ---- one number more
+-- ---- one more number
 
 behind_commas-last : (ns : List ℕ) (n : ℕ) → behind_commas (ns ++ n ∷ []) ≡ behind_commas ns ++ (codes "," ++ decimal n)
 behind_commas-last [] n = ap (λ (t : List ℕ). 44 ∷ t) (append-nil (decimal n))
@@ -17,7 +17,7 @@ behind_commas-last (m ∷ ns) n =
     ap (λ (t : List ℕ). 44 ∷ (decimal m ++ t)) (behind_commas-last ns n)
     ∙ ap (λ (t : List ℕ). 44 ∷ t) (sym (append_assoc (decimal m) (behind_commas ns) (codes "," ++ decimal n)))
 
--- what stands before the next number
+-- the separator before the next number
 abbrev comma_behind : List ℕ → List ℕ
 comma_behind text = if length text == 0 then [] else codes ","
 
@@ -45,7 +45,7 @@ unfolding rising_fields
 rising_fields-within set zero le = tt
 rising_fields-within set (suc n) le = maybe_last (has_field set n) (rising_fields set n) n (rising_fields-within set n (omega (arith, le))) (omega (arith, le))
 
--- the text behind a field that the set doesn't have, and behind one that it has
+-- the text after a field that the set doesn't have, and after one that it has
 pub passed_over : (set n : ℕ) (text next : List ℕ) → has_field set n ≡ false → text ≡ with_commas (rising_fields set n) → next ≡ text → next ≡ with_commas (rising_fields set (n + 1))
 passed_over set n text next h e same = same ∙ e ∙ sym (ap with_commas (rising_fields-without set n h))
 

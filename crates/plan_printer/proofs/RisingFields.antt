@@ -1,4 +1,4 @@
--- The fields of a set below a number, and below one number more.
+-- The fields of a set below a number n, and below n + 1.
 use Rattle.std.proofs.Common.{◌≡◌, ◌+◌, ◌++◌, ℕ, Bool, true, false, cond, [], ◌∷◌, refl, ap, sym, ◌∙◌, append-nil}
 use Rattle.std.proofs.Math.Numerals.{suc-eq-add-one}
 use Rattle.pact_record.specs.FieldSets.{has_field}

@@ -1,4 +1,4 @@
--- What is found of an operator, as text.
+-- The findings for an operator, as text.
 use Rattle.std.specs.Prelude.{◌++◌, ◌==◌, ℕ, zero, suc, Bool, true, false, cond, List, [], ◌∷◌, codes, decimal}
 use Rattle.pact_record.specs.declared.records.TheConstants.{MAX_FIELDS}
 use Rattle.pact_record.specs.FieldSets.{has_field}
@@ -10,7 +10,7 @@ unfoldable pub rising_fields : ℕ → ℕ → List ℕ
 rising_fields set zero = []
 rising_fields set (suc n) = rising_fields set n ++ cond (has_field set n) (n ∷ []) []
 
--- numbers, each behind a comma
+-- numbers, each after a comma
 abbrev pub behind_commas : List ℕ → List ℕ
 behind_commas [] = []
 behind_commas (n ∷ numbers) = codes "," ++ (decimal n ++ behind_commas numbers)
@@ -24,7 +24,8 @@ with_commas (n ∷ numbers) = decimal n ++ behind_commas numbers
 abbrev pub set_text : ℕ → List ℕ
 set_text set = codes "{" ++ (with_commas (rising_fields set MAX_FIELDS) ++ codes "}")
 
--- How many records a call gives; a number at which counting stops is no bound, and told as such.
+-- The bound on the number of records that a call emits. The number at which counting stops isn't a bound, and is
+-- printed as `many`.
 abbrev pub bound_text : ℕ → List ℕ
 bound_text n = cond (n == many) (codes "many") (decimal n)
 

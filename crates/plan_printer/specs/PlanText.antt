@@ -15,14 +15,14 @@ use Rattle.cost_model.specs.Estimates.{estimate}
 use Rattle.plan_printer.specs.FoundText.{found_text}
 use Rattle.plan_printer.specs.declared.plans.Shown.{Shown}
 
--- numbers, each behind a space
+-- numbers, each after a space
 abbrev pub behind_spaces : List ℕ → List ℕ
 behind_spaces [] = []
 behind_spaces (n ∷ numbers) = codes " " ++ (decimal n ++ behind_spaces numbers)
 
 -- ---- an operator or a source
 
--- the keys, of operators that have them
+-- the keys of an operator whose kind has keys
 abbrev pub keys_text : OpKind → (left right : List ℕ) → List ℕ
 keys_text Reduce left right = codes " by" ++ behind_spaces left
 keys_text Match left right = codes " by" ++ (behind_spaces left ++ (codes " =" ++ behind_spaces right))
@@ -41,17 +41,17 @@ abbrev pub head_text : Option Op → List ℕ
 head_text None = []
 head_text (Some op) = op.name ++ (codes " " ++ (kind_word op.kind ++ keys_text op.kind op.left_keys op.right_keys))
 
--- its line, with an estimate of how many records it gives
+-- its line, with an estimate of the number of records that it emits
 abbrev pub node_line : Option Op → Option Ship → ℕ → List ℕ
 node_line op ship records = head_text op ++ (codes " ship " ++ (ship_text ship ++ (codes " estimate " ++ (decimal records ++ codes "\n"))))
 
 -- ---- the tree
 
--- the line of a tree's root, behind its margin
+-- the line of a tree's root, after its margin
 abbrev pub root_line : ProgramData → List ℕ → PhysicalData → List ℕ → ℕ → PlanTree → List ℕ
 root_line p counts physical margin at t = margin ++ node_line (slice_get p.ops at) (ship_at physical at) (estimate p counts t)
 
--- Each operator stands before its inputs, which have two spaces more before them.
+-- Each operator is printed before its inputs, which are indented by two more spaces.
 abbrev pub tree_text : ProgramData → List ℕ → PhysicalData → List ℕ → PlanTree → List ℕ
 tree_text p counts physical margin (leaf n) = root_line p counts physical margin n (leaf n)
 tree_text p counts physical margin (over n t) = root_line p counts physical margin n (over n t) ++ tree_text p counts physical (margin ++ codes "  ") t
@@ -65,18 +65,18 @@ abbrev pub operator_name : Option Op → List ℕ
 operator_name None = []
 operator_name (Some op) = op.name
 
--- the exchange of a number: its rule, the upper operator, and what was found of both
+-- the exchange with a number: its rule, its upper operator, and the findings for both operators
 abbrev pub step_text : ProgramData → ℕ → Condition → List ℕ
 step_text p number c =
     codes "swap " ++ (decimal number ++ (codes " " ++ (word_of c.rule ++ (codes " at " ++ (operator_name (slice_get p.ops c.at)
     ++ (codes "\n  upper " ++ (found_text c.upper ++ (codes "\n  lower " ++ (found_text c.lower ++ codes "\n")))))))))
 
--- numbered from this number on
+-- exchanges, numbered from this number on
 abbrev pub steps_text : ProgramData → ℕ → List Condition → List ℕ
 steps_text p number [] = []
 steps_text p number (c ∷ cs) = step_text p number c ++ steps_text p (number + 1) cs
 
--- ---- the whole
+-- ---- the whole text
 
 abbrev pub listing_word : Bool → List ℕ
 listing_word true = codes "complete"

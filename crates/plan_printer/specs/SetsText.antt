@@ -1,4 +1,4 @@
--- What the analysis finds of a program's operators, a line for each.
+-- The findings of the analysis for a program's operators, one line for each.
 use Rattle.std.specs.Prelude.{◌≡◌, ◌++◌, ◌↔◌, ◌+◌, ℕ, Bool, true, false, List, [], ◌∷◌, IsTrue, codes, Some, slice_get}
 use Rattle.tac_syntax.specs.declared.declarations.OpKind.{OpKind}
 use Rattle.tac_syntax.specs.declared.declarations.OpKind.TheVariants.{Source}
@@ -24,7 +24,8 @@ pub record IsJudged (p : ProgramData) (op : Op) (passes : Bool) : Type 0 where
 abbrev pub line_text : List ℕ → OpKind → Found → Bool → List ℕ
 line_text name kind found passes = name ++ (codes " " ++ (kind_word kind ++ (codes " " ++ (found_text found ++ (codes " order " ++ (yes_or_no passes ++ codes "\n"))))))
 
--- An operator's line: its name, its kind, what is found of it in the plan as written, and whether its function passes the order test.
+-- An operator's line: its name, its kind, the findings for it in the plan as written, and whether its function passes
+-- the order test.
 pub record IsOperatorLine (p : ProgramData) (n : ℕ) (op : Op) (line : List ℕ) : Type 0 where
   pub found : Found
   pub is_found : IsFound p n p.plan p.plan found
@@ -32,16 +33,16 @@ pub record IsOperatorLine (p : ProgramData) (n : ℕ) (op : Op) (line : List ℕ
   pub judged : IsJudged p op passes
   pub spelled : line ≡ line_text op.name op.kind found passes
 
--- A source has none.
+-- A source has no line.
 abbrev pub IsLineOf : ProgramData → ℕ → OpKind → Op → List ℕ → Type 0
 IsLineOf p n Source op line = line ≡ []
 IsLineOf p n kind op line = IsOperatorLine p n op line
 
--- the lines of sources and operators that are numbered from `n` on, one behind the other
+-- the lines of sources and operators from number `n` on, one after another
 abbrev pub AreLinesFrom : ProgramData → ℕ → List Op → List ℕ → Type 0
 AreLinesFrom p n [] text = text ≡ []
 AreLinesFrom p n (op ∷ ops) text = (line : List ℕ) × (rest : List ℕ) × IsLineOf p n op.kind op line × AreLinesFrom p (n + 1) ops rest × (text ≡ line ++ rest)
 
--- in text order
+-- the lines of all operators, in text order
 abbrev pub IsSetsText : ProgramData → List ℕ → Type 0
 IsSetsText p text = AreLinesFrom p 0 p.ops text

@@ -1,4 +1,4 @@
-//! How many records each source and operator of a plan had in one evaluation, as text.
+//! The number of records that each source and operator of a plan had in one evaluation, as text.
 
 ghost use Rattle.std.specs.Prelude.{◌≡◌, ◌++◌, IfOk, OnOk, Some, slice_get, true};
 ghost use Rattle.plan_trees.specs.Plans.{has};
@@ -12,7 +12,7 @@ use pact_operators::{Op, Plan, Program};
 use pact_record::{Bytes, Fields, OutOfMemory};
 use std::alloc::Global;
 
-// Puts what an input gave behind what is there.
+// Appends the number of records that an input emitted.
 fn push_given(
     alloc: Global,
     text: &mut Bytes,
@@ -30,7 +30,7 @@ fn push_given(
     }
 }
 
-// Puts what an operator's inputs gave behind what is there.
+// Appends the numbers of records that an operator's inputs emitted.
 fn push_taken(
     alloc: Global,
     text: &mut Bytes,
@@ -48,7 +48,7 @@ fn push_taken(
     push_given(alloc, text, counts, second)
 }
 
-// Puts the line of the source or operator of a number behind what is there.
+// Appends the line of the source or operator with a number.
 fn push_line(
     alloc: Global,
     text: &mut Bytes,
@@ -67,8 +67,8 @@ fn push_line(
     text.extend_from_slice(b"\n")
 }
 
-/// A line for each source and operator in text order: its name, what each of its inputs in the plan gave, and what it gave. One that has no count gave
-/// none. Want of memory is the only error.
+/// A line for each source and operator in text order: its name, how many records each of its inputs in the plan
+/// emitted, and how many it emitted. A missing count is printed as 0. Out of memory is the only error.
 pub fn counts_text(
     alloc: Global,
     program: &Program,
@@ -78,7 +78,7 @@ pub fn counts_text(
     requires plan { IsPlanOf program.now.functions program.now.ops plan.now }
     ensures { IfOk result (λ text. text ≡ texts.counts_text program.now plan.now counts.now) }
 {
-    // the root tells that the plan is small; each source and operator stands in it, so its number is small too
+    // this call shows the prover that the plan is small; each source and operator is in it, so its number is small too
     let _root = plan.root();
     let mut text = Bytes::new(alloc);
     for (n, op) in program.ops().iter().enumerate() {
@@ -87,7 +87,7 @@ pub fn counts_text(
     Ok(text)
 }
 
-// Puts the line of an operator before which partial groups were made behind what is there.
+// Appends the line of an operator whose input is partial groups.
 fn push_partials_line(
     alloc: Global,
     text: &mut Bytes,
@@ -103,7 +103,7 @@ fn push_partials_line(
     text.extend_from_slice(b"\n")
 }
 
-// The same of the operator of a number.
+// Appends this line for the operator with a number.
 fn push_partials_at(
     alloc: Global,
     text: &mut Bytes,
@@ -120,8 +120,8 @@ fn push_partials_at(
     }
 }
 
-/// Puts behind the counts a line for each pair of an operator that made partial groups and the one that merged them: the name of the
-/// latter, and how many records the former gave. Want of memory is the only error.
+/// Appends a line to the counts for each pair of an operator that made partial groups and the one that merged them: the
+/// name of the merging operator, and how many records the other one emitted. Out of memory is the only error.
 pub fn push_partials(
     alloc: Global,
     text: &mut Bytes,
@@ -151,8 +151,8 @@ fn push_keeps_line(
     text.extend_from_slice(b"\n")
 }
 
-/// Puts behind the counts the line of a source or operator of whose records fields were dropped: its name, and the fields that were
-/// kept. Want of memory is the only error.
+/// Appends a line to the counts for a source or operator from whose records fields were dropped: its name, and the
+/// fields that were kept. Out of memory is the only error.
 pub fn push_keeps(
     alloc: Global,
     text: &mut Bytes,

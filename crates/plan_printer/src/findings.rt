@@ -1,4 +1,4 @@
-//! What is found of an operator, as text.
+//! The findings for an operator, as text.
 
 ghost use Rattle.std.specs.Prelude.{◌≡◌, ◌++◌, ◌==◌, if◌then◌else◌, [], OnOk, IfOk, codes, decimal, length};
 ghost use Rattle.pact_record.specs.declared.records.TheConstants.{MAX_FIELDS};
@@ -9,7 +9,7 @@ use pact_record::{Bytes, Fields, MAX_FIELDS, OutOfMemory};
 use reorder_pair::Found;
 use std::alloc::Global;
 
-/// Puts a number behind other bytes, in decimal digits. Want of memory is the only error.
+/// Appends a number in decimal digits. Out of memory is the only error.
 pub fn push_number(alloc: Global, text: &mut Bytes, number: u64) -> Result<(), OutOfMemory>
     ensures { OnOk result (text.new ≡ text.old ++ decimal number) }
 {
@@ -17,7 +17,7 @@ pub fn push_number(alloc: Global, text: &mut Bytes, number: u64) -> Result<(), O
     text.extend_from_slice(digits.as_bytes())
 }
 
-// Puts a number behind others, with a comma between them.
+// Appends a number to a list, after a comma unless it is the first.
 fn push_listed(alloc: Global, text: &mut Bytes, number: u32) -> Result<(), OutOfMemory>
     ensures { OnOk result (text.new ≡ text.old ++ ((if length text.old == 0 then [] else codes ",") ++ decimal number)) }
 {
@@ -40,7 +40,7 @@ fn fields_text(alloc: Global, set: Fields) -> Result<Bytes, OutOfMemory>
     Ok(text)
 }
 
-// Puts a set behind what it is the set of.
+// Appends the words for a set, and the set.
 pub(crate) fn push_set(
     alloc: Global,
     text: &mut Bytes,
@@ -86,8 +86,8 @@ pub fn anchor_word(left: bool, right: bool) -> &'static str
     }
 }
 
-/// What is found of an operator as one text without a line end. Fields stand in rising order; a number of records at which counting stops is
-/// `many`. Want of memory is the only error.
+/// The findings for an operator as one text without a line end. Fields are in rising order. A number of records at
+/// which counting stops is printed as `many`. Out of memory is the only error.
 pub fn found_text(alloc: Global, found: &Found) -> Result<Bytes, OutOfMemory>
     ensures { IfOk result (λ text. text ≡ texts.found_text found.now) }
 {

@@ -1,7 +1,8 @@
-//! What is told of a program and its plans, as text.
+//! A program's findings and its plans, as text.
 //!
-//! `specs/FoundText` has the text of what is found of one operator, `specs/SetsText` the line of each operator and all lines of a program,
-//! `specs/PlanText` that of a chosen plan, and `specs/CountsText` that of how many records went through a plan.
+//! `specs/FoundText` has the text of the findings for one operator, and `specs/SetsText` the line of each operator and
+//! all lines of a program. `specs/PlanText` has the text of a chosen plan, and `specs/CountsText` that of the numbers
+//! of records in a run of a plan.
 #![tactic(auto)]
 
 mod counts;

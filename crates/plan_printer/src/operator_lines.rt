@@ -1,4 +1,4 @@
-//! What the analysis finds of all operators of a program, as text.
+//! The findings of the analysis for all operators of a program, as text.
 
 ghost use Rattle.std.specs.Prelude.{◌≡◌, ◌++◌, IfOk, OnOk, Some, codes, slice_get};
 ghost use Rattle.tac_syntax.specs.declared.declarations.OpKind.TheVariants.{Source};
@@ -24,7 +24,7 @@ fn yes_or_no(answer: bool) -> &'static [u8]
     if answer { b"yes" } else { b"no" }
 }
 
-// The line of an operator of that name and kind.
+// The line of an operator with this name and kind.
 fn spelled_line(
     alloc: Global,
     name: &[u8],
@@ -53,7 +53,7 @@ fn operator_line(alloc: Global, program: &Program, at: u32, op: &Op) -> Result<B
     spelled_line(alloc, op.name.bytes(), op.kind, &found, passes)
 }
 
-// The line of an operator; a source has none.
+// The line of an operator; for a source it is empty.
 fn line_of(alloc: Global, program: &Program, at: u32, op: &Op) -> Result<Bytes, OutOfMemory>
     requires { slice_get program.now.ops at ≡ Some op.now }
     ensures { IfOk result (IsLineOf program.now at op.now.kind op.now) }
@@ -64,12 +64,12 @@ fn line_of(alloc: Global, program: &Program, at: u32, op: &Op) -> Result<Bytes, 
     }
 }
 
-/// A line for each operator in text order: its name, its kind, what is found of it in the plan as written, and whether its function passes
-/// the order test. Want of memory is the only error.
+/// A line for each operator in text order: its name, its kind, the findings for it in the plan as written, and whether
+/// its function passes the order test. Out of memory is the only error.
 pub fn sets_text(alloc: Global, program: &Program) -> Result<Bytes, OutOfMemory>
     ensures { IfOk result (IsSetsText program.now) }
 {
-    // the root tells that the plan is small; each operator stands in it, so its number is small too
+    // this call shows the prover that the plan is small; each operator is in it, so its number is small too
     let _root = program.plan().root();
     let mut text = Bytes::new(alloc);
     for (n, op) in program.ops().iter().enumerate() {

@@ -15,12 +15,12 @@ use pact_record::{Bytes, Keys, OutOfMemory};
 use reorder_pair::{Condition, ConditionList, Found};
 use std::alloc::Global;
 
-/// A chosen plan with what is told of it.
+/// A chosen plan, with everything that is printed about it.
 #[derive(Debug, Drop)]
 pub struct Shown {
-    /// How many plans are listed.
+    /// The number of listed plans.
     pub plans: u32,
-    /// Whether no plan is left out of the list.
+    /// Whether the list is complete. Otherwise the listing stopped at its limit.
     pub complete: bool,
     /// The plan's number in the list.
     pub entry: u32,
@@ -28,13 +28,13 @@ pub struct Shown {
     pub layout: u32,
     pub cost: u64,
     pub physical: Physical,
-    /// How many rows each source has, by its number.
+    /// The number of rows of each source, by the source's number.
     pub counts: Counts,
     /// The exchanges that lead to the plan, in the order in which they are made.
     pub steps: ConditionList,
 }
 
-// Puts a number behind what it is the number of.
+// Appends the words for a number, and the number.
 fn push_told(alloc: Global, text: &mut Bytes, what: &[u8], number: u64) -> Result<(), OutOfMemory>
     ensures { OnOk result (text.new ≡ text.old ++ (what.now ++ decimal number)) }
 {
@@ -42,7 +42,7 @@ fn push_told(alloc: Global, text: &mut Bytes, what: &[u8], number: u64) -> Resul
     push_number(alloc, text, number)
 }
 
-// Puts keys behind what is there, with a space before each.
+// Appends keys, with a space before each.
 fn push_keys(alloc: Global, text: &mut Bytes, keys: &Keys) -> Result<(), OutOfMemory>
     ensures { OnOk result (text.new ≡ text.old ++ texts.behind_spaces keys.now) }
 {
@@ -62,7 +62,7 @@ fn push_both_keys(alloc: Global, text: &mut Bytes, op: &Op) -> Result<(), OutOfM
     push_keys(alloc, text, &op.right_keys)
 }
 
-// Puts the keys of an operator behind what is there, if its kind has keys.
+// Appends the keys of an operator if its kind has keys.
 fn push_keys_of(alloc: Global, text: &mut Bytes, op: &Op) -> Result<(), OutOfMemory>
     ensures { OnOk result (text.new ≡ text.old ++ texts.keys_text op.now.kind op.now.left_keys op.now.right_keys) }
 {
@@ -85,7 +85,7 @@ fn push_operator(alloc: Global, text: &mut Bytes, op: &Op) -> Result<(), OutOfMe
     push_keys_of(alloc, text, op)
 }
 
-// Puts the name, kind and keys of the source or operator of a number behind what is there.
+// Appends the name, kind and keys of the source or operator with a number.
 fn push_head(alloc: Global, text: &mut Bytes, ops: &[Op], at: u32) -> Result<(), OutOfMemory>
     ensures { OnOk result (text.new ≡ text.old ++ texts.head_text (slice_get ops.now at)) }
 {
@@ -108,7 +108,7 @@ fn push_ship(alloc: Global, text: &mut Bytes, ship: &Ship) -> Result<(), OutOfMe
     }
 }
 
-// Puts how the records of a node go to its consumer behind what is there.
+// Appends how the records of a node go to its consumer.
 fn push_ship_at(
     alloc: Global,
     text: &mut Bytes,
@@ -124,7 +124,7 @@ fn push_ship_at(
     }
 }
 
-// Puts the line of a node that gives so many records behind what is there.
+// Appends the line of a node that is expected to emit this number of records.
 fn push_node(
     alloc: Global,
     text: &mut Bytes,
@@ -143,7 +143,7 @@ fn push_node(
     text.extend_from_slice(b"\n")
 }
 
-// Puts the line of a tree's root behind what is there.
+// Appends the line of a tree's root.
 fn push_root(
     alloc: Global,
     text: &mut Bytes,
@@ -160,7 +160,7 @@ fn push_root(
     push_node(alloc, text, program, &shown.physical, tree.root(), records)
 }
 
-// The margin of what a line's operator reads.
+// The margin of the inputs of a line's operator.
 fn deeper(alloc: Global, margin: &[u8]) -> Result<Bytes, OutOfMemory>
     ensures { IfOk result (λ inner. inner ≡ margin.now ++ codes "  ") }
 {
@@ -169,7 +169,7 @@ fn deeper(alloc: Global, margin: &[u8]) -> Result<Bytes, OutOfMemory>
     Ok(inner)
 }
 
-// Puts the lines of a tree behind what is there, each operator's before those of its inputs.
+// Appends the lines of a tree, each operator's before those of its inputs.
 fn push_tree(
     alloc: Global,
     text: &mut Bytes,
@@ -205,7 +205,7 @@ fn push_name(text: &mut Bytes, ops: &[Op], at: u32) -> Result<(), OutOfMemory>
     }
 }
 
-// Puts what was found of an operator behind what is there and the words for it.
+// Appends the words for an operator, and the findings for it.
 fn push_found(
     alloc: Global,
     text: &mut Bytes,
@@ -218,7 +218,7 @@ fn push_found(
     text.extend_from_slice(found_text(alloc, found)?.bytes())
 }
 
-// Puts what was found of the two operators behind what is there.
+// Appends the findings for both operators.
 fn push_findings(alloc: Global, text: &mut Bytes, step: &Condition) -> Result<(), OutOfMemory>
     ensures { OnOk result (text.new ≡ text.old ++ (codes "\n  upper " ++ (found_text step.now.upper ++ (codes "\n  lower " ++ (found_text step.now.lower ++ codes "\n"))))) }
 {
@@ -227,7 +227,7 @@ fn push_findings(alloc: Global, text: &mut Bytes, step: &Condition) -> Result<()
     text.extend_from_slice(b"\n")
 }
 
-// Puts the number of an exchange, its rule and its upper operator behind what is there.
+// Appends the number of an exchange, its rule and its upper operator.
 fn push_exchange(
     alloc: Global,
     text: &mut Bytes,
@@ -244,7 +244,7 @@ fn push_exchange(
     push_name(text, ops, step.at)
 }
 
-// Puts the lines of the exchange of a number behind what is there.
+// Appends the lines of the exchange with a number.
 fn push_step(
     alloc: Global,
     text: &mut Bytes,
@@ -258,7 +258,7 @@ fn push_step(
     push_findings(alloc, text, step)
 }
 
-// Puts the exchanges behind what is there, numbered from 1 on.
+// Appends the exchanges, numbered from 1.
 fn push_steps(
     alloc: Global,
     text: &mut Bytes,
@@ -279,7 +279,7 @@ fn listing_word(complete: bool) -> &'static [u8]
     if complete { b"complete" } else { b"limit" }
 }
 
-// Puts how many plans are listed behind what is there.
+// Appends the number of listed plans, and whether these are all.
 fn push_listing(alloc: Global, text: &mut Bytes, shown: &Shown) -> Result<(), OutOfMemory>
     ensures { OnOk result (text.new ≡ text.old ++ (codes "plans " ++ (decimal shown.now.plans ++ (codes " " ++ texts.listing_word shown.now.complete)))) }
 {
@@ -288,7 +288,7 @@ fn push_listing(alloc: Global, text: &mut Bytes, shown: &Shown) -> Result<(), Ou
     text.extend_from_slice(listing_word(shown.complete))
 }
 
-// Puts how the plan was found behind what is there.
+// Appends how the plan was found.
 fn push_choice(alloc: Global, text: &mut Bytes, shown: &Shown) -> Result<(), OutOfMemory>
     ensures { OnOk result (text.new ≡ text.old ++ texts.choice_text shown.now) }
 {
@@ -299,9 +299,11 @@ fn push_choice(alloc: Global, text: &mut Bytes, shown: &Shown) -> Result<(), Out
     text.extend_from_slice(b"\n")
 }
 
-/// A chosen plan as text: how many plans are listed, and whether that is all of them or the listing stopped at its limit; the numbers of the plan and of its
-/// layout, and its cost; its tree, each operator before its inputs, with its keys, how its records go on, and how many it is expected to
-/// give; and the exchanges that lead to it, with what was found of their operators. Want of memory is the only error.
+/// A chosen plan as text. It begins with the number of listed plans, and whether these are all plans or the listing
+/// stopped at its limit. The number of the plan and of its layout follow, and its cost. Then comes its tree, each
+/// operator before its inputs, with its keys, how its records are shipped, and how many records it is expected to emit.
+/// The exchanges that lead to the plan come last, with the findings for their operators. Out of memory is the only
+/// error.
 pub fn plan_text(alloc: Global, program: &Program, shown: &Shown) -> Result<Bytes, OutOfMemory>
     ensures { IfOk result (λ text. text ≡ texts.plan_text program.now shown.now) }
 {

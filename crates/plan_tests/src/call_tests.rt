@@ -47,7 +47,7 @@ fn are(rows: &Rows, wanted: &[(Option<i64>, Option<i64>)]) -> bool {
             .all(|(row, pair)| is_pair(row, *pair))
 }
 
-// Emits the join of its records, the left one, and the right one with a field of the join.
+// Emits the join of its records, then the left record, and then the right record with a field of the join.
 const MATCH: &str = "function f match
 r0 = copy join
 emit r0
@@ -60,7 +60,7 @@ emit r2
 end
 ";
 
-// Emits its record with both fields alike, and then as it is.
+// Emits its record with the second field set to the first, and then as it is.
 const MAP: &str = "function f map
 r0 = copy in
 r1 = copy in
@@ -71,7 +71,7 @@ emit r0
 end
 ";
 
-// The function of this text, where it is one, in programs with so many fields.
+// The valid function that this text spells, in programs with `fields` fields; an error if it spells none.
 fn valid(alloc: Global, text: &[u8], fields: u32) -> Result<Valid, Fail>
     requires some { 1 ≤ fields }
     requires few { fields ≤ MAX_FIELDS }
@@ -98,7 +98,8 @@ fn function(alloc: Global, text: &str, kind: Kind) -> Result<Valid, Fail>
     Ok(f)
 }
 
-// In no program have both sides of a pair a value in one field, and none shows in which order a call emits.
+// No program shows this: in none do both sides of a pair have a value in one field, and none shows in which order a
+// call emits.
 #[test]
 fn a_pair_is_joined(rt: HostRuntime) -> Result<(), Fail> {
     let alloc = rt.alloc();
@@ -107,7 +108,7 @@ fn a_pair_is_joined(rt: HostRuntime) -> Result<(), Fail> {
     let rows = call_pair(alloc, &f, &left, &numbers(alloc, Some(2), Some(3))?)?;
     let (join, changed) = ((Some(2), Some(1)), (Some(1), Some(3)));
     assert!(rt; are(&rows, &[join, (None, Some(1)), changed]));
-    // what is Null on both sides is Null
+    // what is Null on both sides is Null in the join
     let rows = call_pair(alloc, &f, &left, &numbers(alloc, None, None)?)?;
     assert!(rt; are(&rows, &[(None, Some(1)), (None, Some(1)), (Some(1), None)]));
     Ok(())

@@ -1,4 +1,5 @@
-//! What plans cost, how many layouts they have, and which shipping is legal. The expected numbers are reckoned by hand.
+//! What plans cost, how many layouts they have, and which shipping is legal. The expected numbers were computed by
+//! hand.
 
 ghost use Rattle.std.specs.Prelude.{◌≡◌, ◌≤◌, ◌<◌};
 ghost use Rattle.plan_trees.specs.Physicals.{worker_limit};
@@ -63,7 +64,7 @@ fn counts(alloc: Global, numbers: &[u64]) -> Result<Counts, OutOfMemory> {
     Ok(counts)
 }
 
-// What the plan as written costs with the layout of a number; none where there is no such layout.
+// What the plan as written costs with the layout of this number; None if there is no such layout.
 fn layout_cost(program: &Program, counts: &Counts, number: u32, workers: u32) -> Option<u64>
     requires { (1 ≤ workers) × (workers ≤ worker_limit) }
 {
@@ -129,7 +130,8 @@ fn eight_matches_have_so_many_layouts(rt: HostRuntime) -> Result<(), Fail> {
     Ok(())
 }
 
-// A Cross whose sides both stay leaves pairs apart, and one whose sides both go everywhere makes each pair at every worker.
+// If both sides of a Cross are forwarded, some pairs are never made. If both are broadcast, each pair is made at every
+// worker.
 #[test]
 fn shipping_is_judged(rt: HostRuntime) -> Result<(), Fail> {
     let program = program(rt.alloc(), CROSS.as_bytes())?;
@@ -147,7 +149,7 @@ fn shipping_is_judged(rt: HostRuntime) -> Result<(), Fail> {
     Ok(())
 }
 
-// Whether the plan as written is legal where its first two sources are shipped so.
+// Whether the plan as written is legal if its first two sources are shipped by `a` and `b`.
 fn is_legal(program: &Program, a: Ship, b: Ship) -> bool {
     let plan = program.plan();
     let mut physical = pact_operators::Physical::forward(*plan, 4);

@@ -72,7 +72,7 @@ match m pair l r by 0 1 = 3 4
 sink m 2 5
 ";
 
-// How many pairs match where both sources have these rows.
+// How many pairs match if the sources have these rows.
 fn matches(alloc: Global, first: &str, rest: &str, rows: &str) -> Result<usize, Fail> {
     let mut text = String::new(alloc);
     text.push_str(first)?;
@@ -86,7 +86,7 @@ fn null_keys_match_in_version_1_alone(rt: HostRuntime) -> Result<(), Fail> {
     let alloc = rt.alloc();
     assert_eq!(rt; matches(alloc, "pact 1", ONE_KEY, "1,1\n,2\n")?, 2);
     assert_eq!(rt; matches(alloc, "pact 2", ONE_KEY, "1,1\n,2\n")?, 1);
-    // Null at each place of a key, and at both
+    // Null in each of the key's fields, and in both
     assert_eq!(rt;
         matches(alloc, "pact 1", TWO_KEYS, "1,1,1\n,1,2\n1,,3\n,,4\n")?,
         4

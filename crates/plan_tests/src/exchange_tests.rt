@@ -1,5 +1,5 @@
-//! Exchanges there and back, by the calls for every rule and by those for rules in which no group is made. What is legal, and why another exchange isn't, the command
-//! `check` shows.
+//! Exchanges there and back, by the calls for every rule and by those for rules that make no group. The command `check`
+//! shows what is legal, and why another exchange isn't.
 
 ghost use Rattle.std.specs.Prelude.{IfSome};
 ghost use Rattle.pact_operators.specs.Programs.{IsPlanOf};
@@ -26,7 +26,7 @@ match h jn g u by 3 = 4
 sink h 0 1 2 3 4 5
 ";
 
-/// The plan after an exchange, where it is legal.
+/// The plan after an exchange, if the exchange is legal.
 pub fn exchanged(program: &Program, plan: &Plan, at: u32, rule: Rule) -> Option<Plan>
     requires { IsPlanOf program.now.functions program.now.ops plan.now }
     ensures { IfSome result (IsPlanOf program.now.functions program.now.ops) }
@@ -37,7 +37,7 @@ pub fn exchanged(program: &Program, plan: &Plan, at: u32, rule: Rule) -> Option<
     }
 }
 
-// The same by a rule in which no group is made.
+// The plan after an exchange by a rule that makes no group, if the exchange is legal.
 fn pair_exchanged(program: &Program, plan: &Plan, at: u32, rule: Rule) -> Option<Plan>
     requires plan { IsPlanOf program.now.functions program.now.ops plan.now }
     requires rule { IsPairRule rule }

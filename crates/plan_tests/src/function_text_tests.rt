@@ -6,7 +6,8 @@ use std::test::Fail;
 use tac_text::{read_function, write_function};
 use text_lines::{TextFault, line_at};
 
-// What is written of the function that a text begins with, and how many bytes follow it, in a program of the version.
+// The canonical text of the function that a text begins with, in a program of this version, and how many bytes follow
+// the function.
 fn rewritten(alloc: Global, text: &[u8], version: u32) -> Result<(Bytes, usize), TextFault>
     requires { (version ≡ 1) ⊎ (version ≡ 2) }
 {
@@ -14,7 +15,7 @@ fn rewritten(alloc: Global, text: &[u8], version: u32) -> Result<(Bytes, usize),
     Ok((write_function(alloc, &function)?, text.len() - behind))
 }
 
-// Whether this line of a text in a program of version 1 is told to have this fault.
+// Whether this line of a text in a program of version 1 is reported to have this fault.
 fn is_told(alloc: Global, text: &[u8], line: u64, what: u32) -> Result<bool, OutOfMemory> {
     match read_function(alloc, text, 0, 1) {
         Ok(_) => Ok(false),

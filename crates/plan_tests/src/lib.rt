@@ -1,7 +1,8 @@
-//! Tests of functions, programs and their plans that no command shows, over what the libraries make public: how texts are written, what a call emits in which order, what a program has, what its
-//! plans put out, exchanges there and back, what refuses a Reduce and a Match, how plans were listed, what they cost, and how they run in parts.
+//! Tests of functions, programs and plans that no command shows, over what the libraries make public: how texts are
+//! written, what a call emits and in which order, what a program has, what its plans give, exchanges there and back,
+//! what refuses a Reduce and a Match, how plans were listed, what they cost, and how they run in parts.
 //!
-//! A crate with tests is proved twice, with them and without, so the tests stand apart.
+//! A crate with tests is proved twice, with them and without, so the tests have a crate of their own.
 #![tactic(auto)]
 
 #[cfg(test)]

@@ -1,4 +1,5 @@
-//! How listed plans came about: the exchanges that lead to an entry, and the entry that it comes from. No command shows that of a plan that isn't chosen.
+//! How listed plans came about: the exchanges that lead to an entry, and the entry that it comes from. No command shows
+//! this for a plan that isn't chosen.
 
 use crate::programs::program;
 use plan_enumerate::{enumerate, steps_of};
@@ -54,7 +55,7 @@ map m five g
 sink m 0 1 5
 ";
 
-// Three Maps that stand in any order, each over what the last one gives.
+// Three Maps that can be in any order, each over what the one before gives.
 const MAPS: &str = "pact 1
 fields 4
 source s s.csv int:0
@@ -91,7 +92,7 @@ fn entry(alloc: Global, text: &str, number: u32) -> Result<(u32, u32, usize), Fa
     Ok((found.plan.root(), found.from, steps.conditions().len()))
 }
 
-// Of the Maps the source is number 0.
+// In MAPS the source is number 0.
 #[test]
 fn entries_come_from_others(rt: HostRuntime) -> Result<(), Fail> {
     let alloc = rt.alloc();

@@ -44,7 +44,7 @@ fn names_become_numbers(rt: HostRuntime) -> Result<(), Fail> {
     Ok(())
 }
 
-// The fields and the keys of either side.
+// Whether a context has these fields and keys of either side.
 fn is_context(found: Context, wanted: [&[u32]; 4]) -> bool {
     let [left, right, left_keys, right_keys] = wanted;
     has(found.left, left)

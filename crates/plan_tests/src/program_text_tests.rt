@@ -31,8 +31,8 @@ cogroup g both s t by 0 = 2
 sink g 0 4 5
 ";
 
-// Line ends of both kinds, tabs, comments, empty lines, an empty body behind `else`, a literal with a tab and a number
-// sign in it, and no line feed at the end.
+// Line ends of both kinds, tabs, comments, empty lines, an empty body after the word `else`, a literal with a tab and a
+// number sign in it, and no line feed at the end.
 const LOOSE: &str =
     "\r\n\t# two sides\r\npact\t1\r\n fields  7 # few\n\nfunction both cogroup\t1\r\n\teach x1 of left # one side\r\n\t\teach x2 of right\n v0 = text  \"a\t# \\\"b\\\"\"# behind it\n if v0\n else # nothing\n\n end\nrepeat 3\nemit r0\nend\n  end\nend\r\nif v1\nelse\nset r0 6 v0\nend\nend # both\nsource s in/a-1.csv  text:0\tint:1\r\nsource t t.csv int:2\n\ncogroup g both s t by 0 = 2\n sink g 0 6\r";
 
@@ -60,7 +60,7 @@ cogroup g both s t by 0 = 2
 sink g 0 6
 ";
 
-// Whether what is written of the program that a text spells is this.
+// Whether the program that a text spells is written like this.
 fn is_written_as(alloc: Global, text: &str, wanted: &str) -> Result<bool, TextFault> {
     let draft = read_program(alloc, text.as_bytes())?;
     let written = write_program(alloc, &draft)?;

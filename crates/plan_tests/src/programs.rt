@@ -1,91 +1,69 @@
 //! Programs, and the rows of their sources, from their texts.
 
-ghost use Rattle.std.specs.Prelude.{◌≡◌, ◌≤◌, ◌<◌, IfOk};
-ghost use Rattle.std.specs.List.{AllByRecursion};
-ghost use Rattle.pact_bag.specs.SourceRows.{AreSourceRows};
-ghost use Rattle.pact_record.specs.declared.records.TheConstants.{MAX_FIELDS};
+ghost use Rattle.std.specs.Prelude.{IfOk};
+ghost use Rattle.pact_load.specs.Readers.{CanRead, IsRead};
 ghost use Rattle.pact_operators.specs.Inputs.{AreInputsOf};
-ghost use Rattle.pact_operators.specs.PlanOps.{is_source_kind};
-ghost use Rattle.pact_operators.specs.Programs.{AreNames, AreValidated, NamesDiffer};
+ghost use Rattle.pact_operators.specs.Programs.{AreNames, NamesDiffer};
 
-use csv_source::read_source;
+use csv_source::{BadRow, read_source};
 use pact_bag::{Inputs, Rows};
-use pact_operators::{Draft, OpKind, Program, ValidList, functions_of};
-use pact_record::Columns;
-use program_check::check_program;
-use program_text::read_program;
+use pact_load::{is_source, load_sources, program_of};
+use pact_operators::{Op, Program};
+use pact_outside::{FailList, MemFeed, MemFiles, NamedFile};
+use pact_record::{Bytes, Columns, OutOfMemory};
 use std::alloc::Global;
 use std::test::Fail;
-use tac_validate::validate;
 
-fn valid_functions(alloc: Global, draft: &Draft) -> Result<ValidList, Fail>
-    ensures { IfOk result (AreValidated draft.now) }
-{
-    let _declared = draft.decls();
-    let fields = draft.fields();
-    let mut valids = ValidList::new(alloc);
-    for function in functions_of(draft) {
-        let Ok(valid) = validate(function.copy(alloc)?, fields) else {
-            return Err(Fail::new("a function that isn't valid"));
-        };
-        valids.push(valid)?;
-    }
-    Ok(valids)
-}
-
-/// The program of this text, where it is one.
+/// The program that this text spells; an error if it spells none.
 pub fn program(alloc: Global, text: &[u8]) -> Result<Program, Fail>
     ensures names_differ { IfOk result (λ p. NamesDiffer p.ops) }
     ensures names { IfOk result (λ p. AreNames p.ops) }
 {
-    let Ok(draft) = read_program(alloc, text) else {
-        return Err(Fail::new("no draft"));
-    };
-    let valids = valid_functions(alloc, &draft)?;
-    let Ok(program) = check_program(alloc, &draft, valids) else {
-        return Err(Fail::new("no program"));
-    };
-    Ok(program)
+    match program_of(alloc, b"program", text) {
+        Ok(program) => Ok(program),
+        Err(_) => Err(Fail::new("no program")),
+    }
 }
 
-fn is_source(kind: OpKind) -> bool
-    ensures { result ≡ is_source_kind kind }
-{
-    matches!(kind, OpKind::Source)
-}
-
-// The rows of the text with this number.
-fn rows_of(
+fn push_file(
     alloc: Global,
-    texts: &[&str],
-    number: usize,
-    columns: &Columns,
-    fields: u32,
-) -> Result<Rows, Fail>
-    requires fields { fields ≤ MAX_FIELDS }
-    requires columns { AllByRecursion (λ column. column.field < fields) columns.now }
-    ensures { IfOk result (AreSourceRows fields columns.now) }
-{
-    let Some(text) = texts.get(number) else {
-        return Err(Fail::new("no text"));
-    };
-    let Ok(rows) = read_source(alloc, text.as_bytes(), columns, fields) else {
-        return Err(Fail::new("no rows"));
-    };
-    Ok(rows)
+    files: &mut MemFiles,
+    source: &Op,
+    text: &str,
+) -> Result<(), OutOfMemory> {
+    files.push(NamedFile {
+        name: Bytes::from_slice(alloc, source.file.bytes())?,
+        bytes: Bytes::from_slice(alloc, text.as_bytes())?,
+    })?;
+    Ok(())
+}
+
+// The files of a program's sources, one text for each.
+fn files_of(alloc: Global, program: &Program, texts: &[&str]) -> Result<MemFiles, Fail> {
+    let mut files = MemFiles::new(alloc);
+    for op in program.ops() {
+        if is_source(op.kind) {
+            let Some(text) = texts.get(files.len()) else {
+                return Err(Fail::new("no text"));
+            };
+            push_file(alloc, &mut files, op, text)?;
+        }
+    }
+    Ok(files)
 }
 
 /// The rows of a program's sources, one text for each.
 pub fn inputs(alloc: Global, program: &Program, texts: &[&str]) -> Result<Inputs, Fail>
     ensures { IfOk result (AreInputsOf program.now) }
 {
-    let fields = program.fields();
-    let mut inputs = Inputs::new(alloc);
-    for op in program.ops() {
-        if is_source(op.kind) {
-            let rows = rows_of(alloc, texts, inputs.len(), &op.columns, fields)?;
-            inputs.push(rows)?;
-        }
+    let files = files_of(alloc, program, texts)?;
+    let mut feed = MemFeed::new(files, usize::MAX, FailList::new(alloc));
+    let read = |bytes: &[u8], columns: &Columns, fields: u32| -> Result<Rows, BadRow>
+        requires { CanRead fields columns.now }
+        ensures { IsRead fields columns.now bytes.now result }
+    { read_source(alloc, bytes, columns, fields) };
+    match load_sources(alloc, &mut feed, program, &read) {
+        Ok(inputs) => Ok(inputs),
+        Err(_) => Err(Fail::new("no rows")),
     }
-    Ok(inputs)
 }

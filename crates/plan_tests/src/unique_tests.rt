@@ -1,4 +1,5 @@
-//! Exchanges of a Reduce and a Match: what refuses each of the four rules, what is unique, and rows before an exchange and after it.
+//! Exchanges of a Reduce and a Match: what refuses each of the four rules, what is unique, and rows before and after an
+//! exchange.
 
 ghost use Rattle.pact_operators.specs.Inputs.{AreInputsOf};
 ghost use Rattle.pact_operators.specs.Programs.{IsPlanOf};
@@ -151,7 +152,7 @@ fn declared(alloc: Global, version: &str, operators: &str) -> Result<Program, Fa
     program(alloc, text.as_str().as_bytes())
 }
 
-// Why an exchange of the plan as written isn't legal, or None where it is.
+// Why an exchange of the plan as written isn't legal, or None if it is.
 fn refusal(alloc: Global, operators: &str, at: u32, rule: Rule) -> Result<Option<NotLegal>, Fail>
     requires { IsUniqueRule rule }
 {
@@ -171,7 +172,8 @@ fn match_key(field: u32) -> Option<NotLegal> {
     Some(NotLegal::MatchKey { field })
 }
 
-// Of each rule a program in which it is legal, and one for each cause that refuses it, with as many of the later causes as there may be.
+// For each rule, a program in which it is legal, and one for each cause that refuses it. Each of the latter also has as
+// many of the later causes as possible.
 #[test]
 fn a_reduce_over_a_match_for_the_left(rt: HostRuntime) -> Result<(), Fail> {
     let alloc = rt.alloc();
@@ -252,7 +254,8 @@ fn a_reduce_on_the_right_of_a_match(rt: HostRuntime) -> Result<(), Fail> {
     Ok(())
 }
 
-// A Reduce that makes its record anew writes the Match's key on the other side, and one that sets a field of that side touches it.
+// A Reduce that makes a new record writes the Match's key on the other side. One that sets a field of that side touches
+// it.
 #[test]
 fn a_reduce_keeps_a_record_and_the_other_side(rt: HostRuntime) -> Result<(), Fail> {
     let alloc = rt.alloc();
@@ -278,7 +281,8 @@ fn operators_by_two_keys(rt: HostRuntime) -> Result<(), Fail> {
     let alloc = rt.alloc();
     let left = Rule::ReduceMatchLeft;
     let right = Rule::ReduceMatchRight;
-    // The source is number 2. Neither key of the Match is one of the Reduce's: the least is told, whatever their order.
+    // The source is number 2. Neither key of the Match is one of the Reduce's: the refusal names the least of them, in
+    // any order.
     let apart =
         "source w w.csv int:4 int:5 int:7\nmatch x jn s t by 0 = 2\nmatch g jn w x by 7 5 = 2 3\nreduce r cnt g by 4\nsink r 4\n";
     assert!(rt; refusal(alloc, apart, 5, left)? == match_key(5));
@@ -295,7 +299,8 @@ fn operators_by_two_keys(rt: HostRuntime) -> Result<(), Fail> {
     Ok(())
 }
 
-// A filter by a field of the other side doesn't pass the Reduce, but goes on to that side where the Reduce is below the Match.
+// A filter by a field of the other side doesn't pass the Reduce. It goes on to that side if the Reduce is below the
+// Match.
 #[test]
 fn an_exchange_opens_further_ones(rt: HostRuntime) -> Result<(), Fail> {
     let alloc = rt.alloc();
@@ -307,7 +312,7 @@ fn an_exchange_opens_further_ones(rt: HostRuntime) -> Result<(), Fail> {
     Ok(())
 }
 
-// Whether what a number of the plan as written gives is unique by these fields.
+// Whether the records that the source or operator of this number gives are unique by these fields.
 fn is_unique(alloc: Global, operators: &str, at: u32, keys: &Keys) -> Result<bool, Fail> {
     let program = declared(alloc, "pact 1", operators)?;
     Ok(unique(&program, program.plan(), at, keys))
@@ -326,12 +331,12 @@ fn reduces_and_maps_over_them_are_unique(rt: HostRuntime) -> Result<(), Fail> {
         "reduce b best t by 2\nmap m same b\nmap k key m\nmatch g jn s k by 0 = 2\nsink g 0\n";
     assert!(rt; is_unique(alloc, plan, 2, &one)? && is_unique(alloc, plan, 2, &two)?);
     assert!(rt; is_unique(alloc, plan, 3, &one)? && is_unique(alloc, plan, 3, &two)?);
-    // by a field that isn't the Reduce's key, and of a Map that writes the key
+    // not unique by a field that isn't the Reduce's key, and not for a Map that writes the key
     assert!(rt; !is_unique(alloc, plan, 2, &other)? && !is_unique(alloc, plan, 4, &one)?);
-    // of a source, of a Match, and of no number of the plan
+    // not unique for a source, for a Match, and for a number that the plan doesn't have
     assert!(rt; !is_unique(alloc, plan, 1, &one)? && !is_unique(alloc, plan, 5, &one)?);
     assert!(rt; !is_unique(alloc, plan, 6, &one)?);
-    // of a Reduce that writes its own key, and of one that gives many records
+    // not unique for a Reduce that writes its own key, and for one that gives many records
     let writes = "reduce b own t by 2\nmatch g jn s b by 0 = 2\nsink g 0\n";
     let many = "reduce b seen t by 2\nmatch g jn s b by 0 = 2\nsink g 0\n";
     assert!(rt; !is_unique(alloc, writes, 2, &one)? && !is_unique(alloc, many, 2, &one)?);
@@ -347,7 +352,8 @@ fn given(alloc: Global, program: &Program, plan: &Plan, rows: &Inputs) -> Result
     Ok(outcome.rows)
 }
 
-// How many rows the plan as written gives, where the plan behind the exchange by the rule gives the same, and the exchange back leads to the first.
+// How many rows the plan as written gives. It is an error if the plan after the exchange gives other rows, or if the
+// exchange back doesn't lead to the first plan.
 fn kept(
     alloc: Global,
     version: &str,
@@ -391,7 +397,7 @@ fn rows_are_kept_there_and_back(rt: HostRuntime) -> Result<(), Fail> {
     let left_up = Rule::ReduceMatchLeftUp;
     let right = Rule::ReduceMatchRight;
     let right_up = Rule::ReduceMatchRightUp;
-    // Null keys match in version 1 alone
+    // Null keys match only in version 1
     assert_eq!(rt; kept(alloc, "pact 1", LEFT, left, left_up, &rows)?, 4);
     assert_eq!(rt; kept(alloc, "pact 2", LEFT, left, left_up, &rows)?, 2);
     assert_eq!(rt; kept(alloc, "pact 1", RIGHT, right, right_up, &rows)?, 4);
@@ -410,14 +416,14 @@ fn rows_of(alloc: Global, operators: &str, rows: &[&str]) -> Result<Rows, Fail> 
     given(alloc, &program, program.plan(), &inputs)
 }
 
-// Whether two programs give other rows.
+// Whether two programs give different rows.
 fn differ(alloc: Global, one: &str, other: &str, rows: &[&str]) -> Result<bool, Fail> {
     let first = rows_of(alloc, one, rows)?;
     let second = rows_of(alloc, other, rows)?;
     Ok(!are_same(first, second)?)
 }
 
-// What would come of exchanges that are refused, each written as a program of its own.
+// What refused exchanges would result in, each written as a program of its own.
 #[test]
 fn refused_exchanges_would_change_rows(rt: HostRuntime) -> Result<(), Fail> {
     let alloc = rt.alloc();
@@ -430,7 +436,7 @@ fn refused_exchanges_would_change_rows(rt: HostRuntime) -> Result<(), Fail> {
     assert!(rt; refusal(alloc, over, 3, left)? == Some(NotLegal::NotUnique));
     assert!(rt; refusal(alloc, under, 3, left_up)? == Some(NotLegal::NotUnique));
     assert!(rt; differ(alloc, over, under, &rows)?);
-    // a Match by another field, and one that gives some pairs alone
+    // a Match by another field, and one that gives only some pairs
     let apart = ["1,5\n1,7\n", "5,9\n"];
     let over = "reduce b best t by 2\nmatch g jn s b by 1 = 2\nreduce r cnt g by 0\nsink r 0\n";
     let under = "reduce b best t by 2\nreduce r cnt s by 0\nmatch g jn r b by 1 = 2\nsink g 0\n";

@@ -1,4 +1,4 @@
-//! Worlds of instances and pipes, stepped by hand and run alone.
+//! Worlds of instances and pipes, stepped by hand and run on their own.
 
 ghost use Rattle.std.specs.Prelude.{◌≤◌, ◌<◌, IfOk, OnOk};
 ghost use Rattle.pact_operators.specs.Inputs.{AreInputsOf};
@@ -77,8 +77,8 @@ fn take(edge: u32, from: u32, to: u32) -> Event {
     Event::Take(pipe(edge, from, to))
 }
 
-// How many of the events are enabled, each behind those before it, and how many rows the root gives where they are all followed, or up to the
-// first that isn't.
+// How many of the events are enabled, each after those before it. Then how many rows the root gives if all of them are
+// followed, or those up to the first that isn't enabled.
 fn followed(world: World<ListLocal>, events: &[Event]) -> Result<(usize, usize), Fail>
     requires { StandsForSome world }
 {
@@ -102,7 +102,7 @@ fn nothing_can_be_taken_at_the_start(rt: HostRuntime) -> Result<(), Fail> {
     Ok(())
 }
 
-// Lets an event happen where it can, and tells whether it could.
+// Performs an event if it is enabled, and returns whether it was.
 fn steps(world: &mut World<ListLocal>, event: Event) -> Result<bool, Fail>
     requires { StandsForSome world.old }
     ensures { OnOk result (StandsForSome world.new) }
@@ -124,7 +124,7 @@ fn a_full_pipe_takes_no_note(rt: HostRuntime) -> Result<(), Fail> {
     Ok(())
 }
 
-// So many of the events are enabled, on one worker, and the two records of `b` match that of `a`.
+// Asserts that `count` of the events are enabled, on one worker, and that the two records of `b` match that of `a`.
 fn follows(
     rt: &(impl Abort + AllocGlobal),
     depth: u32,
@@ -156,7 +156,7 @@ fn a_match_is_stepped_by_hand(rt: HostRuntime) -> Result<(), Fail> {
         end(2, 0),
     ];
     follows(&rt, 2, &all, 11)?;
-    // the right side isn't wanted before the left side has ended
+    // the right side's note isn't taken before the left side has ended
     follows(&rt, 2, &[from_b, to_right], 1)?;
     follows(&rt, 2, &[from_b, from_a, to_left, to_right], 3)?;
     // the pipe is full; nothing is left to take; the left side hasn't ended; the root puts nothing; it has ended
@@ -195,7 +195,8 @@ cross x both a b
 sink x 0 2
 ";
 
-// How many notes the source with this number puts from the last worker to itself, if not more than five: batches, and an end mark behind them.
+// How many notes the source with this number puts from the last worker to itself, if at most five: batches, and an end
+// mark after them.
 fn notes_put(
     alloc: Global,
     text: &str,
@@ -213,7 +214,8 @@ fn notes_put(
     Ok(followed(world, &[note, note, note, note, note])?.0)
 }
 
-// The first layout forwards what a Map reads, sends what a Reduce reads by its key, and the left side of a Cross everywhere.
+// The first layout forwards what a Map reads, partitions what a Reduce reads by its key, and broadcasts the left side
+// of a Cross.
 #[test]
 fn batches_have_at_most_so_many_records(rt: HostRuntime) -> Result<(), Fail> {
     let three = "1,5\n2,5\n3,5\n";
@@ -286,7 +288,8 @@ fn same_outcomes(found: Outcome, wanted: Outcome) -> Result<bool, Fail> {
     are_same(found.rows, wanted.rows)
 }
 
-// Whether a run on the layout with this number gives the rows and the counts of the plain evaluation, where there is such a layout.
+// Whether a run on the layout with this number gives the rows and the counts of the plain evaluation, if there is such
+// a layout.
 fn agrees(
     alloc: Global,
     text: &str,

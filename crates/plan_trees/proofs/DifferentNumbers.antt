@@ -1,4 +1,4 @@
--- Numbers of a list, and lists in which no number stands twice.
+-- Numbers of a list, and lists in which no number occurs twice.
 use Rattle.std.proofs.Common.{◌≡◌, ◌≢◌, ◌≤◌, ◌⊎◌, inl, inr, ℕ, List, [], ◌∷◌, ◌++◌, length, refl, ap, sym, subst, arith, length-append}
 use Rattle.std.specs.List.{AllByRecursion}
 use Rattle.plan_trees.specs.Distinct.{IsAbsent, AreDifferent}
@@ -49,7 +49,7 @@ pub IsAbsent-right : (n : ℕ) (xs ys : List ℕ) → IsAbsent n (xs ++ ys) → 
 IsAbsent-right n [] ys h = h
 IsAbsent-right n (x ∷ xs) ys h = IsAbsent-right n xs ys h.1
 
--- ---- numbers that stand once
+-- ---- numbers that occur once
 
 pub AreDifferent-append : (a b : List ℕ) → AreDifferent a → AreDifferent b → ((m : ℕ) → IsIn m a → IsIn m b → ⊥) → AreDifferent (a ++ b)
 AreDifferent-append [] b p q h = q
@@ -58,7 +58,7 @@ AreDifferent-append (n ∷ a) b p q h = (
   AreDifferent-append a b p.1 q (λ m i k. h m (inr i) k),
 )
 
--- no number of the one list is one of the other
+-- no number of the first list is in the second
 pub AreDifferent-absent : (xs ys : List ℕ) → AreDifferent (xs ++ ys) → AllByRecursion (λ n. IsAbsent n ys) xs
 AreDifferent-absent [] ys h = tt
 AreDifferent-absent (n ∷ xs) ys h = (IsAbsent-right n xs ys h.0, AreDifferent-absent xs ys h.1)
@@ -75,7 +75,7 @@ AreDifferent-parts (n ∷ a) b d =
       ],
     )
 
--- ---- how many they are
+-- ---- how many there are
 
 place_in : (m : ℕ) (ys : List ℕ) → IsIn m ys → (a b : List ℕ) × (ys ≡ a ++ m ∷ b)
 place_in m [] i = absurd i
@@ -88,7 +88,7 @@ without m k [] b (inr i) other = i
 without m k (n ∷ a) b (inl e) other = inl e
 without m k (n ∷ a) b (inr i) other = inr (without m k a b i other)
 
--- different numbers of a list are no more than the list has
+-- if different numbers are all in a list, they are no more than its length
 pub length-le_from_different : (xs ys : List ℕ) → AreDifferent xs → ((m : ℕ) → IsIn m xs → IsIn m ys) → length xs ≤ length ys
 length-le_from_different [] ys d h = omega arith
 length-le_from_different (x ∷ xs) ys d h =

@@ -21,7 +21,7 @@ at_worker_so w W Q d f (inr h) g = absurd (omega (arith, h, g))
 within : (w W : ℕ) → (w < W) ⊎ (W < suc w)
 within w W = elim (cases_lt w W) as (λ _. (w < W) ⊎ (W < suc w)) [ inl h ↦ inl h | inr h ↦ inr (omega (arith, h)) ]
 
--- something that is so at each worker, as one function
+-- if each worker has something with a property, one function picks it for all of them
 pub picked : {A : Type 0} (W : ℕ) (Q : ℕ → A → Type 0) → A → ((w : ℕ) → w < W → (a : A) × Q w a) → (g : ℕ → A) × ((w : ℕ) → w < W → Q w (g w))
 picked W Q d f = (λ w. at_worker w W Q d f (within w W), λ w h. at_worker_so w W Q d f (within w W) h)
 
@@ -43,7 +43,7 @@ module _ {A : Type 0} where
   none_each f zero h = refl
   none_each f (suc n) h = λ i. h n (omega arith) i ++ none_each f n (λ w b. h w (omega (arith, b))) i
 
-  -- what one worker alone has
+  -- if only one worker has anything, all workers together have what it has
   pub only_one : (f : ℕ → List A) (W v : ℕ) → v < W → ((w : ℕ) → w < W → (w ≡ v → ⊥) → f w ≡ []) → all_of W f ≡ f v
   only_one f zero v b h = absurd (omega (arith, b))
   only_one f (suc n) v b h = elim (eqb_tells v n) as (λ _. all_of (suc n) f ≡ f v) [

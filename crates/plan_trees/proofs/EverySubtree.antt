@@ -1,4 +1,4 @@
--- What holds of the subtree at each number of a plan holds of all its subtrees.
+-- What holds for the subtree at each number of a plan holds for all its subtrees.
 use Rattle.std.proofs.Common.{◌≡◌, ◌++◌, ◌||◌, ◌==◌, inl, inr, ℕ, true, false, List, refl, subst}
 use Rattle.std.proofs.lemmas.Bool.{cases_Bool, eq-eqb, false_from_ne_true, ne_eqb, or_left, or_right}
 use Rattle.plan_trees.specs.Distinct.{AreDifferent, IsAbsent}
@@ -6,7 +6,7 @@ use Rattle.plan_trees.specs.Plans.{PlanTree, leaf, over, both, has, nodes, subtr
 use Rattle.plan_trees.proofs.DifferentNumbers.{AreDifferent-parts, IsAbsent-not, IsIn, IsIn-left, IsIn-right}
 use Rattle.plan_trees.proofs.NodesOfTrees.{nodes-has}
 
--- a fact of a tree and of all trees below it
+-- a fact holds for a tree and for all trees below it
 abbrev pub AllBelow : (PlanTree → Type 0) → PlanTree → Type 0
 AllBelow P (leaf n) = P (leaf n)
 AllBelow P (over n t) = P (over n t) × AllBelow P t
@@ -15,7 +15,7 @@ AllBelow P (both n t u) = P (both n t u) × AllBelow P t × AllBelow P u
 pub other_than : (n m : ℕ) (ms : List ℕ) → IsAbsent n ms → IsIn m ms → (m == n) ≡ false
 other_than n m ms a i = ne_eqb m n (λ e. IsAbsent-not n ms a (subst (λ (k : ℕ). IsIn k ms) e i))
 
--- what holds of each subtree that a number of the tree names
+-- what holds for each subtree that a number of the tree names
 pub all_below : (P : PlanTree → Type 0) (t : PlanTree) → AreDifferent (nodes t) → ((m : ℕ) → has m t ≡ true → P (subtree_of m t)) → AllBelow P t
 all_below P (leaf n) d h = h n (eq-eqb n n refl)
 all_below P (over n t) d h =
@@ -43,13 +43,13 @@ all_below P (both n t u) d h =
           subst P below (h m (or_right (m == n) (has m t || has m u) (or_right (has m t) (has m u) there)))),
     )
 
--- of the tree itself
+-- it holds for the tree itself
 abbrev pub all_below-root : (P : PlanTree → Type 0) (t : PlanTree) → AllBelow P t → P t
 all_below-root P (leaf n) h = h
 all_below-root P (over n t) h = h.0
 all_below-root P (both n t u) h = h.0
 
--- and of the subtree at a number
+-- and for the subtree at a number
 pub all_below-at : (P : PlanTree → Type 0) (at : ℕ) (t : PlanTree) → AllBelow P t → has at t ≡ true → P (subtree_of at t)
 all_below-at P at (leaf n) h there = h
 all_below-at P at (over n t) h there = elim (cases_Bool (at == n)) as (λ _. P (subtree_of at (over n t))) [

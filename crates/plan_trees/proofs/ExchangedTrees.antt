@@ -1,4 +1,4 @@
--- A tree in which two neighbours have changed places has the same nodes, and it is a plan where the tree was one.
+-- A tree in which two neighbours have changed places has the same nodes, and it is a plan if the tree was one.
 use Rattle.std.proofs.Common.{◌≡◌, ℕ, true, List, ◌∷◌, ◌++◌, append_assoc, subst, sym}
 use Rattle.pact_record.proofs.Permutations.{Perm, keeps, swaps, chains, same, turned, middle, is_same}
 use Rattle.plan_trees.specs.Plans.{PlanTree, over, both, has, nodes, replaced, root_of, subtree_of, IsPlan}
@@ -39,7 +39,7 @@ exchanged-has_root s t = has_perm (root_of t) t (exchanged s t) (exchanged-nodes
 pub exchanged-IsPlan : (s : Shape) (t : PlanTree) → IsPlan t → IsPlan (exchanged s t)
 exchanged-IsPlan s t h = plan_perm t (exchanged s t) (exchanged-nodes s t) h
 
--- the same, where the tree's form is told by an equation
+-- the lemma above for a tree that is given by an equation
 pub exchanged-IsPlan-of : (s : Shape) (t u : PlanTree) → t ≡ u → IsPlan t → IsPlan (exchanged s u)
 exchanged-IsPlan-of s t u e h = exchanged-IsPlan s u (subst IsPlan e h)
 

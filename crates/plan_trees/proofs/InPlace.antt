@@ -1,9 +1,10 @@
--- What holds of a subtree and of another tree in its place holds of the whole trees, and what a tree's inputs keep its subtrees keep.
+-- What holds for a subtree and another tree in its place holds for the whole trees, and what a tree's inputs inherit
+-- its subtrees inherit.
 use Rattle.std.proofs.Common.{◌≡◌, ◌==◌, inl, inr, ℕ, true}
 use Rattle.std.proofs.lemmas.Bool.{cases_Bool}
 use Rattle.plan_trees.specs.Plans.{PlanTree, leaf, over, both, has, subtree_of, replaced}
 
--- a relation of two trees that holds of a tree with itself and stays under operators
+-- a relation of two trees that every tree has to itself, and that operators above the trees preserve
 pub record IsKept (M : PlanTree → PlanTree → Type 0) : Type 0 where
   pub self : (t : PlanTree) → M t t
   pub under_one : (n : ℕ) (t u : PlanTree) → M t u → M (over n t) (over n u)
@@ -26,7 +27,7 @@ in_place M k at new (both n t u) h m = elim (cases_Bool (at == n)) as (λ _. M (
   ]
 ]
 
--- a fact of a tree that its inputs have too
+-- a fact about a tree that its inputs inherit
 pub record GoesDown (P : PlanTree → Type 0) : Type 0 where
   pub of_one : (n : ℕ) (t : PlanTree) → P (over n t) → P t
   pub of_left : (n : ℕ) (t u : PlanTree) → P (both n t u) → P t

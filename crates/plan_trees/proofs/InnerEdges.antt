@@ -34,7 +34,7 @@ right_lies whole t u n h lies k e =
     let s = above_two n t u h in
     lies k (s.right_whole k e) (λ d. s.right_root (subst (λ (x : ℕ). has x u ≡ true) d e))
 
--- each input of a tree, by what its parts are
+-- each input of a tree, by the form of its parts
 pub inner_parts : (whole s : PlanTree) (p : Parts) → p ≡ parts_of s → IsPlan s → EdgesLieIn s whole → AreInner whole s p
 inner_parts whole s (Alone n) e h lies = tt
 inner_parts whole s (OverOne n t) e h lies =

@@ -1,4 +1,4 @@
--- A physical plan with a further number on an edge is one.
+-- A physical plan remains one with a further number on an edge.
 use Rattle.std.proofs.Common.{◌≡◌, ◌≢◌, ◌<◌, ◌==◌, not, ℕ, Bool, true, false, inl, inr, List, [], ◌∷◌, length, get_or, set, refl, sym, ap, subst, ◌∙◌, arith}
 use Rattle.std.specs.List.{AllByRecursion}
 use Rattle.std.proofs.lemmas.Bool.{cases_Bool, eqb-true, eqb-false, false_from_ne_true, both_ways, and_parts}
@@ -79,9 +79,9 @@ module _ (below new : ℕ) (q : PhysicalData) (h : IsPhysical q) (there : has be
     rest = rest;
   }
 
--- ---- as it is made
+-- ---- as the call makes it
 
--- what a number is to be put in for, of the parts of a physical plan
+-- what must hold before a number is inserted into a physical plan that is taken apart
 pub record IsToTake (below new : ℕ) (q : PhysicalData) : Type 0 where
   pub physical : IsPhysical q
   pub there : has below q.tree ≡ true

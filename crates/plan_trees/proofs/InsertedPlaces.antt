@@ -1,4 +1,4 @@
--- Where numbers stand in a tree with a further number on an edge, and that it is the tree with another subtree in place of one.
+-- Which numbers a tree with a further number on an edge has, and that it is the tree with one subtree replaced.
 use Rattle.std.proofs.Common.{◌≡◌, ◌≢◌, ◌==◌, ◌||◌, ℕ, Bool, true, false, inl, inr, if◌then◌else◌, ◌∷◌, ◌++◌, refl, sym, ap, subst, ◌∙◌}
 use Rattle.std.proofs.lemmas.Bool.{cases_Bool, or_cases, or_left, or_right, eq-eqb, ne_eqb, eqb-true, false_from_ne_true, both_ways}
 use Rattle.plan_trees.specs.Distinct.{AreDifferent}
@@ -8,7 +8,7 @@ use Rattle.plan_trees.proofs.DifferentNumbers.{IsIn, IsIn-left, IsIn-right, IsAb
 use Rattle.plan_trees.proofs.InsertedTrees.{in_inserted}
 use Rattle.plan_trees.proofs.NodesOfTrees.{nodes-has, has-nodes}
 
--- the tree without what stands above its own root
+-- the tree without anything inserted above its own root
 abbrev pub core : (below new : ℕ) → PlanTree → PlanTree
 core below new (leaf n) = leaf n
 core below new (over n t) = over n (inserted below new t)
@@ -73,7 +73,7 @@ not_inserted below new (both n t u) h =
     let right : inserted below new u ≡ u = not_inserted below new u (λ i. h (inr (IsIn-right below (nodes t) (nodes u) i))) in
     wrapped-not below new n (both n (inserted below new t) (inserted below new u)) (λ e. h (inl (sym e))) ∙ (λ i. both n (left i) (right i))
 
--- ---- by another subtree in place of one
+-- ---- as a tree with one subtree replaced
 
 pub replaced-by : (below new : ℕ) (s t : PlanTree) → AreDifferent (nodes t) → has below t ≡ true → s ≡ subtree_of below t → replaced below (over new s) t ≡ inserted below new t
 replaced-by below new s (leaf n) d h q = rw h (ap (λ (x : PlanTree). over new x) q)
@@ -108,7 +108,7 @@ replaced-by below new s (both n t u) d h q =
 pub replaced-inserted : (below new : ℕ) (t : PlanTree) → AreDifferent (nodes t) → has below t ≡ true → replaced below (over new (subtree_of below t)) t ≡ inserted below new t
 replaced-inserted below new t d h = replaced-by below new (subtree_of below t) t d h refl
 
--- ---- the subtree at a number that there was
+-- ---- the subtree at a number that was there before
 
 subtree-wrapped : (below new at n : ℕ) (t : PlanTree) → at ≢ new → subtree_of at (wrapped below new n t) ≡ subtree_of at t
 subtree-wrapped below new at n t ne = by (below == n) where

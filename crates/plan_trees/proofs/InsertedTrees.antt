@@ -1,4 +1,4 @@
--- A tree with a further number put in on an edge: its numbers are different, and it has all of them.
+-- A tree with a further number inserted on an edge: its numbers are different, and it has all of them.
 use Rattle.std.proofs.Common.{◌≡◌, ◌==◌, ◌||◌, ◌⊎◌, ℕ, Bool, true, false, inl, inr, if◌then◌else◌, [], ◌∷◌, ◌++◌, refl, sym, subst, ◌∙◌}
 use Rattle.std.proofs.lemmas.Bool.{or_cases, or_left, or_right, eq-eqb, eqb-true}
 use Rattle.plan_trees.specs.Distinct.{AreDifferent}
@@ -7,7 +7,7 @@ use Rattle.plan_trees.proofs.DifferentNumbers.{IsIn, IsIn-left, IsIn-right, IsIn
 use Rattle.plan_trees.specs.Inserted.{wrapped, inserted}
 
 module _ (below new : ℕ) where
-  -- ---- what stands in it
+  -- ---- the numbers in it
 
   in_wrapped : (m n : ℕ) (t : PlanTree) → IsIn m (nodes (wrapped below new n t)) → IsIn m (nodes t) ⊎ ((m ≡ new) × (n ≡ below))
   in_wrapped m n t h = by (below == n) refl h where

@@ -1,4 +1,4 @@
--- Where two neighbours change places: the tree of the lower one before it, and the tree of the upper one after it.
+-- If two neighbours change places: the tree of the lower one before it, and the tree of the upper one after it.
 use Rattle.std.proofs.Common.{◌≡◌, ◌==◌, inl, inr, ℕ, false, arith}
 use Rattle.std.proofs.lemmas.Bool.{cases_Bool}
 use Rattle.std.proofs.lemmas.Bool.Decides.{nat_tests}
@@ -48,7 +48,7 @@ subtree_of-input n t d = rw (another n t d.0) (subtree_of-root t)
 subtree_of-left : (n : ℕ) (t u : PlanTree) → AreDifferent (nodes (both n t u)) → subtree_of (root_of t) (both n t u) ≡ t
 subtree_of-left n t u d = rw (another n t (IsAbsent-left n (nodes t) (nodes u) d.0), has-root t) (subtree_of-root t)
 
--- the root of the right input is no number of the left one
+-- the root of the right input isn't a number of the left one
 not_left : (n : ℕ) (t u : PlanTree) → AreDifferent (nodes (both n t u)) → has (root_of u) t ≡ false
 not_left n t u d = elim (cases_Bool (has (root_of u) t)) as (λ _. has (root_of u) t ≡ false) [
   | inl h ↦ absurd ((AreDifferent-parts (nodes t) (nodes u) d.1).2 (root_of u) (nodes-has (root_of u) t h) (root-nodes u))

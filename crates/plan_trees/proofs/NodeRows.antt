@@ -1,4 +1,4 @@
--- Nodes that are put behind others in an array.
+-- Nodes that are added after others in an array.
 use Rattle.std.proofs.Common.{◌≡◌, ◌<◌, ◌+◌, ◌-◌, ◌++◌, ℕ, suc, List, [], ◌∷◌, length, set, replicate, take, ap, sym, ◌∙◌, arith, append_assoc, length-append, length-set}
 use Rattle.std.proofs.lemmas.List.{length-take-le, set_at, take_more_set}
 use Rattle.plan_trees.specs.declared.preorders.Node.{Node}

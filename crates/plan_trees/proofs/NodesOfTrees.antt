@@ -1,4 +1,4 @@
--- A tree has a number where it is one of the numbers of its nodes.
+-- A tree has a number exactly if it is one of the numbers of its nodes.
 use Rattle.std.proofs.Common.{◌≡◌, ◌==◌, ◌||◌, inl, inr, ℕ, true, refl, arith}
 use Rattle.std.proofs.lemmas.Bool.{eqb-true, or_cases, or_left, or_right, eq-eqb}
 use Rattle.plan_trees.specs.Plans.{PlanTree, leaf, over, both, root_of, nodes, has}

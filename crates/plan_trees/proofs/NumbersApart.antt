@@ -1,4 +1,4 @@
--- The root of a plan stands nowhere below it, and its two inputs share no number.
+-- The number at the root of a plan occurs nowhere below it, and its two inputs share no number.
 use Rattle.std.proofs.Common.{◌≡◌, ◌<◌, ◌==◌, ◌||◌, ℕ, true}
 use Rattle.std.proofs.lemmas.Bool.{or_left, or_right}
 use Rattle.plan_trees.specs.Plans.{PlanTree, over, both, root_of, nodes, has, IsPlan, node_limit}

@@ -1,4 +1,4 @@
--- Trees over the same nodes: where one is a plan the other is one, and they have the same numbers.
+-- Trees over the same nodes: if one is a plan the other is one, and they have the same numbers.
 use Rattle.std.proofs.Common.{◌≡◌, ◌<◌, inl, inr, ℕ, true, List, sym}
 use Rattle.pact_record.proofs.Permutations.{Perm, nothing, keeps, swaps, chains, same, both_parts, each_perm}
 use Rattle.plan_trees.specs.Distinct.{AreDifferent, IsAbsent}

@@ -5,7 +5,7 @@ use Rattle.plan_trees.specs.Plans.{PlanTree, both, has, replaced, IsPlan}
 use Rattle.plan_trees.specs.Preorders.{count_of}
 use Rattle.plan_trees.proofs.BelowRoot.{left_plan, right_plan}
 
--- where the new tree comes into the left input
+-- the replaced subtree is in the left input
 pub record InLeft (at : ℕ) (new s t : PlanTree) : Type 0 where
   pub less : count_of t < count_of s
   pub plan : IsPlan (replaced at new t)
@@ -16,7 +16,7 @@ in_left at n new s t u e f g h =
     let same : replaced at new s ≡ both n (replaced at new t) u = ap (replaced at new) e ∙ simp (other, g) in
     record { less = omega (arith, ap count_of e); plan = left_plan n (replaced at new t) u (subst IsPlan same h) }
 
--- where it comes into the right one
+-- the replaced subtree is in the right input
 pub record InRight (at : ℕ) (new s u : PlanTree) : Type 0 where
   pub less : count_of u < count_of s
   pub there : has at u ≡ true

@@ -1,4 +1,4 @@
--- What the parts of a plan tell of its tree.
+-- What follows for a plan's tree from its parts.
 use Rattle.std.proofs.Common.{◌≡◌, ℕ}
 use Rattle.plan_trees.specs.Plans.{PlanTree, leaf, over, both}
 use Rattle.plan_trees.specs.PlanParts.{parts_of}

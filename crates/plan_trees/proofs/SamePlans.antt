@@ -1,4 +1,4 @@
--- Plans are `==` where they are the same tree.
+-- Plans are `==` exactly if they are the same tree.
 use Rattle.std.proofs.Common.{◌≡◌, ◌==◌, ◌&&◌, Bool, List, length, take, ap, sym, ◌∙◌}
 use Rattle.std.specs.Bool.{Decides}
 use Rattle.std.specs.Cmp.Lexicographic.{pointwise}
@@ -18,7 +18,7 @@ node_decides x y =
     Decides-like (same_node x y) (λ e. λ i. record { at = e.0 i; count = e.1 i }) (λ e. (ap (λ (n : Node). n.at) e, ap (λ (n : Node). n.count) e))
     (Decides-and (x.at == y.at) (x.count == y.count) (Decides-eqb x.at y.at) (Decides-eqb x.count y.count))
 
--- what the test of two arrays with their counts tells of the nodes that they hold
+-- the test of two arrays with their counts decides whether they hold the same nodes
 rows_decide : (xs ys : List Node) (r : Bool) → r ≡ (pointwise same_node (padded xs) (padded ys) && (length xs == length ys)) → Decides r (xs ≡ ys)
 rows_decide xs ys r e =
     let front : (zs : List Node) → take (length zs) (padded zs) ≡ zs = λ zs. take_at zs _ (length zs) (λ _. length zs) in

@@ -1,4 +1,4 @@
--- Which plan a list of nodes shows, and which parts of the list show the plans of its inputs.
+-- Which plan a list of nodes represents, and which parts of the list represent the plans of its inputs.
 use Rattle.std.proofs.Common.{◌≡◌, ◌≢◌, ◌≤◌, ◌+◌, ◌-◌, ◌++◌, ℕ, List, [], ◌∷◌, length, refl, ap, sym, ◌∙◌, subst, take, drop, arith, length-append, append-nil}
 use Rattle.std.specs.Prelude.{slice_get, slice_range, Some}
 use Rattle.std.proofs.lemmas.List.{take_at, drop_at, take_all}
@@ -68,7 +68,7 @@ left_node (leaf n) rest x h = cc
 left_node (over n t) rest x h = cc
 left_node (both n t u) rest x h = cc
 
--- the first node of a plan counts them all
+-- the count in a plan's first node is the number of all its nodes
 pub record IsRoot (xs : List Node) (t : PlanTree) (x : Node) : Type 0 where
   pub count : x.count ≡ length xs
   pub some : 1 ≤ length xs
@@ -87,13 +87,14 @@ within (both n t u) y h = omega (arith, left_node t (preorder_of u) y h)
 pub within_plan : (xs : List Node) (t : PlanTree) (y : Node) → Shows xs t → slice_get xs 1 ≡ Some y → 1 + y.count ≤ length xs
 within_plan xs t y h e = omega (arith, h.length, within t y (subst (λ (l : List Node). slice_get l 1 ≡ Some y) h.nodes e))
 
--- the node n over one input, whose nodes are those from the second on to the place m
+-- the node n over one input, whose nodes are those from the second one up to the place m
 pub record OneInput (xs : List Node) (t : PlanTree) (n m : ℕ) : Type 0 where
   pub input : PlanTree
   pub is : t ≡ over n input
   pub shown : Shows (slice_range xs 1 m) input
 
--- the node n over two inputs, whose nodes are those up to the place m, and from there on to the place k
+-- the node n over two inputs: the nodes of the first end at the place m, those of the second begin there and end at the
+-- place k
 pub record TwoInputs (xs : List Node) (t : PlanTree) (n m k : ℕ) : Type 0 where
   pub left : PlanTree
   pub right : PlanTree

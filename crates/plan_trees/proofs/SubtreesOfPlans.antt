@@ -1,4 +1,5 @@
--- The subtree at a number of a tree has it as its root, and numbers that differ in a tree differ in its subtrees.
+-- The subtree at a number of a tree has it as its root, and if a tree's numbers are different, those of its subtrees
+-- are.
 use Rattle.std.proofs.Common.{◌≡◌, ◌==◌, inl, inr, ℕ, true, refl, sym}
 use Rattle.std.proofs.lemmas.Bool.{cases_Bool, eqb-true, eq-eqb}
 use Rattle.plan_trees.specs.Distinct.{AreDifferent}

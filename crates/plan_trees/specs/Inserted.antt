@@ -1,4 +1,4 @@
--- A plan with a further number of one input on one of its edges.
+-- A plan with a further operator of one input on one of its edges.
 use Rattle.std.specs.Prelude.{◌==◌, ℕ, if◌then◌else◌, get_or, set}
 use Rattle.plan_trees.specs.declared.physicals.Ship.TheVariants.{Forward}
 use Rattle.plan_trees.specs.Physicals.{PhysicalData}
@@ -13,7 +13,7 @@ inserted below new (leaf n) = wrapped below new n (leaf n)
 inserted below new (over n t) = wrapped below new n (over n (inserted below new t))
 inserted below new (both n t u) = wrapped below new n (both n (inserted below new t) (inserted below new u))
 
--- The new number is fed Forward, and ships as the edge did.
+-- The edge to the new number has Forward, and the edge from it has the ship that the edge had.
 abbrev pub inserted_above : (below new : ℕ) → PhysicalData → PhysicalData
 inserted_above below new q = record {
   tree = inserted below new q.tree;

@@ -3,7 +3,7 @@ use Rattle.std.specs.Prelude.{◌≡◌, ◌≤◌, ◌-◌, ℕ, List, ◌++◌
 use Rattle.plan_trees.specs.declared.preorders.Node.{Node}
 use Rattle.plan_trees.specs.Plans.{node_limit}
 
--- what stands in a place that is not taken
+-- the node in a place that isn't in use
 abbrev pub blank : Node
 blank = record { at = 0; count = 0 }
 
@@ -11,7 +11,7 @@ blank = record { at = 0; count = 0 }
 abbrev pub padded : List Node → List Node
 padded xs = xs ++ replicate (node_limit - length xs) blank
 
--- the places hold so many nodes, and then blank ones
+-- the places hold `count` nodes, and then blank ones
 pub record HoldsNodes (held : List Node) (count : ℕ) : Type 0 where
   pub few : count ≤ node_limit
   pub long : length held ≡ node_limit

@@ -7,7 +7,7 @@ use Rattle.plan_trees.specs.declared.physicals.Ship.TheVariants.{Forward}
 abbrev pub worker_limit : ℕ
 worker_limit = 16
 
--- The place of a number in the list is that of the edge from the node with this number to its consumer.
+-- The ship at a number's place in the list is that of the edge from the node with this number to its consumer.
 pub record PhysicalData : Type 0 where
   pub tree : PlanTree
   pub workers : ℕ
@@ -33,7 +33,7 @@ with_ship p at ship = record { tree = p.tree; workers = p.workers; ships = set p
 abbrev pub forwarded : PlanTree → ℕ → PhysicalData
 forwarded tree workers = record { tree = tree; workers = workers; ships = replicate node_limit Forward }
 
--- A plan, at least one worker and at most so many; a place that names no edge holds Forward.
+-- A plan, and at least one and at most `worker_limit` workers; a place that names no edge holds Forward.
 pub record IsPhysical (p : PhysicalData) : Type 0 where
   pub plan : IsPlan p.tree
   pub some_worker : 1 ≤ p.workers

@@ -43,7 +43,7 @@ trees_of-preorder_of (both n t u) xs =
     let inputs : trees_of ((preorder_of t ++ preorder_of u) ++ xs) ≡ t ∷ u ∷ trees_of xs = ap trees_of whole ∙ left ∙ ap (λ (rest : List PlanTree). t ∷ rest) right in
     ap (joined (record { at = n; count = 1 + (count_of t + count_of u) })) inputs ∙ joined_both n t u (trees_of xs)
 
--- the nodes of a tree show it
+-- the nodes of a tree represent it
 pub tree_of-preorder_of : (t : PlanTree) → tree_of (preorder_of t) ≡ t
 tree_of-preorder_of t =
     let e : trees_of (preorder_of t ++ []) ≡ t ∷ [] = trees_of-preorder_of t [] in

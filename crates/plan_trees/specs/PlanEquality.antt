@@ -19,7 +19,7 @@ pub same_plan_laws : IsEquivalence same_plan
 same_plan_laws =
     on_equiv preorder_of (lists_equiv (and_equiv (on_equiv (λ (x : Node). x.at) nat_eq_equiv) (on_equiv (λ (x : Node). x.count) nat_eq_equiv)))
 
--- ---- what a plan gives a hash: its nodes
+-- ---- what a plan feeds to a hash: its nodes
 
 abbrev pub node_writes : Node → HashWrites
 node_writes x = u32 x.at ++ u32 x.count
@@ -30,7 +30,7 @@ plan_writes t = slice node_writes (preorder_of t)
 number_Alike : Alike (λ (n m : ℕ). n == m) u32
 number_Alike = same_Alike u32 Decides-eqb
 
--- plans that are the same give the same
+-- equal plans feed the same to a hash
 pub plan_writes-Alike : Alike same_plan plan_writes
 plan_writes-Alike =
     on_Alike preorder_of (items_Alike (and-Alike (on_Alike (λ (x : Node). x.at) number_Alike) (on_Alike (λ (x : Node). x.count) number_Alike)))

@@ -3,7 +3,7 @@ use Rattle.std.specs.Prelude.{◌<◌, ◌==◌, ◌||◌, ℕ, Bool, if◌then�
 use Rattle.std.specs.List.{AllByRecursion}
 use Rattle.plan_trees.specs.Distinct.{AreDifferent}
 
--- Numbers stand for operators and sources: the text's first has 0, and so on, both kinds counted together.
+-- Numbers represent operators and sources: the text's first has 0, and so on, both kinds counted together.
 pub data PlanTree : Type 0 where
   leaf : (at : ℕ) → PlanTree
   over : (at : ℕ) → (input : PlanTree) → PlanTree
@@ -19,7 +19,7 @@ root_of (leaf n) = n
 root_of (over n t) = n
 root_of (both n t u) = n
 
--- the numbers, each operator's before those of its inputs
+-- the numbers in preorder: each operator's before those of its inputs
 abbrev pub nodes : PlanTree → List ℕ
 nodes (leaf n) = n ∷ []
 nodes (over n t) = n ∷ nodes t
@@ -37,24 +37,24 @@ subtree_of at (leaf n) = leaf n
 subtree_of at (over n t) = if at == n then over n t else subtree_of at t
 subtree_of at (both n t u) = if at == n then both n t u else (if has at t then subtree_of at t else subtree_of at u)
 
--- the tree with a new one in the place of the subtree whose root has the number
+-- the tree in which a new one replaces the subtree whose root has the number
 abbrev pub replaced : ℕ → PlanTree → PlanTree → PlanTree
 replaced at new (leaf n) = if at == n then new else leaf n
 replaced at new (over n t) = if at == n then new else over n (replaced at new t)
 replaced at new (both n t u) =
     if at == n then new else (if has at t then both n (replaced at new t) u else both n t (replaced at new u))
 
--- the number of what the root reads at a port: 0 is an only input or the left one, 1 the right one
+-- the number of the root's input at a port: 0 is its only or its left input, 1 the right one
 abbrev pub root_input_of : ℕ → PlanTree → Option ℕ
 root_input_of port (leaf n) = None
 root_input_of port (over n t) = if port == 0 then Some (root_of t) else None
 root_input_of port (both n t u) = if port == 0 then Some (root_of t) else (if port == 1 then Some (root_of u) else None)
 
--- the number of what an operator of the tree reads at a port
+-- the number of an operator's input at a port
 abbrev pub input_of : ℕ → ℕ → PlanTree → Option ℕ
 input_of at port t = root_input_of port (subtree_of at t)
 
--- each number is one that a program can have, and stands once
+-- each number is one that a program can have, and occurs once
 pub record IsPlan (tree : PlanTree) : Type 0 where
   pub below : AllByRecursion (λ n. n < node_limit) (nodes tree)
   pub different : AreDifferent (nodes tree)

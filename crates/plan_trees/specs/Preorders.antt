@@ -15,18 +15,18 @@ preorder_of (leaf n) = record { at = n; count = 1 } ∷ []
 preorder_of (over n t) = record { at = n; count = 1 + count_of t } ∷ preorder_of t
 preorder_of (both n t u) = record { at = n; count = 1 + (count_of t + count_of u) } ∷ (preorder_of t ++ preorder_of u)
 
--- a node over the two trees behind it
+-- a node over the two trees after it
 abbrev paired : ℕ → PlanTree → List PlanTree → List PlanTree
 paired n t [] = over n t ∷ []
 paired n t (u ∷ rest) = both n t u ∷ rest
 
--- a node over as many of the trees behind it as make up its count
+-- a node over as many of the trees after it as make up its count
 abbrev pub joined : Node → List PlanTree → List PlanTree
 joined x [] = leaf x.at ∷ []
 joined x (t ∷ rest) =
     if x.count == 1 then leaf x.at ∷ t ∷ rest else (if x.count == 1 + count_of t then over x.at t ∷ rest else paired x.at t rest)
 
--- the trees that the nodes show, one behind the other
+-- the trees that the nodes represent, one after the other
 abbrev pub trees_of : List Node → List PlanTree
 trees_of [] = []
 trees_of (x ∷ xs) = joined x (trees_of xs)
@@ -36,7 +36,7 @@ abbrev first_of : List PlanTree → PlanTree
 first_of [] = leaf 0
 first_of (t ∷ rest) = t
 
--- the tree that the nodes show
+-- the tree that the nodes represent
 abbrev pub tree_of : List Node → PlanTree
 tree_of xs = first_of (trees_of xs)
 

@@ -8,7 +8,7 @@ use Rattle.plan_trees.specs.declared.physicals.Ship.TheVariants.{Forward, Partit
 
 -- ---- workers
 
--- the numbers of so many workers, the last one's first
+-- the numbers below the number of workers, in descending order
 abbrev pub workers_below : ℕ → List ℕ
 workers_below zero = []
 workers_below (suc n) = n ∷ workers_below n
@@ -19,13 +19,14 @@ all_of workers f = flat_map f (workers_below workers)
 
 -- ---- edges
 
--- Whether an edge joins a worker with another. One that forwards joins each worker with itself, the others each with all.
+-- Whether an edge has a pipe from a worker to another. One that forwards has a pipe from each worker to itself; the
+-- others have one from each worker to each.
 abbrev pub has_pipe : Ship → (from to : ℕ) → Bool
 has_pipe Forward from to = from == to
 has_pipe (Partition keys) from to = true
 has_pipe Broadcast from to = true
 
--- whether an edge, where there is one, joins a worker with another
+-- whether an edge, if there is one, has a pipe from a worker to another
 abbrev pub has_out : Option Ship → (from to : ℕ) → Bool
 has_out None from to = false
 has_out (Some ship) from to = has_pipe ship from to
@@ -46,7 +47,7 @@ arriving ship workers gave to = all_of workers (λ from. sent ship workers from 
 
 -- ---- sources
 
--- the rows of a source whose number, counted on from n, is the worker's modulo the number of workers
+-- the rows of a source whose number, counted from n, is the worker's modulo the number of workers
 abbrev pub share_from : ℕ → (workers worker : ℕ) → List (List Value) → List (List Value)
 share_from n workers worker [] = []
 share_from n workers worker (row ∷ rows) = cond (n % workers == worker) (row ∷ share_from (suc n) workers worker rows) (share_from (suc n) workers worker rows)

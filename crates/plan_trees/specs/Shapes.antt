@@ -1,9 +1,9 @@
--- The root of a tree and an operator that it reads change places.
+-- The root of a tree changes places with an operator that it reads.
 use Rattle.plan_trees.specs.declared.shapes.Shape.{Shape}
 use Rattle.plan_trees.specs.declared.shapes.Shape.TheVariants.{OneOverOne, IntoLeft, OutOfLeft, IntoRight, OutOfRight, ToRight, ToLeft}
 use Rattle.plan_trees.specs.Plans.{PlanTree, over, both}
 
--- whether the tree has the two operators there
+-- whether the two operators of the shape are at the tree's root
 abbrev pub HasShape : Shape → PlanTree → Type 0
 HasShape OneOverOne (over f (over g t)) = Unit {0}
 HasShape IntoLeft (over f (both g t u)) = Unit {0}
@@ -14,7 +14,7 @@ HasShape ToRight (both h (both g t u) w) = Unit {0}
 HasShape ToLeft (both g t (both h u w)) = Unit {0}
 HasShape shape tree = ⊥
 
--- the tree after it; one of another shape stays as it is
+-- the tree after the exchange; one of another shape stays as it is
 abbrev pub exchanged : Shape → PlanTree → PlanTree
 exchanged OneOverOne (over f (over g t)) = over g (over f t)
 exchanged IntoLeft (over f (both g t u)) = both g (over f t) u

@@ -9,7 +9,7 @@ ghost use Rattle.plan_trees.specs.Edges.{AreInner, EdgesLieIn};
 use crate::physicals::{Physical, Ship};
 use crate::plans::{Parts, Plan};
 
-/// The root of a tree and the plans of its inputs, whose edges are the physical plan's as the tree's own are.
+/// The root of a tree and the plans of its inputs. Their edges are in the physical plan if the tree's own are.
 pub fn parts_within(physical: &Physical, tree: &Plan) -> Parts
     requires { EdgesLieIn tree.now physical.now.tree }
     ensures parts { result ≡ parts_of tree.now }

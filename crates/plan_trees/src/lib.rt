@@ -1,11 +1,11 @@
 //! Plans as trees of numbers, and physical plans: how records go from worker to worker, and who sends no more.
 //!
-//! A number stands for an operator or a source of a program. Which of them a number is, and what it
-//! does, is said in the crates above. A `Plan` holds its nodes in an array, each operator before its
-//! inputs, so that it is copied without memory; contracts see it as a tree.
+//! A number represents an operator or a source of a program. The crates above say which of them it is and what it does.
+//! A `Plan` holds its nodes in an array, each operator before its inputs, so that it is copied without memory.
+//! Contracts see it as a tree.
 //!
-//! `ship_below` returns the ship of an edge by the tree that the edge leaves, and `parts_within` takes a
-//! tree apart into inputs whose edges may be asked for so.
+//! `ship_below` returns the ship of an edge by the tree that the edge leaves. `parts_within` takes a tree apart into
+//! inputs with which `ship_below` may be called.
 #![tactic(auto)]
 
 mod edges;

@@ -12,19 +12,19 @@ use crate::preorders::MAX_NODES;
 use pact_record::Keys;
 use std::marker::Model;
 
-/// How the records that a worker has of an operator or a source go to its consumer.
+/// How the records that a worker has at an operator or a source go to its consumer.
 #[derive(Clone, Copy, Debug, PartialEq, Eq)]
 pub enum Ship {
     /// They stay with the worker.
     Forward,
-    /// Each goes to the worker that its values at the keys tell.
+    /// Each goes to the worker that its key values determine.
     Partition(Keys),
     /// Each goes to every worker.
     Broadcast,
 }
 
 impl Ship {
-    /// Whether an edge with this ship joins the one worker with the other.
+    /// Whether an edge with this ship has a pipe from the first worker to the second.
     pub fn has_pipe(&self, from: u32, to: u32) -> bool
         ensures { result ≡ has_pipe self.now from to }
     {
@@ -35,8 +35,8 @@ impl Ship {
     }
 }
 
-/// A plan with a number of workers, and a ship on each edge. An edge is named by the number of
-/// the operator or source that it leaves. It is copied without memory.
+/// A plan with a number of workers, and a ship on each edge. The number of the operator or source that an edge leaves
+/// names the edge. It is copied without memory.
 #[derive(Clone, Copy, Debug, PartialEq, Eq)]
 pub struct Physical {
     plan: Plan,
@@ -68,7 +68,7 @@ impl Physical {
         ensures value { result ≡ forwarded plan workers }
         ensures ships { (at : ℕ) → has_edge at plan ≡ true → ship_at result at ≡ Some Ship.Forward }
     {
-        // the root of a plan tells that it is one
+        // `root` makes it known that the tree is a plan
         let _root = plan.root();
         Physical {
             plan,
@@ -112,8 +112,8 @@ impl Physical {
         self.ships[at as usize] = ship;
     }
 
-    /// Puts an operator of one input on the edge from a number to its consumer. It is fed Forward, and ships as
-    /// the edge did.
+    /// Inserts an operator of one input on the edge from a number to its consumer. The edge to it has Forward, and the
+    /// edge from it has the ship that the edge had.
     pub fn insert(&mut self, below: u32, new: u32)
         requires has { has below self.old.tree ≡ true }
         requires edge { below ≢ root_of self.old.tree }

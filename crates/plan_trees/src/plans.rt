@@ -157,8 +157,7 @@ impl Plan {
         }
     }
 
-    /// The number of what the operator reads at a port: 0 is its only or its left input, 1 its
-    /// right one.
+    /// The number of the operator's input at a port: 0 is its only or its left input, 1 its right one.
     pub fn input(&self, at: u32, port: u32) -> Option<u32>
         requires { has at self.now ≡ true }
         ensures { result ≡ input_of at port self.now }
@@ -174,7 +173,7 @@ impl Plan {
         }
     }
 
-    /// The plan below the operator, or the source alone.
+    /// The plan below the operator and with it, or the source on its own.
     pub fn subtree(&self, at: u32) -> Plan
         requires { has at self.now ≡ true }
         ensures { result ≡ subtree_of at self.now }
@@ -196,7 +195,7 @@ impl Plan {
         }
     }
 
-    /// The plan with a new tree in the place of the one whose root has the number.
+    /// The plan in which a new tree replaces the one whose root has the number.
     pub fn with_subtree(&self, at: u32, tree: &Plan) -> Plan
         requires has { has at self.now ≡ true }
         requires plan { IsPlan (replaced at tree.now self.now) }

@@ -5,8 +5,7 @@ ghost use Rattle.plan_trees.specs.Plans.{node_limit};
 
 use std::marker::Model;
 
-/// A plan has at most so many nodes, and their numbers are below it: 16 operators, and 17
-/// sources.
+/// A plan has at most this number of nodes, and their numbers are below it: 16 operators and 17 sources.
 pub const MAX_NODES: usize = 33;
 
 /// An operator or a source in its place in a plan.
@@ -14,7 +13,7 @@ pub const MAX_NODES: usize = 33;
 pub struct Node {
     /// Its number.
     pub at: u32,
-    /// How many nodes the tree below it has, itself among them.
+    /// How many nodes the tree with this root has, itself included.
     pub count: u32,
 }
 
@@ -75,7 +74,7 @@ impl Preorder {
         &self.held[..self.count as usize]
     }
 
-    /// Puts all nodes of another list behind these.
+    /// Appends all nodes of another list.
     pub fn append(&mut self, other: &Preorder)
         requires { length self.old + length other.now ≤ node_limit }
         ensures { self.new ≡ self.old ++ other.now }
@@ -83,13 +82,13 @@ impl Preorder {
         self.append_part(other, 0, other.len());
     }
 
-    /// The nodes from one place to another.
+    /// The nodes from one place up to another, which is excluded.
     pub fn part(&self, start: u32, end: u32) -> Preorder
         requires order { start ≤ end }
         requires end { end ≤ length self.now }
         ensures { result ≡ slice_range self.now start end }
     {
-        // no list is longer than there is room for
+        // `len` makes it known that the list has at most `MAX_NODES` nodes
         let _few = self.len();
         let mut nodes = Preorder::empty();
         nodes.append_part(self, start, end);
@@ -113,7 +112,7 @@ impl Preorder {
         self.count += 1;
     }
 
-    // Puts the other's nodes from one place to another behind these.
+    // Appends the other's nodes from one place up to another.
     fn append_part(&mut self, other: &Preorder, start: u32, end: u32)
         requires order { start ≤ end }
         requires end { end ≤ length other.now }

@@ -9,8 +9,9 @@ use pact_record::OutOfMemory;
 use std::alloc::Global;
 use std::marker::Model;
 
-/// For each worker, by its number, whether it sends no more along an edge to one of them. Whoever sends tells when it is done; all have ended once every
-/// one of them has, and the first says nothing of the others. Of workers past the last one nothing is waited for.
+/// For each worker, by its number, whether it sends no more along an edge to one worker. Each sender reports its end.
+/// All have ended once every worker has; that one has ended says nothing about the others. A number past the last
+/// worker counts as ended.
 #[derive(Drop)]
 pub struct EndedSenders {
     flags: Vec<bool>,
@@ -34,8 +35,8 @@ fn has_out(edge: &Option<Ship>, from: u32, to: u32) -> bool
 }
 
 impl EndedSenders {
-    /// Before anything is sent along the edge to worker `to`: of the workers those have ended that don't send to it. Where there is no edge nobody sends.
-    /// Want of memory is the only error.
+    /// The state before anything is sent along the edge to worker `to`: exactly the workers that don't send to it have
+    /// ended. If there is no edge nobody sends. Out of memory is the only error.
     pub fn along(
         alloc: Global,
         edge: Option<Ship>,
@@ -51,7 +52,7 @@ impl EndedSenders {
         Ok(EndedSenders { flags })
     }
 
-    /// The worker with this number is done.
+    /// The worker with this number sends no more.
     pub fn end(&mut self, from: u32)
         requires { from < length self.old }
         ensures { self.new ≡ set self.old from true }
@@ -79,7 +80,7 @@ impl EndedSenders {
         true
     }
 
-    /// Nobody is waited for any more.
+    /// No worker is waited for any more.
     pub fn clear(&mut self)
         ensures { self.new ≡ [] }
     {

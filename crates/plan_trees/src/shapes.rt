@@ -11,22 +11,22 @@ use crate::plans::{Parts, Plan};
 pub enum Shape {
     /// Both have one input.
     OneOverOne,
-    /// The root has one input, the other operator two: the root goes to the left one.
+    /// The root has one input, the other operator two: the root becomes the other's left input.
     IntoLeft,
-    /// The root has two inputs: an operator on the left one goes over it.
+    /// The root has two inputs, and an operator on the left one goes above it.
     OutOfLeft,
-    /// As `IntoLeft`, to the right input.
+    /// As `IntoLeft`, but the root becomes the other's right input.
     IntoRight,
     /// As `OutOfLeft`, from the right input.
     OutOfRight,
-    /// Both have two inputs: what the root reads on the left goes over it, and the root to its right input.
+    /// Both have two inputs: the root's left input goes above it, and the root becomes that operator's right input.
     ToRight,
-    /// Both have two inputs: what the root reads on the right goes over it, and the root to its left input.
+    /// Both have two inputs: the root's right input goes above it, and the root becomes that operator's left input.
     ToLeft,
 }
 
 impl Plan {
-    /// The tree with its root and the operator below it exchanged, or none where the tree hasn't the shape.
+    /// The tree with its root and the operator below it exchanged, or none if the tree doesn't have the shape.
     pub fn exchanged(&self, shape: Shape) -> Option<Plan>
         ensures some { IfSome result (λ plan. HasShape shape self.now × (plan ≡ exchanged shape self.now)) }
         ensures none { IfNone result (HasShape shape self.now → ⊥) }

@@ -1,4 +1,4 @@
--- Attributes of the inputs of operators, by sources and operators whose keys may still be too large.
+-- Attributes of the inputs of operators, for sources and operators whose keys may still be too large.
 use Rattle.std.proofs.Common.{◌≡◌, ◌⊎◌, ◌↔◌, ◌&&◌, not, Option, Some, None, inl, inr, ℕ, zero, suc, Bool, true, false, IsTrue, List, [], ◌∷◌, map, refl, subst, sym, ◌∙◌}
 use Rattle.std.specs.List.{list_any}
 use Rattle.std.specs.Option.{IfNone, IfSome, is_some}
@@ -19,7 +19,7 @@ use Rattle.pact_operators.specs.Resolved.{function_names, ops_of}
 use Rattle.program_check.specs.WrittenOps.{small_ops, with_small_keys}
 use Rattle.plan_trees.proofs.RootParts.{is_both, is_over}
 
--- ---- keys own nothing
+-- ---- attributes don't depend on keys
 
 own_same : (kind : OpKind) (v : List WithFields) (op : Op) (k : ℕ) → OwnsBy kind v (with_small_keys op) k ↔ OwnsBy kind v op k
 own_same Source v op k = (λ h. h, λ h. h)

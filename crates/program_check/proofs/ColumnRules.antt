@@ -1,4 +1,4 @@
--- Fields of columns and of the sink, where no declaration has a wrong one.
+-- The fields of columns and of the sink, if no declaration has a wrong one.
 use Rattle.std.proofs.Common.{◌≡◌, ◌≤◌, ◌<◌, ◌+◌, ◌++◌, ◌==◌, nat_le, inl, inr, ℕ, true, false, List, [], ◌∷◌, length, map, refl, ap, arith}
 use Rattle.std.specs.List.{AllByRecursion, list_any}
 use Rattle.std.proofs.lemmas.Bool.{cases_Bool, eqb-false, eq-eqb, false_from_ne_true, leb-false, or_parts}

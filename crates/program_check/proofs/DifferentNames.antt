@@ -1,4 +1,4 @@
--- In a program no two sources or operators have the same name, and each is named as a text names it.
+-- In a program no two sources or operators have the same name, and a text can spell each name.
 use Rattle.std.proofs.Common.{◌≡◌, ◌≤◌, ◌<◌, ◌+◌, inl, inr, ℕ, zero, suc, true, List, [], ◌∷◌, map, length, slice_get, Some, IsTrue, nat_le, bytes_eq, refl, ap, sym, subst, ◌∙◌, arith}
 use Rattle.std.proofs.lemmas.Bool.{cases_Bool, cases_lt}
 use Rattle.std.proofs.lemmas.Bool.Decides.{nat_tests}
@@ -17,7 +17,7 @@ use Rattle.pact_operators.specs.Programs.{AreNames, IsProgramOf, NamesDiffer, Pr
 use Rattle.pact_operators.specs.Resolved.{function_names, node_names, ops_of, times_among}
 use Rattle.program_check.proofs.NamedInputs.{same_name, times_here, times_later}
 
--- ---- a name at two places stands twice
+-- ---- a name at two places occurs twice
 
 never_less : (name n : List ℕ) (names : List (List ℕ)) → times_among name names ≤ times_among name (n ∷ names)
 never_less name n names = elim (cases_Bool (bytes_eq name n)) as (λ _. times_among name names ≤ times_among name (n ∷ names)) [
@@ -40,7 +40,7 @@ twice (n ∷ names) zero (suc j) name less h g = let t = first_counts name n nam
 twice (n ∷ names) (suc i) (suc j) name less h g =
     let later = twice names i j name (omega (arith, less)) h g in let more = never_less name n names in omega (arith, later, more)
 
--- ---- a declared name stands once
+-- ---- a declared name occurs once
 
 module _ (d : DraftData) (v : List WithFields) where
   declared_once : (decls front : List Decl) → NoneBreaks DeclaredTwice d v front decls → (i : ℕ) (name : List ℕ) → slice_get (node_names decls) i ≡ Some name

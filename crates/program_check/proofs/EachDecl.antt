@@ -13,14 +13,14 @@ use Rattle.tac_syntax.specs.Drafts.{AreDeclared, DraftData}
 use Rattle.program_check.specs.ProgramRules.{Breaks, NoneBreaks}
 use Rattle.program_check.specs.WrittenOps.{HasFewKeys}
 
--- it doesn't break a rule that none breaks
+-- A declaration doesn't break a rule that none breaks.
 pub none-at : (rule : ProgramRule) (d : DraftData) (v : List WithFields) (front decls : List Decl) (m : ℕ) (decl : Decl) → NoneBreaks rule d v front decls → slice_get decls m ≡ Some decl
     → (before : List Decl) × (¬ Breaks rule d v before decl)
 none-at rule d v front [] m decl h e = let bad : None ≡ Some decl = e in absurd cc
 none-at rule d v front (x ∷ decls) zero decl h e = let same : x ≡ decl = cc in (front, subst (λ (y : Decl). ¬ Breaks rule d v front y) same h.0)
 none-at rule d v front (x ∷ decls) (suc m) decl h e = none-at rule d v (front ++ x ∷ []) decls m decl h.1 e
 
--- it is spelled, but for a function, which is declared elsewhere
+-- A text can spell the declaration. A function is exempt, since it isn't declared by one line.
 abbrev pub IsSpelledIn : ℕ → Decl → Type 0
 IsSpelledIn v (Source name file columns) = IsSpelledDecl v (Source name file columns)
 IsSpelledIn v (FunctionDecl number) = Unit {0}

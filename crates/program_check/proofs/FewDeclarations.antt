@@ -1,4 +1,4 @@
--- Declarations of each sort, and the sources and operators that they declare, are no more than there may be.
+-- The declarations of each sort, and the sources and operators that they declare, don't exceed their limits.
 use Rattle.std.proofs.Common.{◌≡◌, ◌≤◌, ◌+◌, ◌++◌, ◌||◌, ◌&&◌, nat_le, inl, inr, ℕ, suc, Bool, false, List, [], ◌∷◌, length, ap, refl, subst, sym, arith, append_assoc, append-nil}
 use Rattle.std.proofs.lemmas.Bool.{cases_Bool, and_cases, false_from_ne_true, leb-false, or_parts}
 use Rattle.tac_syntax.specs.Valid.{WithFields}

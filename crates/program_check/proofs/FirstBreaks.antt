@@ -1,4 +1,4 @@
--- The first declaration that breaks a rule, one declaration after the other.
+-- The first declaration that breaks a rule, one declaration after another.
 use Rattle.std.proofs.Common.{◌≡◌, ◌≤◌, ◌<◌, ◌+◌, ◌++◌, ℕ, Bool, true, false, List, [], ◌∷◌, filter, get_or, length, take, refl, ap, subst, sym, ◌∙◌, arith, append_assoc, append-nil, length-append}
 use Rattle.std.proofs.lemmas.Bool.{both_ways}
 use Rattle.std.proofs.lemmas.List.{take_more, take_all}
@@ -49,7 +49,7 @@ first_at rule c decls n decl lt e same none broken =
           subst (λ (x : Decl). Breaks rule c.draft c.valids (take n c.draft.decls) x) here (subst (λ (ds : List Decl). Breaks rule c.draft c.valids (take n ds) decl) same broken);
     }
 
--- ---- rules that are told from the declarations alone
+-- ---- rules that need only the declarations
 
 pub broken-so : (rule : ProgramRule) (d : DraftData) (v : List WithFields) (front : List Decl) (decl : Decl) → order_of rule < order_of NoAttribute → breaks rule d (counts_of front) decl ≡ true
     → Breaks rule d v front decl
@@ -93,7 +93,7 @@ counts-more decls n decl counts next lt e h functions operators pairs =
     let all : next ≡ counts_of (front ++ decl ∷ []) = λ i. record { functions = f i; operators = o i; pairs = p i } in
     all ∙ ap counts_of (sym (next_front decls n decl lt e))
 
--- no more than there are declarations
+-- No count exceeds the number of declarations.
 pub record AreAtMost (counts : Counts) (n : ℕ) : Type 0 where
   pub few_functions : counts.functions ≤ n
   pub few_operators : counts.operators ≤ n

@@ -1,4 +1,4 @@
--- Sources and operators of which each is read once and reached from the root make a tree.
+-- Sources and operators make a tree if each is read once and reached from the root.
 use Rattle.std.proofs.Common.{◌≡◌, ◌≤◌, ◌<◌, ◌+◌, ◌⊎◌, inl, inr, ℕ, zero, suc, true, Option, Some, None, List, [], ◌∷◌, ◌++◌, length, slice_get, refl, ap, sym, subst, ◌∙◌, arith, length-append}
 use Rattle.plan_trees.proofs.DifferentNumbers.{AreDifferent-append, AreDifferent-parts, IsAbsent-append, IsAbsent-from, IsAbsent-not, IsIn, IsIn-left, IsIn-parts, IsIn-right, length-le_from_different}
 use Rattle.plan_trees.proofs.NodesOfTrees.{has-nodes, root-nodes}
@@ -14,16 +14,16 @@ IsInput (Some no_input) m = ⊥
 IsInput (Some (one_input a)) m = m ≡ a
 IsInput (Some (two_inputs a b)) m = (m ≡ a) ⊎ (m ≡ b)
 
--- number p reads number m
+-- Number p reads number m.
 abbrev pub Reads : List Inputs → ℕ → ℕ → Type 0
 Reads inputs p m = IsInput (slice_get inputs p) m
 
--- so many levels below the root
+-- The last number is this many levels below the root.
 abbrev pub At : List Inputs → ℕ → ℕ → ℕ → Type 0
 At inputs root zero m = m ≡ root
 At inputs root (suc j) m = (p : ℕ) × Reads inputs p m × At inputs root j p
 
--- so many levels below number n
+-- The last number is this many levels below number n.
 abbrev pub Below : List Inputs → ℕ → ℕ → ℕ → Type 0
 Below inputs n zero m = m ≡ n
 Below inputs n (suc t) m = (p : ℕ) × Reads inputs p m × Below inputs n t p
@@ -50,7 +50,7 @@ At-within : (inputs : List Inputs) (root depth j m : ℕ) → IsFlow inputs root
 At-within inputs root depth zero m h p = subst (λ (x : ℕ). x < length inputs) (sym p) h.root_within
 At-within inputs root depth (suc j) m h p = h.within p.0 m p.1
 
--- the level of what is so many levels below another
+-- the level of a number that is t levels below another
 At-below : (inputs : List Inputs) (root j n t m : ℕ) → At inputs root j n → Below inputs n t m → (i : ℕ) × (i ≡ t + j) × At inputs root i m
 At-below inputs root j n zero m p q = (j, omega arith, subst (At inputs root j) (sym q) p)
 At-below inputs root j n (suc t) m p q =
@@ -119,7 +119,7 @@ tree-follows inputs root depth (suc k) j n h p deep =
 
 -- ---- its numbers
 
--- each number of the tree is so many levels below its root
+-- Each number of the tree is some levels below its root.
 in_tree : (inputs : List Inputs) (k n m : ℕ) → IsIn m (nodes (tree inputs k n)) → (t : ℕ) × Below inputs n t m
 in_tree inputs zero n m (inl e) = (zero, e)
 in_tree inputs zero n m (inr none) = absurd none
@@ -139,7 +139,7 @@ in_tree inputs (suc k) n m h = in_by inputs k n m (λ a i. in_tree inputs k a m 
       | inr p ↦ let r = more b p in (suc r.0, Below-top inputs n b r.0 m (rw e (inr refl)) r.1)
     ]
 
--- what is below an input of a number isn't the number
+-- What is below an input of a number isn't the number.
 not_itself : (inputs : List Inputs) (root depth j n a t : ℕ) → IsFlow inputs root depth → At inputs root j n → At inputs root (suc j) a → Below inputs a t n → ⊥
 not_itself inputs root depth j n a t h p q r =
     let at = At-below inputs root (suc j) a t n q r in
@@ -186,7 +186,7 @@ tree-different inputs root depth (suc k) j n h p =
 input_of_root : (inputs : List Inputs) (n m : ℕ) (x : Inputs) → slice_get inputs n ≡ Some x → Reads inputs n m → IsInput (Some x) m
 input_of_root inputs n m x e r = subst (λ (o : Option Inputs). IsInput o m) e r
 
--- with a number, what it reads is in the tree
+-- If a number is in the tree, what it reads is too.
 input-IsIn : (inputs : List Inputs) (p m : ℕ) (t : PlanTree) → Follows inputs t → IsIn p (nodes t) → Reads inputs p m → IsIn m (nodes t)
 input-IsIn inputs p m (leaf n) f (inl e) r = absurd (input_of_root inputs n m no_input f (subst (λ (x : ℕ). Reads inputs x m) e r))
 input-IsIn inputs p m (leaf n) f (inr i) r = absurd i
@@ -260,7 +260,7 @@ few_leaves (over n t) = omega (arith, few_leaves t)
 few_leaves (both n t u) =
     omega (arith, few_leaves t, few_leaves u, length-append (nodes t) (nodes u), length-append (inner t) (inner u))
 
--- the numbers that read something, where the first is number n
+-- the numbers that read something, counted from n
 abbrev pub readers_from : ℕ → List Inputs → List ℕ
 readers_from n [] = []
 readers_from n (no_input ∷ inputs) = readers_from (suc n) inputs

@@ -1,4 +1,4 @@
--- What declarations name, one declaration after the other.
+-- What declarations name, one declaration after another.
 use Rattle.std.proofs.Common.{◌≡◌, ◌<◌, ◌+◌, ◌++◌, ℕ, List, [], ◌∷◌, length, get_or, take, refl, ap, sym, ◌∙◌, append_assoc}
 use Rattle.std.proofs.lemmas.List.{take_more}
 use Rattle.tac_syntax.specs.declared.declarations.Decl.{Decl}

@@ -1,4 +1,4 @@
--- What the inputs of a draft's operators are by number, where each name is declared once.
+-- The inputs of a draft's operators by number, if each name is declared once.
 use Rattle.std.proofs.Common.{◌≡◌, ◌≤◌, ◌+◌, ◌⊎◌, ◌||◌, inl, inr, ℕ, zero, suc, true, false, Some, None, List, [], ◌∷◌, ◌++◌, length, slice_get, bytes_eq, refl, ap, sym, subst, ◌∙◌, arith}
 use Rattle.std.proofs.lemmas.Bool.{both_ways, cases_Bool, or_cases, or_right}
 use Rattle.std.proofs.lemmas.Slice.Eq.{bytes_eq-Decides}
@@ -35,7 +35,7 @@ times_here name n names e = rw e (omega arith)
 pub times_later : (name n : List ℕ) (names : List (List ℕ)) → bytes_eq name n ≡ false → times_among name (n ∷ names) ≡ times_among name names
 times_later name n names e = rw e refl
 
--- what is among the names stands at its place
+-- A name that is among the names is at its place.
 pub placed : (name : List ℕ) (names : List (List ℕ)) → is_among name names ≡ true → slice_get names (place_among name names) ≡ Some name
 placed name [] h = absurd (both_ways false refl h)
 placed name (n ∷ names) h = elim (cases_Bool (bytes_eq name n)) as (λ _. slice_get (n ∷ names) (place_among name (n ∷ names)) ≡ Some name) [
@@ -55,7 +55,7 @@ among_times name (n ∷ names) h = elim (cases_Bool (bytes_eq name n)) as (λ _.
   | inr e ↦ omega (arith, times_later name n names e, among_times name names (sym (among_later name n names e) ∙ h))
 ]
 
--- a name that stands once stands at its place alone
+-- A name that occurs once is only at its place.
 pub only_place : (name : List ℕ) (names : List (List ℕ)) (m : ℕ) → times_among name names ≤ 1 → slice_get names m ≡ Some name → place_among name names ≡ m
 only_place name [] m once e = let bad : None ≡ Some name = e in absurd cc
 only_place name (n ∷ names) zero once e = let same : n ≡ name = cc in place_here name n names (subst (λ (x : List ℕ). bytes_eq name x ≡ true) (sym same) (same_name name))
@@ -99,7 +99,7 @@ first_read Cross names left right m (inr h) = (right, or_right (bytes_eq right l
 first_read CoGroup names left right m (inl h) = (left, among_here left left (right ∷ []) (same_name left), h)
 first_read CoGroup names left right m (inr h) = (right, or_right (bytes_eq right left) (is_among right (right ∷ [])) (among_here right right [] (same_name right)), h)
 
--- what is read by number is read by name
+-- What is read by number is read by name.
 pub named : (names : List (List ℕ)) (decls : List Decl) (p m : ℕ) → Reads (inputs_of names decls) p m → (name : List ℕ) × ReadsName decls p name × (m ≡ place_among name names)
 named names [] p m h = absurd h
 named names (Source own file columns ∷ decls) zero m h = absurd h
@@ -132,7 +132,7 @@ read_first Match names left right name h = read_two names left right name h
 read_first Cross names left right name h = read_two names left right name h
 read_first CoGroup names left right name h = read_two names left right name h
 
--- and the other way round
+-- What is read by name is read by number.
 pub numbered : (names : List (List ℕ)) (decls : List Decl) (p : ℕ) (name : List ℕ) → ReadsName decls p name → Reads (inputs_of names decls) p (place_among name names)
 numbered names [] p name h = h
 numbered names (Source own file columns ∷ decls) zero name h = h
@@ -155,7 +155,7 @@ read_times (OpDecl own kind function left right left_keys right_keys ∷ decls) 
     omega (arith, read_times decls p name h, times-append name (names_read kind left right) (all_inputs decls))
 read_times (Sink input fields ∷ decls) p name h = omega (arith, read_times decls p name h, times-append name (input ∷ []) (all_inputs decls))
 
--- what is read once has one reader
+-- What is read once has one reader.
 pub one_reader : (decls : List Decl) (p q : ℕ) (name : List ℕ) → ReadsName decls p name → ReadsName decls q name → times_among name (all_inputs decls) ≤ 1 → p ≡ q
 one_reader [] p q name h k once = absurd h
 one_reader (Source own file columns ∷ decls) zero q name h k once = absurd h
@@ -181,7 +181,7 @@ sink_times (Sink input fields ∷ decls) name s = elim (or_cases (bytes_eq name 
   | inr more ↦ omega (arith, sink_times decls name more, times-append name (input ∷ []) (all_inputs decls))
 ]
 
--- what a sink names and an operator reads is read twice
+-- What a sink names and an operator reads is read twice.
 pub sink_and_reader : (decls : List Decl) (p : ℕ) (name : List ℕ) → ReadsName decls p name → is_among name (sink_inputs decls) ≡ true → 2 ≤ times_among name (all_inputs decls)
 sink_and_reader [] p name h s = absurd h
 sink_and_reader (Source own file columns ∷ decls) zero name h s = absurd h

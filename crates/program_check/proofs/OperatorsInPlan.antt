@@ -1,4 +1,4 @@
--- Operators in the plan as written, and the rules that are told of it.
+-- Operators in the plan as written, and the rules about it.
 use Rattle.std.proofs.Common.{◌≡◌, ◌≤◌, ◌<◌, ℕ, zero, suc, true, Some, None, List, [], ◌∷◌, get_or, length, slice_get, bytes_eq, refl, subst, sym, arith}
 use Rattle.std.proofs.lemmas.Bool.{or_left, or_right}
 use Rattle.std.proofs.lemmas.Option.{slice_get_read, slice_get_within}
@@ -50,7 +50,7 @@ has_place d tree decls n decl h lt e same =
     let there : slice_get decls n ≡ Some decl = slice_get_read decls (length decls) n decl refl lt e in
     place_of d tree n decl h (subst (λ (ds : List Decl). slice_get ds n ≡ Some decl) same there)
 
--- ---- the rules that are told of it
+-- ---- the rules about it
 
 pub broken-in : (rule : ProgramRule) (c : CandidateData) (tree : PlanTree) (front : List Decl) (decl : Decl) → IsWrittenPlan c.draft tree → BreaksIn rule c tree decl → Breaks rule c.draft c.valids front decl
 broken-in NoAttribute c tree front decl h b = (tree, h, b)

@@ -24,7 +24,7 @@ use Rattle.program_check.proofs.EachDecl.{none-at}
 
 -- ---- the function that is called
 
--- a function with the name stands at the name's place
+-- A function with the name is at the name's place.
 named_place : (functions : List Function) (name : List ℕ) → is_among name (function_names functions) ≡ true
     → (f : Function) × (function_named functions name ≡ Some f) × (slice_get functions (place_among name (function_names functions)) ≡ Some f)
 named_place [] name h = absurd (both_ways false refl h)
@@ -38,7 +38,7 @@ named_place (f ∷ functions) name h =
           (r.0, rw e r.1, rw next r.2)
     ]
 
--- and the valid function of that number is it
+-- The valid function of that number is the same function.
 valid_at : (v : List WithFields) (n : ℕ) (f : Function) → slice_get (map (λ v. v.function) v) n ≡ Some f → (w : WithFields) × (slice_get v n ≡ Some w) × (w.function ≡ f)
 valid_at [] n f e = let bad : None ≡ Some f = e in absurd cc
 valid_at (w ∷ v) zero f e = let same : w.function ≡ f = cc in (w, refl, same)
@@ -67,7 +67,7 @@ keys_are CoGroup f right left_keys right_keys h k =
 
 -- ---- its keys
 
--- what every attribute is, each key is
+-- A property of all attributes holds for each key.
 all_so : (d : DraftData) (v : List WithFields) (t : PlanTree) (P : ℕ → Type 0) (keys : List ℕ) → ((k : ℕ) → (¬ ¬ HasAttribute v (ops_of (function_names d.functions) d.decls) t k) → P k)
     → ¬ LacksKey d v t keys → AllByRecursion P keys
 all_so d v t P [] h k = tt

@@ -1,4 +1,4 @@
--- Sources and operators, one declaration after the other.
+-- Sources and operators, one declaration after another.
 use Rattle.std.proofs.Common.{◌≡◌, ◌≤◌, ◌++◌, not, ℕ, Bool, List, [], ◌∷◌, filter, length, map, take, refl, ap, ◌∙◌, arith}
 use Rattle.std.proofs.lemmas.List.{length-take-le, map-append}
 use Rattle.std.proofs.lemmas.List.Filters.{length-filter_both}

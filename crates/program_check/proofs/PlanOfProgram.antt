@@ -58,7 +58,7 @@ has-arity names functions decls (both n t u) f =
 
 -- ---- subtrees
 
--- it begins with its number, and follows the inputs
+-- A subtree begins with its number, and follows the inputs.
 pub subtree-follows : (inputs : List Inputs) (n : ℕ) (t : PlanTree) → Follows inputs t → has n t ≡ true → (root_of (subtree_of n t) ≡ n) × Follows inputs (subtree_of n t)
 subtree-follows inputs n (leaf m) f h = (sym (eqb-true n m h), f)
 subtree-follows inputs n (over m t) f h = elim (cases_Bool (n == m)) as (λ _. (root_of (subtree_of n (over m t)) ≡ n) × Follows inputs (subtree_of n (over m t))) [

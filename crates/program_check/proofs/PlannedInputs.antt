@@ -1,4 +1,4 @@
--- Where a plan follows what is read from a number on, plans follow it from the number's inputs on.
+-- If a plan follows the inputs from a number, plans also follow them from each of that number's inputs.
 use Rattle.std.proofs.Common.{◌≡◌, ◌≤◌, ◌<◌, ◌-◌, ℕ, Some, List, get_or, length, map, slice_get, ap, sym, ◌∙◌, subst, arith}
 use Rattle.std.specs.Option.{option_map}
 use Rattle.std.proofs.lemmas.List.{length-map}

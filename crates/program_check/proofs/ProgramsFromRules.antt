@@ -30,7 +30,7 @@ use Rattle.program_check.proofs.FewDeclarations.{few-functions, few-operators, f
 use Rattle.program_check.proofs.EachDecl.{IsSpelledIn, few-keys, spelled}
 use Rattle.program_check.proofs.OperatorsOfKind.{KeepsOpRules, operator-is}
 
--- every rule, after the last
+-- After the last rule, every rule is kept.
 pub keeps-all : (c : CandidateData) → KeepsBefore (order_of SharedAttribute + 1) c → (rule : ProgramRule) → Keeps rule c.draft c.valids
 keeps-all c h Undeclared = h Undeclared (omega arith)
 keeps-all c h DeclaredTwice = h DeclaredTwice (omega arith)
@@ -43,7 +43,7 @@ keeps-all c h WrongField = h WrongField (omega arith)
 keeps-all c h NoAttribute = h NoAttribute (omega arith)
 keeps-all c h SharedAttribute = h SharedAttribute (omega arith)
 
--- ---- before the attributes are asked for
+-- ---- before the attributes are computed
 
 pub few-names : (c : CandidateData) → KeepsBefore (order_of NoAttribute) c → IsSpelledDraft c.draft → length (function_names c.draft.functions) ≤ function_limit
 few-names c h s =
@@ -60,7 +60,7 @@ wider : (m n : ℕ) (ks : List ℕ) → m ≤ n → AllByRecursion (λ k. k < m)
 wider m n [] le h = tt
 wider m n (k ∷ ks) le h = (omega (arith, le, h.0), wider m n ks le h.1)
 
--- no more than a set can have
+-- A program has no more fields than a set can have.
 few_in : (d : DraftData) → IsSpelledDraft d → d.fields ≤ MAX_FIELDS
 few_in d s = omega (arith, s.few_fields, wide_limit d.version)
 

@@ -1,4 +1,4 @@
--- What is reached over one operator more.
+-- What is reached over one more operator.
 use Rattle.std.proofs.Common.{◌≡◌, ◌||◌, ◌&&◌, ℕ, zero, suc, Bool, false, List, [], ◌∷◌, map, refl, ap, sym, ◌∙◌}
 use Rattle.std.proofs.Math.Bool.{and-false}
 use Rattle.std.specs.List.{list_any}
@@ -26,7 +26,7 @@ none : (name : List ℕ) (decls : List Decl) → list_any (λ decl. is_reader na
 none name [] = refl
 none name (decl ∷ decls) = ap (λ (b : Bool). b || list_any (λ decl. is_reader name decl && false) decls) (and-false (is_reader name decl)) ∙ none name decls
 
--- what no sink names is reached where one of the operators that are marked reads it
+-- A name that no sink names is reached if one of the marked operators reads it, and only then.
 pub reached_by : (n : ℕ) (d : DraftData) (name : List ℕ) (decls : List Decl) (marks : List Bool) (r : Bool) → decls ≡ d.decls → marks ≡ map (reached_within n d) d.decls
     → r ≡ is_reached_reader name decls marks → is_among name (sink_inputs d.decls) ≡ false → r ≡ is_reached n d name
 reached_by zero d name decls marks r e m h unnamed =

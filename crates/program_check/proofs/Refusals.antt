@@ -1,4 +1,4 @@
--- What is told of a candidate that breaks a rule, and one more rule that it keeps.
+-- The refusal of a candidate that breaks a rule, and one more rule that a candidate keeps.
 use Rattle.std.proofs.Common.{◌≡◌, ◌≢◌, ◌+◌, ◌++◌, ◌==◌, inl, inr, not, ℕ, true, false, Some, List, [], ◌∷◌, drop, get_or, length, slice_get, take, refl, ap, subst, sym, ◌∙◌, arith}
 use Rattle.std.proofs.lemmas.Bool.{cases_eq, eq-eqb, ne_eqb}
 use Rattle.std.proofs.lemmas.List.{drop_more, take-append-drop}

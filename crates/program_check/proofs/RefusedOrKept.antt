@@ -1,4 +1,4 @@
--- A draft that is refused breaks a rule: one that keeps every rule isn't.
+-- A draft that is refused breaks a rule, so one that keeps every rule isn't refused.
 use Rattle.std.proofs.Common.{◌≡◌, ◌++◌, inl, inr, ℕ, List, [], ◌∷◌, refl, subst, sym, append_assoc, append-nil}
 use Rattle.std.proofs.lemmas.Bool.{both_ways}
 use Rattle.tac_syntax.specs.Valid.{WithFields}

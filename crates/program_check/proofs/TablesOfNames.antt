@@ -1,4 +1,4 @@
--- What a table of names tells: of each name how often it stands among those that were added.
+-- What a table says of a name: whether it was added, and whether more than once.
 use Rattle.std.proofs.Common.{◌≡◌, ◌+◌, ◌++◌, ◌∷◌, [], inl, inr, ℕ, zero, suc, Bool, false, List, Some, Bor, is_some, bytes_eq, refl, sym, ap, subst, ◌∙◌, arith}
 use Rattle.std.proofs.lemmas.Bool.{cases_Bool, cond-false, cond-true}
 use Rattle.std.proofs.lemmas.Map.Text.{hash_map_updates_str}
@@ -13,7 +13,7 @@ once_more zero = refl
 once_more (suc zero) = refl
 once_more (suc (suc n)) = let e : suc (suc n) + 1 ≡ suc (suc (suc n)) = omega arith in ap mark_of e
 
--- ---- one name more
+-- ---- one more name
 
 times-same : (name : List ℕ) (names : List (List ℕ)) → times_among name (names ++ name ∷ []) ≡ times_among name names + 1
 times-same name names =
@@ -27,7 +27,7 @@ times-other q name names other =
     let all = times-append q names (name ∷ []) in
     omega (arith, none, all)
 
--- The name stands once more among the names, and is marked so; the marks of the others stay.
+-- The name occurs once more among the names, and is marked accordingly. The marks of the others stay.
 pub added : {S : Type 0} (old new : IndexMap (Bor (List ℕ)) Bool S) (name : List ℕ) (b : Bool) → UpdatesBy (λ x y. bytes_eq x.now y.now) (λ k. bytes_eq name k.now) old new (Some b)
     → b ≡ is_some (get_by (λ k. bytes_eq name k.now) old) → (names : List (List ℕ)) → IsTableOf names old → IsTableOf (names ++ name ∷ []) new
 added {S} old new name b updates is names h q =
@@ -42,7 +42,7 @@ added {S} old new name b updates is names h q =
       | inr other ↦ put q ∙ cond-false (bytes_eq name q) (Some b) (of_old q) other ∙ h q ∙ ap mark_of (sym (times-other q name names (nat_list_eq_equiv.symm q name ∙ other)))
     ]
 
--- ---- what it tells
+-- ---- what a mark says
 
 marked-among : (name : List ℕ) (names : List (List ℕ)) → is_some (mark_of (times_among name names)) ≡ is_among name names
 marked-among name [] = refl

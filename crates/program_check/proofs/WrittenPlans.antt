@@ -95,7 +95,7 @@ reader_found d test name (OpDecl own kind function left right left_keys right_ke
     ]
 reader_found d test name (Sink input fields ∷ decls) h = reader_found d test name decls h
 
--- the root is the one that the sink names, and each name stands once
+-- If each name occurs once, only the root has the name that the sink names.
 at_root : (d : DraftData) (input : List ℕ) → sink_inputs d.decls ≡ input ∷ [] → ((m : ℕ) (name : List ℕ) → slice_get (node_names d.decls) m ≡ Some name → place_among name (node_names d.decls) ≡ m)
     → (m : ℕ) (name : List ℕ) → slice_get (node_names d.decls) m ≡ Some name → is_among name (sink_inputs d.decls) ≡ true → m ≡ place_among input (node_names d.decls)
 at_root d input one only m name e h =

@@ -1,10 +1,10 @@
--- Tables of names, by which they are found fast.
+-- Hash tables of names.
 use Rattle.std.specs.Prelude.{◌≡◌, ℕ, zero, suc, Bool, true, false, List, Option, Some, None, bytes_eq}
 use Rattle.std.specs.Borrow.{Bor}
 use Rattle.indexmap.specs.IndexMap.{IndexMap, get_by}
 use Rattle.pact_operators.specs.Resolved.{times_among}
 
--- what a table has of a name that stands so often among the names: whether it stands there more than once
+-- the mark of a name that occurs this many times: None if never, and otherwise whether it occurs more than once
 abbrev pub mark_of : ℕ → Option Bool
 mark_of zero = None
 mark_of (suc zero) = Some false

@@ -12,7 +12,7 @@ inputs_as Nothing = no_input
 inputs_as (One at) = one_input at
 inputs_as (Two left right) = two_inputs left right
 
--- a plan of at most so many nodes follows the inputs from this number on
+-- A plan of at most `count` nodes follows the inputs, and its root has the number `at`.
 pub record IsPlannedFrom (inputs : List Inputs) (at count : ℕ) : Type 0 where
   pub tree : PlanTree
   pub follows : Follows inputs tree

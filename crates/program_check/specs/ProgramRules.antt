@@ -20,7 +20,7 @@ use Rattle.pact_operators.specs.Resolved.{function_names, inputs_named, is_among
 
 -- ---- names
 
--- what a declaration is called in a refusal: the sink by what it names
+-- what a declaration is called in a refusal; a sink is called by its input
 abbrev pub name_at : List Function → Decl → List ℕ
 name_at functions (Source name file columns) = name
 name_at functions (FunctionDecl number) = get_or (function_names functions) number []
@@ -30,7 +30,7 @@ name_at functions (Sink input fields) = input
 abbrev pub some_missing : List (List ℕ) → List (List ℕ) → Bool
 some_missing names declared = list_any (λ name. not (is_among name declared)) names
 
--- P1: a function or an input that no declaration has
+-- P1: a function or an input that isn't declared
 abbrev pub is_undeclared : DraftData → Decl → Bool
 is_undeclared d (OpDecl name kind function left right left_keys right_keys) =
     not (is_among function (function_names d.functions)) || some_missing (names_read kind left right) (node_names d.decls)
@@ -61,7 +61,7 @@ is_pair decl = false
 abbrev pub times_so : (Decl → Bool) → List Decl → ℕ
 times_so test decls = length (filter test decls)
 
--- P8: as many stand before it as there may be
+-- P8: as many declarations of its sort come before it as a program may have
 abbrev pub is_one_too_many : List Decl → Decl → Bool
 is_one_too_many front decl =
     (is_function decl && nat_le function_limit (times_so is_function front))
@@ -70,22 +70,23 @@ is_one_too_many front decl =
 
 -- ---- the tree
 
--- all names that stand as inputs, of operators and of sinks
+-- the names of all inputs, of operators and of sinks
 abbrev pub all_inputs : List Decl → List (List ℕ)
 all_inputs [] = []
 all_inputs (decl ∷ decls) = inputs_named decl ++ all_inputs decls
 
--- the operator reads what has this name
+-- The operator reads the source or operator with this name.
 abbrev pub is_reader : List ℕ → Decl → Bool
 is_reader name (OpDecl own kind function left right left_keys right_keys) = is_among name (names_read kind left right)
 is_reader name decl = false
 
--- A sink names it, or an operator that reads it is reached so, over at most so many operators.
+-- A sink names it, or an operator that is itself reached reads it. The path to the sink has at most n operators.
 abbrev pub is_reached : ℕ → DraftData → List ℕ → Bool
 is_reached zero d name = is_among name (sink_inputs d.decls)
 is_reached (suc n) d name = is_among name (sink_inputs d.decls) || list_any (λ decl. is_reader name decl && is_reached n d (name_at d.functions decl)) d.decls
 
--- P7: not read once, or not reached; a way to the sink meets no operator twice
+-- P7: not read exactly once, or not reached. A path to the sink has no operator twice, so the number of operators
+-- bounds its length.
 abbrev pub is_out_of_tree : DraftData → List ℕ → Bool
 is_out_of_tree d name = not (times_among name (all_inputs d.decls) == 1) || not (is_reached (times_so is_operator d.decls) d name)
 
@@ -122,14 +123,14 @@ abbrev pub is_key_count : Option Function → ℕ → Bool
 is_key_count None count = false
 is_key_count (Some f) count = f.keys == count
 
--- the lists of a Match are of one length, those of a Reduce and a CoGroup have the function's number of keys
+-- The key lists of a Match are equally long. Those of a Reduce and a CoGroup have the function's number of keys.
 abbrev pub are_key_counts : OpKind → Option Function → ℕ → ℕ → Bool
 are_key_counts Reduce f left right = is_key_count f left
 are_key_counts Match f left right = left == right
 are_key_counts CoGroup f left right = is_key_count f left && is_key_count f right
 are_key_counts kind f left right = true
 
--- P4
+-- P4: the lengths of the key lists don't fit.
 abbrev pub has_other_key_count : DraftData → Decl → Bool
 has_other_key_count d (OpDecl name kind function left right left_keys right_keys) =
     not (are_key_counts kind (function_named d.functions function) (length left_keys) (length right_keys))
@@ -153,7 +154,8 @@ times_in k (j ∷ js) = if k == j then times_in k js + 1 else times_in k js
 abbrev pub some_too_large : ℕ → List ℕ → Bool
 some_too_large bound fields = list_any (λ k. nat_le bound k) fields
 
--- P10: a column's field that is one of another column too, or that is no field of the program; a sink's field that is none
+-- P10: a column's field that another column has too, or that isn't a field of the program; a sink's field that isn't
+-- one
 abbrev pub has_wrong_field : DraftData → Decl → Bool
 has_wrong_field d (Source name file columns) = list_any (λ k. nat_le 2 (times_in k (all_columns d.decls))) (column_fields columns) || some_too_large d.fields (column_fields columns)
 has_wrong_field d (Sink input fields) = some_too_large d.fields fields
@@ -182,15 +184,16 @@ abbrev pub SidesShare : List WithFields → List Op → PlanTree → Type 0
 SidesShare valids ops (both n t u) = (k : ℕ) × HasAttribute valids ops t k × HasAttribute valids ops u k
 SidesShare valids ops tree = ⊥
 
--- P6, in the plan as written
+-- P6: the two sides share an attribute, in the plan as written
 abbrev pub SharesAttribute : DraftData → List WithFields → PlanTree → Decl → Type 0
 SharesAttribute d valids tree (OpDecl name kind function left right left_keys right_keys) =
     SidesShare valids (ops_of (function_names d.functions) d.decls) (subtree_of (place_among name (node_names d.decls)) tree)
 SharesAttribute d valids tree decl = ⊥
 
--- ---- the first that stands
+-- ---- the first rule that is broken
 
--- A declaration breaks a rule, behind those before it. P5 and P6 speak of the plan as written, which there is where no rule before them is broken.
+-- A declaration breaks a rule, given the declarations before it. P5 and P6 are about the plan as written, which exists
+-- if no rule before them is broken.
 abbrev pub Breaks : ProgramRule → DraftData → List WithFields → List Decl → Decl → Type 0
 Breaks Undeclared d valids front decl = is_undeclared d decl ≡ true
 Breaks DeclaredTwice d valids front decl = is_declared_twice d decl ≡ true
@@ -203,7 +206,7 @@ Breaks WrongField d valids front decl = has_wrong_field d decl ≡ true
 Breaks NoAttribute d valids front decl = (tree : PlanTree) × IsWrittenPlan d tree × LacksAttribute d valids tree decl
 Breaks SharedAttribute d valids front decl = (tree : PlanTree) × IsWrittenPlan d tree × SharesAttribute d valids tree decl
 
--- behind so many declarations, none of the others breaks the rule
+-- After the declarations of `front`, none of the others breaks the rule.
 abbrev pub NoneBreaks : ProgramRule → DraftData → List WithFields → List Decl → List Decl → Type 0
 NoneBreaks rule d valids front [] = Unit {0}
 NoneBreaks rule d valids front (decl ∷ decls) = (¬ Breaks rule d valids front decl) × NoneBreaks rule d valids (front ++ decl ∷ []) decls
@@ -225,11 +228,12 @@ pub record FirstBreak (rule : ProgramRule) (d : DraftData) (valids : List WithFi
   pub breaks : Breaks rule d valids front decl
   pub named : name ≡ name_at d.functions decl
 
--- A rule is broken and told by the first declaration that breaks it; that there isn't one sink is told with no name.
+-- A rule is broken, and the name is that of the first declaration that breaks it. If there isn't exactly one sink, the
+-- name is empty.
 abbrev pub IsBrokenAt : ProgramRule → DraftData → List WithFields → List ℕ → Type 0
 IsBrokenAt rule d valids name = FirstBreak rule d valids name ⊎ ((rule ≡ NoSingleSink) × (has_no_single_sink d ≡ true) × (name ≡ []))
 
--- the order in which rules are told, and the number of each
+-- the order in which rules are checked, and the number of each
 abbrev pub order_of : ProgramRule → ℕ
 order_of Undeclared = 0
 order_of DeclaredTwice = 1

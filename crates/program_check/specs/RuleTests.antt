@@ -1,4 +1,4 @@
--- The rules that are told from the declarations alone, as tests.
+-- The rules that need only the declarations, as tests.
 use Rattle.std.specs.Prelude.{◌≡◌, ◌&&◌, ◌||◌, nat_le, ℕ, zero, suc, Bool, false, List, ◌∷◌, map}
 use Rattle.program_check.specs.declared.counts.Counts.{Counts}
 use Rattle.tac_syntax.specs.declared.declarations.Decl.{Decl}
@@ -8,18 +8,19 @@ use Rattle.tac_syntax.specs.Drafts.{DraftData}
 use Rattle.program_check.specs.ProgramRules.{has_other_key_count, has_other_kind, has_wrong_field, is_declared_twice, is_function, is_not_in_tree, is_operator, is_pair, is_reached, is_reader, is_undeclared, times_so, name_at}
 use Rattle.pact_operators.specs.Programs.{function_limit, operator_limit, pair_limit}
 
--- of declarations of each sort among these
+-- how many declarations of each sort are among these
 abbrev pub counts_of : List Decl → Counts
 counts_of decls = record { functions = times_so is_function decls; operators = times_so is_operator decls; pairs = times_so is_pair decls }
 
--- as many stand before a declaration as there may be
+-- The declaration would exceed a limit.
 abbrev pub is_past_limit : Counts → Decl → Bool
 is_past_limit counts decl =
     (is_function decl && nat_le function_limit counts.functions)
     || (is_operator decl && nat_le operator_limit counts.operators)
     || (is_pair decl && nat_le pair_limit counts.pairs)
 
--- Whether a declaration breaks the rule, behind declarations of these counts; of a rule that isn't told so, none does.
+-- Whether a declaration breaks the rule, after declarations of these counts. False for the rules about attributes, and
+-- for the rule of one sink.
 abbrev pub breaks : ProgramRule → DraftData → Counts → Decl → Bool
 breaks Undeclared d counts decl = is_undeclared d decl
 breaks DeclaredTwice d counts decl = is_declared_twice d decl
@@ -32,12 +33,12 @@ breaks rule d counts decl = false
 
 -- ---- what is reached
 
--- over fewer operators than so many
+-- reached over fewer than n operators
 abbrev pub is_reached_within : ℕ → DraftData → List ℕ → Bool
 is_reached_within zero d name = false
 is_reached_within (suc n) d name = is_reached n d name
 
--- at each operator, whether it is reached over fewer than so many; false at the other declarations
+-- for an operator, whether it is reached over fewer than n operators; false for other declarations
 abbrev pub reached_within : ℕ → DraftData → Decl → Bool
 reached_within n d decl = is_operator decl && is_reached_within n d (name_at d.functions decl)
 
@@ -45,7 +46,7 @@ reached_within n d decl = is_operator decl && is_reached_within n d (name_at d.f
 abbrev pub AreReached : DraftData → List Bool → Type 0
 AreReached d marks = marks ≡ map (reached_within (times_so is_operator d.decls) d) d.decls
 
--- one of the operators that are marked reads what has this name
+-- One of the marked operators reads the source or operator with this name.
 abbrev pub is_reached_reader : List ℕ → List Decl → List Bool → Bool
 is_reached_reader name (decl ∷ decls) (mark ∷ marks) = (is_reader name decl && mark) || is_reached_reader name decls marks
 is_reached_reader name decls marks = false

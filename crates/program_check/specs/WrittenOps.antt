@@ -1,4 +1,4 @@
--- Sources and operators while their keys may still be no fields of a program.
+-- Sources and operators whose keys may still be too large to be fields.
 use Rattle.std.specs.Prelude.{◌≤◌, nat_lt, ℕ, List, length, filter, map}
 use Rattle.pact_record.specs.declared.records.TheConstants.{MAX_FIELDS}
 use Rattle.pact_record.specs.Keys.{key_limit}
@@ -8,7 +8,7 @@ use Rattle.pact_operators.specs.declared.operators.Op.{Op}
 use Rattle.tac_syntax.specs.Drafts.{DraftData}
 use Rattle.pact_operators.specs.Resolved.{function_names, ops_of}
 
--- those of the numbers that can be fields
+-- the numbers that can be fields
 abbrev pub small_keys : List ℕ → List ℕ
 small_keys keys = filter (λ k. nat_lt k MAX_FIELDS) keys
 
@@ -20,7 +20,7 @@ with_small_keys op =
 abbrev pub small_ops : DraftData → List Op
 small_ops d = map with_small_keys (ops_of (function_names d.functions) d.decls)
 
--- a declaration's lists of keys are no longer than those of an operator may be
+-- A declaration's lists of keys are no longer than those of an operator may be.
 abbrev pub HasFewKeys : Decl → Type 0
 HasFewKeys (OpDecl name kind function left right left_keys right_keys) = (length left_keys ≤ key_limit) × (length right_keys ≤ key_limit)
 HasFewKeys decl = Unit {0}

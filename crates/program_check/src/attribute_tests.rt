@@ -19,7 +19,7 @@ use tac_syntax::Decl;
 fn has_field(fields: Fields, field: u32) -> bool
     ensures { result ≡ has_field fields field }
 {
-    // no set has a larger field
+    // `has` makes it known that no set has a field from `MAX_FIELDS` on.
     let _others = fields.has(0);
     field < MAX_FIELDS && fields.has(field)
 }
@@ -36,12 +36,12 @@ fn is_some_absent(fields: Fields, keys: &[u32]) -> bool
     false
 }
 
-// The plan below the operator with this name.
+// The subtree of the plan whose root is the operator with this name.
 fn subtree_named(candidate: &Candidate, plan: &Plan, name: &Word) -> Plan
     requires { has (place_among name.now (node_names candidate.now.draft.decls)) plan.now ≡ true }
     ensures { result ≡ subtree_of (place_among name.now (node_names candidate.now.draft.decls)) plan.now }
 {
-    // its numbers are below the limit
+    // `root` makes it known that the plan's numbers are below the limit.
     let _root = plan.root();
     plan.subtree(place_among(name.bytes(), candidate.nodes()) as u32)
 }
@@ -125,7 +125,7 @@ fn shares_attribute(candidate: &Candidate, ops: &[Op], plan: &Plan, decl: &Decl)
     }
 }
 
-/// Whether a declaration breaks the rule in the plan. No declaration breaks a rule that isn't about attributes.
+/// Whether a declaration breaks the rule in the plan. False for a rule that isn't about attributes.
 pub fn breaks_attributes(
     rule: ProgramRule,
     candidate: &Candidate,

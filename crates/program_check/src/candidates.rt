@@ -15,7 +15,8 @@ use std::alloc::Global;
 use std::marker::Model;
 use tac_syntax::{Decl, Draft, Valid, functions_of};
 
-/// A draft and its valid functions, with the names and columns of its declarations gathered once, and names that may be many also by hash.
+/// A draft and its valid functions, with the names and columns of its declarations gathered once. The names of
+/// functions, and those of sources and operators, are also in hash tables, since there may be many.
 #[derive(Drop)]
 pub struct Candidate<'a> {
     draft: &'a Draft,
@@ -120,21 +121,21 @@ impl<'a> Candidate<'a> {
         self.by_node.contains(name)
     }
 
-    /// Whether two of them have it.
+    /// Whether two sources or operators have the name.
     pub fn has_node_twice(&self, name: &[u8]) -> bool
         ensures { result ≡ nat_le 2 (times_among name.now (node_names self.now.draft.decls)) }
     {
         self.by_node.has_twice(name)
     }
 
-    /// The names that stand as inputs.
+    /// The names of inputs, of operators and of sinks.
     pub fn inputs(&self) -> &[Word]
         ensures { result.now ≡ all_inputs self.now.draft.decls }
     {
         &self.inputs
     }
 
-    /// The names that stand as inputs of sinks.
+    /// The names of the inputs of sinks.
     pub fn sinks(&self) -> &[Word]
         ensures { result.now ≡ sink_inputs self.now.draft.decls }
     {

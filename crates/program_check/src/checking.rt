@@ -22,7 +22,7 @@ use plan_trees::Plan;
 use std::alloc::Global;
 use tac_syntax::{Draft, Valid, ValidList};
 
-/// Why a draft is no program.
+/// Why a draft isn't a program.
 #[derive(Debug, Drop)]
 pub enum NotProgram {
     /// The code of the first rule that is broken, and what the first declaration that breaks it is called.
@@ -57,7 +57,7 @@ fn code_of(rule: ProgramRule) -> u32
     }
 }
 
-// The refusal of a candidate in which the declaration at this place is the first that breaks the rule.
+// The refusal of a candidate, if the declaration at `place` is the first that breaks the rule.
 fn refusal(alloc: Global, rule: ProgramRule, candidate: &Candidate, place: usize) -> NotProgram
     requires first { BreaksFirstAt rule candidate.now place }
     requires earlier { KeepsBefore (order_of rule) candidate.now }
@@ -125,12 +125,12 @@ fn check_sinks(alloc: Global, candidate: &Candidate) -> Result<(), NotProgram>
     Ok(())
 }
 
-// The rules that are told from the declarations alone, in their order.
+// Checks the rules that need only the declarations, in their order.
 fn check_declarations(alloc: Global, candidate: &Candidate) -> Result<(), NotProgram>
     ensures kept { IfOk result (λ _. KeepsBefore (order_of NoAttribute) candidate.now) }
     ensures refused { IfErr result (λ e. IsToldBy candidate.now.draft candidate.now.valids e) }
 {
-    // one rule alone asks which operators are reached
+    // Only the rule `NotATree` needs to know which operators are reached.
     check_rule(alloc, ProgramRule::Undeclared, candidate, &[])?;
     check_rule(alloc, ProgramRule::DeclaredTwice, candidate, &[])?;
     check_sinks(alloc, candidate)?;
@@ -142,7 +142,7 @@ fn check_declarations(alloc: Global, candidate: &Candidate) -> Result<(), NotPro
     check_rule(alloc, ProgramRule::WrongField, candidate, &[])
 }
 
-// What a program has besides its functions.
+// What a program has in addition to its functions.
 #[derive(Drop)]
 struct Resolved {
     ops: Vec<Op>,
@@ -167,8 +167,8 @@ fn resolve(alloc: Global, draft: &Draft, valids: &[Valid]) -> Result<Resolved, N
     Ok(Resolved { ops, plan, sink })
 }
 
-/// The program that the draft declares, with its functions as they were found valid. No answer but that of
-/// want of memory is free.
+/// The program that the draft declares, with its functions, which were found valid. Only out of memory may be reported
+/// without a cause in the draft.
 pub fn check_program(
     alloc: Global,
     draft: &Draft,
@@ -182,7 +182,7 @@ pub fn check_program(
     ensures refused { IfErr result (λ e. IsToldBy draft.now functions e) }
     ensures complete { ((rule : ProgramRule) → Keeps rule draft.now functions) → IfErr result (λ e. e ≡ Memory) }
 {
-    // Its clause says that some text spells the draft.
+    // `decls` makes it known that some text spells the draft.
     let _decls = draft.decls();
     let resolved = resolve(alloc, draft, functions.functions())?;
     Ok(Program::of(

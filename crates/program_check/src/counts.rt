@@ -6,7 +6,7 @@ ghost use Rattle.program_check.specs.RuleTests.{is_past_limit};
 
 use tac_syntax::{Decl, OpKind};
 
-// A program has at most so many functions, operators, and operators that are a Match or a Cross.
+// The most functions that a program can have, the most operators, and the most operators that are a Match or a Cross.
 const MAX_FUNCTIONS: usize = 64;
 
 const MAX_OPERATORS: usize = 16;
@@ -40,7 +40,7 @@ impl Counts {
         }
     }
 
-    /// With one more declaration.
+    /// The counts with one more declaration.
     pub fn with(self, decl: &Decl) -> Counts
         requires functions { self.functions + 1 < 2 ^ 64 }
         requires operators { self.operators + 1 < 2 ^ 64 }
@@ -56,7 +56,7 @@ impl Counts {
         }
     }
 
-    /// Whether as many are counted as there may be before the declaration.
+    /// Whether the declaration would exceed a limit.
     pub fn leave_no_room(self, decl: &Decl) -> bool
         ensures { result ≡ is_past_limit self decl.now }
     {

@@ -16,7 +16,7 @@ use crate::rule_tests::is_broken;
 use pact_operators::Op;
 use plan_trees::Plan;
 
-/// The place of the first declaration that breaks a rule which is told from the declarations alone.
+/// The place of the first declaration that breaks a rule, for rules that need only the declarations.
 pub fn first_break(rule: ProgramRule, candidate: &Candidate, reached: &[bool]) -> Option<usize>
     requires early { order_of rule < order_of NoAttribute }
     requires reached { rule ≡ NotATree → AreReached candidate.now.draft reached.now }

@@ -1,4 +1,4 @@
-//! Names among names.
+//! Names, looked up in lists of names.
 
 ghost use Rattle.std.specs.Prelude.{◌≡◌, ◌≤◌, ◌++◌, ◌∷◌, [], length, IfOk};
 ghost use Rattle.program_check.specs.ProgramRules.{times_in};
@@ -18,7 +18,7 @@ pub fn is_among(name: &[u8], names: &[Word]) -> bool
     false
 }
 
-/// The place of the first that is the name, or the number of names where none is.
+/// The place of the name's first occurrence, or the number of names if it doesn't occur.
 pub fn place_among(name: &[u8], names: &[Word]) -> usize
     ensures place { result ≡ place_among name.now names.now }
     ensures within { result ≤ length names.now }
@@ -55,7 +55,7 @@ pub fn times_in(field: u32, fields: &[u32]) -> usize
     times
 }
 
-/// The names with one more behind them.
+/// The names with one more at the end.
 pub fn with_name(alloc: Global, names: Vec<Word>, name: &Word) -> Result<Vec<Word>, OutOfMemory>
     ensures { IfOk result (λ more. more.items ≡ names.items ++ name.now ∷ []) }
 {

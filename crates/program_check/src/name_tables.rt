@@ -1,4 +1,4 @@
-//! Names by hash, since a draft may declare many.
+//! Names in hash tables, since a draft may declare many.
 
 ghost use Rattle.std.specs.Prelude.{◌≡◌, ◌++◌, ◌∷◌, [], ℕ, List, nat_le, IfOk, OnOk};
 ghost use Rattle.program_check.specs.NameTables.{IsTableOf};
@@ -24,7 +24,6 @@ impl<'a> NameTable<'a> {
         }
     }
 
-    // Adds a name behind the others.
     fn add(&mut self, name: &'a [u8]) -> Result<(), OutOfMemory>
         ensures { OnOk result ((names : List (List ℕ)) → IsTableOf names self.old.marks → IsTableOf (names ++ name.now ∷ []) self.new.marks) }
     {
@@ -62,7 +61,7 @@ pub fn function_table<'a>(
     Ok(table)
 }
 
-// Adds the name of a declaration, where it is one of a source or an operator.
+// Adds the name of a declaration, if it is a source or an operator.
 fn add_node<'a>(table: &mut NameTable<'a>, decl: &'a Decl) -> Result<(), OutOfMemory>
     ensures { OnOk result ((names : List (List ℕ)) → IsTableOf names table.old.marks → IsTableOf (names ++ node_names (decl.now ∷ [])) table.new.marks) }
 {

@@ -1,6 +1,6 @@
 //! The rules that a program's declarations keep.
 
-/// A rule of programs, in the order in which they are told.
+/// A rule of programs, in the order in which they are checked. The first one that is broken is reported.
 #[derive(Clone, Copy, Debug, PartialEq, Eq)]
 pub enum ProgramRule {
     /// P1: each function, input and sink's input is declared.
@@ -15,7 +15,8 @@ pub enum ProgramRule {
     NotATree,
     /// P3: a function is of its operator's kind.
     OtherKind,
-    /// P4: the key lists of a Match or CoGroup are equally long, and those of a Reduce or CoGroup as long as the function says.
+    /// P4: the key lists of a Match or CoGroup are equally long, and those of a Reduce or CoGroup have the function's
+    /// number of keys.
     OtherKeyCount,
     /// P10: no field is a column twice, and the fields of columns and of the sink are fields of the program.
     WrongField,

@@ -10,7 +10,7 @@ use pact_record::OutOfMemory;
 use std::alloc::Global;
 use tac_syntax::{Decl, OpKind};
 
-// Whether the declaration is an operator that reads what has this name.
+// Whether the declaration is an operator that reads the source or operator with this name.
 fn is_reader(name: &[u8], decl: &Decl) -> bool
     ensures { result ≡ is_reader name.now decl.now }
 {
@@ -31,7 +31,7 @@ fn is_reader(name: &[u8], decl: &Decl) -> bool
     }
 }
 
-// Whether one of the reached operators reads what has this name.
+// Whether one of the reached operators reads the source or operator with this name.
 fn is_read_by_reached(name: &[u8], decls: &[Decl], reached: &[bool]) -> bool
     requires { length reached.now ≡ length decls.now }
     ensures { result ≡ is_reached_reader name.now decls.now reached.now }
@@ -44,7 +44,7 @@ fn is_read_by_reached(name: &[u8], decls: &[Decl], reached: &[bool]) -> bool
     false
 }
 
-// Whether a sink or one of the reached operators reads what has this name.
+// Whether a sink or one of the reached operators reads the source or operator with this name.
 fn is_reached(candidate: &Candidate, reached: &[bool], name: &[u8]) -> bool
     requires { length reached.now ≡ length candidate.now.draft.decls }
     ensures { (n : ℕ) → reached.now ≡ map (reached_within n candidate.now.draft) candidate.now.draft.decls → result ≡ is_reached n candidate.now.draft name.now }
@@ -52,7 +52,7 @@ fn is_reached(candidate: &Candidate, reached: &[bool], name: &[u8]) -> bool
     is_among(name, candidate.sinks()) || is_read_by_reached(name, candidate.decls(), reached)
 }
 
-// The operators that are reached over one operator more.
+// The operators that are reached over one more operator.
 fn next_reached(
     alloc: Global,
     candidate: &Candidate,
@@ -80,8 +80,8 @@ fn none_reached(alloc: Global, candidate: &Candidate) -> Result<Vec<bool>, OutOf
     Ok(reached)
 }
 
-/// At each operator, whether it is reached; false at the other declarations. There is one round over the
-/// declarations for each operator.
+/// For each operator, whether it is reached; false for other declarations. It goes through the declarations once for
+/// each operator.
 pub fn reached_operators(alloc: Global, candidate: &Candidate) -> Result<Vec<bool>, OutOfMemory>
     ensures { IfOk result (λ reached. AreReached candidate.now.draft reached.items) }
 {
@@ -101,7 +101,7 @@ fn is_out_of_tree(candidate: &Candidate, reached: &[bool], name: &[u8]) -> bool
     times_among(name, candidate.inputs()) != 1 || !is_reached(candidate, reached, name)
 }
 
-/// Whether the declaration is a source or an operator that isn't read once, or isn't reached.
+/// Whether the declaration is a source or an operator that isn't read exactly once, or isn't reached.
 pub fn is_not_in_tree(candidate: &Candidate, reached: &[bool], decl: &Decl) -> bool
     requires { AreReached candidate.now.draft reached.now }
     ensures { result ≡ is_not_in_tree candidate.now.draft decl.now }

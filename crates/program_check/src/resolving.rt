@@ -14,7 +14,7 @@ use pact_record::{Columns, Keys, MAX_FIELDS, OutOfMemory, Word};
 use std::alloc::Global;
 use tac_syntax::{Decl, OpKind};
 
-// Those of the numbers that can be fields.
+// The numbers that can be fields.
 fn small_keys(numbers: &[u32]) -> Keys
     requires { length numbers.now ≤ key_limit }
     ensures { result ≡ small_keys numbers.now }

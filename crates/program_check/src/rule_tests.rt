@@ -1,4 +1,4 @@
-//! Whether a declaration breaks a rule that is told from the declarations alone.
+//! Whether a declaration breaks a rule that needs only the declarations.
 
 ghost use Rattle.std.specs.Prelude.{◌≡◌, nat_le, Some, None, IfSome, IfNone};
 ghost use Rattle.std.specs.List.{list_any};
@@ -15,7 +15,7 @@ use crate::reached::is_not_in_tree;
 use pact_record::{Column, Word};
 use tac_syntax::{Decl, Function, Kind, OpKind, functions_of};
 
-// Whether no source or operator has a name that an operator of this kind reads.
+// Whether an operator of this kind reads a name that no source or operator has.
 fn is_some_missing(candidate: &Candidate, kind: OpKind, left: &Word, right: &Word) -> bool
     ensures { result ≡ some_missing (names_read kind left.now right.now) (node_names candidate.now.draft.decls) }
 {
@@ -98,7 +98,7 @@ fn has_other_kind(candidate: &Candidate, decl: &Decl) -> bool
     }
 }
 
-// Whether there is a function of this name, with so many keys.
+// Whether there is a function of this name with `count` keys.
 fn has_keys(candidate: &Candidate, function: &Word, count: usize) -> bool
     ensures { result ≡ is_key_count (function_named candidate.now.draft.functions function.now) count }
 {
@@ -108,7 +108,7 @@ fn has_keys(candidate: &Candidate, function: &Word, count: usize) -> bool
     }
 }
 
-// Whether an operator of this kind that calls the function may have so many keys.
+// Whether an operator of this kind that calls the function may have key lists of these lengths.
 fn are_key_counts(
     candidate: &Candidate,
     kind: OpKind,
@@ -199,8 +199,8 @@ fn has_wrong_field(candidate: &Candidate, decl: &Decl) -> bool
     }
 }
 
-/// Whether a declaration breaks the rule, behind so many others. No declaration breaks a rule that isn't
-/// told from the declarations alone.
+/// Whether a declaration breaks the rule, after declarations of these counts. False for the rules about attributes, and
+/// for the rule of one sink, which no single declaration breaks.
 pub fn is_broken(
     rule: ProgramRule,
     candidate: &Candidate,

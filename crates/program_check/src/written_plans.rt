@@ -67,7 +67,7 @@ fn all_reads(alloc: Global, nodes: &[Word], decls: &[Decl]) -> Result<Vec<Reads>
     Ok(reads)
 }
 
-// The tree from this number on. It has at most `count` nodes, which bounds the recursion.
+// The tree whose root has the number `at`. It has at most `count` nodes, which bounds the recursion.
 fn tree_at(reads: &[Reads], at: usize, count: u32) -> Plan
     requires { IsPlannedFrom (map inputs_as reads.now) at count }
     ensures follows { Follows (map inputs_as reads.now) result }
@@ -84,7 +84,7 @@ fn tree_at(reads: &[Reads], at: usize, count: u32) -> Plan
     }
 }
 
-/// The tree of all sources and operators below what the sink names.
+/// The tree of all sources and operators, whose root is what the sink names.
 pub fn written_plan(alloc: Global, candidate: &Candidate) -> Result<Plan, OutOfMemory>
     requires { KeepsBefore (order_of OtherKind) candidate.now }
     ensures { IfOk result (λ plan. IsWrittenPlan candidate.now.draft plan) }

@@ -1,5 +1,5 @@
--- The lines of a program outside its functions, the first two and declarations: each has words of its own, and those words are the ones without
--- a fault.
+-- The lines of a program outside its functions: the first two, and declarations. Each has words of its own, and those
+-- words are the ones without a fault.
 use Rattle.pact_record.specs.declared.columns.Column.{Column}
 use Rattle.tac_syntax.specs.declared.declarations.OpKind.{OpKind}
 use Rattle.tac_syntax.specs.declared.declarations.OpKind.TheVariants.{Map, Reduce, Match, Cross, CoGroup, Source as SourceKind}
@@ -32,7 +32,7 @@ use Rattle.program_text.specs.FirstLines.{IsFieldCount, field_count_words, field
 
 -- ---- single words
 
--- a literal is no word as it stands in the line
+-- the bytes of a plain word; none for a literal
 abbrev pub plain_text : LineWord → List ℕ
 plain_text (plain_word bytes) = bytes
 plain_text (literal_word bytes) = []
@@ -51,7 +51,7 @@ column_in word =
 abbrev pub columns_in : List LineWord → List Column
 columns_in words = map (λ w. column_in (plain_text w)) words
 
--- the numbers in front of a word `=`
+-- the numbers before a word `=`
 abbrev pub numbers_in : List LineWord → List ℕ
 numbers_in [] = []
 numbers_in (word ∷ words) = if is_plain (codes "=") word then [] else number_in (plain_text word) ∷ numbers_in words
@@ -69,7 +69,7 @@ kind_in word =
     else (if bytes_eq word (codes "match") then Match
     else (if bytes_eq word (codes "cross") then Cross else CoGroup)))
 
--- keys stand behind the word `by`, which stands behind the last input
+-- the place of the first key: after the last input and the word `by`
 abbrev pub keys_at : OpKind → ℕ
 keys_at kind = if has_right kind then 6 else 5
 
@@ -87,7 +87,7 @@ decl_in words =
     else (if bytes_eq (plain_at words 0) (codes "sink") then Sink (plain_at words 1) (numbers_in (drop 2 words))
     else op_in (kind_in (plain_at words 0)) words)
 
--- ---- what stands in lists
+-- ---- the items of lists
 
 are_columns : AreItems column line_end column_word (λ c. IsNumber c.field)
 are_columns = record {
@@ -143,7 +143,7 @@ spells_keys words line h =
     let s = spells_line (number 0 255) number_word IsNumber (are_numbers line_end (λ _ _. refl)) key_limit words (omega arith) line h in
     (s.0, s.1, record { some = s.2; few = s.3; numbers = s.4 })
 
--- `=` and the keys behind it
+-- `=` and the keys after it
 keys_behind_equals : (more : List LineWord) → AreLineWords more → IsEnded (equals_then (numbers_fault key_limit)) more → (ns : List ℕ) × (more ≡ plain_word (codes "=") ∷ number_words ns) × IsKeyList ns
 keys_behind_equals [] line h = absurd cc
 keys_behind_equals (word ∷ words) line h =
@@ -159,7 +159,7 @@ spells_key_pair words line h =
     let all = s.parts ∙ ap (λ (more : List LineWord). number_words s.items ++ more) right.1 in
     ((s.items, right.0), all, (record { some = s.some; few = s.few; numbers = s.good }, right.2))
 
--- ---- what is read of words
+-- ---- what is read from words
 
 column_in-of : (field : ℕ) (text : Bool) → IsNumber field → column_in (column_text (record { field = field; text = text })) ≡ record { field = field; text = text }
 column_in-of field true h = ap (λ (n : ℕ). let c : Column = record { field = n; text = true } in c) (number_back field h)
@@ -200,7 +200,7 @@ faultless v (Sink input fields) h = rw (h.0, fields_fit (field_limit v) fields h
 
 -- ---- some words, and no other declaration's
 
--- no other declaration begins as a function does
+-- The first word isn't `function`, as in every declaration except a function's.
 abbrev pub OtherFirst : List LineWord → Type 0
 OtherFirst (plain_word word ∷ words) = bytes_eq word (codes "function") ≡ false
 OtherFirst words = ⊥
@@ -274,7 +274,7 @@ AreFine-words_of_decl v (Sink input fields) h =
 abbrev pub DeclFor : ℕ → List LineWord → Type 0
 DeclFor v words = (d : Decl) × (words ≡ words_of_decl d) × IsSpelledDecl v d
 
--- what a line ends with: the words without a fault are those of good values
+-- The end of a line: its words without a fault are those of good values.
 abbrev EndsIn : {X : Type 0} → (List LineWord → Option ℕ) → (X → List LineWord) → (X → Type 0) → Type 0
 EndsIn {X = X} behind spelled Good = (words : List LineWord) → AreLineWords words → behind words ≡ None → (x : X) × (words ≡ spelled x) × Good x
 
@@ -354,7 +354,7 @@ number_in-version_words v h = number_back v (omega (arith, small_version v h))
 pub version_words-unique : (v w : ℕ) → IsVersion v → IsVersion w → version_words v ≡ version_words w → v ≡ w
 version_words-unique v w h k e = sym (number_in-version_words v h) ∙ ap (λ (words : List LineWord). number_in (plain_at words 1)) e ∙ number_in-version_words w k
 
--- what the first line's reader answers
+-- the results of the first line's reader
 pub no_version_fault : (v what : ℕ) (words : List LineWord) → IsVersion v → words ≡ version_words v → version_fault words ≡ Some what → ⊥
 no_version_fault v what words h e told = let none = ap version_fault e ∙ version_faultless v h in cc
 
@@ -399,7 +399,7 @@ field_count_declared v (word ∷ words) some good h = by_cases (is_plain (codes 
     let f = filled_line (number 1 (field_limit v) ∷ []) words (omega (arith, wide_limit v), tt) good.1 rest in
     (f.0.0, (λ i. e i ∷ f.1 i), f.2.0)) (λ _ e. absurd cc) h
 
--- ---- what the second line's reader answers
+-- ---- the results of the second line's reader
 
 pub no_count_fault : (v count what : ℕ) (words : List LineWord) → IsFieldCount v count → words ≡ field_count_words count → fields_fault v words ≡ Some what → ⊥
 no_count_fault v count what words h e told = let none = ap (fields_fault v) e ∙ field_count_faultless v count h in cc

@@ -1,5 +1,5 @@
--- The lines of a text lead a reader of programs on exactly where a program's text goes on, each text of a program takes it to its draft, and what
--- the reader has come to is what was read.
+-- The lines of a text lead a reader of programs on exactly where a program's text goes on. Each text of a program leads
+-- it to the program's draft, and the reader's state is what was read.
 use Rattle.std.proofs.Common.{◌≡◌, ◌≤◌, ◌+◌, ℕ, true, List, [], ◌∷◌, ◌++◌, map, length, refl, ap, sym, subst, ◌∙◌, append_assoc, append-nil, arith, length-append, ◌≢◌, Bool, false, bytes_eq, codes, Some, None, inl}
 use Rattle.std.specs.List.{AllByRecursion}
 use Rattle.std.proofs.lemmas.List.{map-append}
@@ -121,7 +121,7 @@ program_leads d said h w =
       (w.spelled.version, ((w.spelled.some_field, w.spelled.few_fields), led.leads)),
     )
 
--- ---- what the reader has come to
+-- ---- the reader's state
 
 pub record ReadSo (d : DraftData) (lines : List ProgramLine) : Type 0 where
   pub decls : List ProgramLine
@@ -179,7 +179,7 @@ ended_read d f lines inner h b w t =
       };
     }
 
--- ---- a line more
+-- ---- one more line
 
 function_read : (d : DraftData) (s : FunctionState) (outer : List ProgramLine) (own : List FunctionLine) → ReadSo d outer → LedBy (has_registers d.version) s own → StateFront (in_program d s) (outer ++ map of_function own)
 function_read d waiting outer own read led = subst (ReadSo d) (sym (append-nil outer) ∙ ap (λ (x : List FunctionLine). outer ++ map of_function x) (sym led)) read
@@ -212,7 +212,7 @@ line_read s l lines h m = absurd m
 pub lines_read : (t : ProgramState) (lines : List ProgramLine) → Leads nothing_read lines t → StateFront t lines
 lines_read t lines h = Steps-kept MaySay said_on StateFront line_read nothing_read t [] lines refl h
 
--- what was read is of a version
+-- What was read fits its version.
 pub fits_version : (s : ProgramState) (lines : List ProgramLine) → StateFront s lines → FitsVersion s
 fits_version nothing_read lines h = tt
 fits_version (version_read v) lines h = h.1
@@ -244,7 +244,7 @@ not_both v d (header name kind keys) h k e =
     let other : true ≡ false = subst OtherFirst e (decl_first v d h) in cc
 not_both v d (inside l) h k e = k
 
--- ---- what may be said has words of its own
+-- ---- an allowed line has words of its own
 
 some_said : (s : ProgramState) (l : ProgramLine) → MaySay s l → words_of_program_line l ≢ []
 some_said nothing_read (version v) h = λ e. absurd cc
@@ -272,7 +272,7 @@ unique_said s l m h k e = absurd h
 pub program_sayings : AreSayings words_of_program_line MaySay
 program_sayings = record { some = some_said; unique = unique_said }
 
--- ---- and no fault
+-- ---- an allowed line has no fault
 
 fault_none : (s : ProgramState) → program_fault (program_place s) [] ≡ None
 fault_none nothing_read = refl
@@ -310,7 +310,7 @@ fault_complete (open_function d o) ws some good e = let h = (function_faults (ha
 pub program_faults : TellsFaults words_of_program_line MaySay (λ s. program_fault (program_place s))
 program_faults = record { none = fault_none; sound = fault_sound; complete = fault_complete }
 
--- ---- what may be said can be written
+-- ---- an allowed line can be written
 
 said_words : (s : ProgramState) (l : ProgramLine) → MaySay s l → AreLineWords (words_of_program_line l)
 said_words nothing_read (version v) h = AreLineWords-fine (version_words v) (AreFine-version_words v h)

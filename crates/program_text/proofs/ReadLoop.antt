@@ -1,4 +1,4 @@
--- What the reader of programs has come to behind some lines.
+-- The state of the reader of programs after some lines.
 use Rattle.std.proofs.Common.{◌≡◌, Bool, true, false, Result, Ok, Err, IfOk, List, ap, sym, subst, ◌∙◌, ◌<◌, ◌≤◌, ◌+◌, inl, inr, max, ℕ, [], ◌∷◌, ◌++◌, length, Some, None, IfErr, refl, append_assoc, append-nil, arith, length-append}
 use Rattle.tac_syntax.specs.Code.{close}
 use Rattle.tac_syntax.specs.Drafts.{DraftData}
@@ -39,13 +39,13 @@ inner_words d old now said ended is taken =
     let on = LeadsOn-TakesWords (has_registers d.version) false said old now (subst (λ (b : Bool). TakesWords (has_registers d.version) b said old now) is taken) in
     (of_function on.0, on.1, on.2, ap (in_program d) on.3)
 
--- what it is then takes fields from registers only where that may be
+-- The finished function takes fields from registers only if the version allows it.
 pub takes_whole : (d : DraftData) (o : OpenData) → FitsBuild (has_registers d.version) o.build → o.build.blocks ≡ [] → Takes (has_registers d.version) (function_of o).body
 takes_whole d o h none = h.1.2
 
--- ---- behind some lines
+-- ---- after some lines
 
--- so many lines of the text took it to this state, and the rest is left
+-- The first `lines` lines of the text led to this state, and the rest is left.
 pub record Reached (text rest : List ℕ) (lines : ℕ) (s : ProgramState) : Type 0 where
   pub front : List (List ℕ)
   pub all : lines_of text ≡ front ++ lines_of rest
@@ -72,7 +72,7 @@ told_fault text rest behind line lines s why h e fault =
     TellsFirst-line IsProgramText words_of_program_line MaySay said_on nothing_read program_place program_fault program_missing program_sayings program_faults reads_programs
     (lines_of text) h.front (lines_of behind) line (lines + 1) s why h.run (h.all ∙ ap (λ (x : List (List ℕ)). h.front ++ x) e) (omega (arith, h.counted)) fault
 
--- a text with a first fault is no program's
+-- A text with a first fault isn't a program's.
 pub faulty_is_none : (text : List (List ℕ)) (number what : ℕ) (d : DraftData) → IsFirstFault IsProgramText program_fault program_missing text number what → ProgramText d text → ⊥
 faulty_is_none text number what d (inl h) t = h.no_longer (h.later, (d, subst (ProgramText d) (h.lines ∙ sym (append_assoc h.front (h.line ∷ []) h.later)) t))
 faulty_is_none text number what d (inr h) t = h.not_whole (d, t)

@@ -8,11 +8,11 @@ use Rattle.text_lines.specs.Slots.{column, equals_then, fault_then, first_fault,
 
 -- ---- what a line ends with
 
--- one or more, and at most so many
+-- one or more columns, and at most `most`
 abbrev pub columns_fault : ℕ → List LineWord → Option ℕ
 columns_fault most words = list_fault column line_end most words
 
--- fields and keys are numbers up to 255
+-- one or more numbers, and at most `limit`; fields and keys are numbers up to 255
 abbrev pub numbers_fault : ℕ → List LineWord → Option ℕ
 numbers_fault limit words = list_fault (number 0 255) line_end limit words
 
@@ -22,7 +22,7 @@ key_pair_fault words = list_fault (number 0 255) (equals_then (numbers_fault key
 
 -- ---- lines
 
--- the words behind a line's first word, in a program of the version
+-- the fault of the words after a line's first word, in a program of the version
 abbrev pub word_fault : ℕ → List ℕ → List LineWord → Option ℕ
 word_fault version word words =
     if bytes_eq word (codes "source") then fault_then (columns_fault (field_limit version)) (identifier ∷ file_name ∷ []) words
@@ -34,7 +34,7 @@ word_fault version word words =
     else (if bytes_eq word (codes "sink") then fault_then (numbers_fault (field_limit version)) (identifier ∷ []) words
     else (if bytes_eq word (codes "else") || bytes_eq word (codes "end") then Some 10 else Some 3)))))))
 
--- the fault of a line's words, and None where they have none
+-- the fault of a line's words, or None
 abbrev pub declaration_fault : ℕ → List LineWord → Option ℕ
 declaration_fault version [] = None
 declaration_fault version (plain_word word ∷ words) = word_fault version word words

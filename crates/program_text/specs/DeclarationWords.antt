@@ -9,7 +9,7 @@ use Rattle.text_lines.specs.declared.line_words.LineWord.{LineWord}
 use Rattle.text_lines.specs.declared.line_words.LineWord.TheVariants.{Plain as plain_word}
 use Rattle.text_lines.specs.OperandWords.{column_text}
 
--- words as they stand in the line
+-- words as the line spells them
 abbrev pub plain_words : List (List ℕ) → List LineWord
 plain_words texts = map plain_word texts
 
@@ -23,7 +23,7 @@ number_words numbers = map number_word numbers
 abbrev pub column_word : Column → LineWord
 column_word c = plain_word (column_text c)
 
--- the keys of the left input, and behind `=` those of the right one
+-- the keys of the left input, `=`, and those of the right input
 abbrev pub key_pair_words : List ℕ → List ℕ → List LineWord
 key_pair_words left_keys right_keys = number_words left_keys ++ plain_word (codes "=") ∷ number_words right_keys
 
@@ -38,14 +38,14 @@ words_of_op Cross name function left right left_keys right_keys = plain_words (c
 words_of_op CoGroup name function left right left_keys right_keys =
     plain_words (codes "cogroup" ∷ name ∷ function ∷ left ∷ right ∷ codes "by" ∷ []) ++ key_pair_words left_keys right_keys
 
--- a function is declared by several lines, and has no words here
+-- A function is declared by several lines, and has no words here.
 abbrev pub words_of_decl : Decl → List LineWord
 words_of_decl (Source name file columns) = plain_words (codes "source" ∷ name ∷ file ∷ []) ++ map column_word columns
 words_of_decl (Function number) = []
 words_of_decl (Op name kind function left right left_keys right_keys) = words_of_op kind name function left right left_keys right_keys
 words_of_decl (Sink input fields) = plain_words (codes "sink" ∷ input ∷ []) ++ number_words fields
 
--- ---- an operator's line behind its first input
+-- ---- an operator's line after its first input
 
 -- whether operators of the kind have a second input
 abbrev pub has_right : OpKind → Bool

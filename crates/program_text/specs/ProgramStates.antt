@@ -1,4 +1,5 @@
--- Reading a program line by line: where its lines lead, and what its reader answers, of one declaration, line by line and as a whole.
+-- Reading a program line by line: the states that its lines lead to, and the results of its reader, for one
+-- declaration, for a line and for the whole text.
 use Rattle.std.specs.Prelude.{◌≡◌, ◌≤◌, ◌++◌, ℕ, List, ◌∷◌, map, length, Result, Ok, Err, codes, [], Bool, false, max, Some, bytes_eq}
 use Rattle.pact_record.specs.declared.columns.Column.{Column}
 use Rattle.tac_syntax.specs.declared.declarations.Decl.{Decl}
@@ -49,12 +50,12 @@ ReadsKeyPair (Err e) words = IsFaultOf e (key_pair_fault words)
 
 -- ---- one declaration
 
--- the declaration whose words these are behind this first word, or their fault
+-- These words after this first word make this declaration, or their fault is reported.
 abbrev pub ReadsDecl : ℕ → List ℕ → Result Decl NotRead → List LineWord → Type 0
 ReadsDecl v first (Ok d) words = IsSpelledDecl v d × (plain_word first ∷ words ≡ words_of_decl d)
 ReadsDecl v first (Err e) words = IsFaultOf e (word_fault v first words)
 
--- this declaration, or want of memory
+-- The result is this declaration, or out of memory.
 abbrev pub GivesDecl : Result Decl NotRead → Decl → Type 0
 GivesDecl r decl = Gives (λ found. found ≡ decl) r
 
@@ -71,7 +72,7 @@ words_of_program_line (field_count count) = field_count_words count
 words_of_program_line (declares decl) = words_of_decl decl
 words_of_program_line (of_function line) = words_of_function_line line
 
--- what was read: nothing yet, the version, a draft so far, and besides it a function that is open
+-- what was read: nothing yet, the version, a draft so far, or a draft and an open function
 pub data ProgramState : Type 0 where
   nothing_read : ProgramState
   version_read : (version : ℕ) → ProgramState
@@ -84,7 +85,7 @@ program_place (version_read v) = fields_due v
 program_place (drafted d) = between d.version
 program_place (open_function d o) = in_function (place_of (has_registers d.version) o.build)
 
--- what was read as the version is one, and a function's lines are of the version
+-- The version that was read is valid, and an open function's lines are of its version.
 abbrev pub FitsVersion : ProgramState → Type 0
 FitsVersion (version_read v) = IsVersion v
 FitsVersion (open_function d o) = FitsBuild (has_registers d.version) o.build
@@ -104,13 +105,13 @@ with_decl d decl = record { version = d.version; fields = d.fields; functions = 
 abbrev pub with_function : DraftData → Function → DraftData
 with_function d f = record { version = d.version; fields = d.fields; functions = d.functions ++ f ∷ []; decls = d.decls ++ FunctionDecl (length d.functions) ∷ [] }
 
--- where the lines of a function lead, behind a draft
+-- the state that the lines of a function lead to, after a draft
 abbrev pub in_program : DraftData → FunctionState → ProgramState
 in_program d waiting = drafted d
 in_program d (reading o) = open_function d o
 in_program d (whole f) = drafted (with_function d f)
 
--- behind a line; one that can't be said there leads nowhere
+-- the state after a line; a line that isn't allowed leaves it as it is
 abbrev pub said_on : ProgramState → ProgramLine → ProgramState
 said_on nothing_read (version number) = version_read number
 said_on (version_read v) (field_count count) = drafted (record { version = v; fields = count; functions = []; decls = [] })
@@ -123,9 +124,9 @@ said_on state line = state
 abbrev pub RunsTo : ProgramState → List (List ℕ) → ProgramState → Type 0
 RunsTo s text t = Runs words_of_program_line MaySay said_on s text t
 
--- ---- answers
+-- ---- results
 
--- what the reader holds
+-- the state that the reader holds
 abbrev pub state_of : State → ProgramState
 state_of state.NothingRead = nothing_read
 state_of (state.VersionRead v) = version_read v
@@ -136,22 +137,22 @@ abbrev pub begins_function : List LineWord → Bool
 begins_function (plain_word word ∷ words) = bytes_eq word (codes "function")
 begins_function words = false
 
--- the words are of a line that may be said there, and leads to this state
+-- The words are those of an allowed line, which leads to this state.
 abbrev pub LeadsOn : ProgramState → List LineWord → ProgramState → Type 0
 LeadsOn s words t = (l : ProgramLine) × (words ≡ words_of_program_line l) × MaySay s l × (t ≡ said_on s l)
 
--- what stands behind the last of so many lines
+-- the result after the last of `lines` lines
 abbrev pub EndsWith : ProgramState → ℕ → Result DraftData TextFault → Type 0
 EndsWith s lines (Ok d) = s ≡ drafted d
 EndsWith s lines (Err (told.At number what)) = (program_missing (program_place s) ≡ Some what) × (number ≡ max 1 lines)
 EndsWith s lines (Err told.Memory) = ⊥
 
--- this draft, or want of memory
+-- The result is this draft, or out of memory.
 abbrev pub GivesDraft : Result DraftData TextFault → DraftData → Type 0
 GivesDraft (Ok found) d = found ≡ d
 GivesDraft (Err (told.At number what)) d = ⊥
 GivesDraft (Err told.Memory) d = Unit {0}
 
--- the first fault of the text, and want of memory tells nothing
+-- the first fault of the text; out of memory says nothing about it
 abbrev pub TellsFirstFault : TextFault → List (List ℕ) → Type 0
 TellsFirstFault e text = TellsFirst IsProgramText program_fault program_missing e text

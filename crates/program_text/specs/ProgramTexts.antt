@@ -1,4 +1,4 @@
--- The text of a program, what is wrong with a text that is none, and what can be written.
+-- The text of a program, what is wrong with any other text, and what can be written.
 use Rattle.std.specs.Prelude.{◌≡◌, ◌≤◌, ℕ, Option, Some, None, List, [], ◌∷◌, ◌++◌, flat_map, slice_get, codes, bytes_eq, if◌then◌else◌}
 use Rattle.std.specs.List.{AllByRecursion}
 use Rattle.tac_syntax.specs.declared.declarations.Decl.{Decl}
@@ -24,7 +24,8 @@ use Rattle.tac_syntax.specs.Functions.{IsSpelledFunction}
 
 -- ---- the grammar
 
--- The words of declarations, one after the other: those of a function are its text, those of another are one line.
+-- The words of declarations, one after another. Those of a function are its text; those of any other declaration are
+-- one line.
 abbrev pub SpellsDecls : List Function → List Decl → List (List LineWord) → Type 0
 SpellsDecls functions [] said = (said ≡ []) × (functions ≡ [])
 SpellsDecls functions (Source name file columns ∷ decls) said =
@@ -41,12 +42,12 @@ SpellsDecls functions (Sink input fields ∷ decls) said =
 abbrev pub SpellsProgram : DraftData → List (List LineWord) → Type 0
 SpellsProgram d said = (decls : List (List LineWord)) × (said ≡ version_words d.version ∷ field_count_words d.fields ∷ decls) × SpellsDecls d.functions d.decls decls
 
--- some text spells it
+-- Some text spells the program.
 pub record IsWritableDraft (d : DraftData) : Type 0 where
   pub spelled : IsSpelledDraft d
   pub nested : AllByRecursion (λ f. nesting f.body ≤ nesting_limit) d.functions
 
--- these lines are the program's text; lines without words may stand anywhere
+-- These lines are the program's text. Lines without words may be anywhere.
 pub record ProgramText (d : DraftData) (text : List (List ℕ)) : Type 0 where
   pub said : List (List LineWord)
   pub says : Say text said
@@ -59,7 +60,8 @@ IsProgramText lines = (d : DraftData) × ProgramText d lines
 
 -- ---- faults
 
--- where a line stands, and from the second on in a program of which version: it is the first or the second with words, it declares something, or it stands in a function
+-- The place of a line: it is the first or second line with words, it declares something, or it is inside a function.
+-- The second line and declarations depend on the program's version.
 pub data ProgramPlace : Type 0 where
   version_due : ProgramPlace
   fields_due : (version : ℕ) → ProgramPlace
@@ -78,7 +80,7 @@ program_fault (fields_due version) words = fields_fault version words
 program_fault (between version) words = between_fault version words
 program_fault (in_function place) words = statement_fault place words
 
--- what is told where the text ends
+-- the fault reported if the text ends here
 abbrev pub program_missing : ProgramPlace → Option ℕ
 program_missing version_due = Some 12
 program_missing (fields_due version) = Some 12

@@ -46,7 +46,7 @@ fn add_number(numbers: &mut Numbers, number: u32) -> Result<(), OutOfMemory>
     Ok(())
 }
 
-// The columns up to the line's end, one or more, and at most so many.
+// The columns up to the line's end: one or more, and at most `limit`.
 fn read_columns(alloc: Global, limit: usize, words: &mut Cursor<'_>) -> Result<Columns, NotRead>
     requires { 1 ≤ limit }
     ensures { ReadsColumns limit result words.old }
@@ -64,7 +64,7 @@ fn read_columns(alloc: Global, limit: usize, words: &mut Cursor<'_>) -> Result<C
     Ok(columns)
 }
 
-// The numbers up to the line's end, one or more, and at most so many.
+// The numbers up to the line's end: one or more, and at most `limit`.
 fn read_numbers(alloc: Global, limit: usize, words: &mut Cursor<'_>) -> Result<Numbers, NotRead>
     requires { 1 ≤ limit }
     ensures { ReadsNumbers limit result words.old }
@@ -108,9 +108,9 @@ fn read_key_pair(alloc: Global, words: &mut Cursor<'_>) -> Result<(Numbers, Numb
     Ok((left_keys, right_keys))
 }
 
-// ---- behind a line's first word
+// ---- after a line's first word
 
-// A source has at most so many columns, and a sink so many fields.
+// The most columns of a source, and the most fields of a sink.
 fn listed(version: u32) -> usize
     ensures limit { result ≡ field_limit version }
     ensures some { 1 ≤ result }

@@ -30,7 +30,7 @@ fn version_in(words: &[LineWord]) -> Result<u32, u32>
     Err(12)
 }
 
-/// The version that a line `pact 1` or `pact 2` tells, or the line's fault.
+/// The version in a line `pact 1` or `pact 2`, or the line's fault.
 pub fn read_version(words: &[LineWord]) -> Result<u32, u32>
     requires some { 0 < length words.now }
     ensures version { IfOk result (λ version. IsVersion version × (words.now ≡ version_words version)) }
@@ -56,7 +56,7 @@ fn read_fields(version: u32, words: &[LineWord]) -> Result<u32, NotRead>
     Ok(count)
 }
 
-/// The number of fields that a line `fields F` tells in a program of the version, or the line's first fault.
+/// The number of fields in a line `fields F` of a program of this version, or the line's first fault.
 pub fn read_field_count(version: u32, words: &[LineWord]) -> Result<u32, u32>
     requires some { 0 < length words.now }
     ensures count { IfOk result (λ count. IsFieldCount version count × (words.now ≡ field_count_words count)) }

@@ -1,9 +1,9 @@
-//! Programs as text. `read_program` reads exactly the texts of programs, and tells the first fault of each other one;
-//! `write_program` writes a program in its canonical spelling, which is read again.
+//! Programs as text. `read_program` reads exactly the texts of programs, and reports the first fault of any other text.
+//! `write_program` writes a program in its canonical spelling, which is read back as the same program.
 //!
-//! The two lines that a program begins with and the lines of its declarations are read as words: `read_declaration`,
-//! `read_version` and `read_field_count` read exactly the lines that say something, and `write_declaration` writes a
-//! line as it is read. Whether what is declared fits together isn't looked at here.
+//! A program's first two lines and the lines of its declarations are read from their words. `read_version`,
+//! `read_field_count` and `read_declaration` accept exactly the valid lines, and `write_declaration` writes the line of
+//! a declaration. Whether the declarations fit together isn't checked here.
 #![tactic(auto)]
 
 mod declaration_reading;

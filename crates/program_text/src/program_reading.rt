@@ -22,7 +22,7 @@ use tac_syntax::Draft;
 use tac_text::{OpenFunction, read_header};
 use text_lines::{LineWord, NotRead, TextFault, first_line, is_word, read_words, trim_line};
 
-// What was read of a program.
+// How much of a program was read.
 #[derive(Drop)]
 enum State {
     NothingRead,
@@ -78,7 +78,7 @@ fn decl_words(alloc: Global, mut draft: Draft, words: &[LineWord]) -> Result<Sta
     }
 }
 
-// Whether its functions may take fields from registers.
+// Whether registers may name fields in the draft's functions.
 fn has_registers(draft: &Draft) -> bool
     ensures { result ≡ has_registers draft.now.version }
 {
@@ -156,7 +156,7 @@ fn read_line(alloc: Global, state: State, line: &[u8]) -> Result<State, NotRead>
     next(alloc, state, words.words())
 }
 
-// Where so many lines were read, which are all.
+// The result after all lines, of which there were `lines`.
 fn ended(state: State, lines: u64) -> Result<Draft, TextFault>
     ensures { EndsWith (state_of state) lines result }
 {
@@ -168,8 +168,8 @@ fn ended(state: State, lines: u64) -> Result<Draft, TextFault>
     }
 }
 
-/// The draft that a program's text spells, or the first fault of the text: the number of its first faulty line, from
-/// 1, and what is wrong with it. Where the text ends too early, the last line is told.
+/// The draft that a program's text spells, or the first fault of the text: the number of its first faulty line, from 1,
+/// and what is wrong with it. If the text ends too early, the line is its last one, or 1 if it has none.
 pub fn read_program(alloc: Global, text: &[u8]) -> Result<Draft, TextFault>
     ensures draft { IfOk result (λ d. ProgramText d (lines_of text.now)) }
     ensures draft_always { (d : DraftData) → ProgramText d (lines_of text.now) → GivesDraft result d }

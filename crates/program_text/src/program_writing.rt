@@ -49,7 +49,7 @@ fn and_key_pair(
     and_numbers(alloc, words, right_keys)
 }
 
-// The words behind an operator's first input.
+// The words after an operator's first input.
 fn and_others(
     alloc: Global,
     words: Words,
@@ -113,7 +113,7 @@ fn decl_words(alloc: Global, decl: &Decl) -> Result<Words, OutOfMemory>
     }
 }
 
-/// The one canonical line of a declaration, with its end.
+/// The one canonical line of a declaration, with its line feed.
 pub fn write_declaration(alloc: Global, decl: &Decl) -> Result<Bytes, OutOfMemory>
     requires { (version : ℕ) × IsSpelledDecl version decl.now }
     ensures { IfOk result (λ text. text ≡ canonical_line 0 (words_of_decl decl.now) ++ 10 ∷ []) }
@@ -147,7 +147,7 @@ fn write_decl(alloc: Global, functions: &[Function], decl: &Decl) -> Result<Byte
     }
 }
 
-// No function is nested too deeply, which bodies keep by themselves: this only tells it.
+// No function is nested too deeply, which its body guarantees. The call only makes this known.
 fn tell_nesting(functions: &[Function])
     ensures { AllByRecursion (λ f. nesting f.body ≤ nesting_limit) functions.now }
 {

@@ -1,4 +1,4 @@
--- Maps put in one after another: each may be, and the program with all of them is one.
+-- Maps that are inserted one after another: each may be inserted, and the program with all of them is valid.
 use Rattle.std.proofs.Common.{◌≡◌, ◌≢◌, ◌<◌, ◌≤◌, ◌+◌, ℕ, true, inl, List, [], ◌∷◌, ◌++◌, length, refl, sym, ap, subst, ◌∙◌, arith, length-append, append_assoc, append-nil}
 use Rattle.std.specs.List.{AllByRecursion}
 use Rattle.plan_trees.specs.Distinct.{IsAbsent, AreDifferent}
@@ -20,7 +20,7 @@ use Rattle.prune_fields.specs.KeepFunctions.{keep_function}
 use Rattle.prune_fields.proofs.KeepFunctions.{keep_names, keep_valid}
 use Rattle.prune_fields.proofs.OneMoreKeep.{functions_length, none_edge, none_more, one_more, one_more_edge, one_more_tree, root-grown}
 
--- of a program, a plan of it, and the two with more Maps
+-- a program and a plan of it, and both with `count` more Maps
 pub record HasGrown (p : ProgramData) (tree : PlanTree) (count : ℕ) (q : ProgramData) (now : PlanTree) : Type 0 where
   pub program : IsProgram q
   pub plan : IsPlanOf q.functions q.ops now
@@ -36,12 +36,12 @@ module _ (p : ProgramData) (x : PhysicalData) (needs : ℕ → FieldSet) (progra
   abbrev tree_after : List ℕ → PlanTree
   tree_after ns = grown (cuts_from (length p.ops) ns) x.tree
 
-  -- what stands once some Maps are put in
+  -- what holds after some Maps are inserted
   pub record Stands (ns : List ℕ) : Type 0 where
     pub grown : HasGrown p x.tree (length ns) (after ns) (tree_after ns)
     pub physical : IsPhysical (with_cut_edges p x ns)
 
-  -- a number on whose edge a Map may be put
+  -- a number on whose edge a Map may be inserted
   pub record MayCut (n : ℕ) : Type 0 where
     pub there : has n x.tree ≡ true
     pub old : n < length p.ops
@@ -62,7 +62,7 @@ module _ (p : ProgramData) (x : PhysicalData) (needs : ℕ → FieldSet) (progra
     root_same : root_of (tree_after ns) ≡ root_of x.tree
     root_same = root-grown (cuts_from (length p.ops) ns) x.tree
 
-    -- the condition of `insert`
+    -- the precondition of `insert`
     pub can_insert : CanKeep (after ns) (tree_after ns) n (needs n)
     can_insert = record {
       plan = s.grown.plan;
@@ -149,7 +149,7 @@ module _ (p : ProgramData) (x : PhysicalData) (needs : ℕ → FieldSet) (progra
       let differ = subst AreDifferent (sym same) d in
       subst Stands same (more_put_in (front ++ n ∷ []) rest one may.1 differ (omega (arith, room, long)) (omega (arith, function_room, long)))
 
-  -- The program with all Maps is one, its plan is one of it, and the physical plan is one.
+  -- The program with all Maps is valid, its plan is one of its plans, and the physical plan is a valid one.
   pub all_put_in : IsPlanOf p.functions p.ops x.tree → IsPhysical x → (ns : List ℕ) → AllByRecursion MayCut ns → AreDifferent ns
       → times_of_kind is_operator_kind p.ops + length ns ≤ operator_limit
       → length p.functions + length ns ≤ function_limit → Stands ns

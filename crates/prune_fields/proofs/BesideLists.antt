@@ -1,4 +1,4 @@
--- Lists side by side.
+-- Lists that are related place by place.
 use Rattle.std.proofs.Common.{◌≡◌, Bool, true, false, cond, List, [], ◌∷◌, ◌++◌, length, suc, refl, ap, subst}
 use Rattle.std.specs.Prelude.{flat_map, filter}
 use Rattle.std.specs.List.{AllZip}
@@ -29,7 +29,7 @@ AllZip-kept : {A B : Type 0} (P : A → B → Type 0) (b : Bool) (x : A) (y : B)
 AllZip-kept P true x y xs ys h g = (h, g)
 AllZip-kept P false x y xs ys h g = g
 
--- by tests that tell the same of either
+-- filtered by tests that agree at each place
 pub AllZip-filter : {A B : Type 0} (P : A → B → Type 0) (s : A → Bool) (t : B → Bool) (xs : List A) (ys : List B)
     → ((x : A) (y : B) → P x y → s x ≡ t y) → AllZip P xs ys
     → AllZip P (filter s xs) (filter t ys)

@@ -1,4 +1,4 @@
--- The numbers that are cut.
+-- The numbers whose edges are cut.
 use Rattle.std.proofs.Common.{◌≡◌, ◌≢◌, ◌<◌, ◌≤◌, ◌+◌, ◌∙◌, ℕ, zero, suc, Bool, true, false, cond, List, [], ◌∷◌, ◌++◌, length, take, refl, ap, arith, append-nil}
 use Rattle.std.specs.Prelude.{filter}
 use Rattle.std.specs.List.{AllByRecursion}
@@ -10,7 +10,7 @@ use Rattle.pact_operators.specs.Programs.{ProgramData, IsProgram, function_limit
 use Rattle.prune_fields.proofs.Cuts.{absent-high}
 use Rattle.prune_fields.specs.PrunedPlans.{cut_below, is_cut, numbers, room}
 
--- ---- numbers in turn
+-- ---- consecutive numbers
 
 numbers-low : (at count bound : ℕ) → bound ≤ at → AllByRecursion (λ k. bound ≤ k) (numbers at count)
 numbers-low at zero bound h = tt
@@ -73,7 +73,7 @@ numbers-last : (at count next : ℕ) → next ≡ at + count → numbers at (suc
 numbers-last at zero next e = (let is : at ≡ next = omega (arith, e) in ap (λ (n : ℕ). n ∷ []) is)
 numbers-last at (suc count) next e = ap (λ (l : List ℕ). at ∷ l) (numbers-last (at + 1) count next (omega (arith, e)))
 
--- ---- so many of a list
+-- ---- the first elements of a list
 
 take-none : {X : Type 0} (size : ℕ) → take {A = X} size [] ≡ []
 take-none zero = refl
@@ -84,7 +84,7 @@ take-short zero ks = omega arith
 take-short (suc size) [] = omega arith
 take-short (suc size) (k ∷ ks) = omega (arith, take-short size ks)
 
--- one more behind them
+-- one more element, if there is room for it
 take-more : (size : ℕ) (ks : List ℕ) (n : ℕ) → length (take size ks) < size → take size (ks ++ n ∷ []) ≡ take size ks ++ n ∷ []
 take-more zero ks n h = absurd (omega (arith, h))
 take-more (suc size) [] n h = ap (λ (l : List ℕ). n ∷ l) (take-none size)
@@ -95,7 +95,7 @@ take-full zero ks n h = refl
 take-full (suc size) [] n h = absurd (omega (arith, h))
 take-full (suc size) (k ∷ ks) n h = ap (λ (l : List ℕ). k ∷ l) (take-full size ks n (omega (arith, h)))
 
--- ---- the numbers that are cut, one more in turn
+-- ---- the numbers whose edges are cut, one at a time
 
 module _ (p : ProgramData) (x : PhysicalData) where
   all_next : (at : ℕ) → filter (is_cut p x) (numbers 0 (at + 1)) ≡ filter (is_cut p x) (numbers 0 at) ++ cond (is_cut p x at) (at ∷ []) []
@@ -118,7 +118,7 @@ module _ (p : ProgramData) (x : PhysicalData) where
   pub cut_none : cut_below p x 0 ≡ []
   cut_none = take-none (room p)
 
-  -- ---- what holds of them
+  -- ---- their properties
 
   pub cut_different : (at : ℕ) → AreDifferent (cut_below p x at)
   cut_different at = different-take (room p) (all at) (different-filter (is_cut p x) (numbers 0 at) (numbers-different 0 at))
@@ -130,7 +130,7 @@ module _ (p : ProgramData) (x : PhysicalData) where
   pub cut_passed : (at : ℕ) → AllByRecursion (λ n. is_cut p x n ≡ true) (cut_below p x at)
   cut_passed at = each-take (λ n. is_cut p x n ≡ true) (room p) (all at) (passes-filter (is_cut p x) (numbers 0 at))
 
-  -- the next number is none of them
+  -- the next number isn't among them
   pub cut_absent : (at : ℕ) → IsAbsent at (cut_below p x at)
   cut_absent at = absent-high at (cut_below p x at) (cut_small at)
 

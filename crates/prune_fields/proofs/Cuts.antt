@@ -1,4 +1,4 @@
--- Which numbers are cut, and by which new ones.
+-- The numbers whose edges are cut, and the new numbers of the operators on them.
 use Rattle.std.proofs.Common.{◌≡◌, ◌≢◌, ◌<◌, ◌≤◌, ◌+◌, ◌==◌, ℕ, suc, inl, inr, if◌then◌else◌, List, [], ◌∷◌, ◌++◌, Option, Some, None, length, slice_get, refl, sym, ap, arith}
 use Rattle.std.specs.List.{AllByRecursion}
 use Rattle.std.proofs.lemmas.Bool.{cases_Bool, eq-eqb, eqb-true, ne_eqb}
@@ -7,7 +7,7 @@ use Rattle.pact_record.proofs.Lists.{AllByRecursion-slice_get}
 use Rattle.plan_trees.specs.Distinct.{IsAbsent}
 use Rattle.prune_fields.specs.Insertions.{Cuts, cuts_from}
 
--- ---- one by one
+-- ---- one at a time
 
 pub none_is : (m : ℕ) → None ≡ Some m → ⊥
 none_is m e = cc
@@ -21,7 +21,7 @@ cut_place at (k ∷ ks) n m e = elim (cases_Bool (n == k)) as (λ _. (j : ℕ) �
   | inr f ↦ let r = cut_place (at + 1) ks n m (simp f at e) in (suc r.0, omega (arith, r.1), r.2)
 ]
 
--- what holds of all numbers that are cut holds of each
+-- a property of all numbers in a list holds for each number that is cut
 pub each_cut : (P : ℕ → Type 0) (m n j : ℕ) (ns : List ℕ) → AllByRecursion P ns → cuts_from m ns n ≡ Some j → P n
 each_cut P m n j ns h e = let c = cut_place m ns n j e in AllByRecursion-slice_get P ns c.0 n h c.2
 
@@ -31,7 +31,7 @@ absent-high n (k ∷ ks) h = ((λ e. absurd (omega (arith, e, h.0))), absent-hig
 
 -- ---- one more
 
--- one more cut, of a number that isn't cut yet and is none of the new ones
+-- one more cut, of a number that isn't cut yet and isn't a new one
 pub record IsNext (cut next : Cuts) (n new : ℕ) : Type 0 where
   pub other : (r : ℕ) → r ≢ n → next r ≡ cut r
   pub free : cut n ≡ None

@@ -1,4 +1,4 @@
--- Whether the records of a number are cut, as it is found.
+-- Whether the edge of a number is cut, as the code finds it.
 use Rattle.std.proofs.Common.{◌≡◌, ◌≢◌, ◌∙◌, ◌<◌, ◌+◌, ◌↔◌, ◌&&◌, not, inl, inr, ℕ, Bool, true, false, IsTrue, if◌then◌else◌, Some, None, get_or, refl, sym, ap, arith}
 use Rattle.std.proofs.lemmas.Bool.{both_ways, cases_Bool, cases_lt}
 use Rattle.std.proofs.lemmas.Option.{same_Some}

@@ -1,4 +1,4 @@
--- A walk over a plan enters what is needed at each of its numbers.
+-- A walk over a plan enters the needed fields of each of its numbers.
 use Rattle.std.proofs.Common.{◌≡◌, ◌==◌, ◌∙◌, inl, inr, ℕ, true, false, refl, sym, ap, subst}
 use Rattle.std.proofs.lemmas.Bool.{cases_Bool, or_parts}
 use Rattle.tac_syntax.specs.Contexts.{FieldSet}
@@ -7,7 +7,7 @@ use Rattle.pact_operators.specs.Programs.{ProgramData}
 use Rattle.ship_strategy.specs.PlanFacts.{attribute, left_attribute, right_attribute}
 use Rattle.prune_fields.specs.Needs.{entered, needs_from, put, wants_of, within}
 
--- what an input is asked for
+-- the fields that are needed of an input
 abbrev on_input : ProgramData → FieldSet → (whole input : PlanTree) → FieldSet
 on_input p above whole input = within (wants_of p whole above) (attribute p input)
 
@@ -41,7 +41,7 @@ entered_at p above (both n t u) old k h =
       ]
     ]
 
--- ---- at each root, from what was found of it
+-- ---- at each root, from the findings for it
 
 pub entered_leaf : (p : ProgramData) (s : PlanTree) (n : ℕ) (above : FieldSet) (old new : ℕ → FieldSet) → s ≡ leaf n
     → new ≡ put n above old → new ≡ entered p above s old

@@ -1,4 +1,4 @@
--- The body that keeps fields, as it grows.
+-- The body that keeps fields, as it is built.
 use Rattle.std.proofs.Common.{◌≡◌, ◌+◌, ℕ, suc, Bool, true, false, cond, ◌∷◌, refl, sym, ap, ◌∙◌, arith}
 use Rattle.tac_syntax.specs.declared.statements.Rec.TheVariants.{Input}
 use Rattle.tac_syntax.specs.Code.{Code, stop, plain, branch, again, each, joined, get_field, set_field, new_record, emit_record}
@@ -12,7 +12,7 @@ joined-assoc (branch on body other next) b c = ap (λ (x : Code). branch on body
 joined-assoc (again count body next) b c = ap (λ (x : Code). again count body x) (joined-assoc next b c)
 joined-assoc (each name list body next) b c = ap (λ (x : Code). each name list body x) (joined-assoc next b c)
 
--- one field's statements
+-- the statements for one field
 abbrev pub field_kept : ℕ → Code
 field_kept k = plain (get_field 0 Input k) (plain (set_field 0 k 0) stop)
 
@@ -22,7 +22,7 @@ field_put k body some more e f =
     f ∙ ap (λ (c : Code). joined c (plain (set_field 0 k 0) stop)) e
     ∙ joined-assoc body (plain (get_field 0 Input k) stop) (plain (set_field 0 k 0) stop)
 
--- What is still to come makes it the whole body.
+-- The body so far, followed by the code for the remaining fields, is the whole body.
 abbrev pub IsBegun : FieldSet → (fields at : ℕ) → Code → Type 0
 IsBegun s fields at body = (count : ℕ) → at + count ≡ fields → joined body (kept_fields (members_from s at count)) ≡ keep_body fields s
 

@@ -1,4 +1,4 @@
--- What the function that keeps the fields of a set gives for a record: one record that agrees with it on the set.
+-- For a record, the function that keeps the fields of a set emits one record, which agrees with it on the set.
 use Rattle.std.proofs.Common.{◌≡◌, ◌∙◌, ◌<◌, ◌+◌, ◌==◌, ◌⊎◌, inl, inr, ℕ, true, List, [], ◌∷◌, ◌++◌, length, slice_set, replicate, refl, sym, subst, arith}
 use Rattle.std.specs.List.{AllByRecursion}
 use Rattle.std.proofs.lemmas.Bool.{cases_Bool, cases_lt, eq-eqb, eqb-true, or_cases, true≢false, both_ways}
@@ -14,12 +14,12 @@ use Rattle.tac_syntax.proofs.StepsAsRecursion.{Out-exec}
 use Rattle.prune_fields.specs.KeepFunctions.{keep_body, kept_fields, members}
 use Rattle.prune_fields.proofs.Members.{members-below, members-listed}
 
--- a record with these fields of another one
+-- a record with these fields copied from another one
 abbrev pub with_fields : List ℕ → (from onto : List Value) → List Value
 with_fields [] from onto = onto
 with_fields (k ∷ ks) from onto = with_fields ks from (slice_set onto k (at_field from k))
 
--- a field has its value once it was set
+-- a field that was copied has its value
 with_fields-at : (ks : List ℕ) (from onto : List Value) (k : ℕ) → AllByRecursion (λ j. j < length onto) ks
     → (at_field onto k ≡ at_field from k) ⊎ (is_listed ks k ≡ true) → at_field (with_fields ks from onto) k ≡ at_field from k
 with_fields-at [] from onto k below (inl e) = e
@@ -44,7 +44,7 @@ with_fields-at (j ∷ ks) from onto k below h =
 
 -- ---- the call
 
--- the store of such a call
+-- the store at the start of such a call
 abbrev started : ℕ → List Value → (values : List Value) → (records loops emitted : List (List Value)) → Store
 started fields row values records loops emitted =
     record { fields = fields; input = of_record row; values = values; records = records; loops = loops; emitted = emitted }
@@ -61,7 +61,7 @@ keep_gives fields s row =
     Out-exec fields (keep_body fields s) (of_record row)
     ∙ kept_emits (members fields s) fields row (empty_record fields) Null (replicate 31 Null) (replicate 7 (empty_record fields)) [] []
 
--- one record that agrees with it on the set
+-- the call emits one record that agrees with its input on the set
 pub keep_agrees : (fields : ℕ) (s : FieldSet) (row : List Value) → IsBelow fields s
     → Agree s row (with_fields (members fields s) row (empty_record fields))
 keep_agrees fields s row below k is =

@@ -1,4 +1,4 @@
--- The function that keeps the fields of a set is valid, and names fields of the set alone.
+-- The function that keeps the fields of a set is valid, and names only fields of the set.
 use Rattle.std.proofs.Common.{◌≡◌, ◌<◌, ◌≤◌, ◌+◌, ◌*◌, ℕ, Bool, true, false, inl, inr, if◌then◌else◌, nat_le, List, [], ◌∷◌, Option, Some, None, length, refl, sym, subst, arith}
 use Rattle.std.specs.List.{AllByRecursion}
 use Rattle.std.proofs.lemmas.Bool.Decides.{nat_tests}
@@ -23,7 +23,7 @@ place_of_map F = record { kind = kinds.Map; keys = 0; fields = F; ifs = 0; loops
 low : (n bound : ℕ) → n < bound → nat_le bound n ≡ false
 low n bound h = grind (arith, nat_tests)
 
--- a statement of one line breaks no rule where it breaks none of four
+-- a statement of one line breaks no rule if it breaks none of these four
 fine : (rule : Rule) (F n : ℕ) (s : Simple) → no_register s ≡ false → misses_operand (place_of_map F) s ≡ false → no_field (place_of_map F) s ≡ false
     → no_key_position (place_of_map F) s ≡ false → n < statement_limit
     → breaks rule n (place_of_map F) (simple s) ≡ false
@@ -65,7 +65,7 @@ keep_valid number F s some few = record {
       (kept_fine rule F 1 (members F s) (members-below s 0 F F (omega arith)) (omega (arith, short, few)));
 }
 
--- ---- what it names
+-- ---- the fields that it names
 
 kept_names : (P : ℕ → Type 0) (F : ℕ) (ks : List ℕ) → AllByRecursion P ks → (k : ℕ) → Names F k (kept_fields ks) → P k
 kept_names P F [] h k (inl i) = elim i [ ]
@@ -74,7 +74,7 @@ kept_names P F (j ∷ ks) h k (inl i) = elim i [ ]
 kept_names P F (j ∷ ks) h k (inr (inl e)) = subst P (sym e) h.0
 kept_names P F (j ∷ ks) h k (inr (inr i)) = kept_names P F ks h.1 k i
 
--- fields of the set alone
+-- it names only fields of the set
 pub keep_names : (F : ℕ) (s : FieldSet) (k : ℕ) → Names F k (keep_body F s) → s k ≡ true
 keep_names F s k (inl i) = elim i [ ]
 keep_names F s k (inr i) = kept_names (λ j. s j ≡ true) F (members F s) (members-in s 0 F) k i

@@ -1,4 +1,4 @@
--- A plan with Maps that keep what is needed has the attributes that it had, at each input.
+-- A plan with Maps that keep the needed fields has the same attributes as before, at each input.
 use Rattle.std.proofs.Common.{◌≡◌, ◌<◌, ◌↔◌, inl, inr, ℕ, zero, suc, true, Option, Some, None, List, [], ◌∷◌, ◌++◌, length, slice_get, refl, ◌∙◌, arith}
 use Rattle.std.proofs.lemmas.Bool.{false_from_ne_true}
 use Rattle.std.proofs.lemmas.Option.{slice_get_within}
@@ -34,7 +34,7 @@ attribute_below p program t k past =
     attribute-below p.fields p.functions p.ops t k (record { same = program.functions; valid = program.valid }) program.columns_below
     ((attribute_has p t k).0 e) in absurd (omega (arith, past, lt)))
 
--- ---- functions behind those that were there
+-- ---- functions that are appended to the program's
 
 names_front : (v w : List WithFields) (n k : ℕ) → n < length v → FunctionNames (v ++ w) n k ↔ FunctionNames v n k
 names_front [] w n k lt = absurd (omega (arith, lt))
@@ -50,7 +50,7 @@ owns_front Match v w op k lt = names_front v w op.function k (lt (no_source Matc
 owns_front Cross v w op k lt = names_front v w op.function k (lt (no_source Cross refl))
 owns_front CoGroup v w op k lt = names_front v w op.function k (lt (no_source CoGroup refl))
 
--- ---- a program, and what it is with the Maps
+-- ---- a program, and the program with the Maps
 
 module _ (p : ProgramData) (program : IsProgram p) (tree : PlanTree) (needs : ℕ → FieldSet) (ns : List ℕ) where
   abbrev Q : ProgramData
@@ -66,7 +66,7 @@ module _ (p : ProgramData) (program : IsProgram p) (tree : PlanTree) (needs : �
         | inr a ↦ slice_get_within p.functions op.function a.called a.function
       ]
 
-  -- each number that there was owns what it owned
+  -- each number of the program owns the same attributes as before
   owned : (n k : ℕ) (op : Op) → slice_get p.ops n ≡ Some op → Owns Q.functions Q.ops n k ↔ Owns p.functions p.ops n k
   owned n k op e =
       let there = same_op p program [] tree needs ns n (slice_get_within p.ops n op e) ∙ e in
@@ -122,7 +122,7 @@ module _ (p : ProgramData) (program : IsProgram p) (tree : PlanTree) (needs : �
     | inr (inr in_u) ↦ inr (inr (onto_keeps (grown Cut u) k (Cut (root_of u)) (grown_keeps u a.2 k in_u)))
   ]
 
-  -- an input has the attributes that it had
+  -- an input has the same attributes as before
   pub onto_attribute : (whole t : PlanTree) → HasArity p.ops t → AreNeeds p needs t → IsNeededAt p needs whole t
       → attribute Q (capped (Cut (root_of t)) (grown Cut t)) ≡ attribute p t
   onto_attribute whole t a d needed =

@@ -1,4 +1,4 @@
--- Calls that agree on what is needed of their inputs agree on what is needed of their outputs.
+-- Calls that agree on the needed fields of their inputs agree on the needed fields of their outputs.
 use Rattle.std.proofs.Common.{◌≡◌, ◌∙◌, ◌&&◌, not, inl, inr, ℕ, true, false, List, [], ◌∷◌, length, get_or, sym}
 use Rattle.std.specs.List.{AllZip}
 use Rattle.std.proofs.lemmas.Bool.{and_from, cases_Bool, not_from_false, or_left, or_right}
@@ -20,7 +20,7 @@ use Rattle.prune_fields.specs.Needs.{wanted}
 abbrev pub Bag : Type 0
 Bag = List (List Value)
 
--- ---- what is needed
+-- ---- needed fields
 
 pub reads_wanted : (reads writes above : FieldSet) (k : ℕ) → reads k ≡ true → wanted reads writes above k ≡ true
 reads_wanted reads writes above k m = or_left (reads k) (above k && not (writes k)) m
@@ -79,7 +79,7 @@ module _ (fields : ℕ) (c : Ports) (s : FieldSet) (side : Side) where
 
 -- ---- outputs
 
--- outputs that agree on what is written, and began as records that agree on what is handed on
+-- outputs agree if they agree on the written fields, and their inputs agree on the fields that are copied
 output_agrees : (reads writes above : FieldSet) (a b out other : List Value) → AreAnchored writes a b out other
     → Agree (wanted reads writes above) a b → Agree above out other
 output_agrees reads writes above a b out other h g k m = elim (cases_Bool (writes k)) as (λ _. at_field out k ≡ at_field other k) [
@@ -99,7 +99,7 @@ outputs_agree reads writes above xs ys z places outs others h = absurd h
 
 -- ---- calls
 
--- of calls that are anchored on a side
+-- calls that are anchored on a side
 pub kept_form : (kind : Kind) (fields : ℕ) (c : Ports) (reads writes above : FieldSet) (side : Side) (call : CallInput → Bag)
     → HasForm kind fields c reads writes side call
     → HasFormAlone kind fields c (wanted reads writes above) above call
@@ -108,7 +108,7 @@ kept_form kind fields c reads writes above side call form x y f g h =
     let o = form x y f g (less_agree reads w (reads_wanted reads writes above) x y h) in
     outputs_agree reads writes above (anchors side x) (anchors side y) (anchors_agree fields c w side kind x y f g h) o.0 (call x) (call y) o.1
 
--- of calls that are anchored on none, and write all fields
+-- calls that aren't anchored on any side, and write all fields
 pub kept_alone : (kind : Kind) (fields : ℕ) (c : Ports) (reads writes above : FieldSet) (call : CallInput → Bag)
     → ((k : ℕ) → above k ≡ true → writes k ≡ true) → HasFormAlone kind fields c reads writes call
     → HasFormAlone kind fields c (wanted reads writes above) above call

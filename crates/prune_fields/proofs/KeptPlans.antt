@@ -1,4 +1,4 @@
--- A program's plan with Maps that keep what is needed is as the simulation asks.
+-- A program's plan with Maps that keep the needed fields meets the conditions of the simulation.
 use Rattle.std.proofs.Common.{◌≡◌, ℕ, suc, List, length, refl, sym, ap, ◌∙◌, arith}
 use Rattle.std.specs.List.{AllByRecursion}
 use Rattle.std.proofs.lemmas.Bool.{false_from_ne_true, true≢false}

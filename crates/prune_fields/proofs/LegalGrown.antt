@@ -1,4 +1,4 @@
--- With Maps on edges that aren't Forward, legal shipping stays legal.
+-- Legal shipping stays legal when Maps are inserted on edges that aren't Forward.
 use Rattle.std.proofs.Common.{◌≡◌, ◌≢◌, ◌∙◌, ◌<◌, ℕ, false, Option, Some, None, List, [], length, get_or, refl, sym, ap, subst}
 use Rattle.std.proofs.lemmas.Option.{slice_get_within}
 use Rattle.tac_syntax.specs.declared.declarations.OpKind.{OpKind}
@@ -33,7 +33,7 @@ other_edge Forward a b h = absurd (h refl)
 other_edge (Partition keys) a b h = refl
 other_edge Broadcast a b h = refl
 
--- ---- what is known of the operators that were there
+-- ---- facts about the operators that were there before
 
 module _ (p : ProgramData) (program : IsProgram p) (tree : PlanTree) (needs : ℕ → FieldSet) (ns : List ℕ) where
   abbrev Q : ProgramData

@@ -1,4 +1,4 @@
--- The fields of a set, rising.
+-- The fields of a set, in rising order.
 use Rattle.std.proofs.Common.{◌≡◌, ◌<◌, ◌≤◌, ◌+◌, ◌==◌, inl, inr, ℕ, zero, suc, Bool, true, false, cond, List, [], ◌∷◌, length, refl, sym, subst, arith}
 use Rattle.std.specs.List.{AllByRecursion, list_any}
 use Rattle.std.proofs.lemmas.Bool.{cases_Bool, eq-eqb, eqb-true, or_cases, or_left, or_right, true≢false}
@@ -41,7 +41,7 @@ any_first test false at rest e h = absurd (true≢false (sym e))
 further : (k at : ℕ) → (k == at) ≡ false → at ≤ k → at + 1 ≤ k
 further k at e low = grind (arith, e, low)
 
--- a field of the set that passes a test is among them
+-- a field of the set that passes a test is in the list
 pub members-any : (s : FieldSet) (test : ℕ → Bool) (at count k : ℕ) → at ≤ k → k < at + count → s k ≡ true → test k ≡ true
     → list_any test (members_from s at count) ≡ true
 members-any s test at zero k low high h t = absurd (omega (arith, low, high))
@@ -56,7 +56,7 @@ members-any s test at (suc count) k low high h t = elim (cases_Bool (k == at)) a
 pub members-listed : (s : FieldSet) (at count k : ℕ) → at ≤ k → k < at + count → s k ≡ true → is_listed (members_from s at count) k ≡ true
 members-listed s at count k low high h = members-any s (λ j. k == j) at count k low high h (eq-eqb k k refl)
 
--- and where one passes it, there is one
+-- if a field in the list passes a test, a field of the set passes it
 pub any-member : (test : ℕ → Bool) (ks : List ℕ) (s : FieldSet) → AllByRecursion (λ k. s k ≡ true) ks → list_any test ks ≡ true
     → (k : ℕ) × (s k ≡ true) × (test k ≡ true)
 any-member test [] s h e = absurd (true≢false (sym e))

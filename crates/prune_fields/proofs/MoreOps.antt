@@ -1,4 +1,5 @@
--- A program with further operators: those that it had do what they did, and each new one keeps the fields of its set.
+-- A program with more operators: its own operators do what they did before, and each new one keeps the fields of its
+-- set.
 use Rattle.std.proofs.Common.{◌≡◌, ◌∙◌, ◌<◌, ◌+◌, ℕ, zero, suc, cond, Option, Some, None, List, [], ◌∷◌, ◌++◌, length, map, slice_get, get_or, refl, sym, ap, subst, arith}
 use Rattle.std.proofs.lemmas.List.{take-append-le}
 use Rattle.std.proofs.lemmas.Option.{same_Some}
@@ -22,7 +23,7 @@ use Rattle.prune_fields.proofs.KeepCalls.{keep_agrees, keep_gives, with_fields}
 use Rattle.prune_fields.proofs.SameOperators.{DoSame}
 use Rattle.prune_fields.proofs.TwinPlans.{IsCut}
 
--- ---- lists with more behind them
+-- ---- lists with appended elements
 
 pub slice_get-front : {X : Type 0} (xs ys : List X) (n : ℕ) → n < length xs → slice_get (xs ++ ys) n ≡ slice_get xs n
 slice_get-front [] ys n h = absurd (omega (arith, h))
@@ -69,7 +70,7 @@ module _ (p : ProgramData) (program : IsProgram p) (inputs : List Bag) (tree : P
   abbrev pub More : ProgramData
   More = with_keeps p tree needs ns
 
-  -- ---- what was there
+  -- ---- the operators that were there before
 
   pub same_op : (n : ℕ) → n < length p.ops → slice_get More.ops n ≡ slice_get p.ops n
   same_op n h = slice_get-front p.ops (keep_ops (length p.ops) (length p.functions) ns) n h
@@ -110,9 +111,9 @@ module _ (p : ProgramData) (program : IsProgram p) (inputs : List Bag) (tree : P
         right_keys = ap right_keys_in op;
       }
 
-  -- ---- what is new
+  -- ---- the new operators
 
-  -- its operator and its function
+  -- a new operator and its function
   pub record IsNewAt (n m g : ℕ) : Type 0 where
     pub op : slice_get More.ops m ≡ Some (keep_op m g)
     pub function : slice_get More.functions g ≡ Some (keep_function m p.fields (needs n))

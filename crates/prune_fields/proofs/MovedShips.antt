@@ -10,7 +10,7 @@ use Rattle.plan_trees.specs.Distinct.{AreDifferent}
 use Rattle.prune_fields.specs.Insertions.{Cuts, cuts_from, moved_from}
 use Rattle.prune_fields.proofs.Cuts.{absent-high, cuts_free, each_cut, none_is}
 
--- the ships of so many numbers, and of what is put on the edges of some
+-- the ships of the numbers below `size`, and of the Maps that are inserted on some of their edges
 pub record AreMoved (cut : Cuts) (size : ℕ) (ships now : List Ship) : Type 0 where
   pub stays : (n : ℕ) → n < size → cut n ≡ None → get_or now n Forward ≡ get_or ships n Forward
   pub fed : (n m : ℕ) → cut n ≡ Some m → get_or now n Forward ≡ Forward
@@ -24,7 +24,7 @@ other_number k n m ks e = elim (cases_Bool (n == k)) as (λ _. (n == k) ≡ fals
   | inr f ↦ f
 ]
 
--- after one number
+-- the ships after one number
 abbrev moved_one : ℕ → ℕ → List Ship → List Ship
 moved_one m n ships = set (set ships m (get_or ships n Forward)) n Forward
 

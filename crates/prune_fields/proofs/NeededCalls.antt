@@ -1,4 +1,5 @@
--- The calls of a program's operator agree on what is needed of its outputs where its inputs agree on what it wants.
+-- If the inputs of a program's operator agree on the fields that it wants, its calls agree on the needed fields of its
+-- outputs.
 use Rattle.std.proofs.Common.{◌≡◌, ◌∙◌, ◌⊎◌, inl, inr, ℕ, Bool, true, false, Option, Some, None, List, slice_get, refl, sym, ap, subst}
 use Rattle.std.specs.List.{AllByRecursion}
 use Rattle.std.proofs.lemmas.Bool.{both_ways, cases_Bool, cases_lt, lt-ltb}
@@ -49,7 +50,7 @@ anchored_or_alone CoGroup s = elim (cases_Bool s.anchor_left) as (λ _. ((side :
   ]
 ]
 
--- one that is anchored on neither side writes all
+-- a call that is anchored on neither side writes all fields
 alone_by : (l r : Bool) (c : Scope) (g : Gathered) → (by_anchors l r c g).anchor_left ≡ false → (by_anchors l r c g).anchor_right ≡ false
     → (by_anchors l r c g).writes ≡ fields_below c.fields
 alone_by false false c g e f = refl
@@ -108,7 +109,7 @@ module _ (p : ProgramData) (program : IsProgram p) (n : ℕ) (operator : kind_at
   right_keys_needed =
       subst (λ (s : FoundSets). AllByRecursion (Has s.reads) InScope.right_keys) (sym found_is) (right_keys_read InScope (body_at p n) small)
 
-  -- what the sets promise
+  -- the promises of the found sets
   abbrev Promises : FieldSet → FoundSets → Type 0
   Promises above s =
       HasFormAlone (function_kind (kind_at p.ops n)) p.fields (ports_in InScope) (wanted s.reads s.writes above) above (Out p.fields (body_at p n))

@@ -1,4 +1,4 @@
--- What is needed by number, edge by edge.
+-- The needed fields by number, edge by edge.
 use Rattle.std.proofs.Common.{◌≡◌, ◌≢◌, ◌∙◌, ◌==◌, ◌&&◌, ◌||◌, inl, inr, ℕ, Bool, true, false, ◌++◌, refl, sym, ap, subst}
 use Rattle.std.proofs.lemmas.Bool.{cases_Bool, eq-eqb, eqb-true, false_from_ne_true, ne_eqb, or_left, or_right, true≢false}
 use Rattle.tac_syntax.specs.Contexts.{FieldSet}
@@ -12,7 +12,7 @@ use Rattle.pact_operators.specs.Programs.{ProgramData}
 use Rattle.ship_strategy.specs.PlanFacts.{attribute}
 use Rattle.prune_fields.specs.Needs.{needs_from, wants_of, within}
 
--- what is needed at the root of an input
+-- the needed fields at the root of an input
 abbrev pub IsNeededAt : ProgramData → (ℕ → FieldSet) → (whole input : PlanTree) → Type 0
 IsNeededAt p needs whole input = needs (root_of input) ≡ within (wants_of p whole (needs (root_of whole))) (attribute p input)
 
@@ -61,7 +61,7 @@ are_needs p needs (both n t u) above d h =
       are_needs p needs u right_below parts.1 in_right,
     )
 
--- ---- below the root, attributes alone
+-- ---- below the root, only attributes are needed
 
 pub second : (a b : Bool) → (a && b) ≡ true → b ≡ true
 second true b e = e
@@ -72,7 +72,7 @@ pub is_attribute : (p : ProgramData) (needs : ℕ → FieldSet) (whole t : PlanT
 is_attribute p needs whole t k needed e =
     second (wants_of p whole (needs (root_of whole)) k) (attribute p t k) (sym (ap (λ (s : FieldSet). s k) needed) ∙ e)
 
--- an input's number, or one further below
+-- the number is that of an input, or further below
 module _ (p : ProgramData) (needs : ℕ → FieldSet) (n k : ℕ) where
   abbrev Holds : PlanTree → Type 0
   Holds t = attribute p (subtree_of n t) k ≡ true

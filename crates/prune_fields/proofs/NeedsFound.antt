@@ -1,4 +1,4 @@
--- What is found of a tree's root gives what it needs of its inputs.
+-- The sets found for a tree's root yield the fields that it needs of its inputs.
 use Rattle.std.proofs.Common.{◌≡◌, ◌∙◌, ◌↔◌, ◌&&◌, ◌||◌, ◌≢◌, not, ℕ, true, false, IsTrue, Some, slice_get, refl, sym, ap, subst}
 use Rattle.std.proofs.lemmas.Bool.{eq-eqb, ne_eqb}
 use Rattle.pact_record.specs.FieldSets.{has_field}
@@ -41,7 +41,7 @@ needs_found p t found left right above less wanted own meet attr e l r o m w h =
     λ i k. (h k ∙ (λ j. (w k ∙ (λ z. has_field found.reads k || m k z)) j && o j k) ∙
     (λ j. ((sets j).reads k || (has_field above k && not ((sets j).writes k))) && attr k)) i
 
--- from what the calls for the root tell
+-- from the contracts of the calls for the root
 pub root_found : (p : ProgramData) (t : PlanTree) → IsProgram p
     → (v : WithFields) (at : ℕ) (x : Context) (found : Sets) (above less wanted own meet : ℕ) (attr : FieldSet) → at ≡ root_of t
     → (kind_at p.ops (root_of t) ≡ Source → ⊥) → slice_get p.functions (function_in (slice_get p.ops at)) ≡ Some v
@@ -73,7 +73,7 @@ at_root p above (leaf n) at e = refl
 at_root p above (over n t) at e = rw (eq-eqb at n e) refl
 at_root p above (both n t u) at e = rw (eq-eqb at n e) refl
 
--- the tree's parts, by what its root reads
+-- the parts of the tree, by the inputs of its root
 pub below_one : (p : ProgramData) (s t : PlanTree) (n at above own : ℕ) (need : FieldSet) → s ≡ over n t → at ≢ n
     → has_field own ≡ within (wants_of p s (has_field above)) (left_attribute p s) → need ≡ needs_from p (has_field own) t at
     → need ≡ needs_from p (has_field above) s at

@@ -1,4 +1,4 @@
--- Maps put in one after another are those put in at once.
+-- Inserting Maps one after another is the same as inserting them all at once.
 use Rattle.std.proofs.Common.{◌≡◌, ◌≢◌, ◌<◌, ◌+◌, ◌==◌, ℕ, suc, inl, inr, List, [], ◌∷◌, ◌++◌, Option, Some, None, length, get_or, set, refl, sym, ap, ◌∙◌, arith, length-append, append_assoc, append-nil}
 use Rattle.std.proofs.lemmas.Bool.{cases_Bool, eqb-true, eqb-false}
 use Rattle.plan_trees.specs.Distinct.{IsAbsent}
@@ -95,7 +95,7 @@ moved-last : (m new : ℕ) (ns : List ℕ) (n : ℕ) (ships : List Ship) → new
 moved-last m new [] n ships e = (let is : m ≡ new = omega (arith, e) in ap (λ (k : ℕ). set (set ships k (get_or ships n Forward)) n Forward) is)
 moved-last m new (k ∷ ks) n ships e = moved-last (m + 1) new ks n (set (set ships m (get_or ships k Forward)) k Forward) (omega (arith, e))
 
--- ---- one more
+-- ---- one more Map
 
 module _ (p : ProgramData) (tree : PlanTree) (needs : ℕ → FieldSet) (ns : List ℕ) where
   abbrev q : ProgramData
@@ -147,7 +147,7 @@ module _ (p : ProgramData) (tree : PlanTree) (needs : ℕ → FieldSet) (ns : Li
         let ships = moved-last (length p.ops) (length q.ops) ns n x.ships ops_length in
         λ i. record { tree = trees i; workers = x.workers; ships = ships i }
 
--- ---- none
+-- ---- no Map
 
 not_grown : (m : ℕ) (t : PlanTree) → grown (cuts_from m []) t ≡ t
 not_grown m (leaf n) = refl

@@ -1,4 +1,4 @@
--- What follows of a pruned plan.
+-- Consequences for a pruned plan.
 use Rattle.std.proofs.Common.{List, length, sym, subst}
 use Rattle.plan_trees.specs.Physicals.{IsPhysical, PhysicalData}
 use Rattle.pact_operators.specs.Allowed.{Bag}
@@ -22,7 +22,7 @@ module _ {p : ProgramData} {x : PhysicalData} {q : ProgramData} {y : PhysicalDat
       (same_inputs p inputs x.tree (need p x.tree) (cut_below p x (length p.ops)) of)
 
   module _ (program : IsProgram p) (plan : IsPlanOf p.functions p.ops x.tree) (physical : IsPhysical x) where
-    -- what holds of the pruned plan holds of this one
+    -- a property of the pruned plan holds for this equal one
     made : (P : ProgramData → PhysicalData → Type 0) → P (pruned_program p x) (pruned_physical p x) → P q y
     made P g = subst (λ (r : ProgramData). P r y) (sym h.program) (subst (P (pruned_program p x)) (sym h.physical) g)
 

@@ -1,5 +1,5 @@
--- A pruned program is one, its plan one of it, and it ships legally; and both plans give the same records, cut to the sink's fields, with the same
--- counts.
+-- A pruned program is valid, its plan is one of its plans, and it ships legally. Both plans allow the same records, cut
+-- to the sink's fields, with the same counts.
 use Rattle.std.proofs.Common.{◌≡◌, ◌≢◌, ◌<◌, ◌≤◌, ◌==◌, ◌&&◌, not, ℕ, zero, suc, true, List, get_or, length, refl, sym, ap, ◌∙◌, arith}
 use Rattle.std.specs.List.{AllByRecursion}
 use Rattle.std.proofs.lemmas.Bool.{and_parts, eq-eqb, true≢false}
@@ -30,7 +30,7 @@ use Rattle.prune_fields.proofs.SameAnswers.{gives_same_answers}
 not_forward : (ship : Ship) → not (is_forward ship) ≡ true → ship ≢ Forward
 not_forward ship h e = true≢false (sym h ∙ ap (λ (s : Ship). not (is_forward s)) e)
 
--- each number that every plan of the program has is one that a plan can have
+-- a program with a plan has at most `node_limit` sources and operators
 ops_fit : (size : ℕ) (p : ProgramData) (t : PlanTree) → size ≡ length p.ops → IsPlanOf p.functions p.ops t → IsPlan t → size ≤ node_limit
 ops_fit zero p t e h plan = omega arith
 ops_fit (suc size) p t e h plan = let lt = below_limit size t plan (h.all size (omega (arith, e))) in omega (arith, lt)

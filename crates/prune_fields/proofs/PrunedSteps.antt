@@ -1,4 +1,4 @@
--- One number more is pruned.
+-- One more number is pruned.
 use Rattle.std.proofs.Common.{◌≡◌, ◌∙◌, ◌<◌, ◌≤◌, ◌+◌, inl, inr, ℕ, true, false, List, [], ◌∷◌, ◌++◌, length, refl, sym, ap, subst, arith}
 use Rattle.std.specs.List.{AllZip}
 use Rattle.std.proofs.lemmas.Bool.{cases_Bool, cases_lt}
@@ -17,7 +17,7 @@ use Rattle.prune_fields.proofs.CutNumbers.{cut_absent, cut_full, cut_none, cut_n
 use Rattle.prune_fields.proofs.OneMoreKeep.{functions_length, none_edge, none_more, one_more, one_more_edge}
 use Rattle.prune_fields.proofs.PrunedPlans.{cut_stands, may_cut}
 
--- none at first
+-- at first no number is pruned
 pub none_pruned : (p q : ProgramData) (x y : PhysicalData) (kept : List Kept) → q ≡ p → y ≡ x → kept ≡ [] → IsPrunedBelow p x 0 q y kept
 none_pruned p q x y kept e f g =
     let none = cut_none p x in
@@ -37,11 +37,11 @@ same_cut p x at q y kept e h = record {
   needs = subst (λ (l : List ℕ). AllZip (IsNeedOf p x.tree) kept l) (sym e) h.needs;
 }
 
--- the conditions under which a Map may be put in
+-- there is room for one more Map
 abbrev pub HasRoom : ProgramData → Type 0
 HasRoom q = (times_of_kind is_operator_kind q.ops < operator_limit) × (length q.functions < function_limit)
 
--- of a program and a physical plan, pruned below a number
+-- a program and a physical plan, pruned below a number
 module _ {p : ProgramData} {x : PhysicalData} {at : ℕ} {q : ProgramData} {y : PhysicalData} {kept : List Kept} (program : IsProgram p)
     (plan : IsPlanOf p.functions p.ops x.tree) (physical : IsPhysical x)
     (lt : at < length p.ops) (h : IsPrunedBelow p x at q y kept) where
@@ -93,7 +93,7 @@ module _ {p : ProgramData} {x : PhysicalData} {at : ℕ} {q : ProgramData} {y : 
         (subst (λ (z : PhysicalData). CanKeep (program_below p x at) z.tree at (has_field needed)) (sym h.physical)
         (subst (λ (s : FieldSet). CanKeep (program_below p x at) (physical_below p x at).tree at s) (sym is_need) can))
 
-    -- with this program and physical plan
+    -- the result after the Map for the next number is inserted
     module _ (u : ProgramData) (v : PhysicalData) (k : Kept) (of_u : u ≡ kept_into q y.tree at (has_field needed))
         (of_v : v ≡ inserted_above at (length q.ops) y) (of_at : k.at ≡ at) (of_fields : k.fields ≡ needed) where
       one_more_is : cut_below p x (at + 1) ≡ ns ++ at ∷ []

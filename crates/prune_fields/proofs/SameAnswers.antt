@@ -1,4 +1,5 @@
--- A program's plan, and the same with Maps that keep what is needed, give the same records, cut to the sink's fields, with the same counts.
+-- A program's plan, and the same plan with Maps that keep the needed fields, allow the same records, cut to the sink's
+-- fields, with the same counts.
 use Rattle.std.proofs.Common.{◌≡◌, ◌∙◌, ◌<◌, ◌≤◌, ◌==◌, ◌||◌, ◌++◌, inl, inr, ℕ, zero, suc, true, Some, List, [], ◌∷◌, length, map, get_or, slice_get, take, replicate, refl, sym, ap, subst, arith}
 use Rattle.std.specs.List.{AllByRecursion}
 use Rattle.std.proofs.lemmas.Bool.{eq-eqb, or_left, or_right, eqb-true, false_from_ne_true, or_cases, true≢false}
@@ -26,7 +27,7 @@ use Rattle.prune_fields.proofs.NeedsByEdge.{are_needs, needs_root}
 use Rattle.prune_fields.proofs.MoreOps.{slice_get-behind, slice_get-front, slice_get-map}
 use Rattle.prune_fields.proofs.TwinPlans.{Alike, AreKept, leads_down, leads_up}
 
--- ---- what the sink keeps
+-- ---- the fields that the sink keeps
 
 listed_all : (s : FieldSet) (keys : List ℕ) → ((k : ℕ) → is_listed keys k ≡ true → s k ≡ true) → AllByRecursion (Has s) keys
 listed_all s [] f = tt
@@ -52,7 +53,7 @@ listed_below bound keys h k past = false_from_ne_true (is_listed keys k) (λ e. 
 
 -- ---- counts
 
--- those of so many numbers, and then those of what was put on the edges of these
+-- the counts of the numbers below `size`; a missing count is 0
 abbrev filled : ℕ → List ℕ → List ℕ
 filled size counts = take size (counts ++ replicate size 0)
 
@@ -84,7 +85,7 @@ new_count size ns counts n m c e told =
     ∙ slice_get-map (λ k. get_or counts k 0) ns r.0 n r.2
     ∙ ap Some (get_or_from_slice_get counts n c 0 told)
 
--- what is told of each node
+-- the count of each node
 told_at : (Told : ℕ → ℕ → Type 0) (o : PlanOps) (t : PlanTree) (bag : Bag) (n : ℕ) → has n t ≡ true → Evaluates Told o t bag → (k : ℕ) × Told n k
 told_at Told o (leaf m) bag n there h = (length bag, subst (λ (j : ℕ). Told j (length bag)) (sym (eqb-true n m there)) h.1)
 told_at Told o (over m t) bag n there h = elim (or_cases (n == m) (has n t) there) as (λ _. (k : ℕ) × Told n k) [
@@ -99,7 +100,7 @@ told_at Told o (both m t u) bag n there h = elim (or_cases (n == m) (has n t || 
   ]
 ]
 
--- the numbers of a tree are those of operators
+-- every number of a tree is an operator's or source's
 small_nodes : (ops : List Op) (t : PlanTree) → HasArity ops t → AllByRecursion (λ n. n < length ops) (nodes t)
 small_nodes ops (leaf n) a = (slice_get_within ops n a.0 a.1, tt)
 small_nodes ops (over n t) a = (slice_get_within ops n a.0.0 a.0.1, small_nodes ops t a.1)

@@ -1,5 +1,5 @@
--- Two bags whose records agree, place by place, on what an operator needs: what the operator may give for one, it may give for the other, but for
--- records that agree on what is needed above it.
+-- Two bags whose records agree, place by place, on the fields that an operator needs. For each output that the operator
+-- may give for one bag there is one for the other whose records agree on the fields that are needed above.
 use Rattle.std.proofs.Common.{◌≡◌, ◌∙◌, ◌<◌, ◌+◌, ◌⊎◌, inl, inr, ℕ, Bool, true, false, not, cond, ◌||◌, List, [], ◌∷◌, ◌++◌, length, map, refl, sym, ap, subst, arith}
 use Rattle.std.specs.Prelude.{flat_map}
 use Rattle.std.specs.List.{AllByRecursion, AllZip}
@@ -27,9 +27,9 @@ use Rattle.pact_operators.proofs.WithinFields.{same_key_of}
 use Rattle.prune_fields.specs.Needs.{within}
 use Rattle.prune_fields.proofs.BesideLists.{AllZip-append, AllZip-filter, AllZip-flat_map, AllZip-length}
 
--- ---- records that agree on what is needed
+-- ---- records that agree on the needed fields
 
--- records of an input that agree on a set; outside the input's own fields both are Null
+-- Records of an input that agree on a set. Outside the input's own fields both are Null.
 pub record AreTwins (fields : ℕ) (own want : FieldSet) (a b : List Value) : Type 0 where
   pub first : IsWithin fields (Has own) a
   pub second : IsWithin fields (Has own) b
@@ -40,7 +40,7 @@ agree_at : (fields : ℕ) (own : FieldSet) (k : ℕ) (a b : List Value) (o : Boo
 agree_at fields own k a b true e f g h = h refl
 agree_at fields own k a b false e f g h = f.null k (λ t. true≢false (sym t ∙ e)) ∙ sym (g.null k (λ t. true≢false (sym t ∙ e)))
 
--- it is enough to agree on the part that lies in the input's fields
+-- it is enough to agree on the fields of the set that the input has
 pub are_twins : (fields : ℕ) (own want : FieldSet) (a b : List Value) → IsWithin fields (Has own) a → IsWithin fields (Has own) b
     → Agree (within want own) a b → AreTwins fields own want a b
 are_twins fields own want a b f g h =
@@ -96,9 +96,9 @@ module _ (fields : ℕ) (own want : FieldSet) where
     keyed : (xs : Bag) (k : List Value) (group : Bag) → Perm (group_of_key keys xs k) group → HaveKey keys k group
     keyed xs k group p = each_perm (λ r. key_of keys r ≡ k) p (group_keys keys xs k)
 
--- ---- what an operator gives
+-- ---- the output of an operator
 
--- an input's groups of a key, of which one has a record
+-- for each key that either input has, at least one of its groups has a record
 either_some : (keys others : List ℕ) (ls rs : Bag)
     → AllByRecursion (λ k. 0 < length (group_of_key keys ls k) + length (group_of_key others rs k)) (keys_in_either keys others ls rs)
 either_some keys others ls rs =
@@ -109,7 +109,8 @@ either_some keys others ls rs =
       | inr r ↦ omega (arith, r)
     ]) (distinct_keys_have_either keys others ls rs)
 
--- Of an operator whose calls agree on what is needed above, for inputs that agree on what it needs, its keys among that.
+-- An operator whose calls agree on the fields that are needed above if their inputs agree on the fields that it needs.
+-- Its keys are among these.
 module _ (o : PlanOps) (fields n : ℕ) (left right want above : FieldSet) (apart : AreApart (Has left) (Has right)) where
   abbrev InPorts : Ports
   InPorts = ports left right (o.left_keys n) (o.right_keys n)
@@ -117,7 +118,7 @@ module _ (o : PlanOps) (fields n : ℕ) (left right want above : FieldSet) (apar
   abbrev pub HasTwinCalls : Kind → Type 0
   HasTwinCalls kind = HasFormAlone kind fields InPorts want above (called o n)
 
-  -- ---- of one input
+  -- ---- operators with one input
 
   lawful_record : (x : List Value) → IsWithin fields (Has left) x → IsLawful kinds.Map fields InPorts (of_record x)
   lawful_record x h = record { apart = apart; called = tt; some = tt; keyed = tt; left = (h, tt); right = tt }
@@ -172,7 +173,7 @@ module _ (o : PlanOps) (fields n : ℕ) (left right want above : FieldSet) (apar
         )
     gives_twins kind form xs ys out h p = absurd p
 
-    -- ---- of two inputs
+    -- ---- operators with two inputs
 
     module _ (right_read : AllByRecursion (Has want) (o.right_keys n)) where
       pair_twins : (kind : Kind) → ((l r : List Value) → IsInputOf kind (of_pair l r)) → HasTwinCalls kind → (l m r s : List Value)

@@ -1,6 +1,6 @@
--- A plan, and the same with Maps on some edges that keep what is needed above them: for each bag that the one allows the other allows one whose
--- records
--- agree, place by place, on what is needed of the root, with the same counts.
+-- A plan, and the same plan with Maps on some edges that keep the fields needed above them. For each bag that one plan
+-- allows, the other allows one whose records agree with it, place by place, on the fields needed of the root, with the
+-- same counts.
 use Rattle.std.proofs.Common.{◌≡◌, ◌∙◌, ℕ, Option, Some, None, List, [], ◌∷◌, ◌++◌, length, refl, sym, subst}
 use Rattle.std.specs.Prelude.{flat_map}
 use Rattle.std.specs.List.{AllByRecursion, AllZip}
@@ -41,17 +41,17 @@ alike_turned s [] (y ∷ ys) h = absurd h
 alike_turned s (x ∷ xs) [] h = absurd h
 alike_turned s (x ∷ xs) (y ∷ ys) h = ((λ k m. sym (h.0 k m)), alike_turned s xs ys h.1)
 
--- what one may be permuted to is beside what the other may be
+-- if a bag is permuted, a bag that agrees with it can be permuted to agree with the result
 permuted_alike : (s : FieldSet) (xs zs ys : Bag) → IsPermutation xs zs → Alike s xs ys → (ws : Bag) × IsPermutation ys ws × Alike s zs ws
 permuted_alike s xs zs ys p h = let q = AllZip-permuted (Agree s) (from_permutation xs zs p) ys h in (q.0, to_permutation q.1, q.2)
 
--- there are as many of them
+-- both bags have the same number of records
 alike_told : (s : FieldSet) (P : ℕ → Type 0) (xs ys : Bag) → Alike s xs ys → P (length xs) → P (length ys)
 alike_told s P xs ys h t = subst P (AllZip-length (Agree s) xs ys h) t
 
--- ---- what is put on an edge
+-- ---- the operator on an edge
 
--- A Map that gives one record for each, which agrees with it on a set.
+-- A Map that emits one record for each, which agrees with it on a set.
 pub record IsCut (fields : ℕ) (o : PlanOps) (need : FieldSet) (m : ℕ) : Type 0 where
   pub kind : o.kind m ≡ Map
   pub gives : (row : List Value) → length row ≡ fields → (out : List Value) × (o.of_record m row ≡ out ∷ []) × Agree need row out
@@ -65,13 +65,13 @@ cut_bag fields o need m c (row ∷ rows) h =
 
 -- ---- plans
 
--- `o` does what the operators of the plan do, and `p` what those of the plan with more Maps do.
+-- `o` has the operators of the plan, and `p` those of the plan with more Maps.
 module _ (fields : ℕ) (o p : PlanOps) (cut : Cuts) (needs : ℕ → FieldSet) where
   -- the edge that leaves a tree's root
   abbrev pub onto : PlanTree → PlanTree
   onto t = capped (cut (root_of t)) (grown cut t)
 
-  -- An operator needs the set of its inputs, of which this one has values in its own fields alone.
+  -- The operator needs this set of its inputs, and this input has values only in its own fields.
   pub record IsEdge (want own : FieldSet) (t : PlanTree) : Type 0 where
     pub needed : needs (root_of t) ≡ within want own
     pub fits : (bag : Bag) → Allows o t bag → AllByRecursion (IsWithin fields (Has own)) bag
@@ -177,7 +177,7 @@ module _ (fields : ℕ) (o p : PlanOps) (cut : Cuts) (needs : ℕ → FieldSet) 
 
   -- ---- from the plan to the plan with more Maps
 
-  -- what is told of a number of the plan is told of it in the other plan too, and of what is put on its edge
+  -- a count of a number in the plan is also its count in the other plan, and the count of the Map on its edge
   module _ (Told Then : ℕ → ℕ → Type 0) (keeps : (n k : ℕ) → Told n k → Then n k) (puts : (n m k : ℕ) → cut n ≡ Some m → Told n k → Then m k) where
     abbrev LeadsUp : PlanTree → PlanTree → Type 0
     LeadsUp t s = (bag : Bag) → Evaluates Told o t bag → (now : Bag) × Evaluates Then p s now × Alike (needs (root_of t)) bag now

@@ -15,33 +15,33 @@ use Rattle.prune_fields.specs.KeepFunctions.{keep_function}
 
 -- ---- trees
 
--- the number of what is put on the edge that leaves a number, where something is
+-- the new operator on the edge that leaves a number, if there is one
 abbrev pub Cuts : Type 0
 Cuts = ℕ → Option ℕ
 
--- an operator over a tree, where there is one
+-- the tree, with an operator over it if there is one
 abbrev pub capped : Option ℕ → PlanTree → PlanTree
 capped None t = t
 capped (Some m) t = over m t
 
--- the plan with all of them
+-- the plan with all new operators
 abbrev pub grown : Cuts → PlanTree → PlanTree
 grown cut (leaf n) = leaf n
 grown cut (over n t) = over n (capped (cut (root_of t)) (grown cut t))
 grown cut (both n t u) = both n (capped (cut (root_of t)) (grown cut t)) (capped (cut (root_of u)) (grown cut u))
 
--- where these numbers get new ones from one on
+-- the edges of these numbers get operators, numbered from `new` on
 abbrev pub cuts_from : ℕ → List ℕ → Cuts
 cuts_from new [] n = None
 cuts_from new (k ∷ ks) n = if n == k then Some new else cuts_from (new + 1) ks n
 
 -- ---- programs
 
--- It is named by its number, which no text can do.
+-- Its name is its number; no program text can declare such a name.
 abbrev pub keep_op : (number function : ℕ) → Op
 keep_op number function = record { name = decimal number; kind = Map; function = function; left_keys = []; right_keys = []; file = []; columns = [] }
 
--- one for each of the numbers, where they and their functions are numbered from these on
+-- one for each of the numbers; they are numbered from `new` on, and their functions from `function` on
 abbrev pub keep_ops : (new function : ℕ) → List ℕ → List Op
 keep_ops new function [] = []
 keep_ops new function (n ∷ ns) = keep_op new function ∷ keep_ops (new + 1) (function + 1) ns
@@ -51,12 +51,12 @@ abbrev pub keep_functions : (new fields : ℕ) → (ℕ → FieldSet) → List �
 keep_functions new fields needs [] = []
 keep_functions new fields needs (n ∷ ns) = keep_function new fields (needs n) ∷ keep_functions (new + 1) fields needs ns
 
--- the plan as written, where nothing is put in
+-- the tree with the new operators, and the plan as written if there is none
 abbrev pub plan_with : ProgramData → PlanTree → List ℕ → PlanTree
 plan_with p tree [] = p.plan
 plan_with p tree (n ∷ ns) = grown (cuts_from (length p.ops) (n ∷ ns)) tree
 
--- with a Map on the edge from each of these numbers of a plan of it
+-- the program with a Map on the edge from each of these numbers of one of its plans
 abbrev pub with_keeps : ProgramData → PlanTree → (ℕ → FieldSet) → List ℕ → ProgramData
 with_keeps p tree needs ns = record {
   version = p.version;
@@ -67,7 +67,8 @@ with_keeps p tree needs ns = record {
   sink = p.sink;
 }
 
--- One more Map, which keeps a set, may stand on the edge from a number of a plan of the program; and the program with it.
+-- Whether one more Map, which keeps a set, may be inserted on the edge from a number of a plan; below, the program with
+-- it.
 abbrev pub CanKeep : ProgramData → PlanTree → ℕ → FieldSet → Type 0
 CanKeep p tree at s = CanInsert p tree at (keep_op (length p.ops) 0) (keep_function (length p.ops) p.fields s)
 
@@ -77,12 +78,12 @@ kept_into p tree at s =
 
 -- ---- physical plans
 
--- Each Map is fed Forward, and ships as the edge did.
+-- The edge to each Map is Forward, and the Map ships as the edge did before.
 abbrev pub moved_from : ℕ → List ℕ → List Ship → List Ship
 moved_from new [] ships = ships
 moved_from new (n ∷ ns) ships = moved_from (new + 1) ns (set (set ships new (get_or ships n Forward)) n Forward)
 
--- where the numbers of the Maps follow those of the program
+-- the numbers of the Maps follow those of the program
 abbrev pub with_cut_edges : ProgramData → PhysicalData → List ℕ → PhysicalData
 with_cut_edges p x ns = record {
   tree = grown (cuts_from (length p.ops) ns) x.tree;

@@ -1,5 +1,6 @@
--- Which fields of what each source and operator of a plan gives are needed: the sink's of what the root gives, and of every other what its consumer reads
--- or hands on, among the attributes there.
+-- The fields that are needed of the records of each source and operator of a plan. Of the root's records the sink's
+-- fields are needed. Of all others those fields are needed that the consumer reads, or copies because they are needed
+-- above it. Only attributes of the input count.
 use Rattle.std.specs.Prelude.{◌≡◌, ◌==◌, ◌&&◌, ◌||◌, not, true, ℕ, if◌then◌else◌}
 use Rattle.pact_record.specs.Keys.{is_listed}
 use Rattle.tac_syntax.specs.Contexts.{FieldSet}
@@ -8,23 +9,24 @@ use Rattle.plan_trees.specs.Plans.{PlanTree, leaf, over, both, has, root_of}
 use Rattle.pact_operators.specs.Programs.{ProgramData}
 use Rattle.ship_strategy.specs.PlanFacts.{attribute, left_attribute, right_attribute, sets_at}
 
--- what an operator wants of its inputs, where so much of what it gives is needed: what it reads, and what it hands on
+-- the fields that an operator wants of its inputs if `above` is needed of its own records: those that it reads, and
+-- those that it copies
 abbrev pub wanted : (reads writes above : FieldSet) → FieldSet
 wanted reads writes above k = reads k || (above k && not (writes k))
 
--- those among the attributes of one input
+-- the fields of a set that are attributes of one input
 abbrev pub within : FieldSet → FieldSet → FieldSet
 within set attributes k = set k && attributes k
 
--- what is found of a tree's root
+-- the sets found for a tree's root
 abbrev pub root_sets : ProgramData → PlanTree → FoundSets
 root_sets p t = sets_at p (root_of t) (left_attribute p t) (right_attribute p t)
 
--- what a tree's root wants of its inputs
+-- the fields that a tree's root wants of its inputs
 abbrev pub wants_of : ProgramData → PlanTree → FieldSet → FieldSet
 wants_of p t above = wanted (root_sets p t).reads (root_sets p t).writes above
 
--- by number, where so much of what the root gives is needed
+-- the needed fields by number, if `above` is needed of the root's records
 abbrev pub needs_from : ProgramData → FieldSet → PlanTree → ℕ → FieldSet
 needs_from p above (leaf n) at = above
 needs_from p above (over n t) at = if at == n then above else needs_from p (within (wants_of p (over n t) above) (attribute p t)) t at
@@ -36,13 +38,13 @@ needs_from p above (both n t u) at =
 abbrev pub need : ProgramData → PlanTree → ℕ → FieldSet
 need p tree at = needs_from p (is_listed p.sink) tree at
 
--- ---- all of them, in one walk
+-- ---- all numbers, in one walk
 
--- with what is needed of one number
+-- the table with the needed fields of one more number
 abbrev pub put : ℕ → FieldSet → (ℕ → FieldSet) → ℕ → FieldSet
 put at set old k = if k == at then set else old k
 
--- what a walk over a tree enters for each of its numbers, where `above` is needed of its root
+-- the table after a walk over a tree, if `above` is needed of its root
 abbrev pub entered : ProgramData → FieldSet → PlanTree → (ℕ → FieldSet) → ℕ → FieldSet
 entered p above (leaf n) old = put n above old
 entered p above (over n t) old = put n above (entered p (within (wants_of p (over n t) above) (attribute p t)) t old)
@@ -51,6 +53,6 @@ entered p above (both n t u) old =
     (entered p (within (wants_of p (both n t u) above) (attribute p t)) t
     (entered p (within (wants_of p (both n t u) above) (attribute p u)) u old))
 
--- At each number of a plan they are what is needed of it.
+-- The table has the needed fields of each number of the plan.
 abbrev pub AreNeedsOf : ProgramData → PlanTree → (ℕ → FieldSet) → Type 0
 AreNeedsOf p tree needs = (n : ℕ) → has n tree ≡ true → needs n ≡ need p tree n

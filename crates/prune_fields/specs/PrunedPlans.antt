@@ -1,4 +1,4 @@
--- The physical plan and the program in which what isn't needed is dropped before it is shipped.
+-- The physical plan and the program in which unneeded fields are dropped before records are shipped.
 use Rattle.std.specs.Prelude.{◌≡◌, ◌+◌, ◌-◌, ◌&&◌, not, ℕ, zero, suc, Bool, true, false, List, [], ◌∷◌, filter, get_or, length, min, take}
 use Rattle.std.specs.List.{AllZip, list_any}
 use Rattle.pact_record.specs.FieldSets.{has_field}
@@ -22,42 +22,44 @@ is_forward ship = false
 abbrev pub has_spare : ProgramData → PlanTree → ℕ → Bool
 has_spare p tree n = list_any (λ k. not (need p tree n k)) (members p.fields (attribute p (subtree_of n tree)))
 
--- What the source or operator gives is cut before it is shipped: it isn't the root, its ship isn't Forward, and not all its attributes are needed.
+-- The records of the source or operator are cut before they are shipped: it isn't the root, its ship isn't Forward, and
+-- not all its attributes are needed.
 abbrev pub is_cut : ProgramData → PhysicalData → ℕ → Bool
 is_cut p x n = has_edge n x.tree && (not (is_forward (get_or x.ships n Forward)) && has_spare p x.tree n)
 
--- so many numbers from one on
+-- `count` numbers, from `at` on
 abbrev pub numbers : (at count : ℕ) → List ℕ
 numbers at zero = []
 numbers at (suc count) = at ∷ numbers (at + 1) count
 
--- how many operators a program may still get, each with a function
+-- the number of operators that a program may still get, each with a function
 abbrev pub room : ProgramData → ℕ
 room p = min (operator_limit - times_of_kind is_operator_kind p.ops) (function_limit - length p.functions)
 
--- of the numbers below one, the first so many of those that are to be cut, in their order
+-- the numbers below `at` whose edges are cut, in order, as far as there is room
 abbrev pub cut_below : ProgramData → PhysicalData → ℕ → List ℕ
 cut_below p x at = take (room p) (filter (is_cut p x) (numbers 0 at))
 
--- the program and the physical plan with those pruned
+-- the program and the physical plan, pruned at these numbers
 abbrev pub program_below : ProgramData → PhysicalData → ℕ → ProgramData
 program_below p x at = with_keeps p x.tree (need p x.tree) (cut_below p x at)
 
 abbrev pub physical_below : ProgramData → PhysicalData → ℕ → PhysicalData
 physical_below p x at = with_cut_edges p x (cut_below p x at)
 
--- a number, and what is needed of it
+-- a number with the fields that are needed of it
 pub record IsNeedOf (p : ProgramData) (tree : PlanTree) (k : Kept) (n : ℕ) : Type 0 where
   pub at : k.at ≡ n
   pub fields : has_field k.fields ≡ need p tree n
 
--- The second program and physical plan are the first, pruned below a number. Each number that was cut is listed with what is needed of it.
+-- The second program and physical plan are the first, pruned below a number. Each number that was cut is listed with
+-- the fields that are needed of it.
 pub record IsPrunedBelow (p : ProgramData) (x : PhysicalData) (at : ℕ) (q : ProgramData) (y : PhysicalData) (kept : List Kept) : Type 0 where
   pub program : q ≡ program_below p x at
   pub physical : y ≡ physical_below p x at
   pub needs : AllZip (IsNeedOf p x.tree) kept (cut_below p x at)
 
--- ---- all of them
+-- ---- all numbers
 
 abbrev pub pruned_program : ProgramData → PhysicalData → ProgramData
 pruned_program p x = program_below p x (length p.ops)

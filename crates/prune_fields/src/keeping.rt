@@ -18,7 +18,7 @@ use plan_trees::Physical;
 use std::alloc::Global;
 use tac_syntax::{Body, Function, Kind, NotPushed, OpKind, Rec, Stmt, Valid};
 
-// Puts a statement behind a body.
+// Appends a statement to a body.
 fn put(body: &mut Body, stmt: Stmt) -> Result<(), OutOfMemory>
     requires { nesting (only stmt) ≤ nesting_limit }
     ensures { OnOk result (body.new ≡ joined body.old (only stmt)) }
@@ -30,7 +30,7 @@ fn put(body: &mut Body, stmt: Stmt) -> Result<(), OutOfMemory>
     }
 }
 
-// One field goes into record register 0.
+// Appends the statements that copy one field into record register 0.
 fn put_field(body: &mut Body, field: u32) -> Result<(), OutOfMemory>
     ensures { OnOk result (body.new ≡ joined body.old (plain (get_field 0 Input field) (plain (set_field 0 field 0) stop))) }
 {
@@ -67,7 +67,7 @@ fn keep_body(alloc: Global, fields: u32, kept: Fields) -> Result<Body, OutOfMemo
     Ok(body)
 }
 
-// A name that no text can have.
+// A name that no program text can declare.
 fn number_name(alloc: Global, number: u32) -> Result<Word, OutOfMemory>
     ensures { IfOk result (λ w. w ≡ decimal number) }
 {
@@ -113,7 +113,7 @@ fn keep_op(alloc: Global, number: u32) -> Result<Op, OutOfMemory>
     })
 }
 
-/// A Map that keeps these fields stands on the edge from the number.
+/// Inserts a Map that keeps these fields on the edge from the number.
 pub(crate) fn keep_at(
     alloc: Global,
     program: Program,

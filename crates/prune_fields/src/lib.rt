@@ -1,9 +1,9 @@
 //! Field pruning: fields that nothing above reads are dropped before records are shipped.
 //!
-//! `need` tells which fields of what a source or an operator gives are needed in a plan; `specs/Needs` has the rule. `prune`
-//! puts a Map on each edge over which records are shipped with fields that aren't. `specs/PrunedPlans` says which edges
-//! these are, `specs/Insertions` what the program and the physical plan then are, and `specs/SameAnswers` what both plans
-//! have in common.
+//! `need` returns the fields of a source's or an operator's records that are needed in a plan; `specs/Needs` has the
+//! rule. `prune` inserts a Map on each edge over which records with unneeded fields are shipped. `specs/PrunedPlans`
+//! says which edges these are. `specs/Insertions` defines the program and the physical plan with the Maps, and
+//! `specs/SameAnswers` relates the results of both plans.
 #![tactic(auto)]
 
 mod keeping;

@@ -1,4 +1,4 @@
-//! Which fields are needed of each source and operator of a plan, by their numbers.
+//! The needed fields of each source and operator of a plan, by their numbers.
 
 ghost use Rattle.std.specs.Prelude.{◌≡◌, ◌<◌};
 ghost use Rattle.plan_trees.specs.Plans.{node_limit};
@@ -9,7 +9,7 @@ ghost use Rattle.prune_fields.specs.NeedTables.{needs_in};
 use pact_operators::MAX_NODES;
 use pact_record::Fields;
 
-/// The fields that are needed, by number.
+/// The needed fields, by number.
 #[derive(Clone, Copy)]
 pub(crate) struct NeedTable {
     needs: [Fields; MAX_NODES],
@@ -23,7 +23,7 @@ impl NeedTable {
         }
     }
 
-    /// Enters what is needed of the source or operator of this number.
+    /// Enters the needed fields of the source or operator with this number.
     pub(crate) fn set(&mut self, at: u32, fields: Fields)
         requires { at < node_limit }
         ensures { needs_in self.new ≡ put at (has_field fields) (needs_in self.old) }
@@ -31,7 +31,7 @@ impl NeedTable {
         self.needs[at as usize] = fields;
     }
 
-    /// What is needed of the source or operator of this number.
+    /// The needed fields of the source or operator with this number.
     pub(crate) fn at(&self, at: u32) -> Fields
         ensures { has_field result ≡ needs_in self.now at }
     {

@@ -1,4 +1,4 @@
-//! Which fields of what a source or an operator gives are needed.
+//! The fields that are needed of the records of a source or an operator.
 
 ghost use Rattle.std.specs.Prelude.{◌≡◌, ◌<◌, ℕ, true};
 ghost use Rattle.std.specs.List.{AllByRecursion};
@@ -20,7 +20,7 @@ use pact_record::Fields;
 use plan_trees::{Parts, Plan};
 use tac_flow::sets;
 
-// What the root of a tree needs of its inputs, its left or only one and its right one.
+// The fields that the root of a tree needs of its inputs: of its left or only one, and of its right one.
 fn needs_of_inputs(program: &Program, tree: &Plan, above: Fields) -> (Fields, Fields)
     requires operator { kind_at program.now.ops (root_of tree.now) ≡ Source → ⊥ }
     ensures left { has_field result.0 ≡ within (wants_of program.now tree.now (has_field above)) (left_attribute program.now tree.now) }
@@ -28,14 +28,14 @@ fn needs_of_inputs(program: &Program, tree: &Plan, above: Fields) -> (Fields, Fi
 {
     let at = tree.root();
     let inputs = context(program, tree, at);
-    // A program tells that its functions are valid.
+    // this call shows the prover that the program's functions are valid
     let _fields = program.fields();
     let found = sets(program.function_at(at), &inputs);
     let wanted = found.reads.union(above.minus(found.writes));
     (wanted.meet(inputs.left), wanted.meet(inputs.right))
 }
 
-// What is needed of a number, where so much is needed of the tree's root.
+// The needed fields of a number, if `above` is needed of the tree's root.
 fn need_from(program: &Program, tree: &Plan, above: Fields, at: u32) -> Fields
     requires arity { HasArity program.now.ops tree.now }
     ensures { has_field result ≡ needs_from program.now (has_field above) tree.now at }
@@ -78,8 +78,9 @@ fn listed(fields: &[u32]) -> Fields
     found
 }
 
-/// The fields that are needed of what the source or operator gives: of the plan's root those of the sink, and of every
-/// other what its consumer reads, or hands on because it is needed above it, among the attributes there.
+/// The needed fields of the records of a source or operator. Of the plan's root these are the sink's fields. Of any
+/// other source or operator they are the fields that its consumer reads, or copies because they are needed above it.
+/// Only attributes count.
 pub fn need(program: &Program, plan: &Plan, at: u32) -> Fields
     requires { IsPlanOf program.now.functions program.now.ops plan.now }
     ensures { has_field result ≡ needs.need program.now plan.now at }
@@ -87,7 +88,7 @@ pub fn need(program: &Program, plan: &Plan, at: u32) -> Fields
     need_from(program, plan, listed(program.sink()), at)
 }
 
-// Enters what is needed of each number of a tree, if this much is needed of its root.
+// Enters the needed fields of each number of a tree, if `above` is needed of its root.
 fn enter(program: &Program, tree: &Plan, above: Fields, table: &mut NeedTable)
     requires arity { HasArity program.now.ops tree.now }
     ensures { needs_in table.new ≡ entered program.now (has_field above) tree.now (needs_in table.old) }
@@ -108,8 +109,8 @@ fn enter(program: &Program, tree: &Plan, above: Fields, table: &mut NeedTable)
     }
 }
 
-/// What is needed of each source and operator of the plan. Each operator is analysed once. Calls of `need` for all numbers
-/// would analyse an operator once for each number below it.
+/// The needed fields of each source and operator of the plan. Each operator is analysed once. Calls of `need` for all
+/// numbers would analyse an operator once for each number below it.
 pub(crate) fn needs_of_all(program: &Program, plan: &Plan) -> NeedTable
     requires { IsPlanOf program.now.functions program.now.ops plan.now }
     ensures { AreNeedsOf program.now plan.now (needs_in result) }

@@ -25,7 +25,7 @@ use pact_record::{Fields, OutOfMemory};
 use plan_trees::{Physical, Ship};
 use std::alloc::Global;
 
-// A Map is inserted while there are fewer operators and functions than these.
+// A Map is inserted only while the program has fewer operators and functions than these limits.
 const MAX_OPERATORS: usize = 16;
 
 const MAX_FUNCTIONS: usize = 64;
@@ -46,7 +46,7 @@ pub struct Pruned {
     pub kept: Vec<Kept>,
 }
 
-// How many of them are operators.
+// The number of operators, without the sources.
 fn operators(ops: &[Op]) -> usize
     ensures { result ≡ times_of_kind is_operator_kind ops.now }
 {
@@ -66,7 +66,7 @@ fn has_room(program: &Program) -> bool
     operators(program.ops()) < MAX_OPERATORS && program.functions().len() < MAX_FUNCTIONS
 }
 
-// Whether the records of the number are shipped: it isn't the root, and doesn't ship Forward.
+// Whether the number's records are shipped: it isn't the root, and doesn't ship Forward.
 fn is_shipped(physical: &Physical, at: u32) -> bool
     requires { has at physical.now.tree ≡ true }
     ensures { result ≡ (has_edge at physical.now.tree && not (is_forward (get_or physical.now.ships at Forward))) }
@@ -80,7 +80,7 @@ fn is_shipped(physical: &Physical, at: u32) -> bool
     true
 }
 
-// Whether not all its attributes are needed.
+// Whether some of its attributes aren't needed.
 fn has_spare(program: &Program, physical: &Physical, at: u32, needed: Fields) -> bool
     requires program { IsProgram program.now }
     requires there { has at physical.now.tree ≡ true }
@@ -91,7 +91,7 @@ fn has_spare(program: &Program, physical: &Physical, at: u32, needed: Fields) ->
     !attributes.is_subset(needed)
 }
 
-// The table of what is needed, filled if it isn't known yet.
+// The table of needed fields. It is filled now if it isn't known yet.
 fn table_of(program: &Program, plan: &Plan, known: Option<NeedTable>) -> NeedTable
     requires plan { IsPlanOf program.now.functions program.now.ops plan.now }
     requires known { IfSome known (λ t. AreNeedsOf program.now plan.now (needs_in t)) }
@@ -103,7 +103,7 @@ fn table_of(program: &Program, plan: &Plan, known: Option<NeedTable>) -> NeedTab
     }
 }
 
-// What is needed of a number. The first one that is asked for fills the table.
+// The needed fields of a number. The first call fills the table.
 fn needed_at(program: &Program, plan: &Plan, known: &mut Option<NeedTable>, at: u32) -> Fields
     requires plan { IsPlanOf program.now.functions program.now.ops plan.now }
     requires there { has at plan.now ≡ true }
@@ -140,7 +140,7 @@ fn pruned_at(
     if !has_room(&so_far.program) {
         return Ok(so_far);
     }
-    // Only after these two: the first time it analyses every operator.
+    // The first call analyses every operator, so it comes after the two cheaper tests.
     let needed = needed_at(program, physical.plan(), known, at);
     if !has_spare(program, physical, at, needed) {
         return Ok(so_far);
@@ -179,10 +179,10 @@ fn all_pruned(alloc: Global, program: &Program, physical: &Physical) -> Result<P
     Ok(pruned)
 }
 
-/// The pruned plan: in the order of numbers, each source and operator gets a Map on its edge that keeps what is needed of
-/// its records, while there are fewer than 16 operators and fewer than 64 functions. The root gets none, nor does one that
-/// ships Forward, nor one all of whose attributes are needed. Both plans give the same records, cut to the sink's fields,
-/// with the same counts at the program's operators. The only error is out of memory.
+/// The pruned plan. In the order of their numbers, sources and operators get a Map on their edge that keeps the needed
+/// fields of their records. This goes on while there are fewer than 16 operators and fewer than 64 functions. No Map is
+/// inserted for the root, for an edge that ships Forward, or if all attributes are needed. Both plans give the same
+/// records, cut to the sink's fields, with the same counts at the program's operators. The only error is out of memory.
 pub fn prune(alloc: Global, program: &Program, physical: &Physical) -> Result<Pruned, OutOfMemory>
     requires plan { IsPlanOf program.now.functions program.now.ops physical.now.tree }
     requires legal { LegalShip (facts_of program.now physical.now.tree) physical.now }
@@ -197,9 +197,9 @@ pub fn prune(alloc: Global, program: &Program, physical: &Physical) -> Result<Pr
     ensures same { IfOk result (λ c. AnswersSame program.now physical.now c.program c.physical) }
     ensures runs { IfOk result (λ c. RunsAnswer program.now physical.now c.program c.physical) }
 {
-    // Its clause says that the program keeps every rule.
+    // this call shows the prover that the program keeps every rule
     let _fields = program.fields();
-    // Its clause says that the physical plan is one.
+    // this call shows the prover that the physical plan is a valid one
     let _workers = physical.workers();
     all_pruned(alloc, program, physical)
 }

@@ -1,4 +1,5 @@
--- A record meets at most one of rows of which no two have the same key values, whatever test of key values only equal ones pass.
+-- If no two rows have the same key values, a record meets at most one of them, for any test of key values that only
+-- equal ones pass.
 use Rattle.std.proofs.Common.{◌≡◌, ◌≤◌, ℕ, Bool, true, false, cond, ◌||◌, not, List, [], ◌∷◌, ◌++◌, length, append-nil, refl, sym, ap, subst, ◌∙◌, arith}
 use Rattle.std.proofs.lemmas.Bool.{cond_both}
 use Rattle.std.specs.List.{AllByRecursion}
@@ -14,7 +15,7 @@ use Rattle.reorder_group.proofs.Partners.{with_rows}
 abbrev pub TellsEqual : (Key → Key → Bool) → Type 0
 TellsEqual meets = (a b : Key) → meets a b ≡ true → a ≡ b
 
--- a call where the key values meet, and nothing where they don't
+-- the call's records if the key values meet, and none otherwise
 abbrev pub meeting : (Key → Key → Bool) → (Row → Row → Bag) → List ℕ → List ℕ → Row → Row → Bag
 meeting meets f keys others l r = cond (meets (key_of keys l) (key_of others r)) (f l r) []
 
@@ -22,7 +23,7 @@ either_same : (b : Bool) (xs ys : Bag) → length xs ≡ length ys → length (c
 either_same true xs ys e = e
 either_same false xs ys e = refl
 
--- a call that Null in a key of the left record may bar
+-- a call that may be suppressed by a Null in a key of the left record
 pub few_unless : (nulls : Bool) (f : Row → Row → Bag) (keys : List ℕ) (l r : Row) → length (f l r) ≤ 1 → length (unless_null nulls f keys l r) ≤ 1
 few_unless nulls f keys l r few = cond_both (nulls || not (has_null (key_of keys l))) (f l r) [] (λ (z : Bag). length z ≤ 1) (λ is. few) (λ out. omega arith)
 

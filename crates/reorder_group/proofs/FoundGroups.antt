@@ -1,4 +1,4 @@
--- A Map that is found bound to keys keeps their groups, in all that its input may hold in either of two trees.
+-- If the findings bind a Map to keys, it keeps their groups, in all that its input may hold in either of two trees.
 use Rattle.std.proofs.Common.{◌≡◌, ℕ, List, sym, ap, subst, ◌∙◌}
 use Rattle.pact_record.specs.FieldSets.{has_field}
 use Rattle.pact_record.specs.Keys.{is_listed}

@@ -8,7 +8,8 @@ use Rattle.pact_operators.specs.Allowed.{Bag}
 use Rattle.pact_operators.proofs.ChosenForKeys.{AreChosen, AreChosen-permuted, first_occurs, later_occurs}
 use Rattle.reorder_pair.proofs.FunctionForms.{Row}
 
--- For the keys of the second list what is chosen may go both ways. They are keys of the first, whose others give nothing.
+-- For the keys of the second list, what is chosen can be carried over in both directions. They are keys of the first
+-- list, and f emits nothing for its other keys.
 pub record Carries (f : Row → Bag) (P Q : Key → Bag → Type 0) (ks js : List Key) : Type 0 where
   pub forth : (k : Key) → occurs k js ≡ true → (out : Bag) → P k out → Q k (flat_map f out)
   pub back : (k : Key) → occurs k js ≡ true → (now : Bag) → Q k now → (out : Bag) × P k out × (flat_map f out ≡ now)

@@ -10,11 +10,11 @@ use Rattle.pact_operators.specs.PlanOps.{PlanOps}
 use Rattle.pact_operators.proofs.ChosenForKeys.{AreChosen, AreChosen-weaker, IsGivenFor, chosen-CoGrouped, chosen-Grouped, cogrouped-AreChosen, grouped-AreChosen, of_one_side}
 use Rattle.reorder_pair.proofs.FunctionForms.{Row}
 
--- a function of two groups the other way round
+-- a function of two groups with the sides swapped
 abbrev pub turned_groups : (Row → Bag → Bag → Bag) → Row → Bag → Bag → Bag
 turned_groups f k xs zs = f k zs xs
 
--- from the other side
+-- what is chosen, with the sides swapped
 pub AreChosen-turned : (f : Row → Bag → Bag → Bag) (keys others : List ℕ) (ls rs : Bag) (ks : List Key) (out : Bag) → AreChosen (IsGivenFor f keys others ls rs) ks out
     → AreChosen (IsGivenFor (turned_groups f) others keys rs ls) ks out
 AreChosen-turned f keys others ls rs ks out h =
@@ -34,7 +34,7 @@ module _ (o : PlanOps) (n : ℕ) where
   abbrev pub ChosenByCoGroup : Bag → Bag → Bag → Type 0
   ChosenByCoGroup ls rs out = AreChosen (IsGivenFor (o.of_groups n) (o.left_keys n) (o.right_keys n) ls rs) (keys_in_either (o.left_keys n) (o.right_keys n) ls rs) out
 
-  -- what a Reduce gives for what its input allows
+  -- what a Reduce emits for what its input allows
   pub record ReduceBag (t : PlanTree) (bag : Bag) : Type 0 where
     pub rows : Bag
     pub out : Bag
@@ -60,7 +60,7 @@ module _ (o : PlanOps) (n : ℕ) where
       let grouped = chosen-Grouped (o.of_group n) keys rows (keys_in keys rows) out given in
       (record { rows = rows; out = out; below = h; given = subst (λ (k : OpKind). Gives o k n rows out) (sym e) grouped; permuted = to_permutation p }, tt)
 
-  -- what a CoGroup gives for what its inputs allow
+  -- what a CoGroup emits for what its inputs allow
   pub record CoGroupBag (t u : PlanTree) (bag : Bag) : Type 0 where
     pub left_rows : Bag
     pub right_rows : Bag

@@ -1,4 +1,5 @@
--- What was judged past groups, by the numbers of the two operators, is legal or refused at the place of the plan.
+-- What was checked for groups, by the numbers of the two operators, decides whether the exchange is legal or refused at
+-- the place of the plan.
 use Rattle.std.proofs.Common.{◌≡◌, ℕ, List, refl, sym, ap, subst, ◌∙◌}
 use Rattle.plan_trees.specs.Plans.{PlanTree, root_of, subtree_of}
 use Rattle.plan_trees.proofs.SubtreesOfPlans.{root_of-subtree}
@@ -12,7 +13,7 @@ use Rattle.reorder_pair.specs.Legal.{IsFoundAt, IsLegalFor, IsRefusal}
 use Rattle.reorder_pair.specs.Rules.{IsMapOrPairRule, exchanged_by}
 use Rattle.reorder_pair.proofs.JudgedExchanges.{all-IsLegalFor, lines_alone, own-IsRefusal, shared_lines}
 
--- of a rule without a Match they are those past groups
+-- for a rule without a Match the rule's own conditions are those on groups
 own_past_groups : (p : ProgramData) (rule : Rule) → IsMapOrPairRule rule → (before after : PlanTree) (upper lower : Uses) → group_lines p rule (root_of before) (root_of after) upper lower ≡ own_lines p rule before after upper lower
 own_past_groups p ReduceMatchLeft i before after upper lower = absurd i
 own_past_groups p ReduceMatchLeftUp i before after upper lower = absurd i

@@ -1,4 +1,5 @@
--- What was judged over the trees before and after is legal or refused at the place of the plan.
+-- What was checked over the trees before and after decides whether the exchange is legal or refused at the place of the
+-- plan.
 use Rattle.std.proofs.Common.{◌≡◌, ◌↔◌, ℕ, List, sym, subst, ◌∙◌}
 use Rattle.plan_trees.specs.Plans.{PlanTree, subtree_of}
 use Rattle.pact_operators.specs.Programs.{ProgramData}
@@ -12,13 +13,13 @@ use Rattle.reorder_pair.specs.Unique.{IsUniqueTree}
 use Rattle.reorder_group.specs.OtherSides.{IsOtherUnique, other_input, other_keys}
 use Rattle.reorder_pair.proofs.JudgedExchanges.{all-IsLegalFor, lines_alone, own-IsRefusal, shared_lines}
 
--- what is known of the other side at the place is known of it in these trees
+-- what is known of the other side at the place, stated for these trees
 pub other_in_trees : (p : ProgramData) (plan : PlanTree) (at : ℕ) (rule : Rule) (before after : PlanTree) → before ≡ subtree_of at plan → after ≡ exchanged_by rule (subtree_of at plan) → (B : Type 0)
     → B ↔ IsOtherUnique p plan at rule → B ↔ IsUniqueTree p (other_keys p rule before after) (other_input rule before after)
 other_in_trees p plan at rule before after before_is after_is B h =
     subst (λ (U : Type 0). B ↔ U) (λ i. IsUniqueTree p (other_keys p rule (sym before_is i) (sym after_is i)) (other_input rule (sym before_is i) (sym after_is i))) h
 
--- and the other way round
+-- and in the other direction
 pub other_at_place : (p : ProgramData) (plan : PlanTree) (at : ℕ) (rule : Rule) (before after tree : PlanTree) (keys : List ℕ) → before ≡ subtree_of at plan → after ≡ exchanged_by rule (subtree_of at plan)
     → tree ≡ other_input rule before after → keys ≡ other_keys p rule before after → (B : Type 0) → B ↔ IsUniqueTree p keys tree → B ↔ IsOtherUnique p plan at rule
 other_at_place p plan at rule before after tree keys before_is after_is tree_is keys_is B h =

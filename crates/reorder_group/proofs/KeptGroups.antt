@@ -1,4 +1,5 @@
--- A Map that keeps groups: it gives one record for each, or equally many for records that have the same key.
+-- A Map that keeps groups: it emits one record for each, or equally many, and at most one, for records that have the
+-- same key.
 use Rattle.std.proofs.Common.{◌≡◌, ◌==◌, ◌≤◌, ◌⊎◌, inl, inr, ℕ, false, List, [], ◌∷◌, length, refl, sym, ap, ◌∙◌}
 use Rattle.std.proofs.lemmas.Bool.{both_ways, eqb-true, or_cases}
 use Rattle.pact_record.specs.declared.values.Value.{Value}
@@ -11,7 +12,7 @@ use Rattle.pact_operators.specs.Allowed.{Bag}
 use Rattle.reorder_pair.proofs.FunctionForms.{Row}
 use Rattle.reorder_pair.proofs.Maps.{IsLawful-record}
 
--- by what its records may hold alone
+-- stated by the set of fields that its records may hold
 pub record KeepsRecords (fields : ℕ) (set : ℕ → Type 0) (keys : FieldSet) (f : Row → Bag) : Type 0 where
   pub few : (r : Row) → IsWithin fields set r → length (f r) ≤ 1
   pub decided : ((r : Row) → IsWithin fields set r → length (f r) ≡ 1)

@@ -35,7 +35,7 @@ use Rattle.reorder_group.proofs.KeptKeys.{each_listed}
 use Rattle.reorder_group.proofs.ReducesPastMatches.{PermitsReduceLeft, PermitsReduceRight, reduce_left_same, reduce_right_same}
 use Rattle.reorder_group.proofs.UniqueTrees.{unique_rows}
 
--- every key of the one list is one of the other
+-- every key of the first list is in the second
 abbrev NoneMissing : List ℕ → List ℕ → Type 0
 NoneMissing keys others = (k : ℕ) → Has (is_listed keys) k → is_listed others k ≡ false → ⊥
 
@@ -62,7 +62,7 @@ module _ (p : ProgramData) (program : IsProgram p) (inputs : List Bag) (good : A
   abbrev right_keys : ℕ → List ℕ
   right_keys n = right_keys_in (slice_get p.ops n)
 
-  -- ---- what is found permits the exchange; `one` is of the Reduce, and `two` of the Match
+  -- ---- the findings permit the exchange; `one` is about the Reduce, and `two` about the Match
 
   reduce_left_permitted : (f g : ℕ) (t u : PlanTree) (one two : Found) → kind_at p.ops f ≡ Reduce → kind_at p.ops g ≡ Match
       → IsFoundIn p f (over f (both g t u)) (over f t) one → IsFoundIn p g (both g t u) (both g (over f t) u) two → NoConflict (used_in one) (used_in two)
@@ -138,7 +138,7 @@ either_rule ReduceMatchRight = inr tt
 either_rule ReduceMatchRightUp = inr tt
 either_rule rule = inl tt
 
--- whatever the rule
+-- for any rule
 pub legal-KeepAnswers : (p : ProgramData) → IsProgram p → (plan : PlanTree) → IsPlanOf p.functions p.ops plan → (at : ℕ) (rule : Rule) → IsLegal p plan at rule → KeepAnswers p plan (swapped rule at plan)
 legal-KeepAnswers p program plan of_program at rule legal = elim (either_rule rule) as (λ _. KeepAnswers p plan (swapped rule at plan)) [
   | inl i ↦ groups.legal-KeepAnswers p program plan of_program at rule i legal

@@ -35,7 +35,7 @@ module _ (p : ProgramData) (program : IsProgram p) (inputs : List Bag) (good : A
   abbrev O : PlanOps
   O = plan_ops p inputs
 
-  -- ---- what is found permits the exchange; `one` is of the Map, and `two` of the operator that groups
+  -- ---- the findings permit the exchange; `one` is about the Map, and `two` about the operator that groups
 
   reduce_permitted : (f g : ℕ) (t : PlanTree) (one two : Found) → kind_at p.ops f ≡ Map → kind_at p.ops g ≡ Reduce
       → IsFoundIn p f (over f (over g t)) (over f t) one → IsFoundIn p g (over g t) (over g (over f t)) two → NoConflict (used_in one) (used_in two)

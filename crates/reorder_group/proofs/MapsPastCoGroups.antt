@@ -36,7 +36,7 @@ module _ (fields : ℕ) (v : List WithFields) (ops : List Op) (o : PlanOps) (goo
   -- ---- the left side
 
   module _ (f g : ℕ) (t u : PlanTree) (x : PermitsCoGroupLeft fields v ops o f g t u) (apart : AreApart (HasAttribute v ops t) (HasAttribute v ops u)) where
-    -- what the two may be called for, before and after
+    -- the contexts that the two may be called in, before and after
     abbrev cf : Ports
     cf = joint v ops o f (over f (both g t u)) (over f t)
 
@@ -119,7 +119,7 @@ module _ (fields : ℕ) (v : List WithFields) (ops : List Op) (o : PlanOps) (goo
   -- ---- the right side
 
   module _ (f g : ℕ) (t u : PlanTree) (x : PermitsCoGroupRight fields v ops o f g t u) (apart : AreApart (HasAttribute v ops t) (HasAttribute v ops u)) where
-    -- what the two may be called for, before and after
+    -- the contexts that the two may be called in, before and after
     abbrev df : Ports
     df = joint v ops o f (over f (both g t u)) (over f u)
 

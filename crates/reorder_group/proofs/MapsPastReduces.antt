@@ -29,7 +29,7 @@ use Rattle.reorder_group.proofs.SideGroups.{IsCall, IsMove, Move}
 use Rattle.reorder_group.proofs.SideLaws.{given_above, side_moved, side_moved_back}
 
 module _ (fields : ℕ) (v : List WithFields) (ops : List Op) (o : PlanOps) (good : AreOpsOf fields v ops o) (f g : ℕ) (t : PlanTree) (x : PermitsReduce fields v ops o f g t) where
-  -- what the two may be called for, before and after
+  -- the contexts that the two may be called in, before and after
   abbrev cf : Ports
   cf = joint v ops o f (over f (over g t)) (over f t)
 

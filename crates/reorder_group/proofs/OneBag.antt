@@ -1,4 +1,4 @@
--- A plan allows one bag where its grouping operators give the same outputs, up to order, for groups in any order.
+-- A plan allows only one bag if its grouping operators emit the same outputs, up to order, for groups in any order.
 use Rattle.std.proofs.Common.{◌≡◌, inl, inr, ℕ, List, [], ◌∷◌, refl, sym, subst, ◌∙◌, arith}
 use Rattle.std.specs.List.Sorted.{IsPermutation}
 use Rattle.pact_record.specs.Record.{key_of}
@@ -19,14 +19,14 @@ use Rattle.pact_operators.proofs.ChosenForKeys.{AreChosen, AreChosen-permuted, I
 use Rattle.pact_operators.proofs.PermutedPairs.{pairs_perm}
 use Rattle.reorder_group.proofs.GroupBags.{cogroup_bag, reduce_bag}
 
--- for groups in another order an operator that groups gives permuted outputs
+-- for groups in another order an operator that groups emits permuted outputs
 abbrev pub PermutesAt : PlanOps → OpKind → ℕ → Type 0
 PermutesAt o Reduce n = (key : Key) (group other : Bag) → IsPermutation group other → IsPermutation (o.of_group n key group) (o.of_group n key other)
 PermutesAt o CoGroup n =
     (key : Key) (left other_left right other_right : Bag) → IsPermutation left other_left → IsPermutation right other_right → IsPermutation (o.of_groups n key left right) (o.of_groups n key other_left other_right)
 PermutesAt o kind n = Unit {0}
 
--- so does each one of a tree
+-- each operator of a tree does
 abbrev pub AllPermute : PlanOps → PlanTree → Type 0
 AllPermute o (leaf n) = Unit {0}
 AllPermute o (over n t) = PermutesAt o (o.kind n) n × AllPermute o t
@@ -63,7 +63,7 @@ module _ (g : Row → Bag → Bag → Bag) (permutes : (k : Key) (xs ys zs ws : 
 -- ---- plans
 
 module _ (o : PlanOps) where
-  -- two bags that the tree allows
+  -- any two bags that the tree allows
   abbrev AreSame : PlanTree → Type 0
   AreSame t = (bag other : Bag) → Allows o t bag → Allows o t other → Perm bag other
 

@@ -1,4 +1,4 @@
--- That a tree is unique, as told by what was found of its root.
+-- Whether a tree is unique, decided by the findings about its root.
 use Rattle.std.proofs.Common.{◌≡◌, ◌≤◌, ◌↔◌, ◌==◌, ◌||◌, ℕ, Bool, false, if◌then◌else◌, List, slice_get, sym, ap, subst}
 use Rattle.std.proofs.lemmas.Bool.{or_parts}
 use Rattle.pact_record.specs.FieldSets.{has_field}
@@ -13,7 +13,7 @@ use Rattle.reorder_pair.specs.Places.{IsFound}
 use Rattle.reorder_pair.specs.Unique.{AreNoneOf, GivesEachOnce, IsUnique, IsUniqueTree}
 use Rattle.reorder_pair.proofs.OneFinding.{uses_one}
 
--- what is asked of an operator speaks of its greatest number of records and of what it writes alone
+-- the conditions on an operator depend only on its greatest number of records and on what it writes
 same_once : (q : OpKind) (own keys : List ℕ) (s r : Found) (below : Type 0) → s.hi ≡ r.hi → has_field s.sets.writes ≡ has_field r.sets.writes → GivesEachOnce q own keys s below → GivesEachOnce q own keys r below
 same_once Reduce own keys s r below e f h = (subst (λ (n : ℕ). n ≤ 1) e h.0, h.1, subst (AreNoneOf own) f h.2)
 same_once Map own keys s r below e f h = (subst (λ (n : ℕ). n ≤ 1) e h.0, subst (AreNoneOf keys) f h.1, h.2)
@@ -32,13 +32,13 @@ module _ (p : ProgramData) (n : ℕ) (t : PlanTree) (keys : List ℕ) where
         (subst (λ (k : OpKind). GivesEachOnce k own keys u.0 (IsUniqueTree p keys t)) e u.2))),
   )
 
--- of a tree that is known to be one over another
+-- for a tree that is known to be one over another
 pub told_by_tree : (p : ProgramData) (keys : List ℕ) (tree : PlanTree) (n : ℕ) (t : PlanTree) (s : Found) (q : OpKind) → tree ≡ over n t → kind_at p.ops n ≡ q → IsFound p n tree tree s → (B : Type 0)
     → B ↔ GivesEachOnce q (left_keys_in (slice_get p.ops n)) keys s (IsUniqueTree p keys t) → B ↔ IsUniqueTree p keys tree
 told_by_tree p keys tree n t s q is e found B h =
     subst (λ (u : PlanTree). B ↔ IsUniqueTree p keys u) (sym is) (told_by_root p n t keys s q e (subst (λ (u : PlanTree). IsFound p n u u s) is found) B h)
 
--- a number that a tree doesn't have stands for no operator of it
+-- a number that a tree doesn't have names no operator of it
 pub absent-not_unique : (p : ProgramData) (plan : PlanTree) (at : ℕ) (keys : List ℕ) → has at plan ≡ false → IsUnique p plan at keys → ⊥
 absent-not_unique p (leaf n) at keys e u = u
 absent-not_unique p (over n t) at keys e u =

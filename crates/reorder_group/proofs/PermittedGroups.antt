@@ -1,4 +1,5 @@
--- What permits an exchange of a Map and an operator that groups: what is found of the two, and that the Map keeps the groups.
+-- What permits an exchange of a Map and an operator that groups: the findings about the two, and that the Map keeps the
+-- groups.
 use Rattle.std.proofs.Common.{◌≡◌, ℕ, List}
 use Rattle.pact_record.specs.Keys.{is_listed}
 use Rattle.tac_syntax.specs.declared.contexts.Side.TheVariants.{Left as on_left, Right as on_right}

@@ -1,4 +1,4 @@
--- Plans in reach: what they keep of the plan as written; and exchanges, each legal where it is made, one after the other.
+-- Plans in reach: what they keep of the plan as written; and sequences of exchanges, each legal where it is made.
 use Rattle.std.proofs.Common.{List, [], ◌∷◌, ◌++◌, sym, ap, subst}
 use Rattle.plan_trees.specs.Plans.{PlanTree}
 use Rattle.pact_operators.specs.Programs.{IsPlanOf, IsProgram, ProgramData}
@@ -24,10 +24,10 @@ module _ (p : ProgramData) (program : IsProgram p) where
   reached-KeepAnswers _ (exchanged t at rule r legal) = λ inputs of_inputs.
       same_through (plan_ops p inputs) p.plan t (swapped rule at t) (reached-KeepAnswers t r inputs of_inputs) (legal-KeepAnswers p program t (reached-IsPlanOf t r) at rule legal inputs of_inputs)
 
--- ---- what leads from plan to plan
+-- ---- exchanges that lead from plan to plan
 
 module _ (p : ProgramData) where
-  -- one exchange more, behind the others
+  -- one more exchange, after the others
   pub lead_on : (t u : PlanTree) (cs : List Condition) (c : Condition) → Lead p t cs u → IsLegalIn p u c → Lead p t (cs ++ c ∷ []) (after c u)
   lead_on t u [] c h legal = (subst (λ (s : PlanTree). IsLegalIn p s c) (sym h) legal, ap (after c) h)
   lead_on t u (d ∷ cs) c h legal = (h.0, lead_on (after d t) u cs c h.1 legal)

@@ -1,4 +1,5 @@
--- A Reduce over what a function of pairs gives for the records of one side, and over these records: one is moved past the other.
+-- A Reduce over what a function of pairs emits for the records of one side, and over these records: each is moved past
+-- the other.
 use Rattle.std.proofs.Common.{◌≡◌, ◌<◌, ◌⊎◌, ℕ, List, [], ◌∷◌, length, sym, subst, arith}
 use Rattle.std.specs.List.{AllByRecursion}
 use Rattle.pact_record.specs.Keys.{is_listed}
@@ -24,8 +25,8 @@ use Rattle.reorder_pair.proofs.PermittedExchanges.{AreSetsOf, UsedFields}
 use Rattle.reorder_group.proofs.SideGroups.{IsCall, IsMove, Move}
 use Rattle.reorder_group.proofs.Partners.{ArePartners, beside, beside-no_conflict, partners_form, partners_keep, with_rows}
 
--- Reduce f over the records in `below`; c is what it may be called for, before and after; the function of pairs is called for records in `each`, and the rows of the other side are in
--- `side`.
+-- Reduce f over the records in `below`. c is the context that it may be called in, before and after. The function of
+-- pairs is called for records in `each`, and the rows of the other side are in `side`.
 pub record IsReduceMove (fields : ℕ) (v : List WithFields) (ops : List Op) (o : PlanOps) (f : ℕ) (c : Ports) (below each side right : ℕ → Type 0) (grouping pairing : UsedFields) (call : Row → Row → Bag) (rows : Bag) : Type 0 where
   pub kind : o.kind f ≡ Reduce
   pub no_right : (k : ℕ) → c.right k → ⊥

@@ -1,4 +1,4 @@
--- A Reduce over a Match of which one side is unique, and the same Reduce under its other side, allow the same bags.
+-- A Reduce over a Match with one unique side allows the same bags as the same Reduce under the Match's other side.
 use Rattle.std.proofs.Common.{◌≡◌, ◌≤◌, inl, inr, ℕ, List, [], length, refl, sym, subst, ◌∙◌, arith}
 use Rattle.std.specs.Prelude.{flat_map}
 use Rattle.std.specs.List.{AllByRecursion}
@@ -63,7 +63,7 @@ module _ (fields : ℕ) (v : List WithFields) (ops : List Op) (o : PlanOps) (goo
   -- ---- to the left
 
   module _ (f g : ℕ) (t u : PlanTree) (x : PermitsReduceLeft fields v ops o f g t u) (apart : ShareNone fields v ops o good t u) where
-    -- what the two may be called for, before and after
+    -- the contexts that the two may be called in, before and after
     abbrev cf : Ports
     cf = joint v ops o f (over f (both g t u)) (over f t)
 
@@ -76,11 +76,11 @@ module _ (fields : ℕ) (v : List WithFields) (ops : List Op) (o : PlanOps) (goo
     abbrev B : ℕ → Type 0
     B = HasAttribute v ops u
 
-    -- what g gives for a pair
+    -- what g emits for a pair
     abbrev gs : Row → Row → Bag
     gs = matched o.nulls (o.of_pair g) (o.left_keys g) (o.right_keys g)
 
-    -- what it is called for where the keys of a pair are equal
+    -- what it emits for a pair with equal keys
     abbrev called : Row → Row → Bag
     called = unless_null o.nulls (o.of_pair g) (o.left_keys g)
 
@@ -166,7 +166,7 @@ module _ (fields : ℕ) (v : List WithFields) (ops : List Op) (o : PlanOps) (goo
   -- ---- to the right
 
   module _ (f g : ℕ) (t u : PlanTree) (x : PermitsReduceRight fields v ops o f g t u) (apart : ShareNone fields v ops o good t u) where
-    -- what the two may be called for, before and after
+    -- the contexts that the two may be called in, before and after
     abbrev df : Ports
     df = joint v ops o f (over f (both g t u)) (over f u)
 
@@ -179,11 +179,11 @@ module _ (fields : ℕ) (v : List WithFields) (ops : List Op) (o : PlanOps) (goo
     abbrev R : ℕ → Type 0
     R = HasAttribute v ops u
 
-    -- what g gives for a pair
+    -- what g emits for a pair
     abbrev hs : Row → Row → Bag
     hs = matched o.nulls (o.of_pair g) (o.left_keys g) (o.right_keys g)
 
-    -- what it is called for where the keys of a pair are equal
+    -- what it emits for a pair with equal keys
     abbrev met : Row → Row → Bag
     met = unless_null o.nulls (o.of_pair g) (o.left_keys g)
 

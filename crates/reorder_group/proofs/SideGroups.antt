@@ -1,4 +1,4 @@
--- A Map over what a grouping function gives for one key, and under it.
+-- A Map over what a grouping function emits for one key, and under it.
 use Rattle.std.proofs.Common.{◌≡◌, ◌<◌, ◌≤◌, ◌+◌, ◌⊎◌, inl, inr, ℕ, zero, suc, false, List, [], ◌∷◌, ◌++◌, length, get_or, refl, sym, ap, subst, ◌∙◌, arith}
 use Rattle.std.proofs.lemmas.List.{nil_from_length}
 use Rattle.std.specs.Prelude.{flat_map}
@@ -18,20 +18,21 @@ use Rattle.reorder_pair.proofs.FunctionForms.{OneForm, Row}
 use Rattle.reorder_pair.proofs.PermittedExchanges.{NoConflict, UsedFields}
 use Rattle.reorder_group.proofs.KeptGroups.{Agree-keys, KeepsRecords}
 
--- A Map and an operator that groups, which change places on one side of the operator. The records that come to the lower of the two on that side are
--- in `below`; over them, before or after, the Map is called for records in `for_each`, and the operator for groups of records in `for_group`.
+-- A Map and an operator that groups change places on one side of that operator. The records that reach the lower of the
+-- two on that side are in `below`. Over them, before or after, the Map is called for records in `for_each`, and the
+-- operator for groups of records in `for_group`.
 pub record Move : Type 1 where
   pub keys : List ℕ
   pub other_keys : List ℕ
   pub below : ℕ → Type 0
   pub for_each : ℕ → Type 0
   pub for_group : ℕ → Type 0
-  -- records of the other side
+  -- the records of the other side
   pub other : Row → Type 0
   pub upper : UsedFields
   pub lower : UsedFields
   pub each : Row → Bag
-  -- for a key, its records on the side of the move, and those on the other
+  -- for a key: its records on the side of the move, and those on the other side
   pub group : Row → Bag → Bag → Bag
 
 pub record IsCall (fields : ℕ) (m : Move) (set : ℕ → Type 0) (key : Row) (xs zs : Bag) : Type 0 where
@@ -71,21 +72,21 @@ beside_none : (P : Row → Row → Type 0) (l : Bag) → AllZip P [] l → l ≡
 beside_none P [] h = refl
 beside_none P (w ∷ l) h = absurd h
 
--- where there is no record to begin as there is no output
+-- without a record to begin as there is no output
 none_anchored : (W : FieldSet) (ps : List ℕ) (rs qs : Bag) → AreAnchoredAt W [] [] ps rs qs → rs ≡ []
 none_anchored W [] [] [] h = refl
 none_anchored W (p ∷ ps) (r ∷ rs) (q ∷ qs) h = absurd (omega (arith, h.0))
 none_anchored W ps rs qs h = absurd h
 
 module _ (fields : ℕ) (m : Move) (x : IsMove fields m) where
-  -- the Map gives one record
+  -- the Map emits one record
   abbrev pub GivesOne : Row → Row → Type 0
   GivesOne r s = m.each r ≡ s ∷ []
 
   abbrev pub GivesNone : Row → Type 0
   GivesNone r = m.each r ≡ []
 
-  -- ---- the one record that the Map gives
+  -- ---- the one record that the Map emits
 
   one_keeps : (r s : Row) → IsWithin fields m.for_each r → GivesOne r s → (i : ℕ) → m.upper.writes i ≡ false → at_field s i ≡ at_field r i
   one_keeps r s fit one i out = (subst (λ (l : Bag). AllZip (AreAnchored m.upper.writes r r) l l) one (x.form_each.outputs r r fit fit (λ j is. refl))).0.kept i out
@@ -96,7 +97,7 @@ module _ (fields : ℕ) (m : Move) (x : IsMove fields m) where
   pub one_keyed : (r s : Row) → IsWithin fields m.for_each r → GivesOne r s → key_of m.keys r ≡ key_of m.keys s
   one_keyed r s fit one = same_key_of m.lower.reads m.keys r s x.keys_read (one_agrees r s fit one)
 
-  -- of an output o that begins as r the Map gives the output q that begins as what it gives of r
+  -- if an output o begins as r, the Map emits for o the output q that begins as what it emits for r
   one_of_output : (r s o q : Row) → IsWithin fields m.for_each r → IsWithin fields m.for_each o → length q ≡ fields → GivesOne r s → AreAnchored m.lower.writes r s o q → GivesOne o q
   one_of_output r s o q fit_r fit_o wide one on =
       let W = m.upper.writes in
@@ -121,7 +122,7 @@ module _ (fields : ℕ) (m : Move) (x : IsMove fields m) where
       λ i. one i ++ each_of_outputs xs ys fit ones ps os qs fit_os.1 wide.1 on.2 i
   each_of_outputs xs ys fit ones ps os qs fit_os wide on = absurd on
 
-  -- where it gives none of each record it gives none of an output
+  -- if it emits nothing for each record it emits nothing for an output
   none_of_outputs : (xs : Bag) → AllByRecursion (IsWithin fields m.for_each) xs → AllByRecursion GivesNone xs → (ps : List ℕ) (os qs : Bag) → AllByRecursion (IsWithin fields m.for_each) os
       → AreAnchoredAt m.lower.writes xs xs ps os qs → flat_map m.each os ≡ []
   none_of_outputs xs fit nones [] [] [] fit_os on = refl
@@ -176,7 +177,7 @@ module _ (fields : ℕ) (m : Move) (x : IsMove fields m) where
   flat_map-nones [] nones = refl
   flat_map-nones (r ∷ xs) nones = λ i. nones.0 i ++ flat_map-nones xs nones.1 i
 
-  -- one record for each of the group
+  -- the Map emits one record for each record of the group
   pub group_of_ones : (k : Row) (xs ys zs : Bag) → IsCall fields m m.below k xs zs → AllZip GivesOne xs ys → flat_map m.each (m.group k xs zs) ≡ m.group k ys zs
   group_of_ones k xs ys zs c ones =
       let before = call_before k xs zs c in
@@ -190,27 +191,27 @@ module _ (fields : ℕ) (m : Move) (x : IsMove fields m) where
       let on = x.form_group k xs ys zs before now (ones_agree xs ys c.fit ones) in
       each_of_outputs xs ys (all_for_each xs c.fit) ones on.0 (m.group k xs zs) (m.group k ys zs) (x.out_group k xs zs c) (x.wide_group k ys zs now) on.1
 
-  -- none for each of the group
+  -- it emits none for each record of the group
   pub group_of_nones : (k : Row) (xs zs : Bag) → IsCall fields m m.below k xs zs → AllByRecursion GivesNone xs → flat_map m.each (m.group k xs zs) ≡ []
   group_of_nones k xs zs c nones =
       let before = call_before k xs zs c in
       let on = x.form_group k xs xs zs before before (agree_self m.lower.reads xs) in
       none_of_outputs xs (all_for_each xs c.fit) nones on.0 (m.group k xs zs) (m.group k xs zs) (x.out_group k xs zs c) on.1
 
-  -- records of the other side alone
+  -- there are only records of the other side
   pub group_of_others : (k : Row) (zs : Bag) → IsCall fields m m.below k [] zs → m.group k [] zs ≡ []
   group_of_others k zs c =
       let before = call_before k [] zs c in
       let on = x.form_group k [] [] zs before before tt in
       none_anchored m.lower.writes on.0 (m.group k [] zs) (m.group k [] zs) on.1
 
-  -- ---- which of the two it is
+  -- ---- which of the two cases it is
 
   -- one record for each, or none for each
   abbrev pub IsSettled : Bag → Type 0
   IsSettled xs = ((ys : Bag) × AllZip GivesOne xs ys) ⊎ AllByRecursion GivesNone xs
 
-  -- the Map gives so many of each
+  -- the Map emits n records for it
   abbrev GivesMany : ℕ → Row → Type 0
   GivesMany n r = length (m.each r) ≡ n
 

@@ -1,4 +1,4 @@
--- A Map over what a grouping function gives for all keys, and under it.
+-- A Map over what a grouping function emits for all keys, and under it.
 use Rattle.std.proofs.Common.{◌≡◌, ◌<◌, ◌≤◌, ◌+◌, ◌⊎◌, inl, inr, ℕ, zero, suc, Bool, true, false, cond, List, [], ◌∷◌, ◌++◌, length, refl, sym, ap, subst, ◌∙◌, arith}
 use Rattle.std.proofs.lemmas.List.{nil_from_length}
 use Rattle.std.specs.Prelude.{flat_map}
@@ -21,7 +21,7 @@ use Rattle.reorder_pair.proofs.FunctionForms.{Row}
 use Rattle.reorder_group.proofs.FunctionsOverChosen.{Carries, carried, carried_back}
 use Rattle.reorder_group.proofs.SideGroups.{IsCall, IsMove, Move, flat_map-nones, flat_map-ones, group_of_nones, group_of_ones, group_of_others, one_keyed, one_record, settled}
 
--- what is given above the Map, and what below it, up to order
+-- what is emitted with the Map above, and with the Map below, up to order
 pub given_above : (f : Row → Bag) (out rows now bag : Bag) → Perm (flat_map f out) now → Perm out rows → Perm (flat_map f rows) bag → Perm now bag
 given_above f out rows now bag moved below above = chains (turned moved) (chains (flat_map_perm f below) above)
 
@@ -34,7 +34,7 @@ at_most_one zero h = inl refl
 at_most_one (suc n) h = inr (omega (arith, h))
 
 module _ (fields : ℕ) (m : Move) (x : IsMove fields m) where
-  -- ---- the groups of what the Map gives
+  -- ---- the groups of what the Map emits
 
   group_of_none : (k : Key) (l : Bag) (b : Bool) → l ≡ [] → group_of_key m.keys l k ≡ cond b l []
   group_of_none k l true e = ap (λ (z : Bag). group_of_key m.keys z k) e ∙ sym e
@@ -83,7 +83,7 @@ module _ (fields : ℕ) (m : Move) (x : IsMove fields m) where
     group_fit : (k : Key) → AllByRecursion (IsWithin fields m.below) (group_of_key m.keys ls k)
     group_fit k = AllByRecursion-filter (IsWithin fields m.below) (λ r. is_same_key (key_of m.keys r) k) ls fit
 
-    -- the groups of both sides, in any order
+    -- a call for the groups of both sides, in any order
     call_of : (k : Key) (xs zs : Bag) → Perm (group_of_key m.keys ls k) xs → Perm (group_of_key m.other_keys rs k) zs → 0 < length xs + length zs → IsCall fields m m.below k xs zs
     call_of k xs zs p q some = record {
       some = some;
@@ -93,7 +93,7 @@ module _ (fields : ℕ) (m : Move) (x : IsMove fields m) where
       keyed_others = each_perm (λ r. key_of m.other_keys r ≡ k) q (group_keys m.other_keys rs k);
     }
 
-    -- where records are left on either side
+    -- if records are left on either side
     call_moved : (k : Key) (xs zs : Bag) → Perm (group_of_key m.keys ls k) xs → Perm (group_of_key m.other_keys rs k) zs → 0 < length (flat_map m.each xs) + length zs
         → flat_map m.each (m.group k xs zs) ≡ m.group k (flat_map m.each xs) zs
     call_moved k xs zs p q left =
@@ -107,14 +107,14 @@ module _ (fields : ℕ) (m : Move) (x : IsMove fields m) where
               group_of_nones fields m x k xs zs c nones ∙ sym (ap (λ (l : Bag). m.group k l zs) e ∙ group_of_others fields m x k zs alone)
         ]
 
-    -- where none is left
+    -- if none is left
     call_gone : (k : Key) (xs zs : Bag) → IsCall fields m m.below k xs zs → length (flat_map m.each xs) + length zs ≡ 0 → flat_map m.each (m.group k xs zs) ≡ []
     call_gone k xs zs c e = elim (settled fields m x k xs c.fit c.keyed) as (λ _. flat_map m.each (m.group k xs zs) ≡ []) [
       | inl ones ↦ absurd (omega (arith, c.some, e, AllZip-long (λ r s. m.each r ≡ s ∷ []) xs ones.0 ones.1, ap length (flat_map-ones fields m x xs ones.0 ones.1)))
       | inr nones ↦ group_of_nones fields m x k xs zs c nones
     ]
 
-    -- records of a key of which the Map gives these, in this order
+    -- records of a key for which the Map emits these, in this order
     unmapped : (k : Key) (ys : Bag) → Perm (flat_map m.each (group_of_key m.keys ls k)) ys → (xs : Bag) × Perm (group_of_key m.keys ls k) xs × (flat_map m.each xs ≡ ys)
     unmapped k ys p =
         let G = group_of_key m.keys ls k in
@@ -128,14 +128,14 @@ module _ (fields : ℕ) (m : Move) (x : IsMove fields m) where
         ]
 
     module _ (ks js : List Key) (of_ks : AreKeysOf m.keys m.other_keys ls rs ks) (of_js : AreKeysOf m.keys m.other_keys now rs js) where
-      -- a key that stands has records
+      -- a key in the list has records
       some_of : (k : Key) → occurs k ks ≡ true → (xs zs : Bag) → Perm (group_of_key m.keys ls k) xs → Perm (group_of_key m.other_keys rs k) zs → 0 < length xs + length zs
       some_of k o xs zs p q = omega (arith, (of_ks.occur k).0 o, length-perm p, length-perm q)
 
       left_of : (k : Key) → occurs k js ≡ true → (xs zs : Bag) → Perm (group_of_key m.keys ls k) xs → Perm (group_of_key m.other_keys rs k) zs → 0 < length (flat_map m.each xs) + length zs
       left_of k o xs zs p q = omega (arith, (of_js.occur k).0 o, length-perm (group_now k), length-perm (flat_map_perm m.each p), length-perm q)
 
-      -- one that stands before alone keeps none
+      -- a key that is only in the list before has none left
       none_of : (k : Key) → occurs k js ≡ false → (xs zs : Bag) → Perm (group_of_key m.keys ls k) xs → Perm (group_of_key m.other_keys rs k) zs → length (flat_map m.each xs) + length zs ≡ 0
       none_of k o xs zs p q =
           none_left (length (flat_map m.each xs) + length zs)

@@ -1,4 +1,5 @@
--- At most one record for each group, with the group's key values: no two records of a Reduce have the same.
+-- A Reduce with at most one record for each group, with the group's key values, has no two records with the same key
+-- values.
 use Rattle.std.proofs.Common.{◌≡◌, ◌≤◌, ℕ, true, List, [], ◌∷◌, length, sym, subst}
 use Rattle.std.proofs.lemmas.Bool.{both_ways}
 use Rattle.std.specs.List.{AllByRecursion}

@@ -1,4 +1,4 @@
--- Lists of records of which no two have the same key values: permuted, by more fields, given by Maps and for groups.
+-- Lists of records of which no two have the same key values: permuted, by more fields, emitted by Maps and for groups.
 use Rattle.std.proofs.Common.{◌≡◌, ◌≤◌, ℕ, List, [], ◌∷◌, ◌++◌, length, sym, subst, ◌∙◌, arith}
 use Rattle.std.specs.Prelude.{flat_map}
 use Rattle.std.specs.List.{AllByRecursion}
@@ -20,7 +20,7 @@ HaveEachOnce-perm keys (keeps {x = x} p) h = (each_perm (λ r. key_of keys x ≡
 HaveEachOnce-perm keys (swaps {x = x} {y = y}) h = ((other_turned keys x y h.0.0, h.1.0), (h.0.1, h.1.1))
 HaveEachOnce-perm keys (chains p q) h = HaveEachOnce-perm keys q (HaveEachOnce-perm keys p h)
 
--- ---- by other fields, whose values tell those of the first
+-- ---- by other fields, whose values determine those of the first
 
 pub HaveEachOnce-more : (own keys : List ℕ) → ((a b : Row) → key_of keys a ≡ key_of keys b → key_of own a ≡ key_of own b) → (rows : Bag) → HaveEachOnce own rows → HaveEachOnce keys rows
 HaveEachOnce-more own keys tell [] h = tt
@@ -36,13 +36,13 @@ few_once keys [] few = tt
 few_once keys (w ∷ []) few = (tt, tt)
 few_once keys (w ∷ v ∷ l) few = absurd (omega (arith, few))
 
--- all of the first list have other key values than all of the second
+-- no record of the first list has the key values of one in the second
 pub HaveEachOnce-append : (keys : List ℕ) (l rest : Bag) → HaveEachOnce keys l → HaveEachOnce keys rest → AllByRecursion (λ w. HaveOther keys (key_of keys w) rest) l → HaveEachOnce keys (l ++ rest)
 HaveEachOnce-append keys [] rest h g off = g
 HaveEachOnce-append keys (w ∷ l) rest h g off =
     (AllByRecursion-append (λ r. key_of keys w ≡ key_of keys r → ⊥) l rest h.0 off.0, HaveEachOnce-append keys l rest h.1 g off.1)
 
--- what a function of one record gives, at most one for each, with the record's key values
+-- the output of a function of one record that emits at most one for each, with the record's key values
 pub HaveEachOnce-flat_map : (P : Row → Type 0) (keys : List ℕ) (f : Row → Bag) → ((r : Row) → P r → length (f r) ≤ 1) → ((r : Row) → P r → AllByRecursion (λ w. key_of keys w ≡ key_of keys r) (f r))
     → (rows : Bag) → AllByRecursion P rows → HaveEachOnce keys rows → HaveEachOnce keys (flat_map f rows)
 HaveEachOnce-flat_map P keys f few own [] fit h = tt

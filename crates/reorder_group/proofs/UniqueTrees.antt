@@ -1,4 +1,4 @@
--- Where a tree is unique by key fields, no bag that it allows has two records with the same values of them.
+-- If a tree is unique by key fields, no bag that it allows has two records with the same values of them.
 use Rattle.std.proofs.Common.{◌≡◌, ◌≤◌, ◌<◌, ◌⊎◌, inl, inr, ℕ, true, false, List, [], ◌∷◌, length, slice_get, refl, sym, subst, arith}
 use Rattle.std.specs.List.{AllByRecursion, AllZip}
 use Rattle.pact_record.specs.FieldSets.{has_field}

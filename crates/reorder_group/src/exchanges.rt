@@ -54,8 +54,8 @@ pub fn legal_unique(
     }
 }
 
-/// Whether they may, where the rule has a place. `upper` and `lower` are what is found of the two, and `unique` says whether the other side of the
-/// Match is unique for its keys there.
+/// Whether the two may change places, for a rule with a place there. `upper` and `lower` are the findings about the
+/// two. `unique` says whether the other side of the Match is unique for its keys there.
 pub fn legal_unique_for(
     program: &Program,
     plan: &Plan,
@@ -76,7 +76,7 @@ pub fn legal_unique_for(
     ensures upper { IfOk result (λ c. c.upper ≡ upper.now) }
     ensures lower { IfOk result (λ c. c.lower ≡ lower.now) }
 {
-    // Its clause says that the program keeps every rule.
+    // `fields` makes it known that the program follows every rule.
     let _fields = program.fields();
     if let Err(why) = legal_but_for_groups(program, plan, at, rule, upper, lower) {
         return Err(why);
@@ -103,12 +103,12 @@ pub fn apply_unique(program: &Program, plan: &Plan, at: u32, rule: Rule) -> Plan
     ensures answers { KeepAnswers program.now plan.now result }
     ensures plan { IsPlanOf program.now.functions program.now.ops result }
 {
-    // Its clause says that the program keeps every rule.
+    // `fields` makes it known that the program follows every rule.
     let _fields = program.fields();
     swapped_plan(plan, at, rule)
 }
 
-// ---- by any rule
+// ---- for any rule
 
 fn is_unique_rule(rule: Rule) -> bool
     ensures { IsTrue result ↔ IsUniqueRule rule }
@@ -134,7 +134,7 @@ fn is_unique_rule(rule: Rule) -> bool
     }
 }
 
-/// Whether the operator at a place of a plan and the one below it that the rule exchanges with it may change places.
+/// Whether the rule may exchange the operator at a place of a plan with the one below it.
 pub fn legal(program: &Program, plan: &Plan, at: u32, rule: Rule) -> Result<Condition, NotLegal>
     requires plan { IsPlanOf program.now.functions program.now.ops plan.now }
     ensures legal { IfOk result (IsConditionOf program.now plan.now at rule) }
@@ -149,8 +149,8 @@ pub fn legal(program: &Program, plan: &Plan, at: u32, rule: Rule) -> Result<Cond
     }
 }
 
-/// Whether the side of the Match past which the rule's Reduce moves is unique for the Match's keys there, by the table, to which what was analysed
-/// comes. Of the first thirteen rules nothing is promised.
+/// Whether the side of the Match past which the rule's Reduce moves is unique for the Match's keys there, by the table
+/// of findings; new findings are added to it. The result has no meaning for the first thirteen rules.
 pub fn other_is_unique(
     program: &Program,
     findings: &mut Findings,
@@ -164,7 +164,7 @@ pub fn other_is_unique(
     ensures once { IfOk result (λ told. IsUniqueRule rule → IsTrue told → AllowsEachOnce program.now (other_input rule (subtree_of at plan.now) (exchanged_by rule (subtree_of at plan.now))) (other_keys program.now rule (subtree_of at plan.now) (exchanged_by rule (subtree_of at plan.now)))) }
     ensures findings { AreFindings program.now findings.new }
 {
-    // Its clause says that the program keeps every rule.
+    // `fields` makes it known that the program follows every rule.
     let _fields = program.fields();
     if !is_unique_rule(rule) {
         return Ok(false);
@@ -175,8 +175,8 @@ pub fn other_is_unique(
     tree_is_unique_by(program, findings, &other.tree, &other.keys)
 }
 
-/// Whether they may, where the rule has a place. `upper` and `lower` are what is found of the two; of the last four rules `unique` says whether the
-/// other side of the Match is unique for its keys there.
+/// Whether the two may change places, for a rule with a place there. `upper` and `lower` are the findings about the
+/// two. For the last four rules, `unique` says whether the other side of the Match is unique for its keys there.
 pub fn legal_for(
     program: &Program,
     plan: &Plan,
@@ -211,7 +211,7 @@ pub fn apply(program: &Program, plan: &Plan, at: u32, rule: Rule) -> Plan
     ensures answers { KeepAnswers program.now plan.now result }
     ensures plan { IsPlanOf program.now.functions program.now.ops result }
 {
-    // Its clause says that the program keeps every rule.
+    // `fields` makes it known that the program follows every rule.
     let _fields = program.fields();
     swapped_plan(plan, at, rule)
 }

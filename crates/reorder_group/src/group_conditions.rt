@@ -1,4 +1,4 @@
-//! What is asked of a Map that moves past an operator that groups.
+//! The conditions on a Map that moves past an operator that groups.
 
 ghost use Rattle.std.specs.Prelude.{◌≡◌, ◌↔◌, ℕ, IfErr, IfOk, IsTrue, slice_get};
 ghost use Rattle.pact_record.specs.FieldSets.{has_field};
@@ -12,7 +12,7 @@ use pact_operators::Program;
 use pact_record::Fields;
 use reorder_pair::{Found, NotLegal, Rule};
 
-// The key fields of an operator on the left.
+// An operator's key fields on the left.
 fn left_key_fields(program: &Program, at: u32) -> Fields
     ensures { (k : ℕ) → has_field result k ≡ is_listed (left_keys_in (slice_get program.now.ops at)) k }
 {
@@ -22,7 +22,7 @@ fn left_key_fields(program: &Program, at: u32) -> Fields
     }
 }
 
-// Those on the right.
+// An operator's key fields on the right.
 fn right_key_fields(program: &Program, at: u32) -> Fields
     ensures { (k : ℕ) → has_field result k ≡ is_listed (right_keys_in (slice_get program.now.ops at)) k }
 {
@@ -32,7 +32,7 @@ fn right_key_fields(program: &Program, at: u32) -> Fields
     }
 }
 
-// Whether a Map gives one record for each, or at most one and is decided by the keys.
+// Whether a Map emits one record for each, or at most one whose emission only the keys decide.
 fn keeps_groups(mover: &Found, keys: Fields) -> bool
     ensures { IsTrue result ↔ IsBoundToKeys mover.now.lo mover.now.hi (found_of mover.now.sets).control (has_field keys) }
 {
@@ -51,7 +51,7 @@ fn keeps_left_groups(program: &Program, mover: &Found, at: u32) -> Result<(), No
     }
 }
 
-// Those of its right keys.
+// Whether the Map keeps the groups of an operator's right keys.
 fn keeps_right_groups(program: &Program, mover: &Found, at: u32) -> Result<(), NotLegal>
     ensures passes { IfOk result (λ x. Passes (keeps_groups_of (uses_of mover.now) (right_keys_in (slice_get program.now.ops at)))) }
     ensures fails { IfErr result (Fails (keeps_groups_of (uses_of mover.now) (right_keys_in (slice_get program.now.ops at)))) }
@@ -75,7 +75,7 @@ fn is_anchored(holds: bool) -> Result<(), NotLegal>
     }
 }
 
-// The conditions past groups. `at` and `below` are the numbers of the upper and the lower operator.
+// The conditions on groups. `at` and `below` are the numbers of the upper and the lower operator.
 pub(crate) fn past_groups(
     program: &Program,
     rule: Rule,

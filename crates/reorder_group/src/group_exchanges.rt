@@ -11,7 +11,7 @@ use reorder_pair::{
     Condition, Found, NotLegal, Rule, exchanged_tree, found, legal_but_for_groups, swapped_plan,
 };
 
-/// Whether the operator at a place of a plan and the one below it that the rule exchanges with it may change places.
+/// Whether the rule may exchange the operator at a place of a plan with the one below it.
 pub fn legal_group(
     program: &Program,
     plan: &Plan,
@@ -31,7 +31,8 @@ pub fn legal_group(
     }
 }
 
-/// Whether they may, where the rule has a place. `upper` and `lower` are what is found of the two.
+/// Whether the two may change places, for a rule with a place there. `upper` and `lower` are the findings about the
+/// two.
 pub fn legal_group_for(
     program: &Program,
     plan: &Plan,
@@ -50,7 +51,7 @@ pub fn legal_group_for(
     ensures upper { IfOk result (λ c. c.upper ≡ upper.now) }
     ensures lower { IfOk result (λ c. c.lower ≡ lower.now) }
 {
-    // Its clause says that the program keeps every rule.
+    // `fields` makes it known that the program follows every rule.
     let _fields = program.fields();
     if let Err(why) = legal_but_for_groups(program, plan, at, rule, upper, lower) {
         return Err(why);
@@ -76,7 +77,7 @@ pub fn apply_group(program: &Program, plan: &Plan, at: u32, rule: Rule) -> Plan
     ensures answers { KeepAnswers program.now plan.now result }
     ensures plan { IsPlanOf program.now.functions program.now.ops result }
 {
-    // Its clause says that the program keeps every rule.
+    // `fields` makes it known that the program follows every rule.
     let _fields = program.fields();
     swapped_plan(plan, at, rule)
 }

@@ -1,4 +1,4 @@
-//! What is asked of a Reduce that moves past a side of a Match.
+//! The conditions on a Reduce that moves past a side of a Match.
 
 ghost use Rattle.std.specs.Prelude.{◌≡◌, ◌≤◌, ◌↔◌, ℕ, false, IfErr, IfNone, IfOk, IfSome, IsTrue, slice_get};
 ghost use Rattle.pact_record.specs.Keys.{is_listed};
@@ -14,7 +14,7 @@ use pact_operators::{Parts, Plan, Program};
 use pact_record::Keys;
 use reorder_pair::{Found, NotLegal, Rule};
 
-// The key fields of an operator on the left.
+// An operator's keys on the left.
 pub(crate) fn left_keys_of(program: &Program, at: u32) -> Keys
     ensures { result ≡ left_keys_in (slice_get program.now.ops at) }
 {
@@ -24,7 +24,7 @@ pub(crate) fn left_keys_of(program: &Program, at: u32) -> Keys
     }
 }
 
-// Those on the right.
+// An operator's keys on the right.
 fn right_keys_of(program: &Program, at: u32) -> Keys
     ensures { result ≡ right_keys_in (slice_get program.now.ops at) }
 {
@@ -53,7 +53,7 @@ fn left_side(program: &Program, tree: &Plan) -> Side
     }
 }
 
-// Its right side.
+// The right side of the Match at a tree's root.
 fn right_side(program: &Program, tree: &Plan) -> Side
     ensures tree { result.tree ≡ right_input tree.now }
     ensures keys { result.keys ≡ right_keys_in (slice_get program.now.ops (root_of tree.now)) }
@@ -94,7 +94,7 @@ pub(crate) fn other_side(program: &Program, rule: Rule, before: &Plan, after: &P
     }
 }
 
-// The least field of the one list that isn't of the other.
+// The least field of the first list that isn't in the second.
 fn first_missing(keys: &Keys, others: &Keys) -> Option<u32>
     ensures some { IfSome result (IsLeastCommon (is_listed keys.now) (λ k. is_listed others.now k ≡ false)) }
     ensures none { IfNone result ((k : ℕ) → Has (is_listed keys.now) k → is_listed others.now k ≡ false → ⊥) }
@@ -102,7 +102,8 @@ fn first_missing(keys: &Keys, others: &Keys) -> Option<u32>
     keys.fields().minus(others.fields()).least()
 }
 
-// The conditions of a move past a Match, of which these are the sides: the one of the move, and the other one, with what is known of it.
+// The conditions of a move past a Match. `near` is its side of the move, `other` its other side, and `unique` says
+// whether that is unique.
 fn judged_match(
     program: &Program,
     near: &Side,
@@ -128,7 +129,7 @@ fn judged_match(
     }
 }
 
-// Past the left side of the Match at a tree's root. `reduce` is the Reduce's number.
+// The conditions of a move past the left side of the Match at a tree's root. `reduce` is the Reduce's number.
 fn past_left(
     program: &Program,
     tree: &Plan,
@@ -145,7 +146,7 @@ fn past_left(
     judged_match(program, &near, reduce, &other, unique, pairing)
 }
 
-// Past its right side.
+// The conditions of a move past the right side.
 fn past_right(
     program: &Program,
     tree: &Plan,
@@ -162,7 +163,8 @@ fn past_right(
     judged_match(program, &near, reduce, &other, unique, pairing)
 }
 
-// The conditions of the rule alone, of the trees before and after. `unique` says whether the other side is.
+// The conditions that only this rule has, over the trees before and after. `unique` says whether the other side is
+// unique.
 pub(crate) fn past_match(
     program: &Program,
     rule: Rule,

@@ -1,4 +1,4 @@
-//! Whether no bag of a plan has two records with the same key values, as far as sets and bounds tell.
+//! Whether no bag of a plan has two records with the same key values, as far as sets and bounds show.
 
 ghost use Rattle.std.specs.Prelude.{◌↔◌, ◌≤◌, IfOk, IsTrue};
 ghost use Rattle.pact_record.specs.FieldSets.{has_field};
@@ -20,28 +20,29 @@ fn writes_none(found: &Found, keys: &Keys) -> bool
     least_common(keys.fields(), found.sets.writes).is_none()
 }
 
-// Whether each field of the one list is one of the other.
+// Whether each field of the first list is in the second.
 fn are_among(keys: &Keys, others: &Keys) -> bool
     ensures { IsTrue result ↔ AreAmong keys.now others.now }
 {
     keys.fields().is_subset(others.fields())
 }
 
-// Of a Reduce with these keys of its own: each group gives at most one record, with the group's own key, and these are among the key fields.
+// Whether a Reduce with these keys of its own emits at most one record for each group, with the group's own key, and
+// its keys are among the key fields.
 fn groups_once(found: &Found, own: &Keys, keys: &Keys) -> bool
     ensures { IsTrue result ↔ ((found.now.hi ≤ 1) × AreAmong own.now keys.now × AreNoneOf own.now (has_field found.now.sets.writes)) }
 {
     found.hi <= 1 && are_among(own, keys) && writes_none(found, own)
 }
 
-// Of a Map: it gives at most one record for each, with the same key values.
+// Whether a Map emits at most one record for each, with the same key values.
 fn keeps_keys(found: &Found, keys: &Keys) -> bool
     ensures { IsTrue result ↔ ((found.now.hi ≤ 1) × AreNoneOf keys.now (has_field found.now.sets.writes)) }
 {
     found.hi <= 1 && writes_none(found, keys)
 }
 
-// The same of a whole plan.
+// Whether a whole plan is unique for the keys.
 pub(crate) fn tree_is_unique(program: &Program, tree: &Plan, keys: &Keys) -> bool
     ensures { IsTrue result ↔ IsUniqueTree program.now keys.now tree.now }
 {
@@ -61,7 +62,7 @@ pub(crate) fn tree_is_unique(program: &Program, tree: &Plan, keys: &Keys) -> boo
     }
 }
 
-// The same by a table of findings: each operator is analysed only where it isn't kept in its context.
+// `tree_is_unique` by a table of findings: each operator is analysed only if the table has no row for its context.
 pub(crate) fn tree_is_unique_by(
     program: &Program,
     findings: &mut Findings,
@@ -92,14 +93,15 @@ pub(crate) fn tree_is_unique_by(
     }
 }
 
-/// Whether what the operator at the place gives has each value of these key fields at most once, as far as the sets and bounds of the operators there
-/// tell: it is a Reduce whose keys are among these fields, which gives at most one record for each group and writes no key of its own, or a Map that gives
-/// at most one record for each and writes none of these fields, over an input of which the same holds.
+/// Whether the output of the operator at the place has each value of these key fields at most once, as far as the sets
+/// and bounds of the operators there show. It is so for a Reduce whose keys are among these fields, which emits at most
+/// one record for each group and writes none of its own keys. It is so for a Map that emits at most one record for each
+/// and writes none of these fields, over an input for which the same holds.
 pub fn unique(program: &Program, plan: &Plan, at: u32, keys: &Keys) -> bool
     ensures unique { IsTrue result ↔ IsUnique program.now plan.now at keys.now }
     ensures once { IsTrue result → AllowsEachOnce program.now (subtree_of at plan.now) keys.now }
 {
-    // Its clause says that the program keeps every rule.
+    // `fields` makes it known that the program follows every rule.
     let _fields = program.fields();
     plan.has(at) && tree_is_unique(program, &plan.subtree(at), keys)
 }

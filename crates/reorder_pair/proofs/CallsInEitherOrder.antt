@@ -1,4 +1,4 @@
--- Two functions of pairs whose sets are apart give the same for three records in either order.
+-- Two functions of pairs with disjoint sets yield the same records for three records in either order.
 use Rattle.std.proofs.Common.{◌≡◌, inl, inr, ℕ, Bool, true, false, cond, List, [], ◌∷◌, length, map, refl, sym, ap, ◌∙◌}
 use Rattle.std.proofs.lemmas.Bool.{both_ways, cond_both, false_from_ne_true}
 use Rattle.std.specs.Prelude.{flat_map}
@@ -17,9 +17,9 @@ use Rattle.reorder_pair.proofs.FunctionForms.{PairForm, Row}
 use Rattle.reorder_pair.proofs.MixedRecords.{at_field-mix, length-mix, mix}
 use Rattle.reorder_pair.proofs.PermittedExchanges.{IsUsed, NoConflict, UsedFields}
 
--- ---- outputs of a call, from those of another
+-- ---- the outputs of a call, derived from those of another
 
--- an output of the second call, from that of the first and the second anchor
+-- an output of the second call, derived from that of the first and the second anchor
 from_first : (W : FieldSet) (x y r q : Row) → length r ≡ length y → length q ≡ length y → AreAnchored W x y r q → q ≡ mix W r y
 from_first W x y r q e l o =
     same_fields q (mix W r y) (l ∙ sym e ∙ sym (length-mix W r y e))
@@ -32,7 +32,7 @@ all_from_first fields W x y [] (q ∷ qs) l a b o = absurd o
 all_from_first fields W x y (r ∷ rs) [] l a b o = absurd o
 all_from_first fields W x y (r ∷ rs) (q ∷ qs) l a b o = λ i. from_first W x y r q (a.0 ∙ sym l) (b.0 ∙ sym l) o.0 i ∷ all_from_first fields W x y rs qs l a.1 b.1 o.1 i
 
--- an output is its anchor outside what is written
+-- an output equals its anchor outside the written fields
 record IsKept (fields : ℕ) (W : FieldSet) (x r : Row) : Type 0 where
   pub wide : length r ≡ fields
   pub own : (i : ℕ) → W i ≡ false → at_field r i ≡ at_field x i
@@ -48,8 +48,8 @@ map_each P f g (x ∷ xs) h e = λ i. e x h.0 i ∷ map_each P f g xs h.1 e i
 
 -- ---- two functions of pairs: h over g, and g over h
 
--- Over inputs in a, b and c, and each function in what it may be called for before and after. Their sets don't meet, h uses no field of the
--- first input, and g none of the last.
+-- The inputs have fields in a, b and c. Each function has the contexts that it may be called in before and after. Their
+-- sets are disjoint, h uses no field of the first input, and g none of the last.
 pub record AreExchangeable (fields : ℕ) (a b c gl gr hl hr : ℕ → Type 0) (lower upper : UsedFields) (g h : Row → Row → Bag) : Type 0 where
   pub form_g : PairForm fields gl gr lower.reads lower.writes g
   pub form_h : PairForm fields hl hr upper.reads upper.writes h
@@ -102,7 +102,7 @@ module _ (fields : ℕ) (a b c gl gr hl hr : ℕ → Type 0) (lower upper : Used
       (all_kept fields upper.writes (joined_record m r) (joined_record m r) (h m r) (h m r) (x.form_h.wide m r left_h right_h) (x.form_h.outputs m m r r left_h left_h right_h right_h (λ i is. refl) (λ i is. refl)))
       (x.out_h m r fm fr)
 
-  -- the second function sees of an output of the first what it sees of its input
+  -- the second function reads in an output of the first what it reads in its input
   sees_h : (o : Row) → KeptG o → Agree upper.reads m o
   sees_h o k i is =
       sym (k.0.own i (x.no_conflict.read_write i is) ∙ at_field-joined_record l m i (fl.width ∙ sym fm.width) ∙ ap (λ (v : Value). joined_value v (at_field m i)) (fl.null i (x.side i (inl is))))
@@ -112,7 +112,7 @@ module _ (fields : ℕ) (a b c gl gr hl hr : ℕ → Type 0) (lower upper : Used
       let unwritten = false_from_ne_true (upper.writes i) (λ wr. both_ways (lower.reads i) (x.no_conflict.write_read i wr) is) in
       sym (k.0.own i unwritten ∙ at_field-joined_record m r i (fm.width ∙ sym fr.width) ∙ ap (joined_value (at_field m i)) (fr.null i (x.other_side i (inl is))) ∙ joined_value-null (at_field m i))
 
-  -- what becomes of an output of h for m and r, and of one of g for l and m
+  -- the result from an output of h for m and r and one of g for l and m
   cell : Row → Row → Row
   cell z o = mix upper.writes z (joined_record o r)
 

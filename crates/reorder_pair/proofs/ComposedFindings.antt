@@ -1,4 +1,4 @@
--- What is composed of what is found in four contexts is what is found in the context.
+-- The findings composed from those in four contexts are the findings in the context.
 use Rattle.std.proofs.Common.{◌≡◌, ◌<◌, ◌↔◌, ◌⊎◌, ◌^◌, ◌-◌, inl, inr, ℕ, Bool, true, false, Some, slice_get, nat_lt, refl, sym, ap, subst, ◌∙◌, true≢false, arith}
 use Rattle.std.proofs.lemmas.Bool.{cases_lt, le-ltb, lt-ltb}
 use Rattle.std.proofs.lemmas.Option.{same_Some}
@@ -42,7 +42,7 @@ cornered_group : (kind : Kind) (takes : Bool) → has_corners_by kind takes ≡ 
 cornered_group CoGroup takes e = refl
 cornered_group kind takes e = absurd (true≢false (sym e))
 
--- of the function itself
+-- the findings about the function itself
 record IsFoundOf (f : WithFields) (c : Context) (s : Found) : Type 0 where
   pub sets : found_of s.sets ≡ sets_in f c
   pub touched : (k : ℕ) → Has (has_field s.sets.touched) k ↔ IsTouched (found_of s.sets) f.fields f.function.body k
@@ -76,7 +76,7 @@ module _ (p : ProgramData) (n : ℕ) (f : WithFields) (c : Context) (s : Corners
   group : f.function.kind ≡ CoGroup
   group = cornered_group f.function.kind (takes_numbers f.function.body) cornered
 
-  -- the one that is chosen at a field
+  -- the finding that is chosen at a field
   there : ℕ → Found
   there k = pick (has_field c.left k) (has_field c.right k)
 
@@ -88,7 +88,7 @@ module _ (p : ProgramData) (n : ℕ) (f : WithFields) (c : Context) (s : Corners
   at_field k = sets-at_field f c (whole p.fields (has_field c.left k)) (whole p.fields (has_field c.right k)) k valid group
       (whole_at p.fields (has_field c.left k) k (within p.fields c.left k fields.left)) (whole_at p.fields (has_field c.right k) k (within p.fields c.right k fields.right))
 
-  -- the anchors are those of any of the four
+  -- the anchors are those in any of the four contexts
   at_none : SetsAt p.fields (sets_in f (corner p.fields false false c)) (sets_in f c)
   at_none = sets-at_field f c 0 0 p.fields valid group (has_field-zero p.fields ∙ sym (fields.left p.fields (omega arith))) (has_field-zero p.fields ∙ sym (fields.right p.fields (omega arith)))
 
@@ -149,7 +149,7 @@ module _ (p : ProgramData) (n : ℕ) (f : WithFields) (c : Context) (s : Corners
           most = is.hi ∙ none.most;
         }
 
--- ---- under what an operator is kept
+-- ---- the contexts under which findings are kept
 
 whole_below : (m : ℕ) (b : Bool) → IsBelow m (has_field (whole m b))
 whole_below m true k le = has_field-ones m k ∙ le-ltb k m le

@@ -1,4 +1,4 @@
--- Conditions over sets of fields say the same over attributes, and lists of conditions one after another.
+-- Conditions over sets of fields mean the same over attributes; and lists of conditions one after another.
 use Rattle.std.proofs.Common.{◌≡◌, ◌↔◌, inl, inr, ℕ, List, [], ◌∷◌, ◌++◌, subst}
 use Rattle.pact_record.specs.FieldSets.{has_field}
 use Rattle.tac_syntax.specs.Contexts.{FieldSet, Has}
@@ -7,7 +7,7 @@ use Rattle.plan_trees.proofs.SubtreesOfPlans.{subtree_of-root}
 use Rattle.reorder_pair.specs.declared.legality.NotLegal.{NotLegal}
 use Rattle.reorder_pair.specs.Conditions.{AllPass, FirstFails, IsLeastCommon, Line}
 
--- the attributes of a root's input, as a set that was found for the root
+-- the attributes of a root's input, given as a set that was found for the root
 pub at_root : (set : ℕ) (attributes : PlanTree → ℕ → Type 0) (n : ℕ) (t : PlanTree) → n ≡ root_of t → ((k : ℕ) → Has (has_field set) k ↔ attributes (subtree_of n t) k) → (k : ℕ) → Has (has_field set) k ↔ attributes t k
 at_root set attributes n t e h =
     subst (λ (u : PlanTree). (k : ℕ) → Has (has_field set) k ↔ attributes u k) (subtree_of-root t)

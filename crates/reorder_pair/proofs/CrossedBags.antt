@@ -1,4 +1,5 @@
--- Two functions of pairs whose sets are apart give the same bag for three bags in either order, and so does a function of one record.
+-- Two functions of pairs with disjoint sets yield the same bag for three bags in either order, and so does a function
+-- of one record.
 use Rattle.std.proofs.Common.{◌≡◌, ℕ, [], ◌∷◌, ◌++◌, replicate, refl, sym, ap, append-nil}
 use Rattle.std.proofs.lemmas.List.{length-replicate}
 use Rattle.std.specs.Prelude.{flat_map}

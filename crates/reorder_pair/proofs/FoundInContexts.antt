@@ -7,7 +7,7 @@ use Rattle.reorder_pair.specs.declared.rules.Rule.{Rule}
 use Rattle.reorder_pair.specs.Places.{IsUnionOf}
 use Rattle.reorder_pair.specs.Rules.{exchanged_by}
 
--- a union over two trees that are those before an exchange and after it
+-- a union over two trees, if they are those before an exchange and after it
 pub at_trees : (p : ProgramData) (plan : PlanTree) (rule : Rule) (at n : ℕ) (before after : PlanTree) (c : Context) → before ≡ subtree_of at plan → after ≡ exchanged_by rule (subtree_of at plan)
     → IsUnionOf p n before after c → IsUnionOf p n (subtree_of at plan) (exchanged_by rule (subtree_of at plan)) c
 at_trees p plan rule at n before after c before_is after_is h =

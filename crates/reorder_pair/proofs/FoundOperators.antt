@@ -1,4 +1,4 @@
--- What is found of an operator is true of its calls, in all that its inputs may hold in either of two trees.
+-- The findings about an operator are true of its calls, in all that its inputs may hold in either of two trees.
 use Rattle.std.proofs.Common.{◌≡◌, ◌<◌, ◌↔◌, ◌⊎◌, inl, inr, ℕ, zero, suc, List, [], ◌∷◌, Some, slice_get, refl, sym, subst}
 use Rattle.std.specs.List.{AllByRecursion}
 use Rattle.pact_record.specs.FieldSets.{has_field}
@@ -31,7 +31,7 @@ use Rattle.reorder_pair.specs.declared.finding.Found.{Found}
 use Rattle.reorder_pair.specs.Places.{IsFound}
 use Rattle.reorder_pair.proofs.PermittedExchanges.{AreSetsOf, UsedFields, joint}
 
--- what an operator owns its function names
+-- the fields that an operator owns are named by its function
 owned_is_named : (v : List WithFields) (ops : List Op) (n k : ℕ) → (kind_at ops n ≡ Source → ⊥) → Owns v ops n k → FunctionNames v (function_in (slice_get ops n)) k
 owned_is_named v [] n k operator h = absurd h
 owned_is_named v (op ∷ ops) zero k operator h = by op.kind refl h where
@@ -44,7 +44,7 @@ owned_is_named v (op ∷ ops) zero k operator h = by op.kind refl h where
   by CoGroup e g = g
 owned_is_named v (op ∷ ops) (suc n) k operator h = owned_is_named v ops n k operator h
 
--- ---- what is found, by the trees of which the operator is the root
+-- ---- the findings, by the trees whose root is the operator
 
 pub record IsFoundIn (p : ProgramData) (n : ℕ) (one other : PlanTree) (s : Found) : Type 0 where
   pub context : Context

@@ -1,4 +1,5 @@
--- Forms of functions of one record and of pairs: calls that agree on what is read give outputs that differ where something is written alone.
+-- Forms of functions of one record and of pairs: calls that agree on what is read have outputs that differ only where
+-- something is written.
 use Rattle.std.proofs.Common.{◌≡◌, ◌||◌, not, ℕ, Bool, cond, List, [], ◌∷◌, length, get_or, sym, ap, subst, ◌∙◌, arith}
 use Rattle.std.specs.List.{AllByRecursion, AllZip}
 use Rattle.pact_record.specs.declared.values.Value.{Value}
@@ -28,7 +29,7 @@ pub record PairForm (fields : ℕ) (a b : ℕ → Type 0) (R W : FieldSet) (f : 
       → AllZip (AreAnchored W (joined_record l r) (joined_record m s)) (f l r) (f m s)
   pub wide : (l r : Row) → IsWithin fields a l → IsWithin fields b r → AllByRecursion (λ o. length o ≡ fields) (f l r)
 
--- the only record serves each output
+-- the only record is the anchor of each output
 pub one_anchor : (W : FieldSet) (u w : Row) (places : List ℕ) (rs qs : Bag) → AreAnchoredAt W (u ∷ []) (w ∷ []) places rs qs → AllZip (AreAnchored W u w) rs qs
 one_anchor W u w [] [] [] h = tt
 one_anchor W u w (p ∷ places) (r ∷ rs) (q ∷ qs) h =
@@ -83,7 +84,7 @@ right_form fields a R W f o = record {
 abbrev pub turned_pair : (Row → Row → Bag) → Row → Row → Bag
 turned_pair f l r = f r l
 
--- in sets that share nothing a join is the same the other way round
+-- if the sets share no field, the join with sides swapped is the same
 joined_swapped : (A B : Type 0) (u w : Value) → (A → B → ⊥) → ((A → ⊥) → u ≡ Null) → ((B → ⊥) → w ≡ Null) → joined_value u w ≡ joined_value w u
 joined_swapped A B Null w d h k = sym (joined_value-null w)
 joined_swapped A B (Int n) w d h k = ap (λ (z : Value). joined_value z (Int n)) (sym (k (λ b. bad (h (λ a. d a b))))) where
@@ -109,7 +110,7 @@ flip_form fields a b R W f d p = record {
 
 -- ---- a function of pairs that match
 
--- a key that is read has a Null in both, or in neither
+-- keys that are read have a Null in both records, or in neither
 unless_null_form : (fields : ℕ) (a b : ℕ → Type 0) (R W : FieldSet) (nulls : Bool) (f : Row → Row → Bag) (ks : List ℕ) → AllByRecursion (Has R) ks
     → PairForm fields a b R W f → PairForm fields a b R W (unless_null nulls f ks)
 unless_null_form fields a b R W nulls f ks hk p = record {

@@ -1,4 +1,5 @@
--- What was judged over two trees, at the place of the plan: the conditions that all rules have, and a legal exchange where these are all.
+-- What was checked over two trees, at the place of the plan: the conditions that all rules have; and an exchange is
+-- legal if these are all.
 use Rattle.std.proofs.Common.{inr, ℕ, List, ◌++◌}
 use Rattle.plan_trees.specs.Plans.{PlanTree, subtree_of}
 use Rattle.pact_operators.specs.Programs.{ProgramData}
@@ -18,7 +19,7 @@ module _ (p : ProgramData) (plan : PlanTree) (at : ℕ) (rule : Rule) where
   abbrev then_tree : PlanTree
   then_tree = exchanged_by rule tree
 
-  -- the conditions that all rules have, and those of the rule alone
+  -- the conditions that all rules have, and those that only this rule has
   abbrev pub shared_lines : Found → Found → List Line
   shared_lines upper lower = conflict_lines (uses_of upper) (uses_of lower) ++ side_lines p (exchange_of rule).shape tree then_tree (uses_of upper) (uses_of lower)
 
@@ -34,9 +35,9 @@ module _ (p : ProgramData) (plan : PlanTree) (at : ℕ) (rule : Rule) where
   pub all-IsLegalFor : (upper lower : Found) → IsFoundAt p plan at rule upper lower → AllPass (shared_lines upper lower) → AllPass (lines_alone upper lower) → IsLegalFor p plan at rule upper lower
   all-IsLegalFor upper lower found pass groups = record { found = found; passes = AllPass-append (shared_lines upper lower) (lines_alone upper lower) pass groups }
 
-  -- ---- a legal exchange past no group
+  -- ---- a legal exchange without groups
 
-  -- past no group there is no condition but those that all rules have
+  -- without groups there are only the conditions that all rules have
   no_groups : (upper lower : Found) → IsPairRule rule → AllPass (lines_alone upper lower)
   no_groups upper lower pair = by rule pair where
     by : (r : Rule) → IsPairRule r → AllPass (own_lines p r tree then_tree (uses_of upper) (uses_of lower))

@@ -1,4 +1,4 @@
--- What a table of findings tells of the rows that it keeps.
+-- What a table of findings returns for the rows that it keeps.
 use Rattle.std.proofs.Common.{◌≡◌, ◌==◌, ◌&&◌, ◌++◌, inl, inr, ℕ, Bool, true, List, [], ◌∷◌, Option, Some, None, IfNone, IfSome, is_some, length, take, refl, sym, ap, subst, true≢false, ◌∙◌}
 use Rattle.std.specs.Cmp.Lexicographic.{pointwise}
 use Rattle.std.specs.Map.{lookup}
@@ -17,7 +17,7 @@ use Rattle.reorder_pair.specs.contracts.findings.OperatorInPartialEq.TheImpl as 
 use Rattle.reorder_pair.specs.declared.findings.OperatorIn.{OperatorIn}
 use Rattle.reorder_pair.specs.FindingTable.{AreFindings, IsFinding, IsKept}
 
--- ---- equal keys of the table are one
+-- ---- keys that the table takes for equal are equal
 
 abbrev same_placed : OperatorIn → OperatorIn → Bool
 same_placed = (placed_eq.eq-value).it
@@ -85,7 +85,7 @@ lookup-kept (row ∷ rows) k h = elim (cases_Bool (same_placed k row.0)) as (λ 
   | inr other ↦ inr (lookup-kept rows k (simp other at h))
 ]
 
--- whether something is kept of an operator in a context, as the table tells it
+-- if the table returns a finding for an operator in a context, a row has it
 pub kept-IfSome_IsKept : (rows : List (OperatorIn × Found)) (k : OperatorIn) (s : Option Found) → s ≡ lookup (same_placed k) rows → IfSome s (λ _. IsKept k rows)
 kept-IfSome_IsKept rows k None e = tt
 kept-IfSome_IsKept rows k (Some s) e = lookup-kept rows k (ap is_some (sym e))
@@ -94,7 +94,7 @@ pub kept-IfNone : (rows : List (OperatorIn × Found)) (k : OperatorIn) (s : Opti
 kept-IfNone rows k None e = λ h. true≢false (sym (kept-lookup rows k h) ∙ ap is_some (sym e))
 kept-IfNone rows k (Some s) e = tt
 
--- what wasn't kept goes behind the rows
+-- a new operator and context go after the rows
 pub insert_entry-absent : (rows : List (OperatorIn × Found)) (k : OperatorIn) (s : Found) → (IsKept k rows → ⊥) → insert_entry same_placed rows k s ≡ rows ++ (k, s) ∷ []
 insert_entry-absent [] k s absent = refl
 insert_entry-absent (row ∷ rows) k s absent = elim (cases_Bool (same_placed k row.0)) as (λ _. insert_entry same_placed (row ∷ rows) k s ≡ row ∷ rows ++ (k, s) ∷ []) [
@@ -102,7 +102,7 @@ insert_entry-absent (row ∷ rows) k s absent = elim (cases_Bool (same_placed k 
   | inr other ↦ rw other (ap (λ (rest : List (OperatorIn × Found)). row ∷ rest) (insert_entry-absent rows k s (λ h. absent (inr h))))
 ]
 
--- ---- what is found
+-- ---- the findings
 
 module _ (p : ProgramData) where
   same_row : (k j : OperatorIn) (s : Found) → same_placed k j ≡ true → IsFinding p (j, s) → IsFinding p (k, s)
@@ -123,6 +123,6 @@ module _ (p : ProgramData) where
   push-AreFindings [] k s h found = (found, tt)
   push-AreFindings (row ∷ rows) k s h found = (h.0, push-AreFindings rows k s h.1 found)
 
-  -- one row more, of what is found
+  -- one more row with a finding
   pub more-AreFindings : (rows more : List (OperatorIn × Found)) (k : OperatorIn) (s : Found) → more ≡ rows ++ (k, s) ∷ [] → AreFindings p rows → IsFoundFor p k.at k.context s → AreFindings p more
   more-AreFindings rows more k s e h found = subst (AreFindings p) (sym e) (push-AreFindings rows k s h found)

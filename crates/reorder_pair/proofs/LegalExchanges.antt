@@ -34,7 +34,7 @@ turned_same o t u e bag = ((e bag).1, (e bag).0)
 pub same_through : (o : PlanOps) (s t u : PlanTree) → AllowSame o s t → AllowSame o t u → AllowSame o s u
 same_through o s t u h k bag = ((λ a. (k bag).0 ((h bag).0 a)), (λ a. (h bag).1 ((k bag).1 a)))
 
--- that an operator of a role has an anchor on a side: all but a CoGroup have
+-- whether an operator of a role has an anchor on a side: every kind but a CoGroup always has
 abbrev pub HasAnchor : Role → Side → Found → Type 0
 HasAnchor CoGrouping on_left s = s.sets.anchor_left ≡ true
 HasAnchor CoGrouping on_right s = s.sets.anchor_right ≡ true
@@ -65,7 +65,7 @@ no_conflict upper lower read_write write_read write_write = record {
   write_write = λ k is. false_from_ne_true (has_field lower.sets.writes k) (write_write k is);
 }
 
--- of an exchange that leads up, where the lower operator is the one that the exchange down has above
+-- an upward exchange: its lower operator is the upper one of the downward exchange
 turned_sets : (s t : FieldSet) → AreApartSets s t → AreApartSets t s
 turned_sets s t h k a b = h k b a
 
@@ -85,7 +85,7 @@ module _ (p : ProgramData) (program : IsProgram p) (inputs : List Bag) (good : A
   abbrev O : PlanOps
   O = plan_ops p inputs
 
-  -- what is found of both operators, by their roles
+  -- the findings about both operators, by their roles
   pub both_found : (above below : Role) (side : Side) {f g : ℕ} {f_before f_now g_before g_now : PlanTree} {one two : Found} → Plays above (kind_at p.ops f) → Plays below (kind_at p.ops g)
       → HasAnchor above side one → HasAnchor below side two → IsFoundIn p f f_before f_now one → IsFoundIn p g g_before g_now two → NoConflict (used_in one) (used_in two)
       → AreFound F v p.ops O f f_before f_now g g_before g_now side (used_in one) (used_in two)
@@ -95,7 +95,7 @@ module _ (p : ProgramData) (program : IsProgram p) (inputs : List Bag) (good : A
     no_conflict = c;
   }
 
-  -- ---- what is found permits the exchange, by the shape; `one` is of the operator that is above in the exchange down
+  -- ---- the findings permit the exchange, by the shape; `one` is about the upper operator of the downward exchange
 
   maps_permitted : (f g : ℕ) (t : PlanTree) (one two : Found) → kind_at p.ops f ≡ Map → kind_at p.ops g ≡ Map
       → IsFoundIn p f (over f (over g t)) (over f t) one → IsFoundIn p g (over g t) (over g (over f t)) two → NoConflict (used_in one) (used_in two) → PermitsMaps F v p.ops O f g t

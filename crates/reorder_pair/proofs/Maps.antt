@@ -36,7 +36,7 @@ module _ (fields : ℕ) (v : List WithFields) (ops : List Op) (o : PlanOps) (goo
         wide = λ x fx. all_wide fields (λ k. Owns v ops n k ⊎ c.left k) (o.of_record n x) (map_fits fields v ops o good n c.left e x fx);
       }
 
-  -- as the root of two trees
+  -- for the roots of two trees
   pub map_form_in : (n : ℕ) (t u : PlanTree) (s : UsedFields) → o.kind n ≡ Map → AreSetsOf fields v ops o n (joint v ops o n (over n t) (over n u)) on_left s
       → OneForm fields (joint v ops o n (over n t) (over n u)).left s.reads s.writes (o.of_record n)
   map_form_in n t u s e h = map_form n (joint v ops o n (over n t) (over n u)) on_left s.reads s.writes e (λ k l r. elim r as (λ _. ⊥) [ inl a ↦ a | inr b ↦ b ]) h.form
@@ -50,7 +50,7 @@ module _ (o : PlanOps) where
   to_map : (n : ℕ) (ls : Bag) → o.kind n ≡ Map → Gives o (o.kind n) n ls (flat_map (o.of_record n) ls)
   to_map n ls e = subst (λ (k : OpKind). Gives o k n ls (flat_map (o.of_record n) ls)) (sym e) refl
 
-  -- what a Map gives for what its input allows
+  -- what a Map emits for what its input allows
   pub record MapBag (n : ℕ) (t : PlanTree) (bag : Bag) : Type 0 where
     pub rows : Bag
     pub below : Allows o t rows

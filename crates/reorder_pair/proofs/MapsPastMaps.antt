@@ -20,7 +20,7 @@ use Rattle.reorder_pair.proofs.PermittedExchanges.{PermitsMaps, joint}
 
 module _ (fields : ℕ) (v : List WithFields) (ops : List Op) (o : PlanOps) (good : AreOpsOf fields v ops o) where
   module _ (f g : ℕ) (t : PlanTree) (x : PermitsMaps fields v ops o f g t) where
-    -- what the two may be called for, before and after
+    -- the contexts that the two may be called in, before and after
     abbrev cf : Ports
     cf = joint v ops o f (over f (over g t)) (over f t)
 

@@ -27,14 +27,14 @@ module _ (fields : ℕ) (v : List WithFields) (ops : List Op) (o : PlanOps) (goo
   -- ---- the left side
 
   module _ (f g : ℕ) (t u : PlanTree) (x : PermitsLeft fields v ops o f g t u) (apart : AreApart (HasAttribute v ops t) (HasAttribute v ops u)) where
-    -- what the two may be called for, before and after
+    -- the contexts that the two may be called in, before and after
     abbrev cf : Ports
     cf = joint v ops o f (over f (both g t u)) (over f t)
 
     abbrev cg : Ports
     cg = joint v ops o g (both g t u) (both g (over f t) u)
 
-    -- what g gives for a pair
+    -- what g emits for a pair
     abbrev gs : Row → Row → Bag
     gs = pair_of o (o.kind g) g
 
@@ -83,14 +83,14 @@ module _ (fields : ℕ) (v : List WithFields) (ops : List Op) (o : PlanOps) (goo
   -- ---- the right side
 
   module _ (f g : ℕ) (t u : PlanTree) (x : PermitsRight fields v ops o f g t u) (apart : AreApart (HasAttribute v ops t) (HasAttribute v ops u)) where
-    -- what the two may be called for, before and after
+    -- the contexts that the two may be called in, before and after
     abbrev df : Ports
     df = joint v ops o f (over f (both g t u)) (over f u)
 
     abbrev dg : Ports
     dg = joint v ops o g (both g t u) (both g t (over f u))
 
-    -- what g gives for a pair
+    -- what g emits for a pair
     abbrev hs : Row → Row → Bag
     hs = pair_of o (o.kind g) g
 

@@ -1,4 +1,4 @@
--- A record with the fields of a set from one record, and the others from a second.
+-- A record that takes the fields of a set from one record, and the others from a second.
 use Rattle.std.proofs.Common.{◌≡◌, ℕ, zero, suc, cond, List, [], ◌∷◌, length, refl, ap, arith}
 use Rattle.std.proofs.lemmas.Bool.{cond_both}
 use Rattle.pact_record.specs.declared.values.Value.{Value}

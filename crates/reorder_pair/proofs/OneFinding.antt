@@ -1,4 +1,5 @@
--- What is found of an operator is one thing, also as the code keeps it, and a condition that fails excludes that all hold.
+-- There is only one finding about an operator, also as the code stores it; and if a condition fails they don't all
+-- hold.
 use Rattle.std.proofs.Common.{◌≡◌, ◌↔◌, inl, inr, ℕ, true, false, List, [], ◌∷◌, sym, ap, subst, ◌∙◌}
 use Rattle.std.proofs.lemmas.Option.{same_Some}
 use Rattle.pact_record.specs.FieldSets.{has_field}
@@ -29,7 +30,7 @@ same_set s t h = λ i k. same_tests (s k) (t k) (h k).0 (h k).1 i
 both_by : {A B C : Type 0} → A ↔ C → B ↔ C → A ↔ B
 both_by h g = ((λ a. g.1 (h.0 a)), (λ b. h.1 (g.0 b)))
 
--- ---- what is found
+-- ---- findings
 
 module _ (p : ProgramData) (n : ℕ) (before after : PlanTree) where
   scope_one : (f : WithFields) (c d : Context) → IsUnionOf p n before after c → IsUnionOf p n before after d → scope_in f.function f.fields c ≡ scope_in f.function f.fields d
@@ -55,7 +56,7 @@ module _ (p : ProgramData) (n : ℕ) (before after : PlanTree) where
       let high = h.found.most ∙ ap (λ (w : WithFields). most_emits w.function.body) f ∙ sym g.found.most in
       λ i. record { sets = sets i; touched = touched i; low = low i; high = high i }
 
--- ---- as the code keeps it
+-- ---- as the code stores them
 
 same_number : (a b : ℕ) → has_field a ≡ has_field b → a ≡ b
 same_number a b e = same_fields a b (λ k i. e i k)
@@ -76,7 +77,7 @@ same_found s r e =
       hi = high i;
     }
 
--- One thing is found of the two operators of an exchange.
+-- There is only one finding about each of the two operators of an exchange.
 pub found_one : (p : ProgramData) (plan : PlanTree) (at : ℕ) (rule : Rule) (u l v m : Found) → IsFoundAt p plan at rule u l → IsFoundAt p plan at rule v m → (u ≡ v) × (l ≡ m)
 found_one p plan at rule u l v m h k =
     let before = subtree_of at plan in
@@ -85,7 +86,7 @@ found_one p plan at rule u l v m h k =
       same_found l m (uses_one p (root_of after) before after l m h.found.of_lower k.found.of_lower),
     )
 
--- A legal exchange is told as one condition.
+-- A legal exchange has only one condition.
 pub one_condition : (p : ProgramData) (plan : PlanTree) (at : ℕ) (rule : Rule) (c d : Condition) → IsConditionOf p plan at rule c → IsConditionOf p plan at rule d → c ≡ d
 one_condition p plan at rule c d h k =
     let sets = found_one p plan at rule c.upper c.lower d.upper d.lower h.legal.found k.legal.found in

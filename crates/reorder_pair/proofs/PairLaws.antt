@@ -14,7 +14,7 @@ use Rattle.reorder_pair.proofs.PermittedExchanges.{PermitsLeft, PermitsMaps, Per
 use Rattle.reorder_pair.proofs.Rotations.{rotate, rotate_up}
 
 module _ (fields : ℕ) (v : List WithFields) (ops : List Op) (o : PlanOps) (good : AreOpsOf fields v ops o) where
-  -- the two trees share no attribute
+  -- the two trees have no common attribute
   abbrev pub ShareNone : PlanTree → PlanTree → Type 0
   ShareNone t u = AreApart (HasAttribute v ops t) (HasAttribute v ops u)
 

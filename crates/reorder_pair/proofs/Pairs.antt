@@ -23,7 +23,7 @@ use Rattle.pact_operators.proofs.LawfulBags.{OverBoth, all_wide, cross_fits, mat
 use Rattle.reorder_pair.proofs.FunctionForms.{PairForm, Row, matched_form, one_anchor}
 use Rattle.reorder_pair.proofs.PermittedExchanges.{AreSetsOf, IsPair, UsedFields}
 
--- what a pair operator gives for a pair
+-- what a pair operator emits for a pair
 abbrev pub pair_of : PlanOps → OpKind → ℕ → Row → Row → Bag
 pair_of o Match n = matched o.nulls (o.of_pair n) (o.left_keys n) (o.right_keys n)
 pair_of o Cross n = o.of_pair n
@@ -32,7 +32,7 @@ pair_of o kind n = λ l r. []
 -- ---- plans
 
 module _ (o : PlanOps) where
-  -- what a pair operator gives for what its inputs allow
+  -- what a pair operator emits for what its inputs allow
   pub record PairBag (n : ℕ) (t u : PlanTree) (bag : Bag) : Type 0 where
     pub left_rows : Bag
     pub right_rows : Bag

@@ -1,4 +1,5 @@
--- What permits an exchange: sets of fields that are found of the two operators, without conflict, and what moves past a side touches none of it.
+-- What permits an exchange: the sets found for the two operators have no conflict, and an operator that moves past a
+-- side touches none of its fields.
 use Rattle.std.proofs.Common.{◌≡◌, ◌⊎◌, inl, inr, ℕ, false, List}
 use Rattle.std.specs.List.{AllByRecursion}
 use Rattle.tac_syntax.specs.declared.contexts.Side.{Side}
@@ -23,7 +24,7 @@ joint v ops o n before now = record {
   right_keys = o.right_keys n;
 }
 
--- ---- what is found
+-- ---- findings
 
 -- the fields that an operator reads, writes and touches
 pub record UsedFields : Type 0 where
@@ -60,11 +61,11 @@ pub record NoConflict (upper lower : UsedFields) : Type 0 where
   pub write_read : DontMeet upper.writes lower.reads
   pub write_write : DontMeet upper.writes lower.writes
 
--- no field of a set is an attribute of a tree
+-- no field of the set is an attribute of the tree
 abbrev pub AvoidsTree : List WithFields → List Op → FieldSet → PlanTree → Type 0
 AvoidsTree v ops touched t = (k : ℕ) → Has touched k → HasAttribute v ops t k → ⊥
 
--- the sets of both operators, each in the union of its contexts before and after, and that they don't conflict
+-- the sets of both operators, each in the union of its contexts before and after; they don't conflict
 pub record AreFound (fields : ℕ) (v : List WithFields) (ops : List Op) (o : PlanOps) (f : ℕ) (f_before f_now : PlanTree) (g : ℕ) (g_before g_now : PlanTree) (side : Side) (upper lower : UsedFields) : Type 0 where
   pub upper_sets : AreSetsOf fields v ops o f (joint v ops o f f_before f_now) side upper
   pub lower_sets : AreSetsOf fields v ops o g (joint v ops o g g_before g_now) side lower

@@ -1,4 +1,5 @@
--- A legal exchange at a place of a plan: it gives a plan of the program, and keeps the answers where it keeps what the operator's tree allows.
+-- A legal exchange at a place of a plan yields a plan of the program. It keeps the answers if it keeps what the
+-- operator's tree allows.
 use Rattle.std.proofs.Common.{ℕ, List, sym, subst}
 use Rattle.plan_trees.specs.declared.shapes.Shape.{Shape}
 use Rattle.plan_trees.specs.declared.shapes.Shape.TheVariants.{OneOverOne, IntoLeft, OutOfLeft, IntoRight, OutOfRight, ToRight, ToLeft}
@@ -35,12 +36,12 @@ pub record IsLegalRoot (p : ProgramData) (rule : Rule) (t : PlanTree) (upper low
   pub lower_in : IsFoundIn p (root_of (exchanged_by rule t)) (lower_tree (exchange_of rule).shape t) (exchanged_by rule t) lower
   pub passes : AllPass (lines p rule t (exchanged_by rule t) (uses_of upper) (uses_of lower))
 
--- it keeps what the tree allows
+-- a rule's legal exchanges at a root keep what the tree allows
 abbrev pub KeepsAtRoot : ProgramData → Rule → Type 0
 KeepsAtRoot p rule = (inputs : List Bag) → AreOpsOf p.fields p.functions p.ops (plan_ops p inputs) → (t : PlanTree) (upper lower : Found) → IsLegalRoot p rule t upper lower
     → AreSidesApart p.functions p.ops t → AllowSame (plan_ops p inputs) t (exchanged_by rule t)
 
--- ---- what moves past a side owns no attribute of it
+-- ---- what moves past a side owns none of its attributes
 
 module _ (p : ProgramData) (program : IsProgram p) (role : Role) where
   sides_kept : (shape : Shape) (t : PlanTree) → HasShape shape t → Plays role (kind_at p.ops (root_of t)) → (upper lower : Found) → IsFoundIn p (root_of t) t (upper_tree shape t) upper

@@ -1,4 +1,4 @@
--- Where a rule has a place, its two operators are operators, and both stand in the trees before and after.
+-- If a rule has a place, its two operators are operators, and both are in the trees before and after.
 use Rattle.std.proofs.Common.{◌≡◌, inl, inr, ℕ, true, sym, subst, ◌∙◌}
 use Rattle.tac_syntax.specs.declared.declarations.OpKind.{OpKind}
 use Rattle.tac_syntax.specs.declared.declarations.OpKind.TheVariants.{Source, Map, Reduce, Match, Cross, CoGroup}

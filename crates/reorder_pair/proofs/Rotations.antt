@@ -24,14 +24,14 @@ use Rattle.reorder_pair.proofs.SidesApart.{apart_before_after, apart_either, apa
 module _ (fields : ℕ) (v : List WithFields) (ops : List Op) (o : PlanOps) (good : AreOpsOf fields v ops o) where
   module _ (h g : ℕ) (t u w : PlanTree) (x : PermitsRotate fields v ops o h g t u w) (apart : AreApart (HasAttribute v ops t) (HasAttribute v ops u))
       (outer_apart : AreApart (HasAttribute v ops t) (HasAttribute v ops w)) (inner_apart : AreApart (HasAttribute v ops u) (HasAttribute v ops w)) where
-    -- what the two may be called for, before and after
+    -- the contexts that the two may be called in, before and after
     abbrev ch : Ports
     ch = joint v ops o h (both h (both g t u) w) (both h u w)
 
     abbrev cg : Ports
     cg = joint v ops o g (both g t u) (both g t (both h u w))
 
-    -- what they give for a pair
+    -- what they emit for a pair
     abbrev hs : Row → Row → Bag
     hs = pair_of o (o.kind h) h
 

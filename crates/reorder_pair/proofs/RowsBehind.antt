@@ -1,4 +1,4 @@
--- Rows that are put behind those of a table of findings.
+-- Rows that are added after those of a table of findings.
 use Rattle.std.proofs.Common.{◌≡◌, ◌++◌, ◌∷◌, [], inl, inr, List, length, take, drop, take-append-drop, append_assoc, refl, sym, ap, ◌∙◌}
 use Rattle.reorder_pair.specs.declared.finding.Found.{Found}
 use Rattle.reorder_pair.specs.declared.findings.OperatorIn.{OperatorIn}
@@ -17,7 +17,7 @@ begins-by old new more e = ap (λ (rows : List (OperatorIn × Found)). take (len
 pub begins-same : (old middle new : List (OperatorIn × Found)) → BeginsWith old middle → new ≡ middle → BeginsWith old new
 begins-same old middle new h e = ap (λ (rows : List (OperatorIn × Found)). take (length old) rows) e ∙ h
 
--- one row more, or none
+-- after one more row, or none, the old rows are still the first ones
 pub begins-keeps : (placed : OperatorIn) (s : Found) (old middle new : List (OperatorIn × Found)) → BeginsWith old middle → Keeps placed s middle new → BeginsWith old new
 begins-keeps placed s old middle new h (inl k) = begins-same old middle new h k.1
 begins-keeps placed s old middle new h (inr k) =

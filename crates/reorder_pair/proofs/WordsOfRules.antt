@@ -1,4 +1,4 @@
--- Each rule stands at its place among all rules, so a word that is none of theirs is no rule's.
+-- Each rule is at its place among all rules, so a word that differs from each of theirs belongs to no rule.
 use Rattle.std.proofs.Common.{◌≡◌, ◌<◌, ◌≤◌, ◌+◌, inl, inr, ℕ, true, false, nat_eq, List, [], ◌∷◌, get_or, slice_get, Some, refl, sym, ap, subst, ◌∙◌, arith}
 use Rattle.std.proofs.lemmas.Bool.{cases_lt}
 use Rattle.std.proofs.lemmas.Option.{slice_get-get_or}
@@ -78,7 +78,7 @@ pointwise-itself (x ∷ a) = rw (itself x) (pointwise-itself a)
 pub other_word : (a b : List ℕ) → false ≡ pointwise nat_eq a b → a ≡ b → ⊥
 other_word a b differ same = let e = differ ∙ ap (λ (l : List ℕ). pointwise nat_eq a l) (sym same) ∙ pointwise-itself a in cc
 
--- the rules at the first places have other words
+-- none of the rules before place n has the word
 abbrev pub AreOthers : List ℕ → ℕ → Type 0
 AreOthers word n = (rule : Rule) → place_of rule < n → word_of rule ≡ word → ⊥
 

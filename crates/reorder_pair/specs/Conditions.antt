@@ -19,7 +19,7 @@ use Rattle.reorder_pair.specs.declared.rules.Rule.TheVariants.{MapReduce, MapRed
 use Rattle.reorder_pair.specs.Rules.{exchange_of}
 use Rattle.reorder_pair.specs.Unique.{IsUniqueTree}
 
--- what is found of an operator, apart from how sets are kept
+-- the findings about an operator, apart from how sets are stored
 pub record Uses : Type 0 where
   pub sets : FoundSets
   pub touched : FieldSet
@@ -29,8 +29,9 @@ pub record Uses : Type 0 where
 abbrev pub uses_of : Found → Uses
 uses_of s = record { sets = found_of s.sets; touched = has_field s.sets.touched; low = s.lo; high = s.hi }
 
--- A condition: two sets share no field, and the refusal tells the least that they share; a CoGroup is anchored on the side of the
--- move; the Map that moves keeps the groups of these keys whole; something else holds, with its refusal.
+-- A condition. `no_common`: two sets share no field, and the refusal has the least field that they share. `anchored`: a
+-- CoGroup is anchored on the side of the move. `keeps_groups`: the Map that moves keeps the groups of these keys whole.
+-- The last one has any other statement, with its refusal.
 pub data Line : Type 1 where
   no_common : (ours : FieldSet) → (theirs : ℕ → Type 0) → (refusal : ℕ → NotLegal) → Line
   anchored : (holds : Bool) → Line
@@ -62,14 +63,14 @@ abbrev pub AllPass : List Line → Type 0
 AllPass [] = Unit {0}
 AllPass (line ∷ lines) = Passes line × AllPass lines
 
--- the first that fails, with its refusal
+-- the first condition that fails, with its refusal
 abbrev pub FirstFails : List Line → NotLegal → Type 0
 FirstFails [] why = ⊥
 FirstFails (line ∷ lines) why = Fails line why ⊎ (Passes line × FirstFails lines why)
 
 -- ---- the table
 
--- what both write, or one writes and the other reads
+-- the two operators write a common field, or one writes what the other reads
 abbrev pub conflict_lines : Uses → Uses → List Line
 conflict_lines upper lower =
     no_common upper.sets.reads (Has lower.sets.writes) (λ k. Conflict ReadWrite k) ∷ no_common upper.sets.writes (Has lower.sets.reads) (λ k. Conflict WriteRead k)
@@ -78,7 +79,8 @@ conflict_lines upper lower =
 abbrev pub avoids : Uses → (ℕ → Type 0) → Line
 avoids mover attributes = no_common mover.touched attributes (λ k. Side k)
 
--- An operator that is moved past an input of another touches nothing of it: the input that the other one has where it is the root.
+-- An operator that moves past an input of another touches none of its fields. This is the input that the other operator
+-- has as the root.
 abbrev pub side_lines : ProgramData → Shape → PlanTree → PlanTree → Uses → Uses → List Line
 side_lines p OneOverOne before after upper lower = []
 side_lines p IntoLeft before after upper lower = avoids upper (HasRightAttribute p.functions p.ops after) ∷ []
@@ -90,7 +92,8 @@ side_lines p ToRight before after upper lower =
 side_lines p ToLeft before after upper lower =
     avoids lower (HasLeftAttribute p.functions p.ops before) ∷ avoids upper (HasRightAttribute p.functions p.ops after) ∷ []
 
--- A Map past a Reduce or a CoGroup keeps the groups whole. `n` and `m` are the numbers of the upper and the lower operator.
+-- A Map that moves past a Reduce or a CoGroup keeps the groups whole. `n` and `m` are the numbers of the upper and the
+-- lower operator.
 abbrev pub group_lines : ProgramData → Rule → ℕ → ℕ → Uses → Uses → List Line
 group_lines p MapReduce n m upper lower = keeps_groups upper (left_keys_in (slice_get p.ops m)) ∷ []
 group_lines p MapReduceUp n m upper lower = keeps_groups lower (left_keys_in (slice_get p.ops n)) ∷ []
@@ -110,13 +113,14 @@ abbrev pub right_input : PlanTree → PlanTree
 right_input (both n t u) = u
 right_input tree = tree
 
--- The Match's keys on the side of the move are keys of the Reduce; its other side has each value of its keys there at most once; it gives one record for each pair.
+-- The Match's keys on the side of the move are keys of the Reduce. Its other side has each value of its keys there at
+-- most once. It emits exactly one record for each pair.
 abbrev pub match_lines : ProgramData → (match_keys reduce_keys other_keys : List ℕ) → (other : PlanTree) → (pairing : Uses) → List Line
 match_lines p match_keys reduce_keys other_keys other pairing =
     no_common (is_listed match_keys) (λ k. is_listed reduce_keys k ≡ false) (λ k. MatchKey k) ∷ told (IsUniqueTree p other_keys other) NotUnique
     ∷ told ((pairing.low ≡ 1) × (pairing.high ≡ 1)) KeyGroup ∷ []
 
--- the Match's tree, its number and the Reduce's; the move is to its left, and to its right
+-- the arguments are the Match's tree and the Reduce's number; the move is to the left side, and below to the right one
 abbrev pub match_left_lines : ProgramData → (tree : PlanTree) → (reduce : ℕ) → (pairing : Uses) → List Line
 match_left_lines p tree reduce pairing =
     match_lines p (left_keys_in (slice_get p.ops (root_of tree))) (left_keys_in (slice_get p.ops reduce)) (right_keys_in (slice_get p.ops (root_of tree))) (right_input tree) pairing
@@ -125,7 +129,7 @@ abbrev pub match_right_lines : ProgramData → (tree : PlanTree) → (reduce : �
 match_right_lines p tree reduce pairing =
     match_lines p (right_keys_in (slice_get p.ops (root_of tree))) (left_keys_in (slice_get p.ops reduce)) (left_keys_in (slice_get p.ops (root_of tree))) (left_input tree) pairing
 
--- those of the rule alone
+-- the conditions that only this rule has
 abbrev pub own_lines : ProgramData → Rule → PlanTree → PlanTree → Uses → Uses → List Line
 own_lines p ReduceMatchLeft before after upper lower = match_left_lines p after (root_of before) lower
 own_lines p ReduceMatchLeftUp before after upper lower = match_left_lines p before (root_of after) upper
@@ -133,11 +137,11 @@ own_lines p ReduceMatchRight before after upper lower = match_right_lines p afte
 own_lines p ReduceMatchRightUp before after upper lower = match_right_lines p before (root_of after) upper
 own_lines p rule before after upper lower = group_lines p rule (root_of before) (root_of after) upper lower
 
--- those that all rules have, of an exchange at the root of a tree
+-- the conditions that all rules have, for an exchange at the root of a tree
 abbrev pub shared_lines : ProgramData → Rule → PlanTree → PlanTree → Uses → Uses → List Line
 shared_lines p rule before after upper lower = conflict_lines upper lower ++ side_lines p (exchange_of rule).shape before after upper lower
 
--- all of the rule
+-- all conditions of the rule
 abbrev pub lines : ProgramData → Rule → PlanTree → PlanTree → Uses → Uses → List Line
 lines p rule before after upper lower =
     conflict_lines upper lower ++ side_lines p (exchange_of rule).shape before after upper lower ++ own_lines p rule before after upper lower

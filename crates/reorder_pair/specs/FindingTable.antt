@@ -1,4 +1,4 @@
--- What a table of findings keeps, and what comes to it.
+-- What a table of findings stores, and what is added to it.
 use Rattle.std.specs.Prelude.{◌≡◌, ◌⊎◌, ◌++◌, ◌∷◌, [], ℕ, Bool, true, false, List, Option, Some, None, length, slice_get, take}
 use Rattle.std.specs.List.{AllByRecursion}
 use Rattle.tac_syntax.specs.declared.contexts.Context.{Context}
@@ -17,11 +17,11 @@ use Rattle.reorder_pair.specs.Places.{AreNeighbours, IsFoundFor, IsUnionOf}
 abbrev pub IsFinding : ProgramData → OperatorIn × Found → Type 0
 IsFinding p row = IsFoundFor p row.0.at row.0.context row.1
 
--- each row has what is found of its operator in its context
+-- each row has the finding about its operator in its context
 abbrev pub AreFindings : ProgramData → List (OperatorIn × Found) → Type 0
 AreFindings p rows = AllByRecursion (IsFinding p) rows
 
--- a row has the operator in that context
+-- some row is for the operator in that context
 abbrev pub IsKept : OperatorIn → List (OperatorIn × Found) → Type 0
 IsKept placed [] = ⊥
 IsKept placed (row ∷ rows) = (row.0 ≡ placed) ⊎ IsKept placed rows
@@ -32,8 +32,8 @@ corner_place p n l r c = record { at = n; context = corner p.fields l r c }
 abbrev pub corner_places : ProgramData → ℕ → Context → List OperatorIn
 corner_places p n c = corner_place p n false false c ∷ corner_place p n true false c ∷ corner_place p n false true c ∷ corner_place p n true true c ∷ []
 
--- The rows for an operator in a context: those of its corners, if it has any, and otherwise the one of the context that its function shares
--- with others.
+-- The rows for an operator in a context: those of its corners, if it has any, and otherwise one row, for the context
+-- that its function shares with others.
 abbrev pub kept_by : Bool → ProgramData → WithFields → ℕ → Context → List OperatorIn
 kept_by true p f n c = corner_places p n c
 kept_by false p f n c = record { at = n; context = shared_context f c } ∷ []
@@ -45,16 +45,17 @@ kept_for None p n c = []
 abbrev pub kept_under : ProgramData → ℕ → Context → List OperatorIn
 kept_under p n c = kept_for (slice_get p.functions (function_in (slice_get p.ops n))) p n c
 
--- Behind it the operator is kept in that context: if it was before, the table is as it was, and else this was put behind its rows.
+-- The new table has a row for the operator in that context: if the old one had it, the table is unchanged, and
+-- otherwise the row was appended.
 abbrev pub Keeps : OperatorIn → Found → List (OperatorIn × Found) → List (OperatorIn × Found) → Type 0
 Keeps placed s old new = (IsKept placed old × (new ≡ old)) ⊎ ((IsKept placed old → ⊥) × (new ≡ old ++ (placed, s) ∷ []))
 
--- each of these is kept, in this order
+-- the table has a row for each of these; missing ones were appended in this order
 abbrev pub KeepsEach : List OperatorIn → List (OperatorIn × Found) → List (OperatorIn × Found) → Type 0
 KeepsEach [] old new = new ≡ old
 KeepsEach (placed ∷ rest) old new = (s : Found) × (between : List (OperatorIn × Found)) × Keeps placed s old between × KeepsEach rest between new
 
--- the rows that were there are still the first ones
+-- the old rows are still the first ones
 abbrev pub BeginsWith : List (OperatorIn × Found) → List (OperatorIn × Found) → Type 0
 BeginsWith old new = take (length old) new ≡ old
 
@@ -64,7 +65,7 @@ pub record KeepsInPlan (p : ProgramData) (plan : PlanTree) (at : ℕ) (old new :
   pub union : IsUnionOf p at plan plan context
   pub keeps : KeepsEach (kept_under p at context) old new
 
--- the same of the two operators that a rule exchanges at a place, the upper one first
+-- the rows for the two operators that a rule exchanges at a place, the upper one's first
 pub record KeepsBoth (p : ProgramData) (plan : PlanTree) (at : ℕ) (rule : Rule) (old new : List (OperatorIn × Found)) : Type 0 where
   pub both : Neighbours
   pub are : AreNeighbours p plan at rule both

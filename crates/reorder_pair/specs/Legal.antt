@@ -14,7 +14,7 @@ use Rattle.reorder_pair.specs.Conditions.{AllPass, FirstFails, Line, lines, shar
 use Rattle.reorder_pair.specs.Places.{AreFound, IsPlace}
 use Rattle.reorder_pair.specs.Rules.{exchanged_by}
 
--- the rule has a place there, and this is found of the upper and of the lower operator
+-- the rule has a place there, and these are the findings about the upper and the lower operator
 pub record IsFoundAt (p : ProgramData) (plan : PlanTree) (at : ℕ) (rule : Rule) (upper lower : Found) : Type 0 where
   pub place : IsPlace p plan at rule
   pub found : AreFound p (subtree_of at plan) (exchanged_by rule (subtree_of at plan)) upper lower
@@ -25,7 +25,7 @@ lines_at p plan at rule upper lower = lines p rule (subtree_of at plan) (exchang
 abbrev pub shared_at : ProgramData → PlanTree → ℕ → Rule → Found → Found → List Line
 shared_at p plan at rule upper lower = shared_lines p rule (subtree_of at plan) (exchanged_by rule (subtree_of at plan)) (uses_of upper) (uses_of lower)
 
--- The exchange is legal, for what is found.
+-- The exchange is legal, with these findings.
 pub record IsLegalFor (p : ProgramData) (plan : PlanTree) (at : ℕ) (rule : Rule) (upper lower : Found) : Type 0 where
   pub found : IsFoundAt p plan at rule upper lower
   pub passes : AllPass (lines_at p plan at rule upper lower)
@@ -33,13 +33,13 @@ pub record IsLegalFor (p : ProgramData) (plan : PlanTree) (at : ℕ) (rule : Rul
 abbrev pub IsLegal : ProgramData → PlanTree → ℕ → Rule → Type 0
 IsLegal p plan at rule = (upper : Found) × (lower : Found) × IsLegalFor p plan at rule upper lower
 
--- what a legal exchange is told as
+-- the condition describes the legal exchange by the rule at the operator
 pub record IsConditionOf (p : ProgramData) (plan : PlanTree) (at : ℕ) (rule : Rule) (c : Condition) : Type 0 where
   pub same_rule : c.rule ≡ rule
   pub place : c.at ≡ at
   pub legal : IsLegalFor p plan at rule c.upper c.lower
 
--- The rule has no place there, or of these conditions one fails and none before it.
+-- The rule has no place there, or one of these conditions is the first to fail.
 abbrev pub IsRefusedBy : (Found → Found → List Line) → ProgramData → PlanTree → ℕ → Rule → NotLegal → Type 0
 IsRefusedBy conditions p plan at rule why = ((IsPlace p plan at rule → ⊥) × (why ≡ NoPlace))
     ⊎ ((upper : Found) × (lower : Found) × IsFoundAt p plan at rule upper lower × FirstFails (conditions upper lower) why)

@@ -11,7 +11,7 @@ use Rattle.reorder_pair.specs.declared.rules.Role.TheVariants.{Mapping, Pairing,
 use Rattle.reorder_pair.specs.declared.rules.Rule.{Rule}
 use Rattle.reorder_pair.specs.declared.rules.Rule.TheVariants.{MapMap, MapLeft, MapLeftUp, MapRight, MapRightUp, Rotate, RotateUp, MapReduce, MapReduceUp, MapCoGroupLeft, MapCoGroupLeftUp, MapCoGroupRight, MapCoGroupRightUp, ReduceMatchLeft, ReduceMatchLeftUp, ReduceMatchRight, ReduceMatchRightUp}
 
--- in their order
+-- in the order of the variants
 abbrev pub all_rules : List Rule
 all_rules =
     MapMap ∷ MapLeft ∷ MapLeftUp ∷ MapRight ∷ MapRightUp ∷ Rotate ∷ RotateUp ∷ MapReduce ∷ MapReduceUp ∷ MapCoGroupLeft ∷ MapCoGroupLeftUp ∷ MapCoGroupRight
@@ -65,7 +65,7 @@ exchange_of ReduceMatchLeftUp = record { upper = Matching; lower = Grouping; sha
 exchange_of ReduceMatchRight = record { upper = Grouping; lower = Matching; shape = IntoRight }
 exchange_of ReduceMatchRightUp = record { upper = Matching; lower = Grouping; shape = OutOfRight }
 
--- the rules in which no group is made
+-- the rules without groups
 abbrev pub IsPairRule : Rule → Type 0
 IsPairRule MapMap = Unit {0}
 IsPairRule MapLeft = Unit {0}

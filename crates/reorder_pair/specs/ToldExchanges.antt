@@ -1,4 +1,4 @@
--- Exchanges as conditions tell them.
+-- Exchanges that are described by conditions.
 use Rattle.std.specs.Prelude.{◌≡◌, List, [], ◌∷◌}
 use Rattle.plan_trees.specs.Plans.{PlanTree}
 use Rattle.pact_operators.specs.Programs.{ProgramData}
@@ -6,11 +6,11 @@ use Rattle.reorder_pair.specs.declared.legality.Condition.{Condition}
 use Rattle.reorder_pair.specs.Legal.{IsLegalFor}
 use Rattle.reorder_pair.specs.Rules.{swapped}
 
--- the exchange that a condition tells of is legal in the plan, for what the condition says of the two operators
+-- the exchange that a condition describes is legal in the plan, with the condition's findings about the two operators
 abbrev pub IsLegalIn : ProgramData → PlanTree → Condition → Type 0
 IsLegalIn p t c = IsLegalFor p t c.at c.rule c.upper c.lower
 
--- the plan behind it
+-- the plan after it
 abbrev pub after : Condition → PlanTree → PlanTree
 after c t = swapped c.rule c.at t
 

@@ -5,7 +5,7 @@ ghost use Rattle.std.specs.Prelude.{◌≡◌};
 use crate::legality::Condition;
 use std::marker::Model;
 
-/// Exchanges one after the other. Where they lead from one plan to another, they stand in the order in which they are made.
+/// Exchanges one after the other. If they lead from one plan to another, they are in the order in which they are made.
 #[derive(Debug, Drop)]
 pub struct ConditionList {
     held: Vec<Condition>,

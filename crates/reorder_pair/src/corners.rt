@@ -1,4 +1,4 @@
-//! What is found of a CoGroup in any context, from what is found in four.
+//! The findings about a CoGroup in any context, composed from those in four.
 
 ghost use Rattle.std.specs.Prelude.{◌≡◌, ◌≤◌, ◌↔◌, ℕ, IsTrue};
 ghost use Rattle.pact_record.specs.FieldSets.{has_field};
@@ -15,7 +15,8 @@ use pact_record::Fields;
 use tac_flow::{Sets, takes_numbers};
 use tac_syntax::{Context, Kind, Valid};
 
-/// What was found of an operator where neither input may hold a field, where only the left one may hold any, only the right one, or both.
+/// The findings about an operator in four contexts: neither input may hold a field, only the left one may hold all,
+/// only the right one, or both.
 #[derive(Clone, Copy)]
 pub(crate) struct Corners {
     pub(crate) neither: Found,
@@ -43,7 +44,7 @@ pub(crate) fn is_cornered(program: &Program, at: u32) -> bool
     has_corners(program.function_at(at))
 }
 
-// The fields below the bound, or none.
+// All fields below the bound, or none.
 fn whole(fields: u32, all: bool) -> Fields
     requires { fields ≤ MAX_FIELDS }
     ensures { result ≡ specs.whole fields all }
@@ -68,7 +69,7 @@ pub(crate) fn corner(fields: u32, left: bool, right: bool, context: &Context) ->
     }
 }
 
-// At each field this asks the set of the corner that has the field as the context has it.
+// At each field this takes the set of the corner that agrees with the context on whether each input may hold the field.
 fn chosen(context: &Context, neither: Fields, left: Fields, right: Fields, both: Fields) -> Fields
     ensures { (k : ℕ) → has_field result k ≡ specs.chosen (has_field context.now.left k) (has_field context.now.right k) (has_field neither k) (has_field left k) (has_field right k) (has_field both k) }
 {
@@ -127,7 +128,7 @@ fn composed(context: &Context, corners: &Corners) -> Found
     }
 }
 
-/// What is found of an operator in a context, from what was found in its corners.
+/// The findings about an operator in a context, from those in its corners.
 pub(crate) fn from_corners(
     program: &Program,
     at: u32,
@@ -139,7 +140,7 @@ pub(crate) fn from_corners(
     requires corners { AreCorners program.now at context.now corners.now }
     ensures { IsFoundFor program.now at context.now result }
 {
-    // The call states that the function follows every rule.
+    // `function` makes it known that the function follows every rule.
     let _function = program.function_at(at).function();
     composed(context, corners)
 }

@@ -15,7 +15,7 @@ use crate::rules::Rule;
 use crate::trees::{Trees, trees_of};
 use pact_operators::{Plan, Program};
 
-/// The two operators that the rule exchanges at a place of a plan. None where it has no place there.
+/// The two operators that the rule exchanges at a place of a plan. None if it has no place there.
 pub fn neighbours(program: &Program, plan: &Plan, at: u32, rule: Rule) -> Option<Neighbours>
     ensures some { IfSome result (AreNeighbours program.now plan.now at rule) }
     ensures none { IfNone result (IsPlace program.now plan.now at rule → ⊥) }
@@ -24,8 +24,8 @@ pub fn neighbours(program: &Program, plan: &Plan, at: u32, rule: Rule) -> Option
     Some(neighbours_in(program, plan, at, rule, &trees))
 }
 
-/// What is found of the operator at a place of a plan and of the one below it that the rule exchanges with it: of each, in all that its inputs may
-/// hold before the exchange or after it. None where the rule has no place there.
+/// The findings about the operator at a place of a plan and about the one below it that the rule exchanges with it: for
+/// each, in all that its inputs may hold before the exchange or after it. None if the rule has no place there.
 pub fn found(program: &Program, plan: &Plan, at: u32, rule: Rule) -> Option<(Found, Found)>
     requires plan { IsPlanOf program.now.functions program.now.ops plan.now }
     ensures found { IfSome result (λ both. IsFoundAt program.now plan.now at rule both.0 both.1) }
@@ -47,8 +47,8 @@ pub fn exchanged_tree(plan: &Plan, at: u32, rule: Rule) -> Plan
     tree.exchanged(rule.exchange().shape).unwrap_or(tree)
 }
 
-/// The conditions that all rules have where they have a place: that the two operators don't conflict, and that neither touches a side that it is moved
-/// past. `upper` and `lower` are what is found of the two.
+/// The conditions that all rules have, for a rule with a place there: the two operators don't conflict, and neither
+/// touches a side that it moves past. `upper` and `lower` are the findings about the two.
 pub fn legal_but_for_groups(
     program: &Program,
     plan: &Plan,
@@ -68,7 +68,7 @@ pub fn legal_but_for_groups(
     judged(program, rule.exchange().shape, &trees, upper, lower)
 }
 
-/// Whether the operator at a place of a plan and the one below it that the rule exchanges with it may change places. The rule is one of the first
+/// Whether the rule may exchange the operator at a place of a plan with the one below it. The rule is one of the first
 /// seven.
 pub fn legal_pair(
     program: &Program,
@@ -83,7 +83,7 @@ pub fn legal_pair(
     ensures legal_always { IsLegal program.now plan.now at rule → IsOk result }
     ensures answers { IfOk result (λ c. KeepAnswers program.now plan.now (swapped rule at plan.now)) }
 {
-    // Its clause says that the program keeps every rule.
+    // `fields` makes it known that the program follows every rule.
     let _fields = program.fields();
     let Some((upper, lower)) = found(program, plan, at, rule) else {
         return Err(NotLegal::NoPlace);
@@ -99,18 +99,19 @@ pub fn legal_pair(
     }
 }
 
-/// The plan with that tree.
+/// The plan in which the exchanged tree replaces the operator's tree.
 pub fn swapped_plan(plan: &Plan, at: u32, rule: Rule) -> Plan
     requires node { has at plan.now ≡ true }
     requires shape { HasShape (exchange_of rule).shape (subtree_of at plan.now) }
     ensures { result ≡ swapped rule at plan.now }
 {
-    // Its clause says that the numbers of a plan differ.
+    // `root` makes it known that the numbers of a plan differ.
     let _root = plan.root();
     plan.with_subtree(at, &exchanged_tree(plan, at, rule))
 }
 
-/// The plan in which the operator at the place and the one below it have changed places. The rule is one of the first seven, and legal there.
+/// The plan in which the operator at the place and the one below it have changed places. The rule is one of the first
+/// seven, and legal there.
 pub fn apply_pair(program: &Program, plan: &Plan, at: u32, rule: Rule) -> Plan
     requires plan { IsPlanOf program.now.functions program.now.ops plan.now }
     requires pair { IsPairRule rule }
@@ -119,7 +120,7 @@ pub fn apply_pair(program: &Program, plan: &Plan, at: u32, rule: Rule) -> Plan
     ensures answers { KeepAnswers program.now plan.now result }
     ensures plan { IsPlanOf program.now.functions program.now.ops result }
 {
-    // Its clause says that the program keeps every rule.
+    // `fields` makes it known that the program follows every rule.
     let _fields = program.fields();
     swapped_plan(plan, at, rule)
 }

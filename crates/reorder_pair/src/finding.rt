@@ -1,4 +1,4 @@
-//! What is found of the operators of an exchange.
+//! The findings about the operators of an exchange.
 
 ghost use Rattle.std.specs.Prelude.{◌≡◌, true};
 ghost use Rattle.tac_syntax.specs.declared.declarations.OpKind.TheVariants.{Source};
@@ -14,8 +14,8 @@ use pact_operators::{Plan, Program, context};
 use tac_flow::Sets;
 use tac_syntax::Context;
 
-/// What is found of an operator's function: the fields that it reads, writes, decides by and touches, and how many records a call of it gives,
-/// at least and at most; `emit_bounds::MANY` is no bound.
+/// The findings about an operator's function: the fields that it reads, writes, decides by and touches, and how many
+/// records a call of it emits, at least and at most; `emit_bounds::MANY` means that there is no bound.
 #[derive(Clone, Copy, Debug, PartialEq, Eq)]
 pub struct Found {
     pub sets: Sets,
@@ -32,7 +32,7 @@ pub struct Neighbours {
     pub lower_context: Context,
 }
 
-// What the inputs of an operator that stands in both trees may hold in the one or in the other.
+// What the inputs of an operator that is in both trees may hold in one or the other.
 fn united_context(program: &Program, at: u32, trees: &Trees) -> Context
     requires before { has at trees.now.before ≡ true }
     requires after { has at trees.now.after ≡ true }
@@ -42,7 +42,7 @@ fn united_context(program: &Program, at: u32, trees: &Trees) -> Context
     context(program, &trees.before, at).union(&context(program, &trees.after, at))
 }
 
-/// What is found of an operator in a context.
+/// The findings about an operator in a context.
 pub fn found_for(program: &Program, at: u32, context: &Context) -> Found
     requires operator { IsOperatorIn program.now at context.now }
     ensures { IsFoundFor program.now at context.now result }
@@ -69,7 +69,7 @@ pub(crate) fn context_in_plan(program: &Program, plan: &Plan, at: u32) -> Contex
     united_context(program, at, &trees)
 }
 
-/// What is found of an operator in the context that it has in the plan.
+/// The findings about an operator in the context that it has in the plan.
 pub fn found_in_plan(program: &Program, plan: &Plan, at: u32) -> Found
     requires operator { kind_at program.now.ops at ≡ Source → ⊥ }
     requires place { has at plan.now ≡ true }
@@ -79,7 +79,7 @@ pub fn found_in_plan(program: &Program, plan: &Plan, at: u32) -> Found
     found_for(program, at, &context)
 }
 
-// The upper and the lower operator of an exchange, whose trees these are.
+// The upper and the lower operator of the exchange with these trees.
 pub(crate) fn neighbours_in(
     program: &Program,
     plan: &Plan,

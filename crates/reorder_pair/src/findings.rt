@@ -1,4 +1,4 @@
-//! What is found of operators, kept for the contexts that they come to have.
+//! A table of findings about operators, by context.
 
 ghost use Rattle.std.specs.Prelude.{◌≡◌, ◌++◌, ◌∷◌, [], true, List, IfNone, IfOk, IfSome, OnErr, OnOk};
 ghost use Rattle.tac_syntax.specs.declared.declarations.OpKind.TheVariants.{Source};
@@ -31,7 +31,7 @@ struct OperatorIn {
     context: Context,
 }
 
-// The row of an operator without corners.
+// The key of an operator without corners.
 fn place_of(program: &Program, at: u32, context: &Context) -> OperatorIn
     requires operator { IsOperatorIn program.now at context.now }
     requires corners { IsCornered program.now at → ⊥ }
@@ -45,7 +45,7 @@ fn place_of(program: &Program, at: u32, context: &Context) -> OperatorIn
     }
 }
 
-// The row of one of an operator's corners.
+// The key of one of an operator's corners.
 fn corner_of(program: &Program, at: u32, left: bool, right: bool, context: &Context) -> OperatorIn
     requires { IsOperatorIn program.now at context.now }
     ensures place { result ≡ corner_place program.now at left right context.now }
@@ -57,8 +57,9 @@ fn corner_of(program: &Program, at: u32, left: bool, right: bool, context: &Cont
     }
 }
 
-/// What was found of operators of one program, each in the contexts in which it was asked for: plans that exchanges lead to have an operator in far
-/// fewer contexts than places. Contexts in which the same is found of an operator count as one.
+/// Findings about the operators of one program, each in the contexts that were asked for. In the plans that exchanges
+/// lead to, an operator has far fewer contexts than places. Contexts in which the findings about an operator are equal
+/// count as one.
 #[derive(Drop)]
 pub struct Findings {
     table: IndexMap<OperatorIn, Found>,
@@ -80,7 +81,7 @@ impl Model for Findings {
 }
 
 impl Findings {
-    /// A table that keeps nothing yet.
+    /// An empty table.
     pub fn new(alloc: Global) -> Findings
         ensures { result ≡ [] }
     {
@@ -89,7 +90,7 @@ impl Findings {
         }
     }
 
-    // What was kept of an operator in a context.
+    // The stored finding about an operator in a context.
     fn kept(&self, placed: &OperatorIn) -> Option<Found>
         ensures found { (p : ProgramData) → AreFindings p self.now → IfSome result (IsFoundFor p placed.now.at placed.now.context) }
         ensures some { IfSome result (λ _. IsKept placed.now self.now) }
@@ -98,7 +99,7 @@ impl Findings {
         self.table.get(placed).copied()
     }
 
-    // Keeps what was found of an operator in a context.
+    // Stores the finding about an operator in a context.
     fn keep(&mut self, placed: &OperatorIn, found: &Found) -> Result<(), OutOfMemory>
         requires { IsKept placed.now self.old → ⊥ }
         ensures kept { OnOk result (self.new ≡ self.old ++ (placed.now, found.now) ∷ []) }
@@ -108,7 +109,7 @@ impl Findings {
         Ok(())
     }
 
-    // What is found of an operator in a context: what was kept, or else what the analysis finds now, which is kept from now on.
+    // The finding about an operator in a context: the stored one, or otherwise a new one, which is stored.
     fn found_under(&mut self, program: &Program, placed: &OperatorIn) -> Result<Found, OutOfMemory>
         requires operator { IsOperatorIn program.now placed.now.at placed.now.context }
         requires findings { AreFindings program.now self.old }
@@ -125,7 +126,8 @@ impl Findings {
         Ok(found)
     }
 
-    // What is found of an operator in each of its corners. After out of memory the table may have rows for some of them.
+    // The findings about an operator in each of its corners. After out of memory the table may have rows for some of
+    // them.
     fn corners(
         &mut self,
         program: &Program,
@@ -195,9 +197,9 @@ impl Findings {
         self.found_under(program, &placed)
     }
 
-    /// What is found of an operator in a context: what was kept, or else what the analysis finds now, which is kept from now on. Contexts in which
-    /// the same is found of the operator's function share a row. A CoGroup that takes a field's number from a register has four rows for all its
-    /// contexts.
+    /// The findings about an operator in a context: the stored ones, or otherwise new ones, which are stored. Contexts
+    /// in which the findings about the operator's function are equal share a row. A CoGroup that takes a field's number
+    /// from a register has four rows for all its contexts.
     pub fn found(
         &mut self,
         program: &Program,
@@ -218,7 +220,8 @@ impl Findings {
         }
     }
 
-    /// What `found_in_plan` of this crate tells, by the table: the operator is analysed only where it isn't kept in the context that it has in the plan.
+    /// Returns what the free function `found_in_plan` does, from the table: the operator is analysed only if the table
+    /// has no row for the context that it has in the plan.
     pub fn found_in_plan(
         &mut self,
         program: &Program,
@@ -237,8 +240,9 @@ impl Findings {
         self.found(program, at, &context)
     }
 
-    /// What `found` of this crate tells of the two operators of an exchange, by the table: each is analysed only where it isn't kept in its context.
-    /// Behind want of memory the table may have the upper one.
+    /// Returns what the free function `found` does for the two operators of an exchange, from the table: each is
+    /// analysed only if the table has no row for its context. After out of memory the table may have the rows for the
+    /// upper one.
     pub fn found_at(
         &mut self,
         program: &Program,

@@ -12,7 +12,8 @@ use crate::trees::Trees;
 use pact_operators::{Plan, Program, Shape, context};
 use pact_record::Fields;
 
-/// What the upper operator does with a field, and then the lower. Of a conflict the first kind that stands is told, in this order.
+/// What the upper operator does with a field, and then what the lower one does. Of several conflicts the first kind in
+/// this order is reported.
 #[derive(Clone, Copy, Debug, PartialEq, Eq)]
 pub enum Clash {
     ReadWrite,
@@ -20,27 +21,28 @@ pub enum Clash {
     WriteWrite,
 }
 
-/// Why an exchange isn't legal: the first of these that stands, in this order.
+/// Why an exchange isn't legal: the first of these that applies, in this order.
 #[derive(Clone, Copy, Debug, PartialEq, Eq)]
 pub enum NotLegal {
-    /// There is no operator of that number, or it and the one below aren't what the rule exchanges.
+    /// There is no operator with that number, or it and the one below aren't what the rule exchanges.
     NoPlace,
-    /// One writes what the other reads or writes: the first such kind, with its least field.
+    /// One writes what the other reads or writes: the first kind of conflict, with its least field.
     Conflict { kind: Clash, field: u32 },
-    /// The least field that an operator touches and that is an attribute of the input that it is moved past. Of a rotation the operator that
-    /// stands over all three inputs where the left two are joined first is asked first.
+    /// The least field that an operator touches and that is an attribute of the input that it moves past. For a
+    /// rotation the first operator to be checked is the upper one of the tree in which the left two inputs are joined
+    /// first.
     Side { field: u32 },
-    /// The CoGroup's records don't begin as records of the side of the move.
+    /// The CoGroup's output records don't begin as records from the side of the move.
     NotAnchored,
-    /// The least key field of the Match on the side of the move by which the Reduce doesn't group.
+    /// The Match's least key field on the side of the move that isn't a key of the Reduce.
     MatchKey { field: u32 },
     /// The Match's other side may have two records with the same key values.
     NotUnique,
-    /// The Map may tear groups apart. Of a Reduce past a Match: the Match doesn't give exactly one record for each pair.
+    /// The Map may split groups. For a Reduce past a Match: the Match doesn't emit exactly one record for each pair.
     KeyGroup,
 }
 
-/// A legal exchange: the rule, the number of the upper operator, and what was found of the two.
+/// A legal exchange: the rule, the number of the upper operator, and the findings about the two.
 #[derive(Clone, Copy, Debug, PartialEq, Eq)]
 pub struct Condition {
     pub rule: Rule,
@@ -49,7 +51,7 @@ pub struct Condition {
     pub lower: Found,
 }
 
-/// The least field of both sets.
+/// The least field that is in both sets.
 pub fn least_common(a: Fields, b: Fields) -> Option<u32>
     ensures some { IfSome result (IsLeastCommon (has_field a) (Has (has_field b))) }
     ensures none { IfNone result ((k : ℕ) → Has (has_field a) k → Has (has_field b) k → ⊥) }
@@ -83,7 +85,7 @@ fn without_conflict(upper: &Found, lower: &Found) -> Result<(), NotLegal>
     Ok(())
 }
 
-// Whether an operator touches nothing of the left input of a tree's root.
+// Whether an operator touches none of the fields of the left input of a tree's root.
 fn past_left(program: &Program, mover: &Found, tree: &Plan) -> Result<(), NotLegal>
     ensures passes { IfOk result (λ x. Passes (avoids (uses_of mover.now) (HasLeftAttribute program.now.functions program.now.ops tree.now))) }
     ensures fails { IfErr result (Fails (avoids (uses_of mover.now) (HasLeftAttribute program.now.functions program.now.ops tree.now))) }
@@ -95,7 +97,7 @@ fn past_left(program: &Program, mover: &Found, tree: &Plan) -> Result<(), NotLeg
     }
 }
 
-// Whether it touches nothing of the right one.
+// Whether an operator touches none of the fields of the right input of a tree's root.
 fn past_right(program: &Program, mover: &Found, tree: &Plan) -> Result<(), NotLegal>
     ensures passes { IfOk result (λ x. Passes (avoids (uses_of mover.now) (HasRightAttribute program.now.functions program.now.ops tree.now))) }
     ensures fails { IfErr result (Fails (avoids (uses_of mover.now) (HasRightAttribute program.now.functions program.now.ops tree.now))) }
@@ -107,7 +109,7 @@ fn past_right(program: &Program, mover: &Found, tree: &Plan) -> Result<(), NotLe
     }
 }
 
-// Whether each operator touches nothing of an input that it is moved past.
+// Whether each operator touches none of the fields of an input that it moves past.
 fn past_sides(
     program: &Program,
     shape: Shape,

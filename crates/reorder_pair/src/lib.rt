@@ -1,13 +1,15 @@
-//! Exchanges among Map, Match and Cross: where a rule has a place, whether the exchange is legal there, and the plan after it.
+//! Exchanges among Map, Match and Cross: where a rule has a place, whether the exchange is legal there, and the plan
+//! after it.
 //!
-//! A legal exchange keeps what the plan allows over every input. `specs/Rules` has the rules, `specs/Conditions` what is asked of the two
-//! operators, in the order in which a refusal is told, and `specs/Legal` when an exchange is legal. All of it is said of every
-//! rule; `legal_pair` and `apply_pair` serve those in which no group is made, and `reorder_group` has the calls for every rule.
-//! All of them call `legal_but_for_groups` and `swapped_plan`.
+//! A legal exchange keeps what the plan allows over every input. `specs/Rules` has the rules. `specs/Conditions` has
+//! the conditions on the two operators, in the order in which a refusal is reported. `specs/Legal` defines when an
+//! exchange is legal. All of this covers every rule; `legal_pair` and `apply_pair` serve the rules without groups, and
+//! `reorder_group` has the calls for every rule. All of them call `legal_but_for_groups` and `swapped_plan`.
 //!
-//! `neighbours` tells the two operators of an exchange with their contexts, `found_for` what is found of an operator in a context, and `found` both in
-//! one, for a caller that keeps no findings. `Findings` keeps them, for a caller that meets the same operators again. `found_in_plan` tells what is
-//! found of one operator as a plan has it.
+//! `neighbours` returns the two operators of an exchange with their contexts, `found_for` the findings about an
+//! operator in a context, and `found` both at once, for a caller that stores no findings. `Findings` stores them, for a
+//! caller that meets the same operators again. `found_in_plan` returns the findings about one operator in its context
+//! in a plan.
 #![tactic(auto)]
 
 pub mod condition_lists;

@@ -5,7 +5,8 @@ ghost use Rattle.reorder_pair.specs.Rules.{Plays, all_rules, exchange_of, word_o
 
 use pact_operators::{OpKind, Shape};
 
-/// Which two neighbours of a plan are exchanged. The rules whose names end in `Up` have the shapes of the others after the exchange.
+/// Which two neighbours of a plan are exchanged. A rule whose name ends in `Up` undoes the exchange of the rule without
+/// it.
 #[derive(Clone, Copy, Debug, PartialEq, Eq)]
 pub enum Rule {
     MapMap,
@@ -119,7 +120,7 @@ impl Rule {
         }
     }
 
-    /// The rule of a word, or none where no rule has it.
+    /// The rule with the word, or none if no rule has it.
     pub fn of_word(word: &[u8]) -> Option<Rule>
         ensures some { IfSome result (λ rule. word_of rule ≡ word.now) }
         ensures none { IfNone result ((rule : Rule) → word_of rule ≡ word.now → ⊥) }

@@ -16,7 +16,7 @@ pub(crate) struct Trees {
     pub after: Plan,
 }
 
-/// The kind of the operator or source of a number. One that the program doesn't have is taken for a source.
+/// The kind of the operator or source with the number. A number that the program doesn't have counts as a source.
 pub fn kind_of(program: &Program, at: u32) -> OpKind
     ensures { result ≡ kind_at program.now.ops at }
 {
@@ -26,7 +26,7 @@ pub fn kind_of(program: &Program, at: u32) -> OpKind
     }
 }
 
-// The trees of an exchange, where the rule has a place.
+// The trees of an exchange, if the rule has a place there.
 pub(crate) fn trees_of(program: &Program, plan: &Plan, at: u32, rule: Rule) -> Option<Trees>
     ensures place { IfSome result (λ trees. IsPlace program.now plan.now at rule) }
     ensures before { IfSome result (λ trees. trees.before ≡ subtree_of at plan.now) }

@@ -1,4 +1,5 @@
--- What reaches the workers over an edge: each record at one worker or all of them at each, and where the ship says.
+-- What reaches the workers over an edge: each record reaches one worker, or all of them each worker, and it is where
+-- the ship says.
 use Rattle.std.proofs.Common.{◌≡◌, ◌<◌, ◌≤◌, ◌==◌, ◌%◌, ℕ, zero, suc, Bool, true, false, cond, filter, Some, None, List, [], ◌∷◌, ◌++◌, refl, sym, ap, ◌∙◌, arith}
 use Rattle.std.specs.List.{AllByRecursion}
 use Rattle.std.proofs.lemmas.Bool.{eqb-true}
@@ -14,7 +15,7 @@ use Rattle.pact_operators.specs.Allowed.{Bag}
 use Rattle.ship_strategy.specs.Ships.{Placement, edge_placement, is_broadcast}
 use Rattle.plan_trees.proofs.EachWorker.{all_each, all_of-one_more, none_each, perm_each}
 
--- a worker's records lie where the placement says
+-- a worker's records are where the placement says
 abbrev pub LieBy : ℕ → Placement → ℕ → Bag → Type 0
 LieBy workers None worker rows = Unit {0}
 LieBy workers (Some keys) worker rows = AllByRecursion (λ r. target workers (key_of keys r) ≡ worker) rows
@@ -23,7 +24,7 @@ pub target_below : (W : ℕ) → 1 ≤ W → (values : List Value) → target W 
 unfolding target
 target_below W some values = mod_below (key_hash values) W (omega (arith, some))
 
--- ---- each record of a source lies at one worker
+-- ---- each record of a source is at one worker
 
 pub all_of-share_from : (W : ℕ) → 1 ≤ W → (n : ℕ) (rows : Bag) → Perm rows (all_of W (λ w. share_from n W w rows))
 all_of-share_from W some n [] = is_same (sym (none_each (λ w. []) W (λ w b. refl)))
@@ -36,7 +37,7 @@ filter_all : {A : Type 0} (test : A → Bool) → ((x : A) → test x ≡ true) 
 filter_all test h [] = refl
 filter_all test h (x ∷ xs) = ap (λ (b : Bool). cond b (x ∷ filter test xs) (filter test xs)) (h x) ∙ ap (λ (l : List _). x ∷ l) (filter_all test h xs)
 
--- where each goes to one worker
+-- if each record goes to one worker
 to_one : (W : ℕ) (place : List Value → ℕ) → ((r : List Value) → place r < W) → (rows : Bag) → Perm rows (all_of W (λ to. filter (λ r. place r == to) rows))
 to_one W place below [] = is_same (sym (none_each (λ to. []) W (λ w b. refl)))
 to_one W place below (r ∷ rows) = chains (keeps (to_one W place below rows)) (all_of-one_more (place r) r (λ to. filter (λ q. place q == to) rows) W (below r))
@@ -51,7 +52,7 @@ all_of-arriving W some ship e gave =
     chains (perm_each gave (λ from. all_of W (λ to. sent ship W from to (gave from))) W (λ from b. all_sent W some ship e from b (gave from)))
     (turn (λ from to. sent ship W from to (gave from)) (workers_below W) (workers_below W))
 
--- over one that is, all of them arrive at each worker
+-- over a Broadcast edge all records arrive at each worker
 all_given : (W n : ℕ) (gave : ℕ → Bag) (w : ℕ) → all_of n (λ from. sent Broadcast W from w (gave from)) ≡ all_of n gave
 all_given W zero gave w = refl
 all_given W (suc n) gave w = λ i. filter_all (goes Broadcast W n w) (λ r. refl) (gave n) i ++ all_given W n gave w i
@@ -61,7 +62,7 @@ arriving-broadcast W Forward e gave w = cc
 arriving-broadcast W (Partition keys) e gave w = cc
 arriving-broadcast W Broadcast e gave w = all_given W W gave w
 
--- ---- where they lie then
+-- ---- where the records are then
 
 kept_so : (P Q : List Value → Type 0) (test : List Value → Bool) → ((r : List Value) → P r → test r ≡ true → Q r) → (rows : Bag) → AllByRecursion P rows → AllByRecursion Q (filter test rows)
 kept_so P Q test f [] h = tt

@@ -1,4 +1,5 @@
--- Where ships are legal and every instance gave its share, the shares of each subtree are one evaluation of it, and lie as placed.
+-- If ships are legal and every instance emitted its share, the shares of each subtree are one evaluation of it, and are
+-- where their placement says.
 use Rattle.std.proofs.Common.{◌≡◌, ◌<◌, ◌≤◌, ℕ, List, [], length, Bool, sym, subst, arith}
 use Rattle.std.specs.Prelude.{IsPermutation}
 use Rattle.std.specs.List.{AllByRecursion}
@@ -38,7 +39,7 @@ module _ (p : ProgramData) (program : IsProgram p) (inputs : List Bag) (of_input
   abbrev Attributes : PlanTree → ℕ → Type 0
   Attributes t = HasAttribute p.functions p.ops t
 
-  -- ---- what is given of a tree
+  -- ---- what a tree emits
 
   abbrev pub HaveShares : PlanTree → Type 0
   HaveShares t = (w : ℕ) → w < W → GaveShare O q gave t w
@@ -60,7 +61,7 @@ module _ (p : ProgramData) (program : IsProgram p) (inputs : List Bag) (of_input
   all_given : (n : ℕ) (out : ℕ → Bag) (now : Bag) → Perm (all_of W out) now → ((w : ℕ) → w < W → IsPermutation (out w) (gave n w)) → IsPermutation now (all_of W (gave n))
   all_given n out now p h = to_permutation (chains (turned p) (perm_each out (gave n) W (λ w b. from_permutation (out w) (gave n w) (h w b))))
 
-  -- ---- what was received of it
+  -- ---- what was received from it
 
   module _ (t : PlanTree) (rows : ℕ → Bag) (received : AreReceived q gave t rows) (whole : IsWhole t) where
     pub side_whole : (bag : Bag) → IsSide q gave t rows received bag → Evaluates Told O t bag
@@ -87,7 +88,7 @@ module _ (p : ProgramData) (program : IsProgram p) (inputs : List Bag) (of_input
 
   -- ---- an operator of one input
 
-  -- what an instance received and gave
+  -- what an instance received and emitted
   abbrev OneAt : ℕ → PlanTree → ℕ → Bag × Bag → Type 0
   OneAt n t w x = IsReceived q gave t w x.0 × Gives O (O.kind n) n x.0 x.1 × IsPermutation x.1 (gave n w)
 

@@ -1,4 +1,5 @@
--- A physical plan of a program with legal ships, of which every instance gave its share: its records meet, and it is one evaluation of the plan, counted.
+-- A physical plan of a program has legal ships, and every instance emitted its share: then its records meet, and it is
+-- one evaluation of the plan, counted.
 use Rattle.std.proofs.Common.{◌≡◌, ◌≤◌, ◌+◌, ◌∙◌, ℕ, zero, suc, true, Some, List, fold, length, map, slice_get, sym, ap, subst, arith, length-append}
 use Rattle.pact_record.proofs.Permutations.{from_permutation}
 use Rattle.plan_trees.specs.Physicals.{IsPhysical, PhysicalData, forwarded, ship_of}
@@ -25,7 +26,7 @@ use Rattle.ship_strategy.proofs.ProgramLayouts.{layout_legal, layout_tree}
 
 -- ---- sums
 
--- over what was summed before
+-- added to the sum so far
 summed_from : (a W : ℕ) (gave : Shares) (at : ℕ) → fold (λ s x. s + x) a (map (λ w. length (gave at w)) (workers_below W)) ≡ a + length (all_of W (gave at))
 summed_from a zero gave at = omega arith
 summed_from a (suc n) gave at = omega (arith, summed_from (a + length (gave at n)) n gave at, length-append (gave at n) (all_of n (gave at)))
@@ -95,7 +96,7 @@ pub divided_meets : (p : ProgramData) → IsProgram p → (inputs : List Bag) �
     → LegalShip (facts_of p physical.tree) physical → (gave : Shares) → AllGaveShares (plan_ops p inputs) physical gave → AllMeet (plan_ops p inputs) physical gave
 divided_meets p program inputs of_inputs q physical plan legal gave shares = shared_meets p program inputs of_inputs q physical.some_worker plan legal gave shares
 
--- ---- of a layout
+-- ---- a run of a layout
 
 module _ (p : ProgramData) (program : IsProgram p) (t : PlanTree) (number workers : ℕ) (q : PhysicalData) (is_plan : IsPlan t) (plan : IsPlanOf p.functions p.ops t) (some : 1 ≤ workers)
     (is : q ≡ layout_of (facts_of p t) p.ops t number workers) where

@@ -19,7 +19,7 @@ use Rattle.pact_operators.proofs.CallsForKeys.{cogrouped, grouped}
 use Rattle.pact_operators.proofs.SourceKinds.{is_source, takes_at}
 use Rattle.plan_trees.proofs.EverySubtree.{AllBelow, all_below, all_below-at, all_below-root}
 
--- ---- something that an operator may give
+-- ---- something that an operator may emit
 
 -- nothing for a kind that takes another number of inputs
 given_over : PlanOps → ℕ → OpKind → Bag → Bag
@@ -62,7 +62,7 @@ slice_get-counts_from at zero k f b = absurd (omega (arith, b))
 slice_get-counts_from at (suc n) zero f b = ap (λ (m : ℕ). Some (f m)) (omega arith)
 slice_get-counts_from at (suc n) (suc k) f b = slice_get-counts_from (suc at) n k f (omega (arith, b)) ∙ ap (λ (m : ℕ). Some (f m)) (omega arith)
 
--- ---- what each instance gives
+-- ---- what each instance emits
 
 gives : PlanOps → PhysicalData → PlanTree → ℕ → Bag
 gives o q (leaf n) w = share_from 0 q.workers w (o.rows n)

@@ -1,4 +1,4 @@
--- What is known of a source or an operator of a plan, by its context there and what is found in it.
+-- What is known of a source or an operator of a plan, by its context there and the findings in it.
 use Rattle.std.proofs.Common.{◌≡◌, ◌↔◌, ℕ, true, false, IsTrue, slice_get, refl, sym, ◌∙◌}
 use Rattle.pact_record.specs.FieldSets.{has_field}
 use Rattle.pact_record.proofs.Members.{same_tests}
@@ -40,7 +40,7 @@ module _ (p : ProgramData) (t : PlanTree) (n : ℕ) where
   pub facts_away : has n t ≡ false → facts_of p t n ≡ unknown
   facts_away h = rw h refl
 
-  -- where the context is the one that the operator has in the plan
+  -- if the context is the one that the operator has in the plan
   pub known_there : (x : NodeFacts) (c : Context) → has n t ≡ true → ((k : ℕ) → IsTrue (has_field c.left k) ↔ HasLeftAttribute p.functions p.ops (subtree_of n t) k)
       → ((k : ℕ) → IsTrue (has_field c.right k) ↔ HasRightAttribute p.functions p.ops (subtree_of n t) k)
       → x ≡ facts_for p n (has_field c.left) (has_field c.right) → x ≡ facts_of p t n

@@ -1,4 +1,4 @@
--- What an operator gives at all workers together is what it gives for the records of all, where its edges are legal.
+-- If an operator's edges are legal, what it emits at all workers together is what it emits for the records of all.
 use Rattle.std.proofs.Common.{◌≡◌, ◌<◌, ◌≤◌, ◌==◌, ◌||◌, inl, inr, ℕ, Bool, true, false, cond, Some, None, List, [], ◌∷◌, map, refl, sym, ap, subst, ◌∙◌}
 use Rattle.std.specs.Prelude.{flat_map}
 use Rattle.std.specs.List.{AllByRecursion}
@@ -61,7 +61,7 @@ lie_inside W w keys fields inside rows h =
 
 -- ---- pairs
 
--- what the workers received of a side are all its records, each worker or all together
+-- what the workers received from a side is all its records, at each worker or all workers together
 abbrev pub HaveSide : ℕ → Bool → (ℕ → Bag) → Bag → Type 0
 HaveSide W true received rows = (w : ℕ) → w < W → Perm (received w) rows
 HaveSide W false received rows = rows ≡ all_of W received
@@ -101,7 +101,7 @@ only_edge_stays kind keys ship p legal = absurd legal
 -- ---- one input
 
 module _ (o : PlanOps) (n W : ℕ) (some : 1 ≤ W) where
-  -- what the operator gives for the records of all, of what it gives at each worker
+  -- what the operator emits at each worker is together what it emits for the records of all
   abbrev pub GivesAll : OpKind → (received out : ℕ → Bag) → Type 0
   GivesAll k received out = (now : Bag) × Gives o k n (all_of W received) now × Perm (all_of W out) now
 

@@ -1,4 +1,5 @@
--- The groups of keys over all workers, where the records of a key lie at one: what is given for each worker's keys is given for all.
+-- The groups of keys over all workers, if the records of a key are at one worker: what is emitted for each worker's
+-- keys is emitted for all.
 use Rattle.std.proofs.Common.{◌≡◌, ◌<◌, ◌+◌, ◌||◌, inl, inr, ℕ, zero, suc, Bool, true, false, cond, List, [], ◌∷◌, ◌++◌, length, refl, sym, ap, subst, ◌∙◌, append_assoc, arith}
 use Rattle.std.specs.List.{AllByRecursion}
 use Rattle.std.proofs.lemmas.Bool.{both_ways, false_from_ne_true, or_cases, or_left, or_right}
@@ -84,7 +85,7 @@ group_of_key-all keys k rows zero = refl
 group_of_key-all keys k rows (suc n) =
     filter-append (λ r. is_same_key (key_of keys r) k) (rows n) (all_of n rows) ∙ ap (λ (l : Bag). group_of_key keys (rows n) k ++ l) (group_of_key-all keys k rows n)
 
--- a worker's records are those whose keys have their place there
+-- a worker's records are those whose keys are placed there
 abbrev pub LieAt : (Key → ℕ) → List ℕ → ℕ → Bag → Type 0
 LieAt place keys w rows = AllByRecursion (λ r. place (key_of keys r) ≡ w) rows
 
@@ -100,7 +101,7 @@ module _ (place : Key → ℕ) (keys : List ℕ) where
     group_here : (k : Key) → place k < W → group_of_key keys (all_of W rows) k ≡ group_of_key keys (rows (place k)) k
     group_here k b = group_of_key-all keys k rows W ∙ only_one (λ w. group_of_key keys (rows w) k) W (place k) b (λ w c ne. no_group_away w k (rows w) (lie w c) ne)
 
-    -- a worker that has records of a key is the key's place
+    -- if a worker has records of a key, the key is placed there
     pub one_place : (w : ℕ) → w < W → (k : Key) → 0 < length (group_of_key keys (rows w) k) → place k ≡ w
     one_place w b k some = elim (eqb_tells w (place k)) as (λ _. place k ≡ w) [
       | inl e ↦ sym e.1
@@ -126,7 +127,7 @@ module _ (place : Key → ℕ) (keys others : List ℕ) (W : ℕ) (ls rs : ℕ �
     key_place : (w : ℕ) → w < W → (k : Key) → occurs k (ks w) ≡ true → place k ≡ w
     key_place w b k o = either_place w b k (((of_ks w b).occur k).0 o)
 
-    -- all records of a key are those at its place
+    -- all records of a key are at its worker
     both_here : (k : Key) → Both (all_of W ls) (all_of W rs) k ≡ Both (ls (place k)) (rs (place k)) k
     both_here k = λ i. length (group_here place keys W ls left k (below k) i) + length (group_here place others W rs right k (below k) i)
 
@@ -150,7 +151,7 @@ module _ (place : Key → ℕ) (keys others : List ℕ) (W : ℕ) (ls rs : ℕ �
         sym (group_here place others W rs right k (below k) ∙ ap (λ (v : ℕ). group_of_key others (rs v) k) p) in
         (h.0, h.1, subst (λ (g : Bag). Perm g h.0) l h.2, subst (λ (g : Bag). Perm g h.1) r h.3, h.4)
 
-    -- What is given for each worker's keys is given for them over all records, in any list of these keys.
+    -- What is emitted for each worker's keys is emitted for them over all records, for any list of these keys.
     pub gathered : (js : List Key) → AreKeysOf keys others (all_of W ls) (all_of W rs) js → (out : ℕ → Bag) → ((w : ℕ) → w < W → AreChosen (IsGivenFor f keys others (ls w) (rs w)) (ks w) (out w))
         → (now : Bag) × AreChosen (IsGivenFor f keys others (all_of W ls) (all_of W rs)) js now × Perm (all_of W out) now
     gathered js of_js out h =

@@ -1,4 +1,4 @@
--- Where the records lie that an operator gives: a placement that the operator passes on holds of them.
+-- How the records that an operator emits are placed: a placement that the operator passes on holds for them.
 use Rattle.std.proofs.Common.{◌≡◌, ◌<◌, ◌+◌, ◌||◌, not, inl, inr, ℕ, Bool, true, false, cond, Some, None, List, [], ◌∷◌, length, refl, sym, ap, subst, ◌∙◌}
 use Rattle.std.specs.List.{AllByRecursion, list_any}
 use Rattle.std.proofs.lemmas.Bool.{both_ways, or_parts}
@@ -27,18 +27,18 @@ use Rattle.ship_strategy.specs.Facts.{NodeFacts}
 use Rattle.ship_strategy.specs.Ships.{IsLegalBoth, Placement, first_of_both, passed, placement_anchored, placement_both, placement_of_keys, placement_over, placement_paired, where_so}
 use Rattle.ship_strategy.proofs.Arrivals.{LieBy}
 
--- the sides on which a CoGroup is anchored are known, and every other operator is anchored
+-- the operator is anchored on the side: a CoGroup if this is known, and every other operator always
 abbrev pub IsAnchored : OpKind → NodeFacts → Side → Type 0
 IsAnchored Source x side = ⊥
 IsAnchored CoGroup x on_left = x.anchor_left ≡ true
 IsAnchored CoGroup x on_right = x.anchor_right ≡ true
 IsAnchored kind x side = Unit {0}
 
--- the fields of an operator's inputs, with its own keys
+-- a context with the fields of an operator's inputs and its own keys
 abbrev pub ports_at : PlanOps → ℕ → (in_left in_right : ℕ → Type 0) → Ports
 ports_at o n in_left in_right = record { left = in_left; right = in_right; left_keys = o.left_keys n; right_keys = o.right_keys n }
 
--- calls of the operator have the form that is known of it
+-- calls of the operator have the known form
 abbrev pub HasKnownForm : ℕ → PlanOps → ℕ → Ports → OpKind → NodeFacts → Type 0
 HasKnownForm fields o n c kind x = (side : Side) → IsAnchored kind x side → (reads : FieldSet) × HasForm (function_kind kind) fields c reads x.writes side (called o n)
 
@@ -57,7 +57,7 @@ first_lie : (W w : ℕ) (p q : Placement) (out : Bag) → LieBy W p w out → Li
 first_lie W w None q out h g = g
 first_lie W w (Some keys) q out h g = h
 
--- records that are the same outside some fields have the same key of others
+-- records that are equal outside some fields have the same key values, if none of these is a key
 same_key : (bad : FieldSet) (keys : List ℕ) (a q : List Value) → ((k : ℕ) → bad k ≡ false → at_field q k ≡ at_field a k) → list_any bad keys ≡ false → key_of keys q ≡ key_of keys a
 same_key bad [] a q h e = refl
 same_key bad (k ∷ keys) a q h e =
@@ -66,7 +66,7 @@ same_key bad (k ∷ keys) a q h e =
 
 -- ---- outputs by their anchors
 
--- what a record that is kept outside the written fields is, in a place
+-- any record that is equal to this one outside the written fields has the property
 abbrev KeptAt : FieldSet → (List Value → Type 0) → List Value → Type 0
 KeptAt writes Q a = (q : List Value) → ((k : ℕ) → writes k ≡ false → at_field q k ≡ at_field a k) → Q q
 
@@ -85,7 +85,7 @@ module _ (fields : ℕ) (o : PlanOps) (n W w : ℕ) (in_left in_right : ℕ → 
   abbrev LieHere : List ℕ → List Value → Type 0
   LieHere keys r = target W (key_of keys r) ≡ w
 
-  -- what a call gives lies where its anchors do
+  -- the output of a call is where its anchors are
   called_lie : (kind : OpKind) (side : Side) (keys : List ℕ) (input : CallInput) → HasKnownForm fields o n C kind x → IsAnchored kind x side → IsLawful (function_kind kind) fields C input
       → AllByRecursion (KeptAt x.writes (LieHere keys)) (anchors side input) → LieBy W (Some keys) w (called o n input)
   called_lie kind side keys input form anchor lawful at =
@@ -93,11 +93,11 @@ module _ (fields : ℕ) (o : PlanOps) (n W w : ℕ) (in_left in_right : ℕ → 
       let r = f.1 input input lawful lawful (record { left = agree_self f.0 (left_records input); right = agree_self f.0 (right_records input) }) in
       anchored_each (LieHere keys) x.writes (anchors side input) (anchors side input) r.0 (called o n input) (called o n input) r.1 at
 
-  -- records at their place stay there where none of its fields is written
+  -- records stay at their worker if none of the placement's fields is written
   kept_place : (keys : List ℕ) → list_any x.writes keys ≡ false → (rows : Bag) → LieBy W (Some keys) w rows → AllByRecursion (KeptAt x.writes (LieHere keys)) rows
   kept_place keys none rows h = AllByRecursion-weaker (LieHere keys) (KeptAt x.writes (LieHere keys)) rows (λ a at q e. ap (target W) (same_key x.writes keys a q e none) ∙ at) h
 
-  -- records of a side within their fields, and at their place
+  -- a record of a side within its fields, and at its worker
   abbrev IsLeft : List ℕ → List Value → Type 0
   IsLeft keys r = IsWithin fields in_left r × LieHere keys r
 
@@ -116,7 +116,7 @@ module _ (fields : ℕ) (o : PlanOps) (n W w : ℕ) (in_left in_right : ℕ → 
   rights_lie : (keys : List ℕ) (rows : Bag) → AllByRecursion (IsRight keys) rows → AllByRecursion (LieHere keys) rows
   rights_lie keys rows h = AllByRecursion-weaker (IsRight keys) (LieHere keys) rows (λ r p. p.1) h
 
-  -- ---- of one input
+  -- ---- one input
 
   module _ (rows out : Bag) (fit : AllByRecursion (IsWithin fields in_left) rows) where
     rows_at : (edge : Placement) (keys : List ℕ) → edge ≡ Some keys → LieBy W edge w rows → AllByRecursion (IsLeft keys) rows
@@ -134,7 +134,7 @@ module _ (fields : ℕ) (o : PlanOps) (n W w : ℕ) (in_left in_right : ℕ → 
         out given)
     over_lie kind form edge lie given = tt
 
-  -- ---- of two
+  -- ---- two inputs
 
   module _ (ls rs out : Bag) (fit_left : AllByRecursion (IsWithin fields in_left) ls) (fit_right : AllByRecursion (IsWithin fields in_right) rs) where
     lefts_at : (edge : Placement) (keys : List ℕ) → edge ≡ Some keys → LieBy W edge w ls → AllByRecursion (IsLeft keys) ls
@@ -178,7 +178,7 @@ module _ (fields : ℕ) (o : PlanOps) (n W w : ℕ) (in_left in_right : ℕ → 
 
     -- ---- pairs
 
-    -- where a field is none of the other side, a join has this side's value
+    -- if a field isn't one of the other side, a join has this side's value
     from_left : (l r : List Value) → IsWithin fields in_left l → IsWithin fields in_right r → (k : ℕ) → (in_right k → ⊥) → at_field (joined_record l r) k ≡ at_field l k
     from_left l r fl fr k none = at_field-joined_record l r k (fl.width ∙ sym fr.width) ∙ ap (joined_value (at_field l k)) (fr.null k none) ∙ joined_value-null (at_field l k)
 
@@ -192,7 +192,7 @@ module _ (fields : ℕ) (o : PlanOps) (n W w : ℕ) (in_left in_right : ℕ → 
         pub anchor : IsAnchored kind x on_left
         pub form : HasKnownForm fields o n C kind x
         pub given : out ≡ crossed f ls rs
-        -- what is given for a pair is what a call gives, or nothing
+        -- what is emitted for a pair is what a call emits, or nothing
         pub within : (Q : List Value → Type 0) (l r : List Value) → AllByRecursion Q (o.of_pair n l r) → AllByRecursion Q (f l r)
 
       module _ (kind : OpKind) (f : List Value → List Value → Bag) (pairs : IsOfPairs kind f) where

@@ -1,4 +1,4 @@
--- Every layout is legal, and its placements are those that were planned.
+-- Every layout is legal, and its placements are the planned ones.
 use Rattle.std.proofs.Common.{◌≡◌, ◌≢◌, ◌<◌, ◌==◌, ℕ, true, length, get_or, set, refl, sym, subst, ◌∙◌, arith}
 use Rattle.std.proofs.lemmas.Bool.{or_left, or_right}
 use Rattle.std.proofs.lemmas.List.{get_or-set_same, get_or-set_other, length-set}
@@ -14,7 +14,7 @@ use Rattle.ship_strategy.specs.Layouts.{planned, laid, left_ship, right_ship, on
 use Rattle.plan_trees.proofs.NumbersApart.{above_one, above_two}
 use Rattle.ship_strategy.proofs.AllowedShips.{IsSingle, Suits, over_allowed, both_allowed}
 
--- ---- what a layout leaves alone
+-- ---- what a layout doesn't change
 
 pub laid_long : (f : Facts) (w : ℕ → Way) (t : PlanTree) (p : PhysicalData) → length (laid f w t p).ships ≡ length p.ships
 laid_long f w (leaf n) p = refl
@@ -22,7 +22,7 @@ laid_long f w (over n t) p = length-set (laid f w t p).ships (root_of t) _ ∙ l
 laid_long f w (both n t u) p =
     length-set _ (root_of u) _ ∙ length-set (laid f w u (laid f w t p)).ships (root_of t) _ ∙ laid_long f w u (laid f w t p) ∙ laid_long f w t p
 
--- a number that isn't in the tree is another than its root
+-- a number that isn't in the tree isn't its root
 not_root : (k : ℕ) (t : PlanTree) → (has k t ≡ true → ⊥) → k ≢ root_of t
 not_root k t out e = out (subst (λ (x : ℕ). has x t ≡ true) (sym e) (has-root t))
 

@@ -1,4 +1,4 @@
--- A layout has on each edge the ship that its own placements call for.
+-- Each edge of a layout has the ship that the layout's own placements call for.
 use Rattle.std.proofs.Common.{◌≡◌, ℕ, length, refl, ap, sym, ◌∙◌}
 use Rattle.plan_trees.specs.Physicals.{PhysicalData}
 use Rattle.plan_trees.specs.Plans.{PlanTree, leaf, over, both, IsPlan, node_limit}
@@ -29,7 +29,7 @@ laid_out f w (both n t u) p q h long a =
 pub layout_out : (f : Facts) (w : ℕ → Way) (t : PlanTree) (q : PhysicalData) → IsPlan t → length q.ships ≡ node_limit → IsLaidOut f w (laid f w t q) t
 layout_out f w t q h long = laid_out f w t (laid f w t q) q h long (agree_self (laid f w t q) t)
 
--- where each edge has the ship that the ways choose, the placements are those that were planned
+-- if each edge has the ship that the ways choose, the placements are the planned ones
 pub placement-planned : (f : Facts) (w : ℕ → Way) (p : PhysicalData) (t : PlanTree) → IsLaidOut f w p t → placement f p t ≡ planned f w t
 placement-planned f w p (leaf n) h = refl
 placement-planned f w p (over n t) h =

@@ -1,4 +1,4 @@
--- What laying ships keeps of a physical plan, and how the layout of a tree is made from those of its inputs.
+-- What adding ships preserves of a physical plan, and how the layout of a tree is made from those of its inputs.
 use Rattle.std.proofs.Common.{◌≡◌, ℕ, refl, ap, sym, ◌∙◌}
 use Rattle.plan_trees.specs.declared.physicals.Ship.{Ship}
 use Rattle.plan_trees.specs.Physicals.{PhysicalData, with_ship}

@@ -30,7 +30,7 @@ module _ (f : Facts) (q : PhysicalData) (some : 1 ≤ q.workers) (gave : Shares)
   abbrev W : ℕ
   W = q.workers
 
-  -- what all instances of a tree's root gave
+  -- what all instances of a tree's root emitted
   abbrev Given : PlanTree → Bag
   Given t = all_of W (gave (root_of t))
 
@@ -50,7 +50,7 @@ module _ (f : Facts) (q : PhysicalData) (some : 1 ≤ q.workers) (gave : Shares)
 
   module _ (t u : PlanTree) (h : LieAsPlaced f q gave t) (g : LieAsPlaced f q gave u) (left right : ℕ → Bag) (received_left : AreReceived q gave t left) (received_right : AreReceived q gave u right)
       (keys others : List ℕ) where
-    -- by key
+    -- both sides by key
     module _ (by_key : AreByKey keys others (edge_above f q t) (edge_above f q u)) where
       lie_left : (w : ℕ) → w < W → LieAt (target W) keys w (left w)
       lie_left w b = subst (λ (e : Placement). LieBy W e w (left w)) by_key.0 (received_lie q gave t left received_left f h w b)
@@ -76,7 +76,7 @@ module _ (f : Facts) (q : PhysicalData) (some : 1 ≤ q.workers) (gave : Shares)
           to_permutation (chains (pairs_perm (where_equal as_pair keys others) once_left once_right)
           (is_same (equal_pairs-all as_pair (target W) keys others W left right lie_left lie_right)))
 
-    -- one side everywhere
+    -- one side goes everywhere
     pairs_meet : (test : List Value → List Value → Bool) → GoesEverywhere (is_broadcast (ship_of q t)) (is_broadcast (ship_of q u)) → LieTogether W test left right (Given t) (Given u)
     pairs_meet test legal =
         let pair = λ (l r : List Value). cond (test l r) ((l, r) ∷ []) [] in

@@ -1,4 +1,4 @@
--- The pairs of records over all workers, where one side goes everywhere, or both go by key.
+-- The pairs of records over all workers, if one side goes everywhere, or both go by key.
 use Rattle.std.proofs.Common.{◌≡◌, ◌<◌, ℕ, Bool, cond, List, [], ◌∷◌, ◌++◌, refl, sym, ap, ◌∙◌}
 use Rattle.std.specs.Prelude.{flat_map}
 use Rattle.std.proofs.lemmas.Bool.{false_from_ne_true}
@@ -18,11 +18,11 @@ flat_map-all f rows W = flat_map_flat_map f rows (workers_below W)
 
 -- ---- one side goes everywhere
 
--- what a function gives for each pair
+-- what a function emits for each pair
 abbrev pub over_pairs : {B : Type 0} → (List Value → List Value → List B) → Bag → Bag → List B
 over_pairs f ls rs = flat_map (λ l. flat_map (f l) rs) ls
 
--- and where the keys are equal alone
+-- what it emits for pairs with equal keys only
 abbrev pub where_equal : {B : Type 0} → (List Value → List Value → List B) → List ℕ → List ℕ → List Value → List Value → List B
 where_equal f keys others l r = cond (do_match keys others l r) (f l r) []
 

@@ -37,7 +37,7 @@ nothing_left : (x l p n : ℕ) → x * l + p ≡ n → n < l → p ≡ n
 nothing_left zero l p n e h = omega (arith, e)
 nothing_left (suc x) l p n e h = absurd (let more : suc x * l ≡ l + x * l = (omega arith) in omega (arith, e, h, more))
 
--- a number of a layout is the place of its choices
+-- a layout's number is the place of its choices
 pub place_back : (ops : List Op) (number : ℕ) → number < layout_count ops → place_of ops (choices ops number) ≡ number
 place_back ops number h = nothing_left (left_over ops number) (layout_count ops) (place_of ops (choices ops number)) number (whole ops number) h
 
@@ -77,6 +77,6 @@ kept (op ∷ ops) (c ∷ cs) x number h e =
       same = λ i. head i ∷ tail i;
     }
 
--- and each list of choices is that of the layout of its place
+-- and each list of choices is that of the layout numbered by its place
 pub choices_back : (ops : List Op) (cs : List ℕ) → AreChoices ops cs → choices ops (place_of ops cs) ≡ cs
 choices_back ops cs h = let z : 0 * layout_count ops + place_of ops cs ≡ place_of ops cs = omega arith in (kept ops cs 0 (place_of ops cs) h z).same

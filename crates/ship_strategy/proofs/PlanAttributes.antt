@@ -1,4 +1,4 @@
--- Attributes as sets are those of the program.
+-- The attributes as computed sets are those of the program.
 use Rattle.std.proofs.Common.{◌≡◌, ◌==◌, ◌||◌, ◌↔◌, ◌⊎◌, inl, inr, ℕ, zero, suc, Bool, true, false, IsTrue, List, [], ◌∷◌, sym}
 use Rattle.std.proofs.lemmas.Bool.{eq-eqb, eqb-true, lt-ltb, ltb-true, or_cases, or_left, or_right, true≢false}
 use Rattle.pact_bag.specs.SourceRows.{IsColumnField}
@@ -18,7 +18,7 @@ use Rattle.pact_operators.proofs.BelowFields.{attribute-below}
 use Rattle.pact_operators.proofs.PlanContexts.{set-below}
 use Rattle.ship_strategy.specs.PlanFacts.{attribute, facts_of, field_named, function_named, is_column, left_attribute, named, owned, owned_by, right_attribute}
 
--- ---- each test says what it is named for
+-- ---- each test decides what its name says
 
 either_true : (a b : Bool) (A B : Type 0) → ((a ≡ true) ↔ A) → ((b ≡ true) ↔ B) → ((a || b) ≡ true) ↔ (A ⊎ B)
 either_true a b A B h g = (
@@ -98,7 +98,7 @@ right_true p (leaf n) k = never_true
 right_true p (over n t) k = never_true
 right_true p (both n t u) k = attribute_true p u k
 
--- ---- of the facts of a plan
+-- ---- the facts of a plan
 
 pub facts_left : (p : ProgramData) (t : PlanTree) (n k : ℕ) → has n t ≡ true → Has (facts_of p t n).left k ↔ HasLeftAttribute p.functions p.ops (subtree_of n t) k
 facts_left p t n k there = rw there (left_true p (subtree_of n t) k)

@@ -1,4 +1,4 @@
--- What the analysis finds of an operator's function is what the facts of its plan say.
+-- The analysis of an operator's function finds what the facts of its plan say.
 use Rattle.std.proofs.Common.{◌≡◌, ℕ, Some, slice_get, refl, sym, ◌∙◌}
 use Rattle.pact_record.specs.FieldSets.{has_field}
 use Rattle.tac_syntax.specs.declared.contexts.Context.{Context}

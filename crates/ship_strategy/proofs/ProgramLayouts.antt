@@ -15,7 +15,7 @@ use Rattle.ship_strategy.proofs.LaidPlacements.{laid_itself}
 use Rattle.ship_strategy.proofs.LaidShips.{layout_out}
 use Rattle.ship_strategy.proofs.LaidSteps.{laid_tree}
 
--- a plan that has all sources and operators has at most so many
+-- if a plan has all sources and operators, there are at most `node_limit` of them
 pub few_ops : (t : PlanTree) (ops : List Op) → IsPlan t → ((n : ℕ) → n < length ops → has n t ≡ true) → length ops ≤ node_limit
 few_ops t ops h all = elim (cases_lt node_limit (length ops)) as (λ _. length ops ≤ node_limit) [
   | inl more ↦ absurd (let bad = below_limit node_limit t h (all node_limit more) in omega (arith, bad))

@@ -1,4 +1,5 @@
--- What the workers received of an input: where it lies, and that it is all that the input's instances gave, together or at each worker.
+-- What the workers received from an input: where it is, and that it is all that the input's instances emitted, together
+-- or at each worker.
 use Rattle.std.proofs.Common.{◌≡◌, ◌<◌, ◌≤◌, inl, inr, ℕ, true, false, Bool, Some, None, List, refl, sym, subst}
 use Rattle.std.specs.List.{AllByRecursion}
 use Rattle.std.proofs.lemmas.Bool.{cases_Bool}
@@ -15,15 +16,15 @@ use Rattle.ship_strategy.proofs.Arrivals.{LieBy, all_of-arriving, arriving-broad
 use Rattle.plan_trees.proofs.EachWorker.{each_of_all, perm_each}
 use Rattle.ship_strategy.proofs.GivenByAll.{HaveSide}
 
--- of the edge above a tree
+-- the placement of the edge above a tree
 abbrev pub edge_above : Facts → PhysicalData → PlanTree → Placement
 edge_above f q t = edge_placement (ship_of q t) (placement f q t)
 
--- what the instances of a tree's root gave lies where its placement says
+-- what the instances of a tree's root emitted is where its placement says
 abbrev pub LieAsPlaced : Facts → PhysicalData → Shares → PlanTree → Type 0
 LieAsPlaced f q gave t = (w : ℕ) → w < q.workers → LieBy q.workers (placement f q t) w (gave (root_of t) w)
 
--- what the workers received of it
+-- what the workers received from it
 abbrev pub AreReceived : PhysicalData → Shares → PlanTree → (ℕ → Bag) → Type 0
 AreReceived q gave t rows = (w : ℕ) → w < q.workers → IsReceived q gave t w (rows w)
 
@@ -50,7 +51,7 @@ module _ (q : PhysicalData) (gave : Shares) (t : PlanTree) (rows : ℕ → Bag) 
   received_each : is_broadcast (ship_of q t) ≡ true → (w : ℕ) → w < W → Perm (rows w) (all_of W Given)
   received_each e w b = chains (turned (arrived w b)) (is_same (arriving-broadcast W (ship_of q t) e Given w))
 
-  -- a bag of all that was given, which is what was received, together or by each
+  -- a bag of all that was emitted, which the workers received together or each
   pub record IsSide (bag : Bag) : Type 1 where
     pub same : Perm (all_of W Given) bag
     pub side : HaveSide W (is_broadcast (ship_of q t)) rows bag

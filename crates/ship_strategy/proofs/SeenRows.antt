@@ -1,4 +1,4 @@
--- What was found of an operator in a plan before is what is found of it now, where its inputs have the same attributes.
+-- The earlier findings about an operator in a plan hold now, if its inputs have the same attributes.
 use Rattle.std.proofs.Common.{◌≡◌, ◌==◌, inl, inr, ℕ, Bool, true, false, cond, List, [], ◌∷◌, Option, Some, None, refl, ap, sym, ◌∙◌}
 use Rattle.std.specs.Prelude.{slice_get}
 use Rattle.std.proofs.lemmas.Bool.{and_parts, cases_Bool, eqb-true}
@@ -48,7 +48,7 @@ seen-true p (t ∷ tables) at left right x h e = at_row (slice_get t.nodes at) (
     | inr b ↦ others (simp b at f)
   ]
 
--- ---- of a plan's table
+-- ---- the rows of a plan's table
 
 known_told : (p : ProgramData) (t : PlanTree) (n : ℕ) (f : NodeFacts) → f ≡ facts_of p t n → (f.kind ≡ Source → ⊥) → f ≡ facts_for p n f.left f.right
 known_told p t n f e operator = elim (cases_Bool (has n t)) [
@@ -65,6 +65,6 @@ known_told p t n f e operator = elim (cases_Bool (has n t)) [
 pub told : (p : ProgramData) (t : PlanTree) (table : Table) → facts_in table ≡ facts_of p t → IsTold p table
 told p t table e n x at operator = known_told p t n (known_of x) (sym (ap known_in at) ∙ (λ i. e i n)) operator
 
--- where nothing was seen
+-- a table in which nothing was seen
 pub blank_told : (p : ProgramData) (table : Table) → facts_in table ≡ (λ k. unknown) → IsTold p table
 blank_told p table e n x at operator = absurd (operator (ap (λ (g : NodeFacts). g.kind) (sym (ap known_in at) ∙ (λ i. e i n))))

@@ -1,4 +1,4 @@
--- What a plan's facts say that an operator writes, and on which sides it is anchored, is so of its calls.
+-- What a plan's facts say that an operator writes, and on which sides it is anchored, is true of its calls.
 use Rattle.std.proofs.Common.{◌≡◌, ◌∙◌, ◌↔◌, ℕ, Option, Some, None, List, slice_get, refl, ap, sym, subst, arith}
 use Rattle.std.proofs.lemmas.Bool.{false_from_ne_true}
 use Rattle.tac_syntax.specs.declared.contexts.Side.{Side}
@@ -86,7 +86,7 @@ module _ (p : ProgramData) (program : IsProgram p) (inputs : List Bag) (t : Plan
         subst (λ (s : FoundSets). HasForm (function_kind Root) p.fields (ports_in InScope) s.reads s.writes side (Out p.fields (body_at p N))) (sym is)
         (form_of InScope (body_at p N) well_formed small side (subst (IsAnchoredOn (function_kind Root) side) is on))
 
-  -- in the fields of the inputs, as attributes
+  -- for inputs whose fields are the attributes
   pub known_form : (in_left in_right : ℕ → Type 0) → ((k : ℕ) → Has (left_attribute p t) k ↔ in_left k) → ((k : ℕ) → Has (right_attribute p t) k ↔ in_right k)
       → HasKnownForm p.fields (plan_ops p inputs) N (ports_at (plan_ops p inputs) N in_left in_right) Root (facts_at p t)
   known_form in_left in_right l r side anchor =

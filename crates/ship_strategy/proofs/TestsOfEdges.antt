@@ -1,4 +1,4 @@
--- The test of legal edges decides them.
+-- The test of legal edges decides whether they are legal.
 use Rattle.std.proofs.Common.{◌≡◌, inl, inr, ℕ, true, false, Bool, List, refl, ap, sym, ◌∙◌, ◌||◌, ◌&&◌}
 use Rattle.std.specs.Prelude.{◌⊎◌}
 use Rattle.std.proofs.lemmas.Bool.{or_cases, or_left, or_right, and_parts, and_from, true≢false, not_from_false, not-true}

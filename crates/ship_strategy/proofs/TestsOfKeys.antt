@@ -1,4 +1,4 @@
--- What the tests on lists of keys say.
+-- What the tests on lists of keys decide.
 use Rattle.std.proofs.Common.{◌≡◌, ◌≢◌, ◌==◌, length, inl, inr, ℕ, true, false, Bool, List, [], ◌∷◌, refl, ap, sym, ◌∙◌}
 use Rattle.std.specs.Prelude.{Some, None}
 use Rattle.std.specs.List.{AllByRecursion, list_all}

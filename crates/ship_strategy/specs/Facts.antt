@@ -14,6 +14,6 @@ pub record NodeFacts : Type 0 where
   pub anchor_left : Bool
   pub anchor_right : Bool
 
--- by number
+-- the facts of each operator, by its number
 abbrev pub Facts : Type 0
 Facts = ℕ → NodeFacts

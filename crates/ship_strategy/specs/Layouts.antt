@@ -26,31 +26,31 @@ abbrev pub layout_count : List Op → ℕ
 layout_count [] = 1
 layout_count (op ∷ ops) = choices_of op.kind * layout_count ops
 
--- The lists of choices are numbered in their order, the last choice varying fastest. What is left of a number for the choices before these, and
--- the choice at a place.
+-- The lists of choices are numbered in order, with the last choice varying fastest. `left_over` is what is left of a
+-- number for the choices before these, and `choice_at` is the choice at a place.
 abbrev pub left_over : List Op → ℕ → ℕ
 left_over [] number = number
 left_over (op ∷ ops) number = left_over ops number / choices_of op.kind
 
--- the remainder there
+-- the remainder of the division at the place
 abbrev pub choice_at : List Op → ℕ → ℕ → ℕ
 choice_at [] number n = 0
 choice_at (op ∷ ops) number zero = left_over ops number % choices_of op.kind
 choice_at (op ∷ ops) number (suc n) = choice_at ops number n
 
--- what an operator's choice stands for
+-- the way that an operator's choice selects
 abbrev pub way_of : OpKind → ℕ → Way
 way_of Match choice = if choice == 0 then ByKey else (if choice == 1 then LeftEverywhere else RightEverywhere)
 way_of Cross choice = if choice == 0 then LeftEverywhere else RightEverywhere
 way_of kind choice = ByKey
 
--- of each operator, by its number
+-- the way of each operator, by its number
 abbrev pub ways_of : List Op → ℕ → ℕ → Way
 ways_of ops number n = way_of (kind_at ops n) (choice_at ops number n)
 
 -- ---- ships
 
--- by key, a side stays where its placement is exactly its keys
+-- by key, a side stays if its placement is exactly its keys
 abbrev pub ship_by_key : List ℕ → Placement → Ship
 ship_by_key keys below = if is_exactly keys below then Forward else Partition keys
 
@@ -66,14 +66,14 @@ right_ship ByKey keys below = ship_by_key keys below
 right_ship LeftEverywhere keys below = Forward
 right_ship RightEverywhere keys below = Broadcast
 
--- a Reduce's input stays where that is legal
+-- a Reduce's input stays if that is legal
 abbrev pub only_ship : OpKind → List ℕ → Placement → Ship
 only_ship Reduce keys below = if is_within keys below then Forward else Partition keys
 only_ship kind keys below = Forward
 
 -- ---- layouts
 
--- the placement of the records that a tree's root gives, where each operator has its way
+-- the placement of the records that a tree's root emits, if each operator has its way
 abbrev pub planned : Facts → (ℕ → Way) → PlanTree → Placement
 planned f w (leaf n) = None
 planned f w (over n t) = placed_over (f n) (only_ship (f n).kind (f n).left_keys (planned f w t)) (planned f w t)
@@ -88,7 +88,7 @@ laid f w (both n t u) p =
     with_ship (with_ship (laid f w u (laid f w t p)) (root_of t) (left_ship (w n) (f n).left_keys (planned f w t)))
     (root_of u) (right_ship (w n) (f n).right_keys (planned f w u))
 
--- the layout of a number
+-- the layout with a number
 abbrev pub layout_of : Facts → List Op → PlanTree → ℕ → ℕ → PhysicalData
 layout_of f ops tree number workers = laid f (ways_of ops number) tree (forwarded tree workers)
 
@@ -106,13 +106,14 @@ abbrev pub choices : List Op → ℕ → List ℕ
 choices [] number = []
 choices (op ∷ ops) number = left_over ops number % choices_of op.kind ∷ choices ops number
 
--- one for each, of so many as its kind has
+-- one choice for each, below the number that its kind has
 abbrev pub AreChoices : List Op → List ℕ → Type 0
 AreChoices [] [] = Unit {0}
 AreChoices (op ∷ ops) (c ∷ cs) = (c < choices_of op.kind) × AreChoices ops cs
 AreChoices ops cs = ⊥
 
--- How many lists of choices come before a list: all that begin with a smaller choice, and those that begin alike and whose rest comes before.
+-- The number of lists of choices that come before a list: those with a smaller first choice, and those with the same
+-- first choice whose rest comes before its rest.
 abbrev pub place_of : List Op → List ℕ → ℕ
 place_of (op ∷ ops) (c ∷ cs) = c * layout_count ops + place_of ops cs
 place_of ops cs = 0

@@ -20,7 +20,7 @@ use Rattle.ship_strategy.specs.Views.{unknown, put}
 
 -- ---- attributes, as sets
 
--- the fields that a body sets: each below the number of fields where a statement takes one from a register
+-- the fields that a body sets; a statement that takes one from a register sets each below the number of fields
 abbrev pub field_named : ℕ → Simple → FieldSet
 field_named fields (set_field to field value) k = k == field
 field_named fields (set_at to at value) k = nat_lt k fields
@@ -33,7 +33,7 @@ named fields (branch on body other next) k = named fields body k || (named field
 named fields (again count body next) k = named fields body k || named fields next k
 named fields (each name list body next) k = named fields body k || named fields next k
 
--- those of a function, by its number
+-- the fields that a function sets, by its number
 abbrev pub function_named : List WithFields → ℕ → FieldSet
 function_named [] n k = false
 function_named (v ∷ valids) zero k = named v.fields v.function.body k
@@ -56,7 +56,7 @@ attribute p (leaf n) k = owned p.functions p.ops n k
 attribute p (over n t) k = owned p.functions p.ops n k || attribute p t k
 attribute p (both n t u) k = owned p.functions p.ops n k || (attribute p t k || attribute p u k)
 
--- of the inputs of a tree's root: its left or only one, and its right one
+-- the attributes of the inputs of a tree's root: its left or only one, and its right one
 abbrev pub left_attribute : ProgramData → PlanTree → FieldSet
 left_attribute p (leaf n) = no_fields
 left_attribute p (over n t) = attribute p t
@@ -68,7 +68,7 @@ right_attribute p tree = no_fields
 
 -- ---- facts
 
--- the scope of an operator's function, where its inputs have values in these fields alone
+-- the scope of an operator's function whose inputs have values only in these fields
 abbrev pub scope_at : ProgramData → ℕ → (left right : FieldSet) → Scope
 scope_at p n left right = record {
   kind = function_kind (kind_at p.ops n);
@@ -102,15 +102,15 @@ facts_for p n left right = record {
   anchor_right = (sets_at p n left right).anchor_right;
 }
 
--- of a tree's root, with the attributes of its inputs
+-- the facts of a tree's root, with the attributes of its inputs
 abbrev pub facts_at : ProgramData → PlanTree → NodeFacts
 facts_at p t = facts_for p (root_of t) (left_attribute p t) (right_attribute p t)
 
--- of each source and operator of a plan, by its number
+-- the facts of each source and operator of a plan, by its number
 abbrev pub facts_of : ProgramData → PlanTree → Facts
 facts_of p t n = if has n t then facts_at p (subtree_of n t) else unknown
 
--- what a walk over the plan puts into a table
+-- a table after a walk over the plan
 abbrev pub filled : ProgramData → PlanTree → Facts → Facts
 filled p (leaf n) old = put n (facts_at p (leaf n)) old
 filled p (over n t) old = put n (facts_at p (over n t)) (filled p t old)

@@ -1,4 +1,4 @@
--- What was found of operators in the plans before.
+-- Findings about operators in earlier plans.
 use Rattle.std.specs.Prelude.{◌≡◌, ◌==◌, ◌&&◌, ℕ, Bool, List, [], ◌∷◌, Option, Some, None, cond, slice_get}
 use Rattle.std.specs.List.{AllByRecursion}
 use Rattle.pact_record.specs.FieldSets.{has_field}
@@ -9,11 +9,11 @@ use Rattle.ship_strategy.specs.declared.tables.Table.{Table}
 use Rattle.ship_strategy.specs.PlanFacts.{facts_for}
 use Rattle.ship_strategy.specs.Views.{known_of}
 
--- Whether a row tells of an operator whose inputs have these attributes. A row of which nothing is known is one of a source.
+-- Whether a row is about an operator whose inputs have these attributes. A row without facts has a source's kind.
 abbrev pub is_row_with : (left right : ℕ) → OpFacts → Bool
 is_row_with left right x = is_operator_kind x.kind && (x.left == left && x.right == right)
 
--- a row, where it is one
+-- the row, if it is such a row
 abbrev pub row_with : (left right : ℕ) → Option OpFacts → Option OpFacts
 row_with left right None = None
 row_with left right (Some x) = cond (is_row_with left right x) (Some x) None
@@ -22,12 +22,12 @@ abbrev pub or_else : Option OpFacts → Option OpFacts → Option OpFacts
 or_else None other = other
 or_else (Some x) other = Some x
 
--- the first table's row of that number, of those that are one
+-- the row for that number in the first table in which it is such a row
 abbrev pub first_seen : List Table → (at left right : ℕ) → Option OpFacts
 first_seen [] at left right = None
 first_seen (t ∷ tables) at left right = or_else (row_with left right (slice_get t.nodes at)) (first_seen tables at left right)
 
--- A table tells of each operator what is found of it, where its inputs have the attributes of its row.
+-- For each operator, a table has the findings that hold if its inputs have the attributes of its row.
 abbrev pub IsTold : ProgramData → Table → Type 0
 IsTold p t = (n : ℕ) (x : OpFacts) → slice_get t.nodes n ≡ Some x → (x.kind ≡ Source → ⊥) → known_of x ≡ facts_for p n (has_field x.left) (has_field x.right)
 

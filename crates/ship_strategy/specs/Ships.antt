@@ -1,4 +1,4 @@
--- Where records lie, and which ships are legal.
+-- Where records are, and which ships are legal.
 use Rattle.std.specs.Prelude.{◌≡◌, ◌⊎◌, ◌||◌, ◌&&◌, ◌==◌, not, ℕ, Bool, true, false, cond, Option, Some, None, List}
 use Rattle.std.specs.Cmp.Lexicographic.{pointwise}
 use Rattle.std.specs.List.{AllByRecursion, list_any, list_all}
@@ -15,21 +15,21 @@ use Rattle.ship_strategy.specs.Facts.{NodeFacts, Facts}
 
 -- ---- placements
 
--- Each record lies at the worker that its values at these fields tell; of no placement nothing is known.
+-- Each record is at the worker that its values at these fields determine. None means that nothing is known.
 abbrev pub Placement : Type 0
 Placement = Option (List ℕ)
 
--- a placement by fields of which none is in the set
+-- a placement, if none of its fields is in the set
 abbrev pub passed : FieldSet → Placement → Placement
 passed bad None = None
 passed bad (Some keys) = cond (list_any bad keys) None (Some keys)
 
--- the left one where there is one
+-- the left one if there is one, the right one otherwise
 abbrev pub first_of_both : Placement → Placement → Placement
 first_of_both None other = other
 first_of_both (Some keys) other = Some keys
 
--- of an edge, from that of the operator that it leaves
+-- the placement of an edge, from that of the operator that it leaves
 abbrev pub edge_placement : Ship → Placement → Placement
 edge_placement Forward below = below
 edge_placement (Partition keys) below = Some keys
@@ -40,33 +40,34 @@ abbrev pub is_broadcast : Ship → Bool
 is_broadcast Broadcast = true
 is_broadcast ship = false
 
--- what an operator of one input makes of its edge's placement
+-- the placement of an operator of one input, from its edge's
 abbrev pub placement_over : OpKind → FieldSet → Placement → Placement
 placement_over Map writes edge = passed writes edge
 placement_over Reduce writes edge = passed writes edge
 placement_over kind writes edge = None
 
--- Of one that pairs each record of a side that goes everywhere with those of the other: where the other side's records lay.
+-- The placement of an operator that pairs each record of a side that goes everywhere with the records of the other
+-- side: where the other side's records were.
 abbrev pub placement_paired : (writes left right : FieldSet) → (left_all right_all : Bool) → (left_edge right_edge by_key : Placement) → Placement
 placement_paired writes left right true right_all left_edge right_edge by_key = passed (either writes left) right_edge
 placement_paired writes left right false true left_edge right_edge by_key = passed (either writes right) left_edge
 placement_paired writes left right false false left_edge right_edge by_key = by_key
 
--- of one by key on both sides
+-- the placement of an operator with both sides by key
 abbrev pub placement_of_keys : (writes left right : FieldSet) → (left_keys right_keys : List ℕ) → Placement
 placement_of_keys writes left right left_keys right_keys = first_of_both (passed (either writes right) (Some left_keys)) (passed (either writes left) (Some right_keys))
 
--- the placement where the test says so
+-- the placement by these keys if the test is true, none otherwise
 abbrev pub where_so : Bool → List ℕ → Placement
 where_so true keys = Some keys
 where_so false keys = None
 
--- of a CoGroup
+-- the placement of a CoGroup
 abbrev pub placement_anchored : FieldSet → Bool → Bool → (left_keys right_keys : List ℕ) → Placement
 placement_anchored writes anchor_left anchor_right left_keys right_keys =
     first_of_both (passed writes (where_so anchor_left left_keys)) (passed writes (where_so anchor_right right_keys))
 
--- what an operator of two inputs makes of those of its edges
+-- the placement of an operator of two inputs, from those of its edges
 abbrev pub placement_both : OpKind → NodeFacts → (left_all right_all : Bool) → (left_edge right_edge : Placement) → Placement
 placement_both Match x left_all right_all left_edge right_edge =
     placement_paired x.writes x.left x.right left_all right_all left_edge right_edge (placement_of_keys x.writes x.left x.right x.left_keys x.right_keys)
@@ -74,16 +75,16 @@ placement_both Cross x left_all right_all left_edge right_edge = placement_paire
 placement_both CoGroup x left_all right_all left_edge right_edge = placement_anchored x.writes x.anchor_left x.anchor_right x.left_keys x.right_keys
 placement_both kind x left_all right_all left_edge right_edge = None
 
--- of what an operator gives, from the ships of its edges and the placements below
+-- the placement of what an operator emits, from the ships of its edges and the placements below
 abbrev pub placed_over : NodeFacts → Ship → Placement → Placement
 placed_over x ship below = placement_over x.kind x.writes (edge_placement ship below)
 
--- the same of an operator of two inputs
+-- the placement of what an operator of two inputs emits
 abbrev pub placed_both : NodeFacts → (left_ship right_ship : Ship) → (left right : Placement) → Placement
 placed_both x left_ship right_ship left right =
     placement_both x.kind x (is_broadcast left_ship) (is_broadcast right_ship) (edge_placement left_ship left) (edge_placement right_ship right)
 
--- the placement of the records that a tree's root gives
+-- the placement of the records that a tree's root emits
 abbrev pub placement : Facts → PhysicalData → PlanTree → Placement
 placement f p (leaf n) = None
 placement f p (over n t) = placed_over (f n) (ship_of p t) (placement f p t)
@@ -91,7 +92,8 @@ placement f p (both n t u) = placed_both (f n) (ship_of p t) (ship_of p u) (plac
 
 -- ---- legal edges
 
--- The edge of an operator of one input. A Reduce finds the records of a group at one worker where they lie by some of its keys.
+-- Whether the edge of an operator of one input is legal. A Reduce has the records of a group at one worker if they are
+-- placed by some of its keys.
 abbrev pub IsLegalOver : OpKind → List ℕ → Bool → Placement → Type 0
 IsLegalOver Map keys all edge = all ≡ false
 IsLegalOver Reduce keys all edge = (fields : List ℕ) × (edge ≡ Some fields) × AllByRecursion (λ k. is_listed keys k ≡ true) fields
@@ -101,22 +103,22 @@ IsLegalOver kind keys all edge = ⊥
 abbrev pub GoesEverywhere : Bool → Bool → Type 0
 GoesEverywhere left_all right_all = ((left_all ≡ true) × (right_all ≡ false)) ⊎ ((left_all ≡ false) × (right_all ≡ true))
 
--- each side lies by exactly its own keys
+-- each side is placed by exactly its own keys
 abbrev pub AreByKey : (left_keys right_keys : List ℕ) → (left_edge right_edge : Placement) → Type 0
 AreByKey left_keys right_keys left_edge right_edge = (left_edge ≡ Some left_keys) × (right_edge ≡ Some right_keys)
 
--- the edges of an operator of two
+-- whether the edges of an operator of two inputs are legal
 abbrev pub IsLegalBoth : OpKind → (left_keys right_keys : List ℕ) → (left_all right_all : Bool) → (left_edge right_edge : Placement) → Type 0
 IsLegalBoth Match left_keys right_keys left_all right_all left_edge right_edge = AreByKey left_keys right_keys left_edge right_edge ⊎ GoesEverywhere left_all right_all
 IsLegalBoth Cross left_keys right_keys left_all right_all left_edge right_edge = GoesEverywhere left_all right_all
 IsLegalBoth CoGroup left_keys right_keys left_all right_all left_edge right_edge = AreByKey left_keys right_keys left_edge right_edge
 IsLegalBoth kind left_keys right_keys left_all right_all left_edge right_edge = ⊥
 
--- from the ships of the edges and the placements below
+-- whether the edge is legal, from its ship and the placement below
 abbrev pub AllowsOver : NodeFacts → Ship → Placement → Type 0
 AllowsOver x ship below = IsLegalOver x.kind x.left_keys (is_broadcast ship) (edge_placement ship below)
 
--- the same of an operator of two inputs
+-- whether the edges of an operator of two inputs are legal, from their ships and the placements below
 abbrev pub AllowsBoth : NodeFacts → (left_ship right_ship : Ship) → (left right : Placement) → Type 0
 AllowsBoth x left_ship right_ship left right =
     IsLegalBoth x.kind x.left_keys x.right_keys (is_broadcast left_ship) (is_broadcast right_ship) (edge_placement left_ship left) (edge_placement right_ship right)
@@ -127,18 +129,18 @@ IsLegal f p (leaf n) = Unit {0}
 IsLegal f p (over n t) = AllowsOver (f n) (ship_of p t) (placement f p t) × IsLegal f p t
 IsLegal f p (both n t u) = AllowsBoth (f n) (ship_of p t) (ship_of p u) (placement f p t) (placement f p u) × IsLegal f p t × IsLegal f p u
 
--- of the whole physical plan
+-- every edge of the whole physical plan is legal
 abbrev pub LegalShip : Facts → PhysicalData → Type 0
 LegalShip f p = IsLegal f p p.tree
 
--- ---- the same as tests
+-- ---- the definitions above as tests
 
 -- the edge has a placement, all of whose fields are among the keys
 abbrev pub is_within : List ℕ → Placement → Bool
 is_within keys None = false
 is_within keys (Some fields) = list_all (is_listed keys) fields
 
--- two lists of keys are the same
+-- two lists of keys are equal
 abbrev pub same_keys : List ℕ → List ℕ → Bool
 same_keys = pointwise ◌==◌
 

@@ -1,4 +1,4 @@
--- What is kept in tables, by number.
+-- The contents of tables, by number.
 use Rattle.std.specs.Prelude.{◌==◌, ◌%◌, ℕ, suc, false, Option, Some, None, slice_get, get_or, List, [], ◌∷◌, if◌then◌else◌}
 use Rattle.pact_record.specs.FieldSets.{has_field}
 use Rattle.tac_syntax.specs.declared.contexts.Context.{Context}
@@ -28,7 +28,7 @@ known_of x = record {
   anchor_right = x.anchor_right;
 }
 
--- the facts of an operator of a kind in a context in which these sets are found
+-- the facts of an operator of a kind in a context, with these findings
 abbrev pub known_by : OpKind → Context → FoundSets → NodeFacts
 known_by kind c s = record {
   kind = kind;
@@ -41,7 +41,7 @@ known_by kind c s = record {
   anchor_right = s.anchor_right;
 }
 
--- what is known where there is no operator
+-- what is known if there is no operator
 abbrev pub unknown : NodeFacts
 unknown = record {
   kind = Source;
@@ -54,7 +54,7 @@ unknown = record {
   anchor_right = false;
 }
 
--- where an operator is, and where none is
+-- the facts of an operator, or those without one
 abbrev pub known_in : Option OpFacts → NodeFacts
 known_in None = unknown
 known_in (Some x) = known_of x
@@ -63,14 +63,14 @@ known_in (Some x) = known_of x
 abbrev pub facts_in : Table → Facts
 facts_in t n = known_in (slice_get t.nodes n)
 
--- with what is known of one number
+-- the facts with those of one number replaced
 abbrev pub put : ℕ → NodeFacts → Facts → Facts
 put at x old k = if k == at then x else old k
 
 abbrev pub ways_in : Ways → ℕ → Way
 ways_in w n = get_or w.held n ByKey
 
--- ways with those of the operators from a place on, as a number chooses them
+-- the ways, with those of the operators from a place on chosen by a number
 abbrev pub chosen_from : ℕ → List Op → ℕ → (ℕ → Way) → ℕ → Way
 chosen_from at [] number w k = w k
 chosen_from at (op ∷ ops) number w k = if k == at then way_of op.kind (left_over ops number % choices_of op.kind) else chosen_from (suc at) ops number w k

@@ -28,12 +28,12 @@ pub fn layouts(program: &Program, plan: &Plan) -> u32
     ensures some { 1 ≤ result }
     ensures each { (cs : List ℕ) → AreChoices program.now.ops cs → (place_of program.now.ops cs < result) × (choices program.now.ops (place_of program.now.ops cs) ≡ cs) }
 {
-    // a plan of a program has the program's operators, so their choices are its own
+    // `plan` isn't used: a plan of a program has the program's operators, so it has their choices
     let _ = plan;
     count(program.ops())
 }
 
-/// The layout of a number, where the table tells what is known of the plan's operators.
+/// The layout with a number; the table has what is known of the plan's operators.
 pub fn layout_in(table: &Table, ops: &[Op], plan: &Plan, number: u32, workers: u32) -> Physical
     requires workers { (1 ≤ workers) × (workers ≤ worker_limit) }
     requires few { length ops.now ≤ node_limit }
@@ -45,7 +45,7 @@ pub fn layout_in(table: &Table, ops: &[Op], plan: &Plan, number: u32, workers: u
     physical
 }
 
-/// The layout that `layout` returns, where the table says what is known of the plan's operators. It analyses no function.
+/// The layout that `layout` returns; the table has what is known of the plan's operators. It analyses no function.
 pub fn layout_known(
     program: &Program,
     plan: &Plan,
@@ -67,13 +67,14 @@ pub fn layout_known(
     ensures runs { (inputs : List Bag) → (rows : Bag) × (counts : List ℕ) × IsDivided (plan_ops program.now inputs) result rows counts }
     ensures place { AreChoices program.now.ops (choices program.now.ops number) × (place_of program.now.ops (choices program.now.ops number) ≡ number) }
 {
-    // the root of a plan tells that it is one
+    // `root` makes it known that the tree is a plan
     let _root = plan.root();
     layout_in(table, program.ops(), plan, number, workers)
 }
 
-/// The layout of a number for so many workers. Layouts are numbered from 0 in the order of their lists of choices, in which that of the last operator
-/// varies fastest: a Match goes by key, with its left side everywhere, or with its right one; a Cross with its left side or with its right one.
+/// The layout with a number, for this number of workers. Layouts are numbered from 0 in the order of their lists of
+/// choices; the last operator's choice varies fastest. The choices of a Match are, in order: by key, its left side
+/// everywhere, its right side everywhere. Those of a Cross are its left side everywhere, its right side everywhere.
 pub fn layout(program: &Program, plan: &Plan, number: u32, workers: u32) -> Physical
     requires of { IsPlanOf program.now.functions program.now.ops plan.now }
     requires number { number < layout_count program.now.ops }

@@ -18,7 +18,7 @@ fn ship_by_key(keys: &Keys, below: &Option<Keys>) -> Ship
     }
 }
 
-/// Of the left edge of an operator of two inputs, by its way, its left keys and the placement below.
+/// The ship of the left edge of an operator of two inputs, by its way, its left keys and the placement below.
 pub fn left_ship(way: Way, keys: &Keys, below: &Option<Keys>) -> Ship
     ensures { result ≡ layouts.left_ship way keys.now below.now }
 {
@@ -29,7 +29,7 @@ pub fn left_ship(way: Way, keys: &Keys, below: &Option<Keys>) -> Ship
     }
 }
 
-/// Of the right edge, by its right keys.
+/// The ship of the right edge, by its right keys.
 pub fn right_ship(way: Way, keys: &Keys, below: &Option<Keys>) -> Ship
     ensures { result ≡ layouts.right_ship way keys.now below.now }
 {
@@ -40,7 +40,7 @@ pub fn right_ship(way: Way, keys: &Keys, below: &Option<Keys>) -> Ship
     }
 }
 
-/// Of the edge of an operator of one input.
+/// The ship of the edge of an operator of one input.
 pub fn only_ship(kind: OpKind, keys: &Keys, below: &Option<Keys>) -> Ship
     ensures { result ≡ layouts.only_ship kind keys.now below.now }
 {

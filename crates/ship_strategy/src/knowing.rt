@@ -27,7 +27,7 @@ fn own_fields(program: &Program, at: u32) -> Fields
     ensures own { has_field result ≡ owned program.now.functions program.now.ops at }
     ensures below { IsBelow program.now.fields (has_field result) }
 {
-    // a program tells that its attributes are below its number of fields
+    // `fields` makes it known that the program's attributes are below its number of fields
     let _fields = program.fields();
     attrs(program, &Plan::leaf(at), at)
 }
@@ -46,7 +46,7 @@ pub fn nothing_found() -> Sets
     }
 }
 
-// What is found of an operator's function in a context.
+// The findings about an operator's function in a context.
 fn sets_for(program: &Program, at: u32, context: &Context) -> Sets
     requires operator { kind_at program.now.ops at ≡ Source → ⊥ }
     requires fields { IsContextOf program.now.fields context.now }
@@ -54,12 +54,12 @@ fn sets_for(program: &Program, at: u32, context: &Context) -> Sets
     requires right_keys { context.now.right_keys ≡ right_keys_in (slice_get program.now.ops at) }
     ensures { found_of result ≡ sets_at program.now at (has_field context.now.left) (has_field context.now.right) }
 {
-    // a program tells that its functions are valid
+    // `fields` makes it known that the program's functions are valid
     let _fields = program.fields();
     tac_flow::sets(program.function_at(at), context)
 }
 
-// The same of a source or an operator, whose kind this is.
+// The findings about a source or an operator of this kind.
 fn sets_unless_source(program: &Program, at: u32, kind: OpKind, context: &Context) -> Sets
     requires kind { kind ≡ kind_at program.now.ops at }
     requires fields { (kind_at program.now.ops at ≡ Source → ⊥) → IsContextOf program.now.fields context.now }
@@ -84,7 +84,7 @@ fn kind_and_keys(program: &Program, at: u32) -> (OpKind, Keys, Keys)
     }
 }
 
-// Of the source or operator of this number, where its inputs have these attributes.
+// The facts of the source or operator with this number, if its inputs have these attributes.
 fn facts_for(program: &Program, at: u32, left: Fields, right: Fields) -> OpFacts
     requires left { IsBelow program.now.fields (has_field left) }
     requires right { IsBelow program.now.fields (has_field right) }
@@ -97,13 +97,13 @@ fn facts_for(program: &Program, at: u32, left: Fields, right: Fields) -> OpFacts
         left_keys,
         right_keys,
     };
-    // a program tells that its keys are below its number of fields
+    // `fields` makes it known that the program's keys are below its number of fields
     let _fields = program.fields();
     let found = sets_unless_source(program, at, kind, &context);
     OpFacts::of(kind, &context, &found)
 }
 
-// The same, by what was found before where it was found in this context.
+// What `facts_for` returns, from earlier findings if there are any in this context.
 fn facts_after(program: &Program, at: u32, left: Fields, right: Fields, seen: &Seen) -> OpFacts
     requires left { IsBelow program.now.fields (has_field left) }
     requires right { IsBelow program.now.fields (has_field right) }
@@ -116,7 +116,8 @@ fn facts_after(program: &Program, at: u32, left: Fields, right: Fields, seen: &S
     }
 }
 
-// Puts into the table what is known of a tree's root, by the attributes of its inputs, and tells the tree's attributes.
+// Enters into the table what is known of a tree's root, by the attributes of its inputs, and returns the tree's
+// attributes.
 fn fill_root(
     program: &Program,
     at: u32,
@@ -137,7 +138,7 @@ fn fill_root(
     own_fields(program, at).union(left.union(right))
 }
 
-// The same for the whole tree.
+// Enters what is known of each source and operator of the tree, and returns its attributes.
 fn fill(program: &Program, tree: &Plan, seen: &Seen, table: &mut Table) -> Fields
     requires seen { AreTold program.now seen.now.tables }
     ensures attributes { has_field result ≡ attribute program.now tree.now }
@@ -160,8 +161,8 @@ fn fill(program: &Program, tree: &Plan, seen: &Seen, table: &mut Table) -> Field
     }
 }
 
-/// What is known of each source and operator of the plan, which is seen from now on. A function is analysed only where no plan that is still remembered
-/// had its operator in the same context.
+/// What is known of each source and operator of the plan; `seen` remembers it. A function is analysed only if no plan
+/// that is still remembered had its operator in the same context.
 pub fn known_after(program: &Program, plan: &Plan, seen: &mut Seen) -> Table
     requires seen { AreTold program.now seen.old.tables }
     ensures value { facts_in result ≡ facts_of program.now plan.now }

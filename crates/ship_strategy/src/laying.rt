@@ -16,7 +16,7 @@ use pact_operators::{Parts, Physical, Plan, Ship};
 use pact_record::Keys;
 use plan_trees::parts_within;
 
-// A ship that is lent again may not be passed by value.
+// A ship that is borrowed again may not be passed by value.
 fn put(physical: &mut Physical, input: &Plan, ship: &Ship)
     requires has { has (root_of input.now) physical.old.tree ≡ true }
     requires edge { root_of input.now ≢ root_of physical.old.tree }
@@ -26,7 +26,7 @@ fn put(physical: &mut Physical, input: &Plan, ship: &Ship)
     physical.set_ship(input.root(), *ship);
 }
 
-/// Puts the ships of the tree's edges into the physical plan, and tells where the records of its root lie.
+/// Sets the ships of the tree's edges in the physical plan, and returns the placement of its root's records.
 pub(crate) fn lay(table: &Table, ways: &Ways, tree: &Plan, physical: &mut Physical) -> Option<Keys>
     requires { EdgesLieIn tree.now physical.old.tree }
     ensures placed { result ≡ planned (facts_in table.now) (ways_in ways.now) tree.now }

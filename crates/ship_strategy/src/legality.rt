@@ -22,7 +22,7 @@ use pact_operators::{OpKind, Parts, Physical, Plan, Program, Ship};
 use pact_record::Keys;
 use plan_trees::{parts_within, ship_below};
 
-// Where the records of a tree's root lie, and whether every edge of the tree is legal.
+// Where the records of a tree's root are, and whether every edge of the tree is legal.
 #[derive(Clone, Copy)]
 struct Looked {
     placement: Option<Keys>,
@@ -161,7 +161,8 @@ fn has_legal_edges(program: &Program, physical: &Physical) -> bool
     look(&table, physical, physical.plan()).legal
 }
 
-/// Whether every edge of the physical plan is legal: each operator finds at one worker all records that it needs together.
+/// Whether every edge of the physical plan is legal: each operator has at one worker all records that it needs
+/// together.
 pub fn legal_ship(program: &Program, physical: &Physical) -> bool
     ensures legal { IsTrue result ↔ LegalShip (facts_of program.now physical.now.tree) physical.now }
     ensures meets { IsTrue result → IsPlanOf program.now.functions program.now.ops physical.now.tree → (inputs : List Bag) → AreInputsOf program.now inputs → (gave : Shares)
@@ -171,7 +172,7 @@ pub fn legal_ship(program: &Program, physical: &Physical) -> bool
     ensures runs { IsPlanOf program.now.functions program.now.ops physical.now.tree → (inputs : List Bag)
         → (rows : Bag) × (counts : List ℕ) × IsDivided (plan_ops program.now inputs) physical.now rows counts }
 {
-    // a program tells that it is one, and a physical plan too
+    // `fields` makes it known that the program follows every rule, and `workers` that the physical plan does
     let _fields = program.fields();
     let _workers = physical.workers();
     has_legal_edges(program, physical)

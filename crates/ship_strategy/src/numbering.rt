@@ -58,7 +58,8 @@ pub(crate) fn count(ops: &[Op]) -> u32
     }
 }
 
-// The way that an operator of a kind has by a number, and what is left of it for the choices before. A constant divides faster.
+// The way that a number gives to an operator of a kind, and what is left of the number for the choices before. Division
+// by a constant is faster.
 fn way_by(kind: OpKind, number: u32) -> (Way, u32)
     ensures way { result.0 ≡ layouts.way_of kind (number % layouts.choices_of kind) }
     ensures left { result.1 ≡ number / layouts.choices_of kind }
@@ -70,7 +71,7 @@ fn way_by(kind: OpKind, number: u32) -> (Way, u32)
     }
 }
 
-// Chooses for the operators from this place on, and tells what is left of the number.
+// Chooses for the operators from this place on, and returns what is left of the number.
 fn choose_from(at: u32, ops: &[Op], number: u32, ways: &mut Ways) -> u32
     requires { at + length ops.now ≤ node_limit }
     ensures left { result ≡ left_over ops.now number }
@@ -87,7 +88,7 @@ fn choose_from(at: u32, ops: &[Op], number: u32, ways: &mut Ways) -> u32
     }
 }
 
-/// The ways of the layout of this number.
+/// The ways of the layout with this number.
 pub fn chosen(ops: &[Op], number: u32) -> Ways
     requires { length ops.now ≤ node_limit }
     ensures { ways_in result ≡ ways_of ops.now number }

@@ -1,4 +1,4 @@
-//! Where records lie.
+//! Where records are placed.
 
 ghost use Rattle.std.specs.Prelude.{◌≡◌};
 ghost use Rattle.std.specs.List.{list_all, list_any};
@@ -68,7 +68,7 @@ pub(crate) fn is_exactly(keys: &Keys, edge: &Option<Keys>) -> bool
     }
 }
 
-// A placement by fields of which none is in the set.
+// A placement, if none of its fields is in the set.
 fn passed(bad: Fields, edge: Option<Keys>) -> Option<Keys>
     ensures { result ≡ ships.passed (has_field bad) edge }
 {
@@ -113,7 +113,8 @@ fn placement_over(kind: OpKind, writes: Fields, edge: Option<Keys>) -> Option<Ke
     }
 }
 
-// Of an operator that pairs each record of a side that goes everywhere with those of the other.
+// The placement of an operator that pairs each record of a side that goes everywhere with the records of the other
+// side.
 fn placement_paired(
     x: &OpFacts,
     left_all: bool,
@@ -133,7 +134,7 @@ fn placement_paired(
     by_key
 }
 
-// Of one by key on both sides.
+// The placement of an operator with both sides by key.
 fn placement_of_keys(x: &OpFacts) -> Option<Keys>
     ensures { result ≡ ships.placement_of_keys (has_field x.now.writes) (has_field x.now.left) (has_field x.now.right) x.now.left_keys x.now.right_keys }
 {
@@ -148,7 +149,7 @@ fn where_so(so: bool, keys: Keys) -> Option<Keys>
     if so { Some(keys) } else { None }
 }
 
-// Of a CoGroup.
+// The placement of a CoGroup.
 fn placement_anchored(x: &OpFacts) -> Option<Keys>
     ensures { result ≡ ships.placement_anchored (has_field x.now.writes) x.now.anchor_left x.now.anchor_right x.now.left_keys x.now.right_keys }
 {
@@ -180,14 +181,14 @@ fn placement_both(
     }
 }
 
-/// The placement of what an operator of one input gives, from its edge's ship and the placement below.
+/// The placement of what an operator of one input emits, from its edge's ship and the placement below.
 pub fn placed_over(x: &OpFacts, ship: &Ship, below: &Option<Keys>) -> Option<Keys>
     ensures { result ≡ ships.placed_over (known_of x.now) ship.now below.now }
 {
     placement_over(x.kind, x.writes, edge_placement(ship, below))
 }
 
-/// The same of an operator of two inputs.
+/// The placement of what an operator of two inputs emits.
 pub fn placed_both(
     x: &OpFacts,
     left_ship: &Ship,

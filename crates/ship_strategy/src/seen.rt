@@ -1,4 +1,4 @@
-//! What was found of operators in the plans before.
+//! Findings about operators in earlier plans.
 
 ghost use Rattle.std.specs.Prelude.{◌≡◌, ◌+◌, ◌%◌, ◌^◌, slice_get, slice_set};
 ghost use Rattle.pact_operators.specs.Programs.{ProgramData, is_operator_kind};
@@ -8,15 +8,16 @@ use crate::tables::{OpFacts, Table};
 use pact_operators::OpKind;
 use pact_record::Fields;
 
-// In the order of a list of plans most operators stand in a context that some of the plans shortly before gave them, too.
+// Going through a list of plans in order, most operators have a context that they also had in one of the few plans
+// before.
 const REMEMBERED: usize = 4;
 
-/// What was found of the operators of the plans asked for last. Plans that exchanges lead to have an operator in far fewer contexts than places, and
-/// the analysis of a function may take long.
+/// The findings about the operators of the last plans asked for. In the plans that exchanges lead to, an operator has
+/// far fewer contexts than places, and the analysis of a function may take long.
 #[derive(Clone, Copy, Debug)]
 pub struct Seen {
     tables: [Table; REMEMBERED],
-    // how many were put, which tells the oldest one's place
+    // how many tables were stored; modulo `REMEMBERED` this is the oldest one's place
     turn: usize,
 }
 
@@ -49,7 +50,7 @@ fn row_with(table: &Table, at: u32, left: Fields, right: Fields) -> Option<OpFac
     }
 }
 
-// The first of the tables' rows with that number, of an operator whose inputs had these attributes.
+// The row for that number in the first table in which it is about an operator whose inputs had these attributes.
 fn first_seen(tables: &[Table], at: u32, left: Fields, right: Fields) -> Option<OpFacts>
     ensures { result ≡ first_seen tables.now at left right }
 {
@@ -62,7 +63,7 @@ fn first_seen(tables: &[Table], at: u32, left: Fields, right: Fields) -> Option<
 }
 
 impl Seen {
-    /// Where no plan was asked for yet.
+    /// The state before any plan was asked for.
     pub fn nothing() -> Seen
         ensures { (p : ProgramData) → AreTold p result.tables }
     {
@@ -72,14 +73,14 @@ impl Seen {
         }
     }
 
-    // What was found of the operator of this number, where its inputs had these attributes.
+    // The findings about the operator with this number, if its inputs had these attributes.
     pub(crate) fn row(&self, at: u32, left: Fields, right: Fields) -> Option<OpFacts>
         ensures { result ≡ first_seen self.now.tables at left right }
     {
         first_seen(&self.tables, at, left, right)
     }
 
-    // Puts a plan's table in the place of the oldest one.
+    // Replaces the oldest table by a plan's table.
     pub(crate) fn keep(&mut self, table: &Table)
         ensures tables { self.new.tables ≡ slice_set self.old.tables (self.old.turn % 4) table.now }
         ensures turn { self.new.turn ≡ (self.old.turn + 1) % 2 ^ 64 }

@@ -24,12 +24,12 @@ pub struct OpFacts {
     pub writes: Fields,
     /// Whether all that a CoGroup emits began as records of its left side.
     pub anchor_left: bool,
-    /// The same of its right side.
+    /// Whether all that a CoGroup emits began as records of its right side.
     pub anchor_right: bool,
 }
 
 impl OpFacts {
-    /// The facts of a source or an operator of this kind in a context in which the analysis finds these sets.
+    /// The facts of a source or an operator of this kind in a context with these findings.
     pub fn of(kind: OpKind, context: &Context, found: &Sets) -> OpFacts
         ensures { known_of result ≡ known_by kind context.now (found_of found.now) }
     {

@@ -39,7 +39,7 @@ impl Ways {
         self.held[at as usize] = way;
     }
 
-    /// The way of the operator of this number.
+    /// The way of the operator with this number.
     pub fn at(&self, at: u32) -> Way
         ensures { result ≡ ways_in self.now at }
     {

@@ -1,4 +1,4 @@
--- What an operator of a program calls, and what it then gives.
+-- What an operator of a program calls, and what it then emits.
 use Rattle.std.proofs.Common.{◌≡◌, ◌<◌, ℕ, suc, Bool, List, length, get_or, slice_get, ap, sym, ◌∙◌, subst, arith}
 use Rattle.std.specs.Prelude.{flat_map}
 use Rattle.std.proofs.lemmas.Option.{slice_get_within}
@@ -28,7 +28,7 @@ pub called_from : (p : ProgramData) (at count : ℕ) (ops : List Op) (functions 
 called_from p at count ops functions op v keeps o f t e g =
     is_called p keeps at op (is_operator p.ops at count t) (subst (λ (l : List Op). op ≡ get_or l at op) o e) v (subst (λ (l : List WithFields). v ≡ get_or l op.function v) f g)
 
--- ---- what they give
+-- ---- what they emit
 
 kind_is : (p : ProgramData) (at : ℕ) (op : Op) (v : WithFields) (kind : OpKind) → IsCalled p at op v → op.kind ≡ kind → kind ≡ kind_at p.ops at
 kind_is p at op v kind h k = sym k ∙ sym (ap kind_in h.found)

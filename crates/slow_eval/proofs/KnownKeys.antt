@@ -1,4 +1,4 @@
--- Keys that are among others, and a key more behind others.
+-- Keys that are among others, and one more key after others.
 use Rattle.std.proofs.Common.{◌≡◌, ◌<◌, ◌+◌, ℕ, Bool, true, false, ◌||◌, List, [], ◌∷◌, ◌++◌, length, map, take, drop, get_or, refl, ap, sym, ◌∙◌, subst, append_assoc}
 use Rattle.std.proofs.lemmas.List.{drop_more}
 use Rattle.pact_bag.specs.Groups.{is_same_key}
@@ -26,7 +26,7 @@ pub known-later : (k : List Value) (found : List (List Value)) (n : ℕ) (key : 
 known-later k found n key b lt e s t h =
     h ∙ step k found n key lt e ∙ ap (λ (c : Bool). c || occurs k (drop (n + 1) found)) (is_same_key-flipped key k ∙ sym s ∙ t)
 
--- the keys of one record more, behind others
+-- the key of one more record, after others
 pub keys-more : (before : List (List Value)) (keys : List ℕ) (rows : List (List Value)) (n : ℕ) (row : List Value) → n < length rows → row ≡ get_or rows n row
     → before ++ map (key_of keys) (take (n + 1) rows) ≡ (before ++ map (key_of keys) (take n rows)) ++ key_of keys row ∷ []
 keys-more before keys rows n row lt e =

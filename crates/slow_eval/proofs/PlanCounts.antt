@@ -25,7 +25,7 @@ same_set : (ns : List ℕ) (n v : ℕ) (cs : List ℕ) → IsAbsent n ns → Sam
 same_set [] n v cs h = tt
 same_set (m ∷ ns) n v cs h = (sym (slice_get-set_other cs n m v (λ e. h.0 (sym e))), same_set ns n v cs h.1)
 
--- the same evaluation, with counts that are the same at its nodes
+-- the same evaluation, with counts that are equal at its nodes
 recounted : (o : PlanOps) (t : PlanTree) (bag : Bag) (cs ds : List ℕ) → SameAt (nodes t) cs ds → Counted o t bag cs → Counted o t bag ds
 recounted o t bag cs ds e h =
     let P = λ (n k : ℕ). slice_get cs n ≡ Some (count_of k) in

@@ -33,7 +33,7 @@ fn source_place(ops: &[Op], at: u32) -> usize
     place
 }
 
-// What an operator of one input gives.
+// What an operator of one input emits.
 fn over_one(
     alloc: Global,
     program: &Program,
@@ -55,7 +55,7 @@ fn over_one(
     }
 }
 
-// What an operator of two inputs gives.
+// What an operator of two inputs emits.
 fn over_two(
     alloc: Global,
     program: &Program,
@@ -91,7 +91,7 @@ fn over_two(
     }
 }
 
-// Counts only the plan's own numbers.
+// Sets only the counts of the plan's own numbers.
 fn evaluate_into<'a>(
     alloc: Global,
     program: &Program,
@@ -130,10 +130,10 @@ fn evaluate_into<'a>(
     }
 }
 
-/// The root's rows in one evaluation of a plan, and how many rows each source and operator gave in it.
+/// The root's rows in one evaluation of a plan, and how many rows each source and operator emitted in it.
 ///
-/// Every pair of a Match is looked at, and for each key of a Reduce or a CoGroup every row, so the time
-/// grows with rows times rows and with rows times keys. Want of memory is the only error.
+/// It checks every pair of a Match, and every row for each key of a Reduce or a CoGroup. So the time grows with rows
+/// times rows and with rows times keys. Out of memory is the only error.
 pub fn evaluate(
     alloc: Global,
     program: &Program,

@@ -7,7 +7,7 @@ use pact_bag::Rows;
 use pact_record::OutOfMemory;
 use std::alloc::Global;
 
-/// The rows of a source, which aren't copied, or those that an operator gave.
+/// The rows of a source, which aren't copied, or those that an operator emitted.
 #[derive(Drop)]
 pub(crate) enum GivenRows<'a> {
     Lent(&'a Rows),

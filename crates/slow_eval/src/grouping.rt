@@ -31,8 +31,7 @@ fn is_known(row: &Record, keys: &Keys, found: &[Record]) -> bool
     false
 }
 
-// The key values of the records, each once, behind those of other records. A key is made only where
-// it is new.
+// The key values of the records, each once, appended to those of other records. A key is made only if it is new.
 fn with_keys(alloc: Global, keys: &Keys, rows: &Rows, found: Rows) -> Result<Rows, OutOfMemory>
     requires below { AllByRecursion (λ row. AreBelow (length row) keys.now) rows.now }
     requires widths { AreWide (length keys.now) found }
@@ -124,7 +123,7 @@ fn call_for_key(
     group_into(alloc, f, keys, &group, scratch, out)
 }
 
-/// What a Reduce gives, with each group in the order of its records.
+/// What a Reduce emits, with each group in the order of its records.
 pub(crate) fn reduce_rows(
     alloc: Global,
     f: &Valid,
@@ -177,7 +176,7 @@ fn call_for_either(
     cogroup_into(alloc, f, left_keys, right_keys, &left, &right, scratch, out)
 }
 
-/// What a CoGroup gives, with each group in the order of its records.
+/// What a CoGroup emits, with each group in the order of its records.
 pub(crate) fn cogroup_rows(
     alloc: Global,
     f: &Valid,

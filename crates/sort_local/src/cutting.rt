@@ -1,4 +1,4 @@
-//! Sorted records in groups.
+//! Cuts sorted records into groups.
 
 ghost use Rattle.std.specs.Prelude.{◌≡◌, length, IfOk};
 ghost use Rattle.pact_bag.specs.Rows.{HaveOneWidth};
@@ -14,7 +14,7 @@ use pact_record::{Keys, OutOfMemory, Record};
 use std::alloc::Global;
 use std::cmp::Ordering;
 
-// The last group, if the row is of its key.
+// The last group, if the row has its key.
 fn last_like(groups: &Groups, row: &Record) -> Option<usize>
     requires below { AreBelow (length row.now) groups.now.keys }
     requires ascending { IsAscending (order_of groups.now.keys groups.now.groups) }
@@ -32,7 +32,7 @@ fn last_like(groups: &Groups, row: &Record) -> Option<usize>
     None
 }
 
-// Groups of rows that fall.
+// The groups of rows in falling order.
 fn cut(alloc: Global, keys: &Keys, mut rows: Vec<Record>) -> Result<Groups, OutOfMemory>
     requires below { AreAllBelow keys.now rows.items }
     requires width { HaveOneWidth rows.items }
@@ -47,7 +47,7 @@ fn cut(alloc: Global, keys: &Keys, mut rows: Vec<Record>) -> Result<Groups, OutO
     Ok(groups)
 }
 
-/// Groups by ascending keys.
+/// The groups of the rows, by ascending keys.
 pub(crate) fn sorted_groups(alloc: Global, keys: &Keys, rows: Rows) -> Result<Groups, OutOfMemory>
     requires { AreAllBelow keys.now rows }
     ensures { IfOk result (λ groups. IsSortedInto keys.now rows groups) }

@@ -1,4 +1,4 @@
--- Legal exchanges, written down with the line of the plan that they lead to, are accepted.
+-- Legal exchanges are accepted when they are written down with the line of the plan that they lead to.
 use Rattle.std.proofs.Common.{◌≡◌, ◌+◌, inr, ℕ, List, [], ◌∷◌, map, Option, Some, None, slice_get, Ok, refl, subst}
 use Rattle.tac_syntax.specs.declared.declarations.OpKind.TheVariants.{Source}
 use Rattle.plan_trees.specs.Plans.{PlanTree}
@@ -13,7 +13,7 @@ use Rattle.reorder_pair.proofs.PlacesOfRules.{plays-operator}
 use Rattle.swap_certificate.specs.Checks.{Asks, EndsAt, Follow, is_legal, same_line, step_of}
 use Rattle.swap_certificate.specs.PlanLines.{IsNamed, line_of}
 
--- what isn't a source is an operator, with the name that stands there
+-- what isn't a source is an operator, and its name is the one at that number
 operator_named : (ops : List Op) (n : ℕ) (found : Option Op) → slice_get ops n ≡ found → (kind_in found ≡ Source → ⊥) → IsNamed ops (operator_name found) n
 operator_named ops n None e operator = absurd (operator refl)
 operator_named ops n (Some op) e operator = (op, e, operator, refl)

@@ -1,4 +1,4 @@
--- Certificates as JSON values: the fields of a set one after another, no float, few levels, and one step more.
+-- Certificates as JSON values: the fields of a set one after another, no float, limited nesting, and one more step.
 use Rattle.std.proofs.Common.{◌≡◌, ◌<◌, ◌≤◌, ◌+◌, ◌++◌, ℕ, true, false, List, [], ◌∷◌, map, get_or, length, take, refl, ap, ◌∙◌, arith, sym}
 use Rattle.std.proofs.lemmas.List.{map-append, take_more}
 use Rattle.pact_record.specs.declared.records.TheConstants.{MAX_FIELDS}
@@ -15,7 +15,7 @@ use Rattle.swap_certificate.specs.declared.certificates.Certificate.{Certificate
 use Rattle.swap_certificate.specs.declared.certificates.Step.{Step}
 use Rattle.swap_certificate.specs.Shape.{certificate_data, found_data, step_data, whole}
 
--- ---- the fields of a set below one number more
+-- ---- the fields of a set below a number, with one more number
 
 pub wholes-with : (set n : ℕ) → has_field set n ≡ true → map whole (rising_fields set (n + 1)) ≡ map whole (rising_fields set n) ++ whole n ∷ []
 wholes-with set n h = ap (map whole) (rising_fields-with set n h) ∙ map-append whole (rising_fields set n) (n ∷ [])
@@ -42,7 +42,7 @@ steps-plain (s ∷ steps) = rw (found-plain s.lower, found-plain s.upper, steps-
 pub certificate-plain : (c : Certificate) → has_float (certificate_data c) ≡ false
 certificate-plain c = rw (steps-plain c.steps) refl
 
--- ---- few levels
+-- ---- limited nesting
 
 wholes-flat : (ns : List ℕ) → items_depth (items_of (map whole ns)) ≡ 0
 wholes-flat [] = refl
@@ -58,7 +58,7 @@ steps-depth (s ∷ steps) = let rest = steps-depth steps in rw (found-depth s.lo
 pub certificate-depth : (c : Certificate) → depth (certificate_data c) ≤ max_depth
 certificate-depth c = let h = steps-depth c.steps in omega (arith, h)
 
--- ---- one step's value more
+-- ---- the value of one more step
 
 pub one_value_more : (values : List Value) (steps : List Step) (n : ℕ) (v : Value) (s : Step) → map view values ≡ map step_data (take n steps) → n < length steps
     → s ≡ get_or steps n s → view v ≡ step_data s → map view (values ++ v ∷ []) ≡ map step_data (take (n + 1) steps)

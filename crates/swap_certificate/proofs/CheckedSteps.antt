@@ -1,4 +1,4 @@
--- What is asked of a step, as the code shows it.
+-- The conditions of a step, in terms of the values in the code.
 use Rattle.std.proofs.Common.{◌≡◌, ◌≤◌, inl, inr, ℕ, List, length, IfNone, IfSome, None, Option, Some, Result, Ok, Err, sym, subst, ◌∙◌, arith}
 use Rattle.std.proofs.lemmas.Bool.{cases_lt}
 use Rattle.plan_trees.specs.Plans.{PlanTree, IsPlan, node_limit}
@@ -21,14 +21,14 @@ use Rattle.swap_certificate.specs.Checks.{Asks, StepTo, is_legal, no_place, no_r
 use Rattle.swap_certificate.specs.PlanLines.{IsNamed}
 use Rattle.swap_certificate.proofs.OneResult.{both_ok, named_one, ok_or_err}
 
--- a plan has each operator of its program, so these are few
+-- a plan has each operator of its program, so a program has at most `node_limit` operators
 pub few_operators : (valids : List WithFields) (ops shown : List Op) (t : PlanTree) → shown ≡ ops → IsPlanOf valids ops t → IsPlan t → length shown ≤ node_limit
 few_operators valids ops shown t same of plan = subst (λ (xs : List Op). length xs ≤ node_limit) (sym same) (elim (cases_lt node_limit (length ops)) as (λ _. length ops ≤ node_limit) [
   | inl more ↦ (let too_small = below_limit node_limit t plan (of.all node_limit more) in absurd (omega (arith, too_small)))
   | inr few ↦ few
 ])
 
--- the same of what the code shows of the operators and of the name
+-- `IsNamed` carries over from the operators and the name in the code to equal ones in the program
 named_in : (ops shown : List Op) (name word : List ℕ) (at : ℕ) → shown ≡ ops → word ≡ name → IsNamed shown word at → IsNamed ops name at
 named_in ops shown name word at same same_word h = subst (λ (xs : List Op). IsNamed xs name at) same (subst (λ (w : List ℕ). IsNamed shown w at) same_word h)
 
@@ -42,16 +42,16 @@ module _ (p : ProgramData) (t : PlanTree) (s : Step) (rule : Rule) where
   no_operator-StepTo n shown word of_rule same same_word none = no_place rule of_rule (λ at named place. none at (named_in shown p.ops word s.at at (sym same) (sym same_word) named))
 
   module _ (at : ℕ) where
-    -- the rule has no place at the operator of the name
+    -- the rule has no place at the operator with the name
     pub nowhere-StepTo : (n : ℕ) → NamesDiffer p.ops → Asks p s rule at → (IsPlace p t at rule → ⊥) → StepTo p n t s (Err (C1 n))
     nowhere-StepTo n differ asks none =
         no_place rule asks.rule_is (λ there named place. none (subst (λ (m : ℕ). IsPlace p t m rule) (named_one p.ops s.at there at differ named asks.at_is) place))
 
-    -- what a table told of the two operators
+    -- the two operators' sets that a table returned
     pub told-IsFoundAt : (told : Option (Found × Found)) (upper lower : Found) → told ≡ Some (upper, lower) → IfSome told (λ both. IsFoundAt p t at rule both.0 both.1) → IsFoundAt p t at rule upper lower
     told-IsFoundAt told upper lower e h = subst (λ (x : Option (Found × Found)). IfSome x (λ both. IsFoundAt p t at rule both.0 both.1)) e h
 
-    -- what is stated is found, and the exchange is legal for it
+    -- the stated sets are the ones found, and the exchange is legal for them
     pub stated-IsFoundAt : (upper lower : Found) → IsFoundAt p t at rule upper lower → (upper ≡ s.upper) × (lower ≡ s.lower) → IsFoundAt p t at rule s.upper s.lower
     stated-IsFoundAt upper lower h same = subst (λ (u : Found). IsFoundAt p t at rule u s.lower) same.0 (subst (λ (l : Found). IsFoundAt p t at rule upper l) same.1 h)
 
@@ -60,11 +60,11 @@ module _ (p : ProgramData) (t : PlanTree) (s : Step) (rule : Rule) where
         let same = found_one p t at rule c.upper c.lower s.upper s.lower h.legal.found found in
         subst (λ (u : Found). IsLegalFor p t at rule u s.lower) same.0 (subst (λ (l : Found). IsLegalFor p t at rule c.upper l) same.1 h.legal)
 
--- what is said where a table told of no operators
+-- the consequence of a table that has no sets for the operators
 pub told-none : (told : Option (Found × Found)) (A : Type 0) → told ≡ None → IfNone told A → A
 told-none told A e h = subst (λ (x : Option (Found × Found)). IfNone x A) e h
 
--- what a step leads to is in reach
+-- a step leads to a plan in reach
 pub step-Reach : (p : ProgramData) (n : ℕ) (t u : PlanTree) (s : Step) (q : Result PlanTree CertFault) → q ≡ Ok u → StepTo p n t s q → Reach p t → Reach p u
 step-Reach p n t u s _ e (no_rule none) r = absurd (ok_or_err (sym e))
 step-Reach p n t u s _ e (no_place rule word none) r = absurd (ok_or_err (sym e))

@@ -12,18 +12,19 @@ use Rattle.swap_certificate.specs.Checks.{EndsAt, Follow, Follows, StepTo, other
 use Rattle.swap_certificate.specs.PlanLines.{line_of}
 use Rattle.swap_certificate.proofs.CheckedSteps.{step-Reach}
 
--- what is left of the steps begins with the next
+-- the remaining steps begin with the next step
 rest_of : (steps shown : List Step) (i : ℕ) (s : Step) → s ≡ get_or shown i s → shown ≡ steps → i < length shown → drop i steps ≡ s ∷ drop (i + 1) steps
 rest_of steps shown i s is same within =
     let all : drop i shown ≡ get_or shown i s ∷ drop (i + 1) shown = drop_more shown i s within in
     ap (drop i) (sym same) ∙ all ∙ (λ k. sym is k ∷ drop (i + 1) (same k))
 
--- nothing is left behind the last
+-- no step remains after the last
 none_left : (steps shown : List Step) (i : ℕ) → shown ≡ steps → length shown ≤ i → drop i steps ≡ []
 none_left steps shown i same past = drop_all i steps (subst (λ (xs : List Step). length xs ≤ i) same past)
 
 module _ (p : ProgramData) (c : Certificate) where
-  -- So many steps led to the plan, which is in reach, and what the others come to from there is what the certificate comes to.
+  -- `done` steps led to the plan, which is in reach. The result of the remaining steps from there is the certificate's
+  -- result.
   pub record IsFollowed (done n : ℕ) (t : PlanTree) : Type 0 where
     pub number : n ≡ done + 1
     pub reached : Reach p t
@@ -52,6 +53,6 @@ module _ (p : ProgramData) (c : Certificate) where
     pub followed-end : (r : Result PlanTree CertFault) → length shown ≤ i → EndsAt p c.plan t r → Follows p c r
     followed-end r past h = followed.comes_to r (subst (λ (xs : List Step). Follow p c.plan n t xs r) (sym (none_left c.steps shown i same past)) h)
 
-  -- the line that is reached isn't the stated one
+  -- the line of the reached plan isn't the stated one
   pub found-EndsAt : (t : PlanTree) (found : List ℕ) → found ≡ line_of p.ops t → (c.plan ≡ found → ⊥) → EndsAt p c.plan t (Err (C5 found))
   found-EndsAt t found e other = subst (λ (line : List ℕ). EndsAt p c.plan t (Err (C5 line))) (sym e) (other_line (λ same. other (same ∙ sym e)))

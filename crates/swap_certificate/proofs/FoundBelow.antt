@@ -1,4 +1,4 @@
--- The sets that are found of an operator of a program have fields of the program alone.
+-- The sets found for an operator of a program have only fields of the program.
 use Rattle.std.proofs.Common.{◌≡◌, ◌↔◌, inl, inr, ℕ, Bool, true, false, refl, sym, subst, arith}
 use Rattle.std.proofs.lemmas.Bool.{false_from_ne_true}
 use Rattle.pact_record.specs.FieldSets.{has_field}
@@ -18,7 +18,7 @@ use Rattle.reorder_pair.specs.declared.finding.Found.{Found}
 use Rattle.reorder_pair.specs.Places.{IsFound}
 use Rattle.reorder_pair.proofs.FoundOperators.{found_in, of_fields}
 
--- no field from a number on
+-- the set has no field from this number on
 abbrev pub EndsAt : ℕ → ℕ → Type 0
 EndsAt n set = IsBelow n (has_field set)
 

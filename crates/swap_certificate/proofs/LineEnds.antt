@@ -1,5 +1,6 @@
--- A line end behind a text changes nothing that is read of it: between tokens it is a space, behind a word it ends the word as the text's end does, and a string or an
--- escape in which it would stand isn't closed.
+-- A line end after a text changes nothing that is read from it. Between tokens it is a space. After a word it ends the
+-- word as the end of the text does. Inside a string or an escape it would leave that unclosed, as the end of the text
+-- does.
 use Rattle.std.proofs.Common.{◌≡◌, ◌+◌, ◌-◌, ◌==◌, ◌&&◌, ◌||◌, ℕ, Bool, true, false, cond, nat_eq, nat_lt, List, [], ◌∷◌, ◌++◌, length, take, drop, codes, Option, Some, None, option_map, option_and_then, refl, sym, ap, ◌∙◌, arith, length-append}
 use Rattle.std.proofs.Math.Bool.{and-false, and_assoc}
 use Rattle.std.proofs.lemmas.List.{drop-append-le, take-append-le}
@@ -28,7 +29,7 @@ line_end = codes "\n"
 abbrev none_of_text : Option (List ℕ)
 none_of_text = None
 
--- a line feed is no hex digit
+-- a line feed isn't a hex digit
 code_unit-line : (a b c : ℕ) → code_unit a b c 10 ≡ None
 unfolding code_unit
 code_unit-line a b c = simp and-false
@@ -71,7 +72,7 @@ ends_word-line (x ∷ xs) = refl
 abbrev IsOneLine : List ℕ → Type 0
 IsOneLine name = AllByRecursion (λ n. nat_eq n 10 ≡ false) name
 
--- the text has the name in front, and the word ends behind it
+-- the text begins with the name, and the word ends after it
 abbrev begins_as : List ℕ → List ℕ → Bool
 begins_as name t = pointwise nat_eq name (take (length name) t) && ends_word (drop (length name) t)
 
@@ -86,7 +87,7 @@ literal-line name k t h = ap (λ (b : Bool). cond b k bad) (begins_as-line name 
 
 -- ---- numbers
 
--- what a part leaves
+-- the text that a part of a number leaves unread, followed by a line end
 abbrev with_line : Option (List ℕ) → Option (List ℕ)
 with_line left = option_map (λ r. r ++ line_end) left
 
@@ -130,7 +131,7 @@ after_exponent-line (x ∷ xs) =
     either ((x == ascii.lower_e) || (x == ascii.upper_e)) (after_digits (after_sign xs)) (Some (x ∷ xs)) _ _
     (ap after_digits (after_sign-line xs) ∙ after_digits-line (after_sign xs)) refl
 
--- one part behind another
+-- one part after another
 behind : (f : List ℕ → Option (List ℕ)) → ((t : List ℕ) → f (t ++ line_end) ≡ with_line (f t)) → (left : Option (List ℕ)) → option_and_then f (with_line left) ≡ with_line (option_and_then f left)
 behind f h None = refl
 behind f h (Some t) = h t

@@ -1,4 +1,4 @@
--- An exchange has one refusal: the first of its conditions that fails, with the least field that two sets share.
+-- An exchange has only one refusal: the first of its conditions that fails, with the least field that two sets share.
 use Rattle.std.proofs.Common.{◌≡◌, ◌≤◌, inl, inr, ℕ, List, [], ◌∷◌, sym, ap, subst, ◌∙◌, arith}
 use Rattle.plan_trees.specs.Plans.{PlanTree}
 use Rattle.pact_operators.specs.Programs.{ProgramData}

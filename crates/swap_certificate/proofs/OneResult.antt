@@ -1,4 +1,4 @@
--- A certificate comes to one thing, where no two operators have the same name.
+-- A certificate has only one result if no two operators have the same name.
 use Rattle.std.proofs.Common.{◌≡◌, ◌+◌, ◌⊎◌, inl, inr, ℕ, List, [], ◌∷◌, Result, Ok, Err, refl, sym, subst, ◌∙◌}
 use Rattle.plan_trees.specs.Plans.{PlanTree}
 use Rattle.pact_operators.specs.declared.operators.Op.{Op}
@@ -19,7 +19,7 @@ use Rattle.swap_certificate.specs.PlanLines.{IsNamed}
 use Rattle.swap_certificate.proofs.OneRefusal.{refusal_one}
 use Rattle.swap_certificate.proofs.RuleWords.{rule_one}
 
--- a name is that of one operator
+-- a name belongs to one operator
 pub named_one : (ops : List Op) (name : List ℕ) (m n : ℕ) → NamesDiffer ops → IsNamed ops name m → IsNamed ops name n → m ≡ n
 named_one ops name m n differ h g = differ m n h.0 g.0 h.1 g.1 (h.3 ∙ sym g.3)
 
@@ -31,7 +31,7 @@ ok_or_err e = cc
 
 module _ (p : ProgramData) (differ : NamesDiffer p.ops) where
   module _ (n : ℕ) (t : PlanTree) (s : Step) where
-    -- what a step asks for is one rule at one place
+    -- a step asks for one rule at one place
     module _ (rule other : Rule) (at there : ℕ) (asks : Asks p s rule at) (asks_too : Asks p s other there) where
       same_rule : other ≡ rule
       same_rule = rule_one other rule (asks_too.rule_is ∙ sym asks.rule_is)
@@ -48,7 +48,7 @@ module _ (p : ProgramData) (differ : NamesDiffer p.ops) where
       refused_here : (why : NotLegal) → IsRefusal p t there other why → IsRefusal p t at rule why
       refused_here why h = subst (λ (m : ℕ). IsRefusal p t m rule why) same_place (subst (λ (r : Rule). IsRefusal p t there r why) same_rule h)
 
-      -- no step has other sets than are found, and those that are found
+      -- a step can't state both the sets that are found and other sets
       sets_apart : (u l : Found) → IsFoundAt p t at rule u l → ((u ≡ s.upper) × (l ≡ s.lower) → ⊥) → IsFoundAt p t there other s.upper s.lower → ⊥
       sets_apart u l h apart g = apart (found_one p t at rule u l s.upper s.lower h (found_here s.upper s.lower g))
 
@@ -64,7 +64,7 @@ module _ (p : ProgramData) (differ : NamesDiffer p.ops) where
       plan_one : ◌≡◌ {A = Result PlanTree CertFault} (Ok (swapped rule at t)) (Ok (swapped other there t))
       plan_one = λ i. Ok (swapped (sym same_rule i) (sym same_place i) t)
 
-    -- where the rule has no place, it has none at an operator of the name
+    -- if the rule has no place at any operator with the name, it has none at this one
     no_place_there : (rule other : Rule) (there : ℕ) → word_of rule ≡ s.rule → ((at : ℕ) → IsNamed p.ops s.at at → IsPlace p t at rule → ⊥) → Asks p s other there → IsPlace p t there other → ⊥
     no_place_there rule other there word none asks place =
         none there asks.at_is (subst (λ (r : Rule). IsPlace p t there r) (rule_one other rule (asks.rule_is ∙ sym word)) place)
@@ -119,7 +119,7 @@ checks-one p names c q r (inl h) (inr k) = absurd (h.0 k.0)
 checks-one p names c q r (inr h) (inl k) = absurd (k.0 h.0)
 checks-one p names c q r (inr h) (inr k) = follow_one p names c.plan 1 p.plan c.steps q r h.1 k.1
 
--- an answer that what is checked comes to, where it isn't want of memory
+-- A call's result is the result of the check, unless it is out of memory.
 pub checked-one : (p : ProgramData) → NamesDiffer p.ops → (c : Certificate) (result other : Result PlanTree CertFault) → ((result ≡ Err Memory → ⊥) → Checks p c result) → Checks p c other
     → (result ≡ other) ⊎ (result ≡ Err Memory)
 checked-one p names c (Ok t) other h k = inl (checks-one p names c (Ok t) other (h (λ e. cc)) k)

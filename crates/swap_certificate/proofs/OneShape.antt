@@ -1,4 +1,4 @@
--- A JSON value is of one certificate.
+-- A JSON value belongs to one certificate.
 use Rattle.std.proofs.Common.{◌≡◌, ◌<◌, ◌≤◌, ◌==◌, ◌||◌, inl, inr, ℕ, zero, suc, Bool, true, false, cond, List, [], ◌∷◌, map, codes, bytes_eq, IsUtf8, Some, refl, sym, ap, subst, ◌∙◌, arith}
 use Rattle.std.proofs.lemmas.Bool.{cases_lt, or_from}
 use Rattle.std.proofs.lemmas.Bool.Decides.{nat_tests}
@@ -19,12 +19,12 @@ use Rattle.swap_certificate.specs.declared.certificates.Certificate.{Certificate
 use Rattle.swap_certificate.specs.declared.certificates.Step.{Step}
 use Rattle.swap_certificate.specs.Shape.{IsCertificateText, IsSet, IsShaped, MayBeFound, MayBeStated, MayBeStep, certificate_data, found_data, set_data, step_data, whole}
 
--- ---- what is listed of a set is the set
+-- ---- a set has exactly its listed fields
 
 is_in : ℕ → List ℕ → Bool
 is_in k ns = list_any (λ n. n == k) ns
 
--- what one number more adds, if the set has it
+-- the list that one more number adds if the set has it
 abbrev maybe : Bool → ℕ → List ℕ
 maybe has n = cond has (n ∷ []) []
 
@@ -115,7 +115,7 @@ part n (string s) = null
 part n (array ds) = null
 part n (object entries) = member_at n entries
 
--- ---- a value is of one thing
+-- ---- a value belongs to one certificate
 
 set_one : (most a b : ℕ) → most ≤ MAX_FIELDS → IsSet most a → IsSet most b → set_data a ≡ set_data b → a ≡ b
 set_one most a b wide small few e = listed_one most a b wide small few (wholes_one (rising_fields a MAX_FIELDS) (rising_fields b MAX_FIELDS) (array_one _ _ e))
@@ -172,7 +172,7 @@ certificate_one c d may can e =
     let plan = string_one c.plan d.plan (ap (part 0) e) in
     λ i. record { version = version i; steps = steps i; plan = plan i }
 
--- ---- and so is a text
+-- ---- a text belongs to one certificate
 
 some_one : (a b : Data) → Some a ≡ Some b → a ≡ b
 some_one a b e = cc

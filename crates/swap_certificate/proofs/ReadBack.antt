@@ -1,4 +1,4 @@
--- What a JSON value is, by what is read of it.
+-- The JSON value of a certificate's parts, from what is read of it.
 use Rattle.std.proofs.Common.{◌≡◌, ◌≢◌, ◌<◌, ◌≤◌, inl, inr, ℕ, zero, suc, List, [], ◌∷◌, Some, None, map, length, get_or, refl, sym, ap, subst, ◌∙◌, arith}
 use Rattle.std.specs.Prelude.{Err, IfNone, Option, Result}
 use Rattle.std.specs.List.{AllByRecursion}
@@ -25,7 +25,7 @@ is_object : (d : Data) (ms : Members) → as_object d ≡ Some ms → d ≡ obje
 is_object (object ns) ms e = cc
 is_object d ms e = absurd (cc)
 
--- ---- where there is nothing
+-- ---- parts that are missing
 
 pub if_none : {T : Type 0} {P : Type 0} (r : Option T) → P → IfNone r P
 if_none None p = p
@@ -43,11 +43,11 @@ one_error x y r h k = let same = sym h ∙ k in cc
 pub object-members : (d : Data) (ms ns : Members) → as_object d ≡ Some ms → d ≡ object ns → ms ≡ ns
 object-members d ms ns h e = let same = sym (is_object d ms h) ∙ e in cc
 
--- what stands behind a member is the same, however the members are known
+-- two descriptions of an object with the same first key have the same members after it
 pub next_rest : (ms ns rest : Members) (key : List ℕ) (d e : Data) → ms ≡ member key d ns → ms ≡ member key e rest → ns ≡ rest
 next_rest ms ns rest key d e h k = cc
 
--- and so is what stands behind four members
+-- two descriptions of an object with the same first four keys have the same members after them
 pub fourth_rest : {ms one two three four rest : Members} {i j k l : List ℕ} {a b c d e f g h : Data} → ms ≡ member i a one → one ≡ member j b two → two ≡ member k c three → three ≡ member l d four
     → ms ≡ member i e (member j f (member k g (member l h rest))) → four ≡ rest
 fourth_rest o p q r all = next_rest _ _ _ _ _ _ r (next_rest _ _ _ _ _ _ q (next_rest _ _ _ _ _ _ p (next_rest _ _ _ _ _ _ o all)))
@@ -63,7 +63,7 @@ items_one (d ∷ ds) (c ∷ es) e =
     let rest = items_one ds es both.1 in
     λ i. both.0 i ∷ rest i
 
--- the items of an array that is known as one of these
+-- the items of an array are the same in both of its descriptions
 pub same_items : (d : Data) (ds es : List Data) → as_array d ≡ Some (items_of ds) → d ≡ array (items_of es) → ds ≡ es
 same_items d ds es h e = items_one ds es (array_one _ _ (sym (is_array d (items_of ds) h) ∙ e))
 
@@ -91,7 +91,7 @@ version_below (suc (suc (suc n))) le some = absurd (omega (arith, le))
 cons_one : (d e : Data) (ds es : List Data) → d ∷ ds ≡ e ∷ es → (d ≡ e) × (ds ≡ es)
 cons_one d e ds es h = (cc, cc)
 
--- a step at a place of values that all are steps
+-- the step at a place of values that are all steps
 pub step-at : (most : ℕ) (items : List Value) (steps : List Step) (n : ℕ) (x : Value) → map view items ≡ map step_data steps → AllByRecursion (MayBeStep most) steps → n < length items
     → x ≡ get_or items n x → (s : Step) × MayBeStep most s × (view x ≡ step_data s)
 step-at most [] steps n x e all lt is = absurd (omega (arith, lt))

@@ -1,4 +1,4 @@
--- Sets from their fields, strictly rising.
+-- Sets from their strictly rising fields.
 use Rattle.std.proofs.Common.{◌≡◌, ◌<◌, ◌≤◌, ◌+◌, ◌-◌, ◌/◌, ◌^◌, ◌==◌, ◌||◌, ◌++◌, ℕ, zero, suc, Bool, true, false, cond, List, [], ◌∷◌, map, drop, take, length, get_or, refl, sym, ap, subst, ◌∙◌, arith, append-nil, append_assoc, ne_eqb}
 use Rattle.std.proofs.Math.Nat.{pow-suc}
 use Rattle.std.proofs.Math.Numerals.{suc-eq-add-one}
@@ -19,7 +19,7 @@ use Rattle.swap_certificate.specs.RisingData.{RisesFrom}
 use Rattle.swap_certificate.specs.Shape.{IsSet, whole}
 use Rattle.swap_certificate.proofs.OneShape.{whole_one}
 
--- no field from a number on
+-- the set has no field from this number on
 abbrev pub EndsBelow : ℕ → ℕ → Type 0
 EndsBelow set n = (k : ℕ) → n ≤ k → has_field set k ≡ false
 
@@ -41,7 +41,7 @@ rising_fields-no_more set least (suc more) h =
 rising_fields-ended : (set least n : ℕ) → least ≤ n → EndsBelow set least → rising_fields set n ≡ rising_fields set least
 rising_fields-ended set least n le h = ap (rising_fields set) (omega (arith, le)) ∙ rising_fields-no_more set least (n - least) h
 
--- ---- one field more behind all others
+-- ---- one more field, greater than all others
 
 abbrev AddsField : ℕ → ℕ → ℕ → Type 0
 AddsField set new field = (k : ℕ) → has_field new k ≡ ((k == field) || has_field set k)
@@ -60,7 +60,7 @@ rising_fields-added set new least field le ends h =
 added-ends : (set new least field : ℕ) → least ≤ field → EndsBelow set least → AddsField set new field → EndsBelow new (field + 1)
 added-ends set new least field le ends h k above = added-same set new field k h (λ e. omega (arith, above, e)) ∙ ends k (omega (arith, le, above))
 
--- ---- what rises
+-- ---- rising values
 
 RisesFrom-rest : (most least field : ℕ) (d : Data) (ds : List Data) → d ≡ whole field → RisesFrom most least (d ∷ ds) → RisesFrom most (field + 1) ds
 RisesFrom-rest most least field d ds e h = subst (λ (n : ℕ). RisesFrom most (n + 1) ds) (whole_one h.0 field (sym h.1 ∙ e)) h.4
@@ -69,7 +69,7 @@ RisesFrom-weaker : (most least less : ℕ) (ds : List Data) → less ≤ least �
 RisesFrom-weaker most least less [] le h = tt
 RisesFrom-weaker most least less (d ∷ ds) le h = (h.0, h.1, omega (arith, le, h.2), h.3, h.4)
 
--- fields below a number, and then what rises from there
+-- rising fields below a number, followed by values that rise from there
 one-then : (most : ℕ) (has : Bool) (before : List ℕ) (n : ℕ) (ds : List Data) → n < most → RisesFrom most (suc n) ds → ((es : List Data) → RisesFrom most n es → RisesFrom most 0 (map whole before ++ es))
     → RisesFrom most 0 (map whole (before ++ cond has (n ∷ []) []) ++ ds)
 one-then most true before n ds lt h rest =
@@ -83,7 +83,7 @@ fields-then most set zero ds le h = h
 fields-then most set (suc n) ds le h =
     one-then most (has_field set n) (rising_fields set n) n ds (omega (arith, le)) h (λ es g. fields-then most set n es (omega (arith, le)) g)
 
--- all fields of a set are below a number that its bits tell
+-- all fields of a set are below the limit that bounds its bits
 set-ends : (most set : ℕ) → IsSet most set → EndsBelow set most
 set-ends most set small k le = has_field-above most set k small le
 
@@ -92,7 +92,7 @@ rising_fields-rise most set wide small =
     let rise = subst (RisesFrom most 0) (append-nil (map whole (rising_fields set most))) (fields-then most set most [] (omega arith) tt) in
     subst (λ (fields : List ℕ). RisesFrom most 0 (map whole fields)) (sym (rising_fields-ended set most MAX_FIELDS wide (set-ends most set small))) rise
 
--- ---- a set whose fields end is one that a record may have
+-- ---- a set whose fields are all below a limit is a valid set for that limit
 
 no_bit : (set k : ℕ) → has_field set k ≡ false → bit_at set k ≡ 0
 unfolding has_field
@@ -107,9 +107,10 @@ below_from_bits (suc w) n h =
 pub ended-is_set : (most set n : ℕ) → n ≤ most → EndsBelow set n → IsSet most set
 ended-is_set most set n le ends = below_from_bits most set (λ i above. no_bit set i (ends i (omega (arith, le, above))))
 
--- ---- a walk over values, one value more
+-- ---- one more value in the walk over the values
 
--- what is known once so many values were read: the set has just their fields, and what rose from 0 goes on from the least field that may still come
+-- After n values were read, the set has exactly their fields. If all values rise from 0, the remaining ones rise from
+-- `least`, the least field that may still come.
 pub record HasRead (most : ℕ) (items : List Value) (n set least : ℕ) : Type 0 where
   pub within : least ≤ most
   pub ends : EndsBelow set least

@@ -1,4 +1,4 @@
--- What legal exchanges are told as may be stated.
+-- The steps of legal exchanges are ones that a certificate may state.
 use Rattle.std.proofs.Common.{◌≡◌, ◌≤◌, ℕ, List, [], ◌∷◌, map, sym, subst}
 use Rattle.std.specs.List.{AllByRecursion}
 use Rattle.tac_syntax.specs.declared.declarations.OpKind.TheVariants.{Source}

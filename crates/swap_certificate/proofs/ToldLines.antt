@@ -1,4 +1,4 @@
--- Texts that are put behind one another.
+-- Texts that are appended one after another.
 use Rattle.std.proofs.Common.{◌≡◌, ℕ, List, ◌++◌, ap, ◌∙◌, append_assoc}
 
 pub three_behind : (old first second whole a b c : List ℕ) → first ≡ old ++ a → second ≡ first ++ b → whole ≡ second ++ c → whole ≡ old ++ (a ++ (b ++ c))

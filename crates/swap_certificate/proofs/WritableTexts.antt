@@ -1,4 +1,4 @@
--- Words of rules, names and lines of plans are short texts.
+-- Words of rules, names and lines of plans are UTF-8 texts within their limits.
 use Rattle.std.proofs.Common.{◌≡◌, ◌≤◌, ◌<◌, ◌*◌, ◌&&◌, ℕ, true, nat_le, List, [], ◌∷◌, ◌++◌, length, Option, Some, None, slice_get, codes, IsUtf8, refl, arith, length-append}
 use Rattle.std.proofs.lemmas.Bool.{and_parts}
 use Rattle.std.proofs.lemmas.Bool.Decides.{nat_tests}
@@ -79,7 +79,7 @@ word_of-IsShortText rule = (text-IsUtf8 (word_of rule) (word_of-ascii rule), wor
 
 -- ---- names
 
--- a name has at most so many bytes
+-- the most bytes of a name
 abbrev name_limit : ℕ
 name_limit = 32
 
@@ -130,7 +130,7 @@ module _ (ops : List Op) (names : AreNames ops) where
       (IsUtf8-append (line_of ops t) _ (line_of-IsUtf8 t)
       (IsUtf8-append (codes ",") _ (text-IsUtf8 (codes ",") refl) (IsUtf8-append (line_of ops u) (codes ")") (line_of-IsUtf8 u) (text-IsUtf8 (codes ")") refl)))))
 
-  -- at most so many bytes for a node: its name, and what stands round its inputs
+  -- at most 35 bytes for a node: its name, and the punctuation around its inputs
   length-line_of : (t : PlanTree) → length (line_of ops t) ≤ 35 * count_of t
   length-line_of (leaf n) = let short = (name_at-IsShortText n).1 in omega (arith, short)
   length-line_of (over n t) =

@@ -1,4 +1,4 @@
--- The steps that are written down one after another, and the certificate that they make.
+-- The steps that are written down one after another, and the certificate that they form.
 use Rattle.std.proofs.Common.{◌≡◌, ◌+◌, ◌<◌, ◌≤◌, ℕ, List, [], ◌∷◌, ◌++◌, length, map, take, get_or, inr, Ok, refl, sym, ap, subst, ◌∙◌}
 use Rattle.std.proofs.lemmas.List.{map-append, take_all, take_more}
 use Rattle.plan_trees.specs.Plans.{PlanTree, IsPlan}
@@ -31,7 +31,7 @@ module _ (p : ProgramData) (by : List Condition) where
     all_steps : steps ≡ map (step_of p) by
     all_steps = written.steps_are ∙ ap (map (step_of p)) (take_all count by past)
 
-    -- they and the line are the certificate, so that it is accepted and may be written
+    -- these steps and the line are the certificate, so it is accepted and may be written
     pub written-certificate_of : ◌≡◌ {A = Certificate} (record { version = version; steps = steps; plan = line }) (certificate_of p by end)
     written-certificate_of = λ i. record { version = version_is i; steps = all_steps i; plan = line_is i }
 

@@ -1,4 +1,4 @@
--- What a certificate comes to: its steps are followed from the plan as written, and nothing that they state is believed.
+-- The result of a certificate. Its steps are followed from the plan as written, and nothing that they state is trusted.
 use Rattle.std.specs.Prelude.{◌≡◌, ◌⊎◌, ◌+◌, ℕ, List, [], ◌∷◌, Result, Ok, Err, map}
 use Rattle.plan_trees.specs.Plans.{PlanTree}
 use Rattle.pact_operators.specs.Programs.{ProgramData}
@@ -21,8 +21,9 @@ module _ (p : ProgramData) where
     pub rule_is : word_of rule ≡ s.rule
     pub at_is : IsNamed p.ops s.at at
 
-  -- Where step `n` leads from a plan, or its fault: no rule has the word; no operator has the name, or the rule has no place there; other sets
-  -- are found than are stated; the exchange isn't legal. A later one has in it that none before it stands.
+  -- The plan to which step `n` leads, or the step's fault. The faults, in this order: no rule has the word; no operator
+  -- has the name, or the rule has no place there; the sets found differ from the stated ones; the exchange isn't legal.
+  -- Each fault includes that the ones before it don't apply.
   pub data StepTo (n : ℕ) (t : PlanTree) (s : Step) : Result PlanTree CertFault → Type 0 where
     no_rule : ((rule : Rule) → word_of rule ≡ s.rule → ⊥) → StepTo n t s (Err (C2 n))
     no_place : (rule : Rule) → word_of rule ≡ s.rule → ((at : ℕ) → IsNamed p.ops s.at at → IsPlace p t at rule → ⊥) → StepTo n t s (Err (C1 n))
@@ -31,12 +32,12 @@ module _ (p : ProgramData) where
     not_legal : (rule : Rule) (at : ℕ) (why : NotLegal) → Asks s rule at → IsFoundAt p t at rule s.upper s.lower → IsRefusal p t at rule why → StepTo n t s (Err (C4 n why))
     is_legal : (rule : Rule) (at : ℕ) → Asks s rule at → IsLegalFor p t at rule s.upper s.lower → StepTo n t s (Ok (swapped rule at t))
 
-  -- after the last step: the stated plan line is that of the plan which was reached, or it isn't
+  -- after the last step: whether the stated plan line is the line of the plan that was reached
   pub data EndsAt (line : List ℕ) (t : PlanTree) : Result PlanTree CertFault → Type 0 where
     same_line : line ≡ line_of p.ops t → EndsAt line t (Ok t)
     other_line : (line ≡ line_of p.ops t → ⊥) → EndsAt line t (Err (C5 (line_of p.ops t)))
 
-  -- the steps from number `n` on, and then the line
+  -- the result of the steps from number `n` on, and of the comparison of the line after them
   abbrev pub Follow : List ℕ → ℕ → PlanTree → List Step → Result PlanTree CertFault → Type 0
   Follow line n t [] r = EndsAt line t r
   Follow line n t (s ∷ steps) r = ((fault : CertFault) × StepTo n t s (Err fault) × (r ≡ Err fault)) ⊎ ((u : PlanTree) × StepTo n t s (Ok u) × Follow line (n + 1) u steps r)
@@ -45,15 +46,15 @@ module _ (p : ProgramData) where
   abbrev pub Follows : Certificate → Result PlanTree CertFault → Type 0
   Follows c r = Follow c.plan 1 p.plan c.steps r
 
-  -- before every step: the certificate's version isn't the program's
+  -- before any step: whether the certificate's version is the program's
   abbrev pub Checks : Certificate → Result PlanTree CertFault → Type 0
   Checks c r = ((c.version ≡ p.version → ⊥) × (r ≡ Err (C6 c.version p.version))) ⊎ ((c.version ≡ p.version) × Follows c r)
 
-  -- ---- what is written down
+  -- ---- the certificate of given exchanges
 
   abbrev pub step_of : Condition → Step
   step_of c = record { rule = word_of c.rule; at = name_at p.ops c.at; upper = c.upper; lower = c.lower }
 
-  -- exchanges, and the plan that they lead to
+  -- the certificate of exchanges and of the plan that they lead to
   abbrev pub certificate_of : List Condition → PlanTree → Certificate
   certificate_of by end = record { version = p.version; steps = map step_of by; plan = line_of p.ops end }

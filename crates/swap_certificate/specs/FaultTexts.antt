@@ -1,4 +1,4 @@
--- The lines that tell why a certificate is refused.
+-- The lines that say why a certificate is refused.
 use Rattle.std.specs.Prelude.{◌++◌, ◌-◌, ℕ, List, [], Option, Some, None, codes, decimal, slice_get}
 use Rattle.reorder_pair.specs.declared.finding.Found.{Found}
 use Rattle.reorder_pair.specs.declared.legality.Clash.{Clash}
@@ -16,7 +16,7 @@ clash_word ReadWrite = codes "read-write"
 clash_word WriteRead = codes "write-read"
 clash_word WriteWrite = codes "write-write"
 
--- why an exchange isn't legal; where a rule has no place there is another fault, so the first of these is never told
+-- Why an exchange isn't legal. `NoPlace` never appears in a text: a rule without a place has the fault C1 instead.
 abbrev pub why_text : NotLegal → List ℕ
 why_text NoPlace = codes "no-place"
 why_text (Conflict kind field) = codes "conflict " ++ (clash_word kind ++ (codes " " ++ decimal field))
@@ -26,7 +26,7 @@ why_text KeyGroup = codes "key-group"
 why_text (MatchKey field) = codes "match-key " ++ decimal field
 why_text NotUnique = codes "not-unique"
 
--- a line of what is stated or found
+-- a line with one stated or found value
 abbrev pub told_line : List ℕ → List ℕ → List ℕ
 told_line what text = what ++ (text ++ codes "\n")
 

@@ -5,7 +5,7 @@ use Rattle.plan_trees.specs.Plans.{PlanTree, leaf, over, both}
 use Rattle.pact_operators.specs.declared.operators.Op.{Op}
 use Rattle.plan_printer.specs.PlanText.{operator_name}
 
--- the name of the source or operator of a number
+-- the name of the source or operator with a number
 abbrev pub name_at : List Op → ℕ → List ℕ
 name_at ops n = operator_name (slice_get ops n)
 
@@ -15,6 +15,6 @@ line_of ops (leaf n) = name_at ops n
 line_of ops (over n t) = name_at ops n ++ (codes "(" ++ (line_of ops t ++ codes ")"))
 line_of ops (both n t u) = name_at ops n ++ (codes "(" ++ (line_of ops t ++ (codes "," ++ (line_of ops u ++ codes ")"))))
 
--- the number is that of an operator, and no source, with the name
+-- the number is that of an operator with the name; a source doesn't count
 abbrev pub IsNamed : List Op → List ℕ → ℕ → Type 0
 IsNamed ops name n = (op : Op) × (slice_get ops n ≡ Some op) × (op.kind ≡ Source → ⊥) × (op.name ≡ name)

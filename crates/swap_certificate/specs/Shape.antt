@@ -13,7 +13,7 @@ use Rattle.serde_json.specs.View.{items_of}
 use Rattle.swap_certificate.specs.declared.certificates.Certificate.{Certificate}
 use Rattle.swap_certificate.specs.declared.certificates.Step.{Step}
 
--- ---- the value: members stand in the order of their keys' bytes, as every JSON value here has them
+-- ---- the value: the members of an object are ordered by the bytes of their keys, as in every JSON value here
 
 abbrev pub whole : ℕ → Data
 whole n = number (unsigned n)
@@ -49,7 +49,7 @@ certificate_with plan steps version = object (member (codes "plan") plan (member
 abbrev pub certificate_data : Certificate → Data
 certificate_data c = certificate_with (string c.plan) (array (items_of (map step_data c.steps))) (whole c.version)
 
--- ---- what may be stated
+-- ---- what a certificate may state
 
 -- a set of fields below a number
 abbrev pub IsSet : ℕ → ℕ → Type 0
@@ -61,13 +61,13 @@ pub record AreSets (most : ℕ) (f : Found) : Type 0 where
   pub control : IsSet most f.sets.control
   pub touched : IsSet most f.sets.touched
 
--- sets of fields below a number; bounds stop where counting does
+-- sets of fields below a number, and bounds of at most `many`, at which counting stops
 pub record MayBeFound (most : ℕ) (f : Found) : Type 0 where
   pub sets : AreSets most f
   pub lo : f.lo ≤ many
   pub hi : f.hi ≤ many
 
--- a plan's line has at most so many bytes
+-- the most bytes of a plan's line
 abbrev pub line_limit : ℕ
 line_limit = 4096
 
@@ -80,7 +80,7 @@ pub record MayBeStep (most : ℕ) (s : Step) : Type 0 where
   pub upper : MayBeFound most s.upper
   pub lower : MayBeFound most s.lower
 
--- the version tells which fields a set may have
+-- the version decides which fields a set may have
 pub record MayBeStated (c : Certificate) : Type 0 where
   pub version : IsVersion c.version
   pub steps : AllByRecursion (MayBeStep (field_limit c.version)) c.steps
@@ -88,12 +88,12 @@ pub record MayBeStated (c : Certificate) : Type 0 where
 
 -- ---- shape and text
 
--- the JSON value has the shape of a certificate, and this is the certificate
+-- the JSON value has the shape of a certificate, and this is that certificate
 pub record IsShaped (c : Certificate) (value : Data) : Type 0 where
   pub stated : MayBeStated c
   pub is : value ≡ certificate_data c
 
--- the text is that of a JSON value which has the shape
+-- the text is JSON for a value of this shape
 pub record IsCertificateText (text : List ℕ) (c : Certificate) : Type 0 where
   pub is_text : IsUtf8 text
   pub value : Data

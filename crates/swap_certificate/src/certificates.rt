@@ -1,4 +1,4 @@
-//! What a certificate states, and why it may be refused.
+//! The contents of a certificate, and why it may be refused.
 
 ghost use Rattle.std.specs.Prelude.{◌≡◌, ◌<◌, ◌++◌, ◌∷◌, [], IfErr, OnErr, OnOk, Some, length, slice_get};
 
@@ -7,10 +7,11 @@ use reorder_pair::{Found, NotLegal};
 use std::alloc::{AllocFailed, Global};
 use std::marker::Model;
 
-/// A plan's line has at most so many bytes.
+/// The most bytes of a plan's line.
 pub(crate) const MAX_LINE: usize = 4096;
 
-/// A stated exchange: the word of its rule, the name of its upper operator, and what is stated of the two operators.
+/// A stated exchange: the word of its rule, the name of its upper operator, and the sets and bounds that it states for
+/// the two operators.
 #[derive(Debug, Drop)]
 pub struct Step {
     pub rule: Word,
@@ -47,7 +48,7 @@ impl Steps {
         }
     }
 
-    /// Puts a step behind the others.
+    /// Appends a step.
     pub fn push(&mut self, step: Step) -> Result<(), AllocFailed<Step>>
         ensures ok { OnOk result (self.new ≡ self.old ++ step ∷ []) }
         ensures err { OnErr result (self.new ≡ self.old) }
@@ -76,8 +77,8 @@ impl Steps {
     }
 }
 
-/// The version of the language, exchanges from the plan as written on, and the line of the plan that they are said to lead to: `NAME`, `NAME(LINE)` or `NAME(LINE,LINE)` from the
-/// plan's root.
+/// The version of the language, the exchanges from the plan as written, and the line of the plan that they are said to
+/// lead to. The line is `NAME`, `NAME(LINE)` or `NAME(LINE,LINE)` from the plan's root.
 #[derive(Debug, Drop)]
 pub struct Certificate {
     pub version: u32,
@@ -85,8 +86,8 @@ pub struct Certificate {
     pub plan: Bytes,
 }
 
-/// Why a certificate is refused: before all steps C6, at its first step with a fault the first that stands in the order C2, C1, C3, C4, and behind all steps C5. Steps are
-/// counted from 1.
+/// Why a certificate is refused. C6 is checked before all steps, and C5 after them. The faults of a step are checked in
+/// the order C2, C1, C3, C4, and the first step with a fault is reported. Steps are counted from 1.
 #[derive(Debug, Drop)]
 pub enum CertFault {
     /// No operator has the name, or the rule has no place there.
@@ -97,7 +98,7 @@ pub enum CertFault {
     C2 {
         step: u64,
     },
-    /// This is found of the two operators, and something else is stated.
+    /// The sets and bounds found for the two operators aren't the stated ones.
     C3 {
         step: u64,
         upper: Found,
@@ -108,25 +109,25 @@ pub enum CertFault {
         step: u64,
         why: NotLegal,
     },
-    /// The steps lead to the plan of this line, and another is stated.
+    /// The steps lead to the plan with this line, but another line is stated.
     C5 {
         found: Bytes,
     },
-    /// It states another version than the program's.
+    /// The stated version isn't the program's.
     C6 {
         stated: u32,
         found: u32,
     },
-    /// There is too little memory to tell.
+    /// Out of memory; the certificate wasn't fully checked.
     Memory,
 }
 
 /// Why a text isn't a certificate.
 #[derive(Clone, Copy, Debug, PartialEq, Eq)]
 pub enum NotCertificate {
-    /// It is no JSON value, or one of another shape.
+    /// It isn't JSON, or its JSON value has another shape.
     Shape,
-    /// There is too little memory to tell.
+    /// Out of memory; the text wasn't fully checked.
     Memory,
 }
 

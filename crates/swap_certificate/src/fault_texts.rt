@@ -1,4 +1,4 @@
-//! Why a certificate is refused, as text.
+//! The text that says why a certificate is refused.
 
 ghost use Rattle.std.specs.Prelude.{◌≡◌, ◌++◌, ◌-◌, IfOk, OnOk, codes, decimal, slice_get};
 ghost use Rattle.plan_printer.specs.FoundText.{found_text};
@@ -61,7 +61,7 @@ fn why_text(alloc: Global, why: NotLegal) -> Result<Bytes, OutOfMemory>
     }
 }
 
-// Puts a line of what is stated or found behind others.
+// Appends a line with one stated or found value.
 fn push_told(text: &mut Bytes, what: &[u8], told: &[u8]) -> Result<(), OutOfMemory>
     ensures { OnOk result (text.new ≡ text.old ++ texts.told_line what.now told.now) }
 {
@@ -70,7 +70,7 @@ fn push_told(text: &mut Bytes, what: &[u8], told: &[u8]) -> Result<(), OutOfMemo
     text.extend_from_slice(b"\n")
 }
 
-// Puts a line of the one and a line of the other behind what is there, each behind the words for it.
+// Appends a line for the upper operator and a line for the lower one. Each begins with the words given for it.
 fn push_both(
     alloc: Global,
     text: &mut Bytes,
@@ -85,7 +85,8 @@ fn push_both(
     push_told(text, of_lower, found_text(alloc, lower)?.bytes())
 }
 
-// The sets that the step of a number states, a line each; none where there is no such step. Steps are counted from 1.
+// Appends a line for each of the two operators of the step with this number, with the sets that the step states. It
+// appends nothing if no such step exists. Steps are counted from 1.
 fn push_stated(
     alloc: Global,
     text: &mut Bytes,
@@ -118,7 +119,7 @@ fn push_found(
     push_both(alloc, text, b"found upper ", upper, b"found lower ", lower)
 }
 
-// Puts the line that names a step and its fault behind what is there.
+// Appends the line that names a step and its fault.
 fn push_step(alloc: Global, text: &mut Bytes, step: u64, what: &[u8]) -> Result<(), OutOfMemory>
     ensures { OnOk result (text.new ≡ text.old ++ texts.step_line step what.now) }
 {
@@ -172,7 +173,7 @@ fn push_versions(
     push_told(text, b"found ", found.as_bytes())
 }
 
-// Puts the lines of a fault behind what is there.
+// Appends the lines of a fault.
 fn push_fault(
     alloc: Global,
     text: &mut Bytes,
@@ -198,8 +199,9 @@ fn push_fault(
     }
 }
 
-/// What is told of a certificate with a fault: one line, and behind it of C3 what is stated and what is found of the upper and of the lower operator,
-/// of C5 the stated plan line and that of the plan which is reached, and of C6 the stated version and the program's. Want of memory is the only error.
+/// The text for a certificate with a fault: one line, and for three faults more lines. For C3 they have what is stated
+/// and what is found for the upper and the lower operator. For C5 they have the stated plan line and the line of the
+/// plan that was reached. For C6 they have the stated version and the program's. Out of memory is the only error.
 pub fn fault_text(alloc: Global, c: &Certificate, fault: &CertFault) -> Result<Bytes, OutOfMemory>
     ensures { IfOk result (λ text. text ≡ texts.fault_text c.now fault.now) }
 {
@@ -208,7 +210,7 @@ pub fn fault_text(alloc: Global, c: &Certificate, fault: &CertFault) -> Result<B
     Ok(text)
 }
 
-/// What is told of a text that is no certificate.
+/// The text for input that isn't a certificate.
 pub fn not_certificate_text() -> &'static [u8]
     ensures { result.now ≡ texts.not_certificate_text }
 {

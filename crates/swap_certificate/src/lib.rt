@@ -1,10 +1,12 @@
-//! Certificates: how legal exchanges lead from the plan as written to another plan, in a form that is checked by itself.
+//! Certificates: the legal exchanges that lead from the plan as written to another plan, in a form that can be checked
+//! on its own.
 //!
-//! `certificate` writes down exchanges with what was found of their operators, and the plan that they lead to. `recheck` believes none of it: it
-//! follows the steps from the plan as written, finds the sets anew, asks whether each exchange is legal, and compares. `write_certificate` and
-//! `read_certificate` go from a certificate to its JSON text and back; `certificate_line` writes it as a line, which is read as the same certificate.
-//! `fault_text` tells why one is refused. `specs/Checks` has what a certificate comes to, `specs/Shape` its JSON value,
-//! `specs/FaultTexts` the lines that are told.
+//! `certificate` writes down exchanges with the sets found for their operators, and the plan that they lead to.
+//! `recheck` trusts none of it: it follows the steps from the plan as written, finds the sets again, checks that each
+//! exchange is legal, and compares. `write_certificate` and `read_certificate` convert a certificate to JSON text and
+//! back. `certificate_line` writes it as one line, which is read as the same certificate. `fault_text` says why a
+//! certificate is refused. `specs/Checks` defines the result of a certificate, `specs/Shape` its JSON value, and
+//! `specs/FaultTexts` the lines for a refusal.
 #![tactic(auto)]
 
 pub mod certificates;

@@ -1,4 +1,4 @@
-//! From exchanges to their certificate.
+//! Makes the certificate of exchanges.
 
 ghost use Rattle.std.specs.Prelude.{◌≡◌, IfOk, Ok};
 ghost use Rattle.reorder_pair.specs.ToldExchanges.{Lead};
@@ -14,7 +14,7 @@ use pact_record::{OutOfMemory, Word};
 use reorder_pair::Condition;
 use std::alloc::Global;
 
-// The name of an operator, or an empty one where there is none of that number.
+// The name of an operator, or an empty name if there is none with that number.
 fn name_of(alloc: Global, ops: &[Op], at: u32) -> Result<Word, OutOfMemory>
     ensures { IfOk result (λ name. name ≡ name_at ops.now at) }
 {
@@ -38,8 +38,9 @@ fn stated(alloc: Global, program: &Program, condition: &Condition) -> Result<Ste
     })
 }
 
-/// The certificate of exchanges, one step for each, and of the plan that they lead to. Where they are legal and lead there from the plan as written,
-/// `recheck` accepts it, and where names are as texts have them, it can be written. Want of memory is the only error.
+/// The certificate of exchanges, one step for each, and of the plan that they lead to. If the exchanges are legal and
+/// lead there from the plan as written, `recheck` accepts it. If the names are also ones that a program text can have,
+/// it can be written. Out of memory is the only error.
 pub fn certificate(
     alloc: Global,
     program: &Program,
@@ -54,7 +55,7 @@ pub fn certificate(
     for condition in by {
         steps.push(stated(alloc, program, condition)?)?;
     }
-    // Its clause says that the numbers of a plan differ, so that they are few.
+    // this call shows the prover that the numbers of a plan differ, so that there are few of them
     let _root = end.root();
     let plan = plan_line(alloc, program.ops(), end)?;
     Ok(Certificate {

@@ -9,14 +9,14 @@ use pact_operators::{Op, OpKind, Parts, Plan};
 use pact_record::{Bytes, OutOfMemory};
 use std::alloc::Global;
 
-// Whether this is an operator, and has the name.
+// Whether this is an operator with the name. A source isn't one.
 fn has_name(op: &Op, name: &[u8]) -> bool
     ensures { IsTrue result ↔ ((op.now.kind ≡ Source → ⊥) × (op.now.name ≡ name.now)) }
 {
     op.kind != OpKind::Source && op.name.bytes() == name
 }
 
-/// The number of the first operator with the name. A source isn't one.
+/// The number of the first operator with the name. A source doesn't count.
 pub fn operator_named(ops: &[Op], name: &[u8]) -> Option<u32>
     requires few { length ops.now ≤ node_limit }
     ensures some { IfSome result (IsNamed ops.now name.now) }
@@ -39,7 +39,7 @@ fn push_name(ops: &[Op], at: u32, line: &mut Bytes) -> Result<(), OutOfMemory>
     }
 }
 
-// Puts the line of a plan behind what is there.
+// Appends the line of a plan.
 fn push_line(ops: &[Op], plan: &Plan, line: &mut Bytes) -> Result<(), OutOfMemory>
     ensures { OnOk result (line.new ≡ line.old ++ line_of ops.now plan.now) }
 {

@@ -1,4 +1,4 @@
-//! From a text to the certificate that it is.
+//! Reads certificates from texts.
 
 ghost use Rattle.std.specs.Prelude.{◌≡◌, ◌≤◌, Bool, ℕ, IfNone, IfOk, IfSome, List, map, ◌++◌, ◌∷◌, [], OnOk};
 ghost use Rattle.std.specs.List.{AllByRecursion};
@@ -27,7 +27,7 @@ use tac_syntax::field_limit;
 
 // ---- objects, whose members come in the order of their keys
 
-// The next member's value, where its key is this one.
+// The next member's value, if its key is `key`.
 fn next_named<'a>(members: &mut Iter<'a, String, Value>, key: &str) -> Option<&'a Value>
     ensures some { IfSome result (λ value. members_view members.old ≡ member key.now (view value.now) (members_view members.new)) }
     ensures none { IfNone result ((d : Data) (rest : Members) → members_view members.old ≡ member key.now d rest → ⊥) }
@@ -133,7 +133,7 @@ fn certificate_parts(value: &Value) -> Option<CertificateParts<'_>>
 
 // ---- numbers, texts and sets
 
-// A whole number up to a limit; JSON's `1.0`, `1e0` and `-0` aren't whole.
+// A whole number up to a limit. JSON's `1.0`, `1e0` and `-0` don't count as whole numbers.
 fn read_whole(value: &Value, limit: u32) -> Option<u32>
     ensures some { IfSome result (λ n. (n ≤ limit) × (view value.now ≡ whole n)) }
     ensures none { IfNone result ((n : ℕ) → n ≤ limit → view value.now ≡ whole n → ⊥) }
@@ -145,7 +145,7 @@ fn read_whole(value: &Value, limit: u32) -> Option<u32>
     Some(n as u32)
 }
 
-// A text of at most so many bytes.
+// A text of at most `limit` bytes.
 fn read_text(value: &Value, limit: usize) -> Option<&str>
     ensures some { IfSome result (λ text. IsShortText limit text.now × (view value.now ≡ string text.now)) }
     ensures none { IfNone result ((text : List ℕ) → IsShortText limit text → view value.now ≡ string text → ⊥) }
@@ -157,7 +157,7 @@ fn read_text(value: &Value, limit: usize) -> Option<&str>
     Some(text)
 }
 
-// The sides that an anchor's word tells.
+// The sides that an anchor's word names.
 fn sides_of(word: &str) -> Option<(bool, bool)>
     ensures some { IfSome result (λ sides. word.now ≡ anchor_word sides.0 sides.1) }
     ensures none { IfNone result ((left right : Bool) → word.now ≡ anchor_word left right → ⊥) }
@@ -184,7 +184,7 @@ fn read_sides(value: &Value) -> Option<(bool, bool)>
     sides_of(value.as_str()?)
 }
 
-// The set of the fields below a number that values are, strictly rising.
+// The set whose fields are these values, which must be below the limit and strictly rising.
 fn rising_set(limit: u32, items: &[Value]) -> Option<Fields>
     requires limit { (1 ≤ limit) × (limit ≤ MAX_FIELDS) }
     ensures set { IfSome result (λ set. IsSet limit set) }
@@ -212,7 +212,7 @@ fn read_set(limit: u32, value: &Value) -> Option<Fields>
     rising_set(limit, value.as_array()?)
 }
 
-// ---- what is stated of an operator
+// ---- the sets and bounds stated for an operator
 
 fn read_found(limit: u32, value: &Value) -> Option<Found>
     requires limit { (1 ≤ limit) × (limit ≤ MAX_FIELDS) }
@@ -274,7 +274,7 @@ fn read_step(alloc: Global, limit: u32, value: &Value) -> Result<Step, NotCertif
     })
 }
 
-// Its clause is what a refused push leaves out: only memory refuses it.
+// This call adds to the contract of `push` that out of memory is its only error.
 fn push_step(steps: &mut Steps, step: Step) -> Result<(), OutOfMemory>
     ensures { OnOk result (steps.new ≡ steps.old ++ step ∷ []) }
 {
@@ -344,8 +344,8 @@ fn shaped(alloc: Global, value: &Value) -> Result<Certificate, NotCertificate>
     })
 }
 
-/// The certificate that a text is: JSON of the shape that `write_certificate` writes, with blanks and the keys of an object in any order. A key that
-/// comes twice counts as it comes last.
+/// Reads a certificate from a text. The text is JSON of the shape that `write_certificate` writes; blanks are allowed,
+/// and an object's keys may be in any order. If a key comes twice, its last value counts.
 pub fn read_certificate(alloc: Global, bytes: &[u8]) -> Result<Certificate, NotCertificate>
     ensures certificate { IfOk result (IsCertificateText bytes.now) }
     ensures only { IfOk result (λ c. (other : CertificateData) → IsCertificateText bytes.now other → other ≡ c) }

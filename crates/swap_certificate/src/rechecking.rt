@@ -1,4 +1,4 @@
-//! Following the steps of a certificate.
+//! Follows the steps of a certificate.
 
 ghost use Rattle.std.specs.Prelude.{◌≡◌, ◌↔◌, ◌⊎◌, IfOk, IsTrue, Result, Err};
 ghost use Rattle.plan_trees.specs.Plans.{PlanTree};
@@ -18,7 +18,7 @@ use reorder_group::{apply, legal_for, other_is_unique};
 use reorder_pair::{Findings, Found, Rule};
 use std::alloc::Global;
 
-// Whether a step states what is found.
+// Whether a step states the sets and bounds that are found.
 fn are_stated(upper: &Found, lower: &Found, step: &Step) -> bool
     ensures { IsTrue result ↔ ((upper.now ≡ step.now.upper) × (lower.now ≡ step.now.lower)) }
 {
@@ -42,7 +42,7 @@ fn check_step(
     let Some(rule) = Rule::of_word(step.rule.bytes()) else {
         return Err(CertFault::C2 { step: number });
     };
-    // Its clause says that the numbers of a plan are small, and each operator's is one.
+    // this call shows the prover that the numbers of a plan are small, and that each operator's is among them
     let _root = plan.root();
     let Some(at) = operator_named(program.ops(), step.at.bytes()) else {
         return Err(CertFault::C1 { step: number });
@@ -75,7 +75,7 @@ fn is_line(line: &[u8], stated: &[u8]) -> bool
     line == stated
 }
 
-// The plan that the steps lead to, where its line is the stated one; the version isn't asked for.
+// The plan that the steps lead to, if its line is the stated one. The version isn't checked here.
 fn followed(alloc: Global, program: &Program, c: &Certificate) -> Result<Plan, CertFault>
     requires names { NamesDiffer program.now.ops }
     ensures checked { (result ≡ Err Memory → ⊥) → Follows program.now c.now result }
@@ -108,9 +108,10 @@ fn is_version(program: &Program, c: &Certificate) -> bool
     c.version == program.version()
 }
 
-/// The plan that a certificate leads to, or its first fault. Nothing that it states is believed: its version is compared, each rule and operator is
-/// looked up, the sets are found anew, each exchange is asked for, and the line of the plan is compared. An operator is analysed once for each context
-/// that the steps give it. No two sources or operators of the program have the same name, as in each that `check_program` gives.
+/// The plan that a certificate leads to, or its first fault. Nothing that it states is trusted: its version is
+/// compared, each rule and operator is looked up, the sets are found again, each exchange is checked, and the line of
+/// the plan is compared. An operator is analysed once for each context that the steps give it. No two sources or
+/// operators of the program may have the same name; programs that `check_program` returns meet this.
 pub fn recheck(alloc: Global, program: &Program, c: &Certificate) -> Result<Plan, CertFault>
     requires names { NamesDiffer program.now.ops }
     ensures checked { (result ≡ Err Memory → ⊥) → Checks program.now c.now result }
@@ -120,7 +121,7 @@ pub fn recheck(alloc: Global, program: &Program, c: &Certificate) -> Result<Plan
     ensures answers { IfOk result (KeepAnswers program.now program.now.plan) }
     ensures plan { IfOk result (IsPlanOf program.now.functions program.now.ops) }
 {
-    // Its clause says that the program keeps every rule.
+    // this call shows the prover that the program keeps every rule
     let _fields = program.fields();
     if !is_version(program, c) {
         return Err(CertFault::C6 {

@@ -1,4 +1,4 @@
-//! From a certificate to its text.
+//! Writes certificates as texts.
 
 ghost use Rattle.std.specs.Prelude.{◌≡◌, ◌++◌, IfOk, IsUtf8, ℕ, codes, map};
 ghost use Rattle.std.specs.List.{AllByRecursion};
@@ -42,7 +42,7 @@ fn found_value(alloc: Global, found: &Found) -> Result<Value, OutOfMemory>
     })
 }
 
-// Bytes that are UTF-8, as text.
+// UTF-8 bytes as text.
 fn text_of(bytes: &[u8]) -> &str
     requires { IsUtf8 bytes.now }
     ensures { result.now ≡ bytes.now }
@@ -84,8 +84,9 @@ fn certificate_value(alloc: Global, c: &Certificate) -> Result<Value, OutOfMemor
     json!(in alloc; {"plan": plan, "steps": steps, "version": c.version})
 }
 
-/// A certificate as text: JSON without blanks, each object's keys in the order of their bytes, and no line end. Its rules, names and plan line are
-/// UTF-8 of at most 200, 200 and 4,096 bytes, and its bounds are at most 1,000,000. Want of memory is the only error.
+/// A certificate as text: JSON without blanks, each object's keys in the order of their bytes, and no line end. Its
+/// rules, names and plan line are UTF-8 of at most 200, 200 and 4,096 bytes, and its bounds are at most 1,000,000. Out
+/// of memory is the only error.
 pub fn write_certificate(alloc: Global, c: &Certificate) -> Result<Bytes, OutOfMemory>
     requires stated { MayBeStated c.now }
     ensures text { IfOk result (λ text. text ≡ compact_text (certificate_data c.now)) }
@@ -96,8 +97,8 @@ pub fn write_certificate(alloc: Global, c: &Certificate) -> Result<Bytes, OutOfM
     Ok(Bytes::from_vec(value.to_vec(alloc)?))
 }
 
-/// A certificate's text and a line end: one line, which is read as the certificate alone is. What may be written is as for `write_certificate`. Want of
-/// memory is the only error.
+/// A certificate as one line: its text and a line end. Reading the line returns the same certificate as reading the
+/// text. The limits are those of `write_certificate`. Out of memory is the only error.
 pub fn certificate_line(alloc: Global, c: &Certificate) -> Result<Bytes, OutOfMemory>
     requires stated { MayBeStated c.now }
     ensures text { IfOk result (λ text. text ≡ compact_text (certificate_data c.now) ++ codes "\n") }

@@ -95,7 +95,7 @@ module _ (c : Scope) (single : is_cogroup c.kind ≡ false) where
     case true = e
     case false = e
 
-  -- A record that is set stands in a register that there is; any other number sets none.
+  -- Setting a register that exists sets its record; any other number sets nothing.
   set_left : (k : State) (to : ℕ) (g : Held) → (OnLeft (record_at c.fields k to) → OnLeft g) → AllLeft k → AllLeft (record k { records = slice_set k.records to g })
   set_left k to g keeps h = elim (cases_lt to record_registers) as (λ _. AllLeft (record k { records = slice_set k.records to g })) [
     | inl p ↦ with_record k to g h (keeps (record_at-left k to p h))

@@ -1,4 +1,4 @@
--- Two calls for groups that agree record by record in what is read can be followed side by side.
+-- Two calls for groups that agree, record by record, in what is read can be followed side by side.
 use Rattle.std.proofs.Common.{◌≡◌, ◌<◌, ◌+◌, ℕ, true, false, List, [], inl, inr, length, get_or, refl, sym, ap, ◌∙◌, arith}
 use Rattle.std.specs.List.{AllByRecursion, AllZip}
 use Rattle.std.proofs.lemmas.Bool.{or_left, or_right, cases_lt}
@@ -22,7 +22,7 @@ use Rattle.tac_flow.proofs.TwoCalls.{anchor_at, Sub, SameRecord, IsCall, AreCall
 use Rattle.tac_flow.proofs.StartingRecords.{key_is, key_same, null_outside, empty_same, first_same, scope}
 
 module _ (fields : ℕ) (a b : FieldSet) (ks js : List ℕ) where
-  -- a group
+  -- ---- one group
 
   group_call : (key : List Value) (g : List (List Value)) → AllByRecursion (IsWithin fields (Has a)) g → HaveKey ks key g → IsCall (scope Reduce fields a b ks js) (of_group key g)
   group_call key g h e = record { wide = λ side p lt. (AllByRecursion-get_or (IsWithin fields (Has a)) g p [] lt h).width; keys = keys; null = λ side p lt k e. null_outside (AllByRecursion-get_or (IsWithin fields (Has a)) g p [] lt h) k e } where
@@ -31,7 +31,7 @@ module _ (fields : ℕ) (a b : FieldSet) (ks js : List ℕ) where
     keys left p lt at k m = key_is ks (get_or g p []) at k m ∙ ap (λ (l : List Value). get_or l at Null) (AllByRecursion-get_or (λ row. key_of ks row ≡ key) g p [] lt e)
     keys right p lt at k m = cc
 
-  -- equal key values, by the records of a list that has some
+  -- equal key values, from the records of a list that isn't empty
   key_by : (R : FieldSet) (key other : List Value) (fs : List ℕ) (g h : List (List Value)) (at : ℕ) → 0 < length g → HaveKey fs key g → HaveKey fs other h → AllZip (Agree R) g h
       → Sub (is_key_at fs at) R → get_or key at Null ≡ get_or other at Null
   key_by R key other fs g h at some_row kg kh agree sub =
@@ -77,7 +77,7 @@ module _ (fields : ℕ) (a b : FieldSet) (ks js : List ℕ) where
     given depth rows others sides k First i =
         first_same R fields (of_group key g) (of_group other h) depth rows others (get_or g 0 []) (get_or h 0 []) row.width col.width some_row refl refl
 
-  -- a group of either side
+  -- ---- a group on either side
 
   groups_call : (key : List Value) (l r : List (List Value)) → AllByRecursion (IsWithin fields (Has a)) l → AllByRecursion (IsWithin fields (Has b)) r → HaveKey ks key l → HaveKey js key r
       → IsCall (scope CoGroup fields a b ks js) (of_groups key l r)

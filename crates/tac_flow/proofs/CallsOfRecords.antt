@@ -1,4 +1,4 @@
--- Two calls for a record each, or for a pair each, that agree in what is read can be followed side by side.
+-- Two calls for one record each, or for one pair each, that agree in what is read can be followed side by side.
 use Rattle.std.proofs.Common.{◌≡◌, ◌<◌, ℕ, zero, suc, true, false, List, length, refl, sym, ap, ◌∙◌, arith}
 use Rattle.std.proofs.lemmas.Bool.{or_parts}
 use Rattle.std.proofs.lemmas.List.{length-replicate}
@@ -25,7 +25,7 @@ abbrev pub PairKind : Kind → Type 0
 PairKind kind = (is_pairing kind ≡ true)
 
 module _ (fields : ℕ) (a b : FieldSet) (ks js : List ℕ) (disjoint : (k : ℕ) → a k ≡ true → b k ≡ false) where
-  -- one record
+  -- ---- one record
 
   one_call : (row : List Value) → IsWithin fields (Has a) row → IsCall (scope Map fields a b ks js) (of_record row)
   one_call row h = record { wide = wide; keys = λ side p lt at k m. cc; null = null } where
@@ -67,7 +67,7 @@ module _ (fields : ℕ) (a b : FieldSet) (ks js : List ℕ) (disjoint : (k : ℕ
     given depth rows others sides k Join i = cc
     given depth rows others sides k First i = cc
 
-  -- two records
+  -- ---- two records
 
   record_pair : (l r : List Value) → IsWithin fields (Has a) l → IsWithin fields (Has b) r → length (joined_record l r) ≡ fields
   record_pair l r h g = length-joined_record l r (h.width ∙ sym g.width) ∙ h.width

@@ -1,4 +1,4 @@
--- Facts of each item of a list, of a mapped list, and of two lists that are joined place by place.
+-- Facts about each item of a list, of a mapped list, and of two lists that are joined place by place.
 use Rattle.std.proofs.Common.{◌≡◌, ℕ, zero, suc, List, [], ◌∷◌, length, get_or, slice_set, map, replicate, refl, ap, arith}
 use Rattle.std.specs.List.{AllByRecursion}
 use Rattle.std.proofs.lemmas.List.Elements.{All-set, All-replicate, All-from_recursion, recursion_from_All}
@@ -7,7 +7,7 @@ use Rattle.tac_flow.specs.Known.{zipped}
 pub AllByRecursion-set : {A : Type 0} (P : A → Type 0) (xs : List A) (n : ℕ) (a : A) → AllByRecursion P xs → P a → AllByRecursion P (slice_set xs n a)
 AllByRecursion-set P xs n a h p = recursion_from_All P (slice_set xs n a) (All-set P xs n a p (All-from_recursion P xs h))
 
--- at any place, where it holds of the default, too
+-- at any place, if it holds for the default, too
 pub AllByRecursion-at_any : {A : Type 0} (P : A → Type 0) (xs : List A) (n : ℕ) (d : A) → AllByRecursion P xs → P d → P (get_or xs n d)
 AllByRecursion-at_any P [] n d h p = p
 AllByRecursion-at_any P (x ∷ xs) zero d h p = h.0

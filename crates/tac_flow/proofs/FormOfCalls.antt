@@ -32,7 +32,7 @@ use Rattle.tac_flow.proofs.LawfulInputs.{calls_of, lists_of}
 use Rattle.tac_flow.proofs.BasesOnTheLeft.{walk-left, start-left}
 use Rattle.tac_flow.proofs.NotesCover.{IsCovered, are_covered, anchored_left, told_anchored, told_alone}
 
--- two calls as they begin
+-- two calls at their beginning
 start_twins : (R : FieldSet) (c : Scope) (x y : CallInput) → AreCalls R c x y → AreTwins R c x y [] (start_state c) (start_store c.fields x) (start_store c.fields y)
 start_twins R c x y calls = record {
   values = Each-replicate (SameValue R x y 0 [] []) value_registers constant Null Null (record { same = λ _. refl; own = tt; other = tt });
@@ -52,7 +52,7 @@ start_twins R c x y calls = record {
 }
 
 module _ (c : Scope) (body : Code) (fine : IsWellFormed c.kind c.fields 0 body) (small : IsSmallScope c) where
-  -- what is told of each emitted record is told of all
+  -- what holds for each emitted record, step by step, holds for all
   pub told_of : (R : FieldSet) (x y : CallInput) → IsLawful c.kind c.fields (ports_in c) x → IsLawful c.kind c.fields (ports_in c) y → (agree : InputsAgree R x y) → (Good : Note → Type 0) (Rel : List (List Value) → List (List Value) → Type 0)
       → (AreCalls R c x y → IsTold R c x y Good Rel) → AllByRecursion Good (notes_of c body) → Rel [] [] → Rel (Out c.fields body x) (Out c.fields body y)
   told_of R x y h g agree Good Rel told good none =
@@ -73,7 +73,7 @@ module _ (c : Scope) (body : Code) (fine : IsWellFormed c.kind c.fields 0 body) 
   reads_common : (k : ℕ) → writes_in (notes_of c body) k ≡ true → common_in c.fields (notes_of c body) k ≡ false → reads_in c (notes_of c body) k ≡ true
   reads_common k m out = or_right _ _ (and_from _ _ m (not_from_false _ out))
 
-  -- the calls have this form
+  -- the calls have this form on a side
   abbrev FormOn : FieldSet → FieldSet → Side → Type 0
   FormOn reads writes side = HasForm c.kind c.fields (ports_in c) reads writes side (Out c.fields body)
 
@@ -88,7 +88,7 @@ module _ (c : Scope) (body : Code) (fine : IsWellFormed c.kind c.fields 0 body) 
   left_notes : is_cogroup c.kind ≡ false → anchored_in left (notes_of c body) ≡ true
   left_notes single = anchored_left (notes_of c body) (walk-left c single body [] 0 (start_state c) refl tt fine (start-left c single)).1
 
-  -- ---- anchored on none
+  -- ---- anchored on neither side
 
   same_all : (a b : List Value) → length a ≡ c.fields → length b ≡ c.fields → Agree (fields_below c.fields) a b → Agree (λ k. true) a b
   same_all a b wa wb h k m = elim (cases_lt k c.fields) as (λ _. at_field a k ≡ at_field b k) [
@@ -120,7 +120,7 @@ module _ (c : Scope) (body : Code) (fine : IsWellFormed c.kind c.fields 0 body) 
 
   -- ---- all kinds
 
-  -- the side matters for a CoGroup alone
+  -- the side matters only for a CoGroup
   same_anchors : (kind : Kind) (x : CallInput) → is_cogroup kind ≡ false → IsInputOf kind x → anchors right x ≡ anchors left x
   same_anchors kind (of_record row) single h = refl
   same_anchors kind (of_pair l r) single h = refl

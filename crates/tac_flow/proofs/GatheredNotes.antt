@@ -1,4 +1,4 @@
--- What was gathered as it came is what the notes say.
+-- What was gathered note by note is the summary of the notes.
 use Rattle.std.proofs.Common.{◌≡◌, ◌&&◌, ◌||◌, nat_lt, ℕ, Bool, true, List, [], ◌∷◌, refl, sym, ap, ◌∙◌}
 use Rattle.std.proofs.Math.Bool.{and-true, and_assoc, and_comm, or-false, or_assoc}
 use Rattle.tac_flow.specs.Known.{left, right, side_of}

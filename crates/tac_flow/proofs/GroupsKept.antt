@@ -44,7 +44,7 @@ module _ (c : Scope) (body : Code) (is : c.kind ≡ Map) (fine : IsWellFormed c.
   keeps_groups keys (inl p) = record { few = at_most_one (omega (arith, p.1)); decided = inl (exactly_one p.0 p.1) }
   keeps_groups keys (inr p) = record { few = at_most_one p.0; decided = inr (same_count keys p.1) }
 
--- The control that a function's sets have is what its notes have.
+-- The control set of a function is that of its notes.
 control_is : (kind : Kind) (c : Scope) (g : Gathered) → (found_by kind c g).control ≡ g.control
 control_is kind c g = either_form (λ s. s.control ≡ g.control) kind c g (λ l r. refl) refl
 

@@ -7,7 +7,7 @@ use Rattle.tac_flow.proofs.ThreeLists.{Each-zipped_left, Each-zipped_right}
 use Rattle.tac_flow.proofs.TwoCalls.{SameValue, SameRecord, AreTwins, AreCalls, with_registers}
 use Rattle.tac_flow.proofs.RecordsOfTwo.{value_left, value_right, record_left, record_right}
 
--- as many registers of either sort
+-- equally many registers of either sort
 pub record SameShape (a b : State) : Type 0 where
   pub values : length a.values ≡ length b.values
   pub records : length a.records ≡ length b.records

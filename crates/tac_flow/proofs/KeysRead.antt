@@ -13,7 +13,7 @@ use Rattle.tac_flow.specs.Results.{Gathered, FoundSets, anchored, by_anchors, fo
 use Rattle.tac_flow.proofs.SmallScopes.{IsSmallScope}
 use Rattle.tac_flow.proofs.TwoCalls.{Sub}
 
--- what holds of both forms of the sets holds of the sets
+-- what holds for both forms of the sets holds for the sets
 pub either_form : (P : FoundSets → Type 0) (kind : Kind) (c : Scope) (g : Gathered) → ((l r : Bool) → P (anchored l r c g)) → P (by_anchors false false c g) → P (found_by kind c g)
 either_form P Map c g h n = h false false
 either_form P Match c g h n = h false false
@@ -25,7 +25,7 @@ either_form P CoGroup c g h n = cases g.all_left g.all_right where
   cases true r = h true r
   cases false true = h false true
 
--- all fields of a list are in a set that has the list's fields
+-- all fields of a list are in a set that contains the list
 listed : (s : FieldSet) (ks : List ℕ) → Sub (is_listed ks) s → AllByRecursion (Has s) ks
 listed s [] h = tt
 listed s (k ∷ ks) h = (h k (or_left (k == k) (is_listed ks k) (eq-eqb k k refl)), listed s ks (λ j m. h j (or_right (j == k) (is_listed ks j) m)))

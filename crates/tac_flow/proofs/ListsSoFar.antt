@@ -1,4 +1,4 @@
--- Lists that are changed place by place from the front.
+-- Lists that are changed place by place from the beginning.
 use Rattle.std.proofs.Common.{◌≡◌, ◌≤◌, ◌<◌, ◌+◌, ℕ, zero, suc, List, [], ◌∷◌, ◌++◌, length, take, drop, get_or, slice_set, map, refl, sym, ap, ◌∙◌, arith}
 use Rattle.std.proofs.lemmas.List.{map-set, length-map, length-set, get_or-map, take_more_same}
 use Rattle.tac_flow.specs.Known.{zipped}
@@ -32,11 +32,11 @@ map_next f (x ∷ xs) zero (suc m) d q h = let z : 0 ≡ m = omega (arith, q) in
 map_next f (x ∷ xs) (suc n) zero d q h = absurd (omega (arith, q))
 map_next f (x ∷ xs) (suc n) (suc m) d q h = ap (λ k. f x ∷ k) (map_next f xs n m d (omega (arith, q)) (omega (arith, h)))
 
--- equal as far as the place
+-- equal up to the place
 abbrev pub SameSoFar : {A : Type 0} → List A → List A → ℕ → Type 0
 SameSoFar xs ys n = take n xs ≡ take n ys
 
--- ---- lists as they are seen
+-- ---- lists and what they represent
 
 pub zip_step : {A B : Type 0} (view : B → A) (f : A → A → A) (first now others : List B) (n : ℕ) (b o v : B)
     → (map view now ≡ zip_so_far f (map view first) (map view others) n) × (length now ≡ length first) → length first ≡ length others → n < length now

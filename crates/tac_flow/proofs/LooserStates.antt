@@ -1,5 +1,5 @@
--- When one state knows no more than another: fields that a value depends on, or in which a record may differ, are among those of the
--- other, origins are lost, and bases loosened. Joins are least upper bounds.
+-- One state knows no more than another if the fields that its values depend on, or in which its records may differ,
+-- include those of the other, origins are lost, and bases are loosened. Joins are least upper bounds.
 use Rattle.std.proofs.Common.{◌≡◌, ◌==◌, not, ℕ, zero, suc, Bool, true, false, if◌then◌else◌, Some, List, [], ◌∷◌, inl, inr, length, get_or, slice_set, map, refl, sym, ap, subst, ◌∙◌, arith}
 use Rattle.std.specs.List.{AllByRecursion}
 use Rattle.std.proofs.lemmas.Bool.{and_parts, and_from, or_left, or_right, or_cases, cases_Bool, eq-eqb, lt-ltb, ltb-true, not_from_false, false_from_ne_true, true≢false}
@@ -38,7 +38,7 @@ same_base-refl (bound name side) = and_from (name == name) (same_side side side)
 same_base-refl (some side) = same_side-refl side
 same_base-refl nowhere = refl
 
--- a base below `some side` is of that side
+-- a base that `some side` loosens is on that side
 below_some : (a : Base) (s : Side) → Loosens a (some s) → side_of a ≡ Some s
 below_some a s (inl p) = sym (ap side_of p)
 below_some a s (inr (inl p)) = p.1 ∙ sym (ap side_of p.2)
@@ -73,7 +73,7 @@ loosens_both a b (inr (inl p)) (inr (inr q)) = absurd (let e = sym p.1 ∙ ap si
 loosens_both a b (inr (inr p)) (inr (inl q)) = absurd (let e = sym q.1 ∙ ap side_of p in cc)
 loosens_both a b (inr (inr p)) (inr (inr q)) = q ∙ sym p
 
--- the same side, so a join of that side at most
+-- both bases are on the same side, so their join is at most loosened to that side
 met_same : (a b : Base) (s : Side) → side_of a ≡ Some s → side_of b ≡ Some s → met (side_of a) (side_of b) ≡ some s
 met_same a b s e f =
     (λ i. met (e i) (f i)) ∙ ap (λ (t : Bool). if t then some s else nowhere) (same_side-refl s)
@@ -211,7 +211,7 @@ module _ (n : ℕ) (g h : Held) (small : IsSmallHeld n g) (other : IsSmallHeld n
     missing = λ k m f. or_right _ _ (or_right _ _ (lost h.changed k m f));
   }
 
-  -- all that a join has changed has changed in a state that knows less than both
+  -- what a join counts as changed has changed in every state that knows less than both
   changed_least : (u : Held) → IsLoose n u → (b : Base) → Loosens b u.base → Sub (either g.changed h.changed) u.changed → Sub (changed_from n b (either g.changed h.changed)) u.changed
   changed_least u loose first l s k m = s k m
   changed_least u loose (bound name side) l s k m = s k m

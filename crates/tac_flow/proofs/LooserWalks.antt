@@ -1,5 +1,5 @@
--- A walk from a state that knows less comes to a state that knows less, where it puts no field back of which the value doesn't say
--- that it depends on it. Only in a CoGroup a value may: a key that was read on the other side.
+-- A walk from a state that knows less leads to a state that knows less, if each value that it puts back into a field
+-- depends on that field. Only in a CoGroup may a value not depend on it: a key that was read on the other side.
 use Rattle.std.proofs.Common.{◌≡◌, ◌==◌, ◌+◌, ◌++◌, ◌||◌, not, ◌&&◌, ℕ, zero, suc, Bool, true, false, if◌then◌else◌, Option, Some, None, List, [], ◌∷◌, inl, inr, length, refl, sym, ap, subst, ◌∙◌}
 use Rattle.std.specs.List.{AllByRecursion}
 use Rattle.std.proofs.lemmas.Bool.{and_parts, and_from, or_left, or_right, or_cases, cases_Bool, eqb-true, true≢false, not_from_false, not-true}
@@ -150,7 +150,7 @@ module _ (c : Scope) where
         ]
   ]
 
-  -- a base that a looser one is on the side of
+  -- if a looser base is on a side, so is the base
   on_side : (a b : Base) (s : Side) → Loosens a b → side_of b ≡ Some s → side_of a ≡ Some s
   on_side a b s (inl p) e = sym (ap side_of p) ∙ e
   on_side a b s (inr (inl p)) e = p.1 ∙ sym (ap side_of p.2) ∙ e
@@ -161,7 +161,7 @@ module _ (c : Scope) where
   named_same a b (inr (inl p)) e = absurd (true≢false (sym e ∙ ap names_one p.2))
   named_same a b (inr (inr p)) e = absurd (true≢false (sym e ∙ ap names_one p))
 
-  -- what is put back where less is known is put back where more is
+  -- what is put back with less knowledge is put back with more
   copy_less : (a b : Base) (o q : Origin) (field : ℕ) → Loosens a b → Forgets o q → is_copy c b q field ≡ true → is_copy c a o field ≡ true
   copy_less a b o q field l (inr p) h = absurd (true≢false (sym h ∙ ap (λ (z : Origin). is_copy c b z field) p))
   copy_less a b o q field l (inl p) h = of o (subst (λ (z : Origin). is_copy c b z field ≡ true) p h) where
@@ -294,7 +294,7 @@ module _ (c : Scope) where
 
 -- ---- loops
 
--- what is asked of a state in which a loop's body is begun
+-- what is required of a turn of a loop and of the states in which the loop's body begins
 pub record IsTurn (c : Scope) (turn : State → State) (Q : State → Type 0) : Type 1 where
   pub small : (j : State) → IsSmall c.fields j → IsSmall c.fields (turn j)
   pub sound : (j : State) → IsSound c j → IsSound c (turn j)
@@ -329,7 +329,7 @@ module _ (c : Scope) (scope : IsSmallScope c) where
     pub settled-turns : (k : State) → IsSound c k → IsSound c (settled c.fields turn k)
     settled-turns k h = settled-sound c scope turn t.sound k h
 
-    -- a loop that is reached with less settles with less
+    -- a loop that is reached with less knowledge settles with less
     pub settled-less : (a b : State) → IsSound c a → IsSound c b → Q a → IsLess a b → IsLess (settled c.fields turn a) (settled c.fields turn b)
     unfolding settled
     settled-less a b h g q l = repeated_less (walks_at_most c.fields) a b h g q l
@@ -345,7 +345,8 @@ module _ (c : Scope) (scope : IsSmallScope c) where
     pub settled-rest : (k : State) → IsSound c k → settled c.fields turn (settled c.fields turn k) ≡ settled c.fields turn k
     settled-rest k h = at_rest (settled c.fields turn k) (settles c.fields turn t.small k h.small)
 
-    -- ---- the theorem: with what is known already of where it settles a loop settles in the same state
+    -- ---- the theorem: a loop that is reached in a state joined with one at most that in which it settles, still
+    -- settles in it
     pub warm_start : (k m : State) → IsSound c k → IsSound c m → Q k → IsLess m (settled c.fields turn k) → settled c.fields turn (joined c.fields k m) ≡ settled c.fields turn k
     warm_start k m h g q l =
         let s = settled c.fields turn k in
@@ -382,7 +383,8 @@ module _ (c : Scope) (scope : IsSmallScope c) where
     mono = λ a b h g l q. dropped-less name _ _ (below a b h g l q).walks;
   }
 
-  -- A walk from a state that knows more comes to one that knows more, and puts back no less plainly.
+  -- If b knows less than a, the walk from b leads to a state that knows less than the one from a does, and the values
+  -- that it puts back still depend on their fields.
   pub grows : (code : Code) (sides : List Side) (depth : ℕ) (a b : State) → depth ≡ length sides → IsWellFormed c.kind c.fields depth code → IsSound c a → IsSound c b → IsLess a b → IsClean c sides code a
       → Grows code sides a b
   grows stop sides depth a b e f h g l q = record { walks = l; clean = tt }

@@ -1,4 +1,4 @@
--- What is known of two calls where a loop's name is bound anew.
+-- What is known of two calls when a loop's name is bound again.
 use Rattle.std.proofs.Common.{◌≡◌, ◌≢◌, ◌≤◌, ◌<◌, ◌==◌, ◌+◌, ◌-◌, ℕ, Bool, if◌then◌else◌, Option, Some, None, List, [], ◌∷◌, ◌++◌, inl, inr, length, take, get_or, refl, sym, ap, subst, ◌∙◌, arith}
 use Rattle.std.proofs.lemmas.Bool.{eqb-false, eq-eqb, ne_eqb, cases_Bool, cases_lt}
 use Rattle.std.proofs.lemmas.List.{length-append, length-take-le, get_or_append_left, get_or_push, get_or-take}
@@ -14,7 +14,7 @@ use Rattle.tac_flow.proofs.TwoCalls.{anchor_at, HasOrigin, HaveBase, IsOver, IsI
 
 -- ---- names are dropped
 
--- each other name of the one depth is a name of the other
+-- each name in scope at the one depth, except this one, is in scope at the other
 abbrev Inner : ℕ → ℕ → ℕ → Type 0
 Inner name d e = (n : ℕ) → InScope d n → n ≢ name → InScope e n
 
@@ -98,7 +98,7 @@ module _ (R : FieldSet) (c : Scope) (x y : CallInput) (sides : List Side) (side 
     other_fields = h.other_fields;
   }
 
-  -- a turn begins: the loops around stay bound
+  -- a turn begins: the surrounding loops stay bound
   abbrev bound_to : List (List Value) → List Value → List (List Value)
   bound_to rows row = take (name - 1) rows ++ row ∷ []
 

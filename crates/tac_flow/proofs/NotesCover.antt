@@ -1,4 +1,4 @@
--- What was written down covers each record that is emitted.
+-- The notes cover each record that is emitted.
 use Rattle.std.proofs.Common.{◌≡◌, ◌<◌, ◌+◌, ℕ, true, false, Option, Some, None, List, [], ◌∷◌, ◌++◌, length, get_or, refl, sym, ap, subst, ◌∙◌}
 use Rattle.std.specs.List.{AllByRecursion, AllZip}
 use Rattle.std.proofs.lemmas.Bool.{or_left, or_right, and_left, and_right, and_parts, and_from, both_ways, false_from_ne_true}
@@ -45,13 +45,13 @@ are_covered fields R W side (emits h ∷ ns) d n w c a =
           (λ k m out. c k m (and_right (h.changed k) (common_in fields ns k) out)) on.1,
     )
 
--- every base on the left
+-- every base is on the left
 pub anchored_left : (ns : List Note) → AllByRecursion NoteOnLeft ns → anchored_in left ns ≡ true
 anchored_left [] h = refl
 anchored_left (decides d ∷ ns) h = anchored_left ns h.1
 anchored_left (emits g ∷ ns) h = and_from (is_on left (side_of g.base)) (anchored_in left ns) (ap (is_on left) h.0) (anchored_left ns h.1)
 
--- an output of either call at a place
+-- an output of both calls begins as the anchor at a place
 abbrev IsAnchoredAt : FieldSet → List (List Value) → List (List Value) → ℕ → List Value → List Value → Type 0
 IsAnchoredAt W xs ys p r q = (p < length xs) × AreAnchored W (get_or xs p []) (get_or ys p []) r q
 
@@ -83,7 +83,7 @@ module _ (R W : FieldSet) (c : Scope) (x y : CallInput) (calls : AreCalls R c x 
         (so_far.0 ++ p.0 ∷ [], push_anchored W (anchors side x) (anchors side y) so_far.0 rs qs p.0 r q so_far.1 p.1);
   }
 
--- where both inputs agree on all fields, both outputs do
+-- if both inputs agree on all fields, both outputs do
 pub told_alone : (c : Scope) (x y : CallInput) (W : FieldSet) → AreCalls (λ k. true) c x y → IsTold (λ k. true) c x y (λ n. Unit {0}) (AllZip (Agree W))
 told_alone c x y W calls = record {
   decided = λ d g k m. refl;
@@ -100,7 +100,7 @@ are_decided R [] h = tt
 are_decided R (decides d ∷ ns) h = (λ k m. h k (or_left (d k) (control_in ns k) m), are_decided R ns (λ k m. h k (or_right (d k) (control_in ns k) m)))
 are_decided R (emits g ∷ ns) h = (tt, are_decided R ns h)
 
--- where only the branches are followed, the outputs are equally many
+-- if all that decides branches is read, there are equally many outputs
 pub told_count : (R : FieldSet) (c : Scope) (x y : CallInput) → IsTold R c x y (λ n. IsDecided R n) (λ rs qs. length rs ≡ length qs)
 told_count R c x y = record {
   decided = λ d g. g;

@@ -1,4 +1,4 @@
--- What reading, writing and joining keep of two records and of two values.
+-- What reading, writing and joining preserve of two records and of two values.
 use Rattle.std.proofs.Common.{◌≡◌, ◌≢◌, ◌≤◌, ◌<◌, ◌==◌, ◌+◌, ◌&&◌, ◌||◌, not, ℕ, suc, Bool, true, false, if◌then◌else◌, Option, Some, None, List, [], ◌∷◌, inl, inr, length, get_or, slice_set, refl, sym, ap, subst, ◌∙◌, arith}
 use Rattle.std.proofs.lemmas.Bool.{and_parts, and_cases, and_from, or_cases, or_parts, or_left, or_right, eqb-true, eqb-false, eq-eqb, cases_Bool, cases_eq, cases_lt, not-true, not-false, not_from_false, ltb-false}
 use Rattle.std.proofs.lemmas.List.{get_or_past, length-set, get_or-set_same, get_or-set_other}
@@ -16,7 +16,7 @@ use Rattle.tac_flow.proofs.LooserBases.{same_base-true, same_origin-true, Loosen
 
 -- ---- setting a field
 
--- where the record has the field, it has the value; where it hasn't, Null
+-- if the record has the field, it has the value; otherwise Null
 set_is : (r : List Value) (k : ℕ) (v w : Value) → (k < length r → v ≡ w) → (length r ≤ k → Null ≡ w) → at_field (slice_set r k v) k ≡ w
 set_is r k v w h g = elim (cases_lt k (length r)) as (λ _. at_field (slice_set r k v) k ≡ w) [
   | inl p ↦ get_or-set_same r k v Null p ∙ h p
@@ -27,7 +27,7 @@ set_both : (r q : List Value) (k : ℕ) (v w : Value) → length r ≡ length q 
 set_both r q k v w h e = set_is r k v (at_field (slice_set q k w) k) (λ there. e ∙ sym (get_or-set_same q k w Null (omega (arith, there, h))))
     (λ past. sym (get_or_past (slice_set q k w) k Null (omega (arith, past, h, length-set q k w))))
 
--- a field is the one that was set, or another
+-- a field is either the one that was set or another
 at_set : (r q : List Value) (k j : ℕ) (v w : Value) → length r ≡ length q → (j ≡ k → v ≡ w) → (j ≢ k → at_field r j ≡ at_field q j)
     → at_field (slice_set r k v) j ≡ at_field (slice_set q k w) j
 at_set r q k j v w long here there = elim (cases_eq j k) as (λ _. at_field (slice_set r k v) j ≡ at_field (slice_set q k w) j) [
@@ -48,7 +48,7 @@ module _ (c : Scope) (z : CallInput) (depth : ℕ) (rows : List (List Value)) wh
         | inr e ↦ subst P (sym e) (key_origin other (suc n) ks k v h (λ at m eq found. f (suc at) m (omega (arith, eq)) found))
       ]
 
-  -- what is read of a record outside what changed
+  -- the origin of what is read from a record outside the changed fields
   pub origin_over : (base : Base) (side : Side) (p : ℕ) (changed : FieldSet) (r : List Value) (k : ℕ) → side_of base ≡ Some side → IsInScope depth base → p < length (anchors side z)
       → IsCall c z → IsOver z rows base side p changed r → changed k ≡ false → HasOrigin z depth rows (origin_of c base k) (at_field r k)
   origin_over first left p changed r k s i there call h e =
@@ -97,7 +97,7 @@ module _ (R : FieldSet) (c : Scope) (x y : CallInput) (calls : AreCalls R c x y)
   outside : (h : Held) (r q : List Value) (k : ℕ) → Same h r q → h.changed k ≡ false → R k ≡ true → at_field r k ≡ at_field q k
   outside h r q k s e m = outside_same x y depth rows others (side_of h.base) h.base h.changed r q k s.base e (λ side p there. calls.agree side p there k m)
 
-  -- on fields of which those are read that have not changed
+  -- on fields of which the unchanged ones are read
   pub agree_over : (h : Held) (r q : List Value) (w : FieldSet) → Sub h.depends R → ((k : ℕ) → w k ≡ true → h.changed k ≡ false → R k ≡ true) → Same h r q → Agree w r q
   agree_over h r q w deps kept s k m = elim (cases_Bool (h.changed k)) as (λ _. at_field r k ≡ at_field q k) [
     | inl p ↦ s.inside deps k p
@@ -212,18 +212,18 @@ module _ (R : FieldSet) (c : Scope) (x y : CallInput) (calls : AreCalls R c x y)
 
   -- ---- fields by number
 
-  -- what two records of one register have outside what changed, where their anchors have the same
+  -- outside the changed fields, two records of one register are equal if their anchors are
   same_outside : (o : Option Side) (base : Base) (changed : FieldSet) (r q : List Value) (k : ℕ) → HaveBase x y depth rows others o base changed r q → changed k ≡ false
       → ((side : Side) → o ≡ Some side → (p : ℕ) → p < length (anchors side x) → at_field (anchor_at side x p) k ≡ at_field (anchor_at side y p) k)
       → at_field r k ≡ at_field q k
   same_outside (Some side) base changed r q k h e agree = h.own.own k e ∙ agree side refl h.place h.there ∙ sym (h.other.own k e)
   same_outside None base changed r q k h e agree = h k e
 
-  -- two anchors at a place in a field that no record of their side has
+  -- two anchors at the same place are equal in a field that no record of their side has
   pub both_null : (side : Side) (p : ℕ) → p < length (anchors side x) → (k : ℕ) → fields_of c side k ≡ false → at_field (anchor_at side x p) k ≡ at_field (anchor_at side y p) k
   both_null side p there k e = calls.own.null side p there k e ∙ sym (calls.other.null side p (subst (λ (n : ℕ). p < n) (calls.places side) there) k e)
 
-  -- in every field, where all that may have a value is read
+  -- the records are equal in every field, if all that may have a value is read
   pub same_everywhere : (h : Held) (r q : List Value) (w : FieldSet) → Same h r q → Sub h.depends R → Sub (less w h.changed) R
       → ((side : Side) → side_of h.base ≡ Some side → (k : ℕ) → w k ≡ false → fields_of c side k ≡ false) → (k : ℕ) → at_field r k ≡ at_field q k
   same_everywhere h r q w s deps kept within k = elim (cases_Bool (h.changed k)) as (λ _. at_field r k ≡ at_field q k) [
@@ -234,7 +234,7 @@ module _ (R : FieldSet) (c : Scope) (x y : CallInput) (calls : AreCalls R c x y)
     ]
   ]
 
-  -- a field of neither side is none of a side
+  -- a field of neither side isn't a field of a given side
   pub outside_side : (kind : Kind) (a b : FieldSet) (side : Side) (k : ℕ) → either a b k ≡ false → fields_by kind a b side k ≡ false
   outside_side Map a b side k e = (or_parts (a k) (b k) e).0
   outside_side Match a b side k e = e
@@ -243,11 +243,11 @@ module _ (R : FieldSet) (c : Scope) (x y : CallInput) (calls : AreCalls R c x y)
   outside_side CoGroup a b left k e = (or_parts (a k) (b k) e).0
   outside_side CoGroup a b right k e = (or_parts (a k) (b k) e).1
 
-  -- a register's record, where what it depends on and its kept fields are read
+  -- a register's two records are equal, if what they depend on and their kept fields are read
   pub same_held : (h : Held) (r q : List Value) → Same h r q → Sub h.depends R → Sub (kept_of c h) R → (k : ℕ) → at_field r k ≡ at_field q k
   same_held h r q s deps kept = same_everywhere h r q (either c.left c.right) s deps kept (λ side e k n. outside_side c.kind c.left c.right side k n)
 
-  -- setting the field that a value numbers
+  -- setting the field whose number is a value
   set_numbered_is : (r : List Value) (o : Option ℕ) (v : Value) → length (set_numbered r o v) ≡ length r
   set_numbered_is r (Some k) v = length-set r k v
   set_numbered_is r None v = refl
@@ -256,7 +256,7 @@ module _ (R : FieldSet) (c : Scope) (x y : CallInput) (calls : AreCalls R c x y)
   set_numbered_same r q (Some k) v w long e same j = at_set r q k j v w long (λ _. e) (λ _. same j)
   set_numbered_same r q None v w long e same j = same j
 
-  -- past the number of fields there is nothing, neither in a record nor in its anchor
+  -- from the number of fields on there is nothing, neither in a record nor in its anchor
   past_over : (z : CallInput) (ls : List (List Value)) (base : Base) (side : Side) (p : ℕ) (changed : FieldSet) (r : List Value) (o : Option ℕ) (v : Value) → length r ≤ c.fields
       → IsOver z ls base side p changed r → IsOver z ls base side p (fields_below c.fields) (set_numbered r o v)
   past_over z ls base side p changed r o v few h = record {
@@ -318,7 +318,7 @@ module _ (R : FieldSet) (c : Scope) (x y : CallInput) (calls : AreCalls R c x y)
     other = origin_joined (same_origin v.origin w.origin) y others v.origin w.origin b refl h.other;
   }
 
-  -- what a looser held record still says
+  -- what is still known of a record after it is loosened
   looser : (h g : Held) (t : FieldSet) (r q : List Value) → Loosens h.base g.base → g.changed ≡ changed_from c.fields g.base t → ((k : ℕ) → t k ≡ false → h.changed k ≡ false)
       → Sub h.depends g.depends → ((k : ℕ) → g.changed k ≡ true → h.changed k ≡ false → g.depends k ≡ true) → Same h r q → Same g r q
   looser h g t r q l e f deps more s = record {

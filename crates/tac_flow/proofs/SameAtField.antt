@@ -1,5 +1,6 @@
--- What is found of a CoGroup in two contexts with the same keys. It is the same at a field that both contexts have on the left or neither has,
--- and so on the right. If no statement takes a field's number from a register, it is the same at every field.
+-- The findings about a CoGroup in two contexts with the same keys. They agree at a field that both contexts have on the
+-- left or neither has, and likewise on the right. If no statement takes a field's number from a register, they agree at
+-- every field.
 use Rattle.std.proofs.Common.{◌≡◌, ◌+◌, ◌-◌, ◌++◌, ◌||◌, not, ◌&&◌, ℕ, zero, suc, Bool, true, false, if◌then◌else◌, Option, Some, None, List, [], ◌∷◌, get_or, refl, sym, ap, subst, ◌∙◌, true≢false}
 use Rattle.pact_record.specs.Keys.{is_listed}
 use Rattle.tac_syntax.specs.declared.functions.Kind.TheVariants.{CoGroup}
@@ -37,7 +38,7 @@ pub record KnownAt (k : ℕ) (v w : Known) : Type 0 where
   pub deps : v.deps k ≡ w.deps k
   pub origin : v.origin ≡ w.origin
 
--- what may have changed is the same at every field, since that decides what a value equals
+-- the changed fields are equal at every field, since they decide what a value is known to equal
 pub record HeldAt (k : ℕ) (g h : Held) : Type 0 where
   pub base : g.base ≡ h.base
   pub changed : g.changed ≡ h.changed
@@ -149,7 +150,7 @@ module _ (fields : ℕ) (ks js : List ℕ) (l r m s : FieldSet) (k : ℕ) (regis
     by None = refl
   copy_same b unknown field = refl
 
-  -- a CoGroup reads no record of a pair
+  -- a CoGroup can't read the records of a pair
   held-at : (sides : List Side) (depth : ℕ) (a b : State) (from : Rec) → CanRead CoGroup depth from → StateAt k a b → HeldAt k (held_of one sides a from) (held_of other sides b from)
   held-at sides depth a b (Reg n) f h = record-at a b n h
   held-at sides depth a b (Loop name) f h = held-self k _
@@ -177,7 +178,7 @@ module _ (fields : ℕ) (ks js : List ℕ) (l r m s : FieldSet) (k : ℕ) (regis
     case true false e = absurd (true≢false e)
     case false true e = absurd (true≢false (sym e))
 
-  -- what depends on the fields of both sides
+  -- what depends on the fields of both sides, which agree at the field
   module _ (allowed : registers ≡ true) where
     lefts : l k ≡ m k
     lefts = (agree allowed).0

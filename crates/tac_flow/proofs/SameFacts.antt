@@ -1,4 +1,4 @@
--- States that a test of the code calls equal are equal.
+-- States that a test in the code finds equal are equal.
 use Rattle.std.proofs.Common.{◌≡◌, ◌==◌, Bool, true, List, [], ◌∷◌, refl, ap}
 use Rattle.std.specs.Cmp.Lexicographic.{pointwise}
 use Rattle.std.proofs.lemmas.Bool.{and_parts, eqb-true}

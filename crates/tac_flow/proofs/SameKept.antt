@@ -1,4 +1,4 @@
--- What is kept of a loop, where it is the same as another state of the code.
+-- The stored state of a loop, if it equals another state in the code.
 use Rattle.std.proofs.Common.{◌≡◌, ◌<◌, ◌≤◌, ◌+◌, ℕ, zero, suc, Bool, true, false, Option, Some, List, [], ◌∷◌, length, get_or, refl, sym, ap, ◌∙◌, arith}
 use Rattle.std.proofs.lemmas.Bool.{true≢false}
 use Rattle.tac_flow.specs.declared.facts.Facts.{Facts}

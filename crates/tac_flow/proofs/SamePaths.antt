@@ -1,4 +1,4 @@
--- Two calls whose inputs differ in nothing that is read go the same way through a body.
+-- Two calls whose inputs agree in all that is read take the same path through a body.
 use Rattle.std.proofs.Common.{◌≡◌, ◌<◌, ◌+◌, ℕ, zero, suc, Bool, true, false, if◌then◌else◌, List, [], ◌∷◌, ◌++◌, length, get_or, sym, ap, subst, ◌∙◌, arith}
 use Rattle.std.specs.List.{AllByRecursion}
 use Rattle.std.proofs.lemmas.List.{length-append}
@@ -22,13 +22,14 @@ use Rattle.tac_flow.proofs.LoopsSettle.{IsSmall, joined-small, settled-small, se
 use Rattle.tac_flow.proofs.SmallScopes.{IsSmallScope}
 use Rattle.tac_flow.proofs.SetsBelowFields.{walk-small, learns-small, dropped-small}
 
--- What the notes are asked for, and what is said of the outputs: branches are decided by what is read, and a record that is emitted keeps it.
+-- What is required of the notes, and what then holds for the outputs: branches are decided by what is read, and a
+-- record that is emitted preserves the relation of the outputs.
 pub record IsTold (R : FieldSet) (c : Scope) (x y : CallInput) (Good : Note → Type 0) (Rel : List (List Value) → List (List Value) → Type 0) : Type 0 where
   pub decided : (d : FieldSet) → Good (decides d) → Sub d R
   pub emitted : (h : Held) (depth : ℕ) (rows others : List (List Value)) (r q : List Value) (rs qs : List (List Value)) → Good (emits h) → SameRecord R c.fields x y depth rows others h r q
       → Rel rs qs → Rel (rs ++ r ∷ []) (qs ++ q ∷ [])
 
--- the lists that a loop goes through are anchors
+-- the lists that a loop goes through are the anchors
 pub record HaveLists (c : Scope) (x y : CallInput) : Type 0 where
   pub own : (list : LoopList) → HasList c.kind list → rows_of x list ≡ anchors (side_of_list list) x
   pub other : (list : LoopList) → HasList c.kind list → rows_of y list ≡ anchors (side_of_list list) y
@@ -76,7 +77,7 @@ module _ (R : FieldSet) (c : Scope) (x y : CallInput) (calls : AreCalls R c x y)
   either_along true sides a b s s2 t t2 e h g = left_along sides a b s t e h
   either_along false sides a b s s2 t t2 e h g = right_along sides a b s2 t2 e g
 
-  -- where the loop has settled it is as it was before
+  -- in the state in which the loop settles, the relation still holds
   settled_along : (sides : List Side) (turn : State → State) → ((j : State) → IsSmall c.fields j → IsSmall c.fields (turn j)) → (k : State) (s t : Store) → IsSmall c.fields k
       → Along sides k s t → Along sides (settled c.fields turn k) s t
   settled_along sides turn keeps k s t i h =
@@ -121,7 +122,7 @@ module _ (R : FieldSet) (c : Scope) (x y : CallInput) (calls : AreCalls R c x y)
       (subst (λ (m : ℕ). m < length (anchors side x)) step g.0, g.1 ∙ ap (λ (m : ℕ). anchor_at side x m) step, g.2 ∙ ap (λ (m : ℕ). anchor_at side y m) step))
       (f (bind s name r)) (f (bind t name o)) next
 
-  -- the whole lists
+  -- all records of the lists
   all_rows : (side : Side) (rows others : List (List Value)) → rows ≡ anchors side x → others ≡ anchors side y
       → (length rows ≡ length others) × ((n : ℕ) → n < length rows → (0 + n < length (anchors side x)) × (get_or rows n [] ≡ anchor_at side x (0 + n)) × (get_or others n [] ≡ anchor_at side y (0 + n)))
   all_rows side rows others p q = (

@@ -1,4 +1,4 @@
--- What is found in the context that a function shares is what is found in its own.
+-- The findings in the shared context of a function are those in its own context.
 use Rattle.std.proofs.Common.{◌≡◌, ◌==◌, ◌||◌, ℕ, Bool, true, false, refl, sym, ap, subst, ◌∙◌, true≢false}
 use Rattle.std.proofs.lemmas.Nat.Bits.{bit_at-zero}
 use Rattle.pact_record.specs.FieldSets.{has_field, IsEmpty}
@@ -28,7 +28,7 @@ has_field-zero k = ap (λ (n : ℕ). n == 1) (bit_at-zero k)
 pub empty_is : (s : ℕ) → IsEmpty s → s ≡ 0
 empty_is s h = same_fields s 0 (λ k. h k ∙ sym (has_field-zero k))
 
--- ---- bodies that take no number
+-- ---- bodies that take no number from a register
 
 neither : (a b : Bool) → (a || b) ≡ false → (a ≡ false) × (b ≡ false)
 neither true b e = absurd (true≢false e)
@@ -65,7 +65,7 @@ none_taken_in (each name list body next) e = let h = neither (takes_numbers body
 abbrev scope_by : Kind → ℕ → Context → Scope
 scope_by kind fields c = record { kind = kind; fields = fields; left = has_field c.left; right = has_field c.right; left_keys = c.left_keys; right_keys = c.right_keys }
 
--- sets that are the same at each field
+-- sets that are equal at each field are equal
 pub all_fields : (s t : FoundSets) → ((k : ℕ) → SetsAt k s t) → s ≡ t
 all_fields s t h = λ i. record {
   reads = λ k. (h k).reads i;
@@ -92,7 +92,7 @@ shared_fields kind takes fields c h = h
 pub shared-fields : (f : WithFields) (c d : Context) → IsContextOf f.fields c → d ≡ shared_context f c → IsContextOf f.fields d
 shared-fields f c d h e = subst (IsContextOf f.fields) (sym e) (shared_fields f.function.kind (takes_numbers f.function.body) f.fields c h)
 
--- ---- at one field
+-- ---- one field
 
 any_taken : (s : Simple) → TakesSimple true s
 any_taken (get_at to from at) = refl
@@ -106,7 +106,7 @@ any_taken_in (branch on body other next) = (any_taken_in body, any_taken_in othe
 any_taken_in (again count body next) = (any_taken_in body, any_taken_in next)
 any_taken_in (each name list body next) = (any_taken_in body, any_taken_in next)
 
--- in two contexts of a CoGroup that have the field alike
+-- two contexts of a CoGroup that agree at the field
 pub sets-at_field : (f : WithFields) (c : Context) (l r k : ℕ) → IsValid f.function f.fields → f.function.kind ≡ CoGroup → has_field l k ≡ has_field c.left k → has_field r k ≡ has_field c.right k
     → SetsAt k (sets_in f (record c { left = l; right = r })) (sets_in f c)
 sets-at_field f c l r k valid kind left_is right_is =
@@ -115,7 +115,7 @@ sets-at_field f c l r k valid kind left_is right_is =
     (λ w. sets-at f.fields c.left_keys c.right_keys (has_field l) (has_field r) (has_field c.left) (has_field c.right) k true (λ _. (left_is, right_is)) body w (any_taken_in body))
     (valid_is_well_formed f.function f.fields valid)
 
--- ---- as the code makes it
+-- ---- in the form in which the code makes it
 
 pub shared_by-empty : (takes : Bool) (x : Context) (l r : ℕ) → takes ≡ false → IsEmpty l → IsEmpty r → ◌≡◌ {A = Context} (record { left = l; right = r; left_keys = x.left_keys; right_keys = x.right_keys }) (shared_by CoGroup takes x)
 shared_by-empty false x l r e p q = let left = empty_is l p in let right = empty_is r q in λ i. record { left = left i; right = right i; left_keys = x.left_keys; right_keys = x.right_keys }

@@ -1,4 +1,5 @@
--- What every state of a walk keeps: its sets are below the number of fields, and a record without a base has changed in every field.
+-- Invariants of every state of a walk: its sets are below the number of fields, and a record without a base has changed
+-- in every field.
 use Rattle.std.proofs.Common.{◌≡◌, ◌==◌, ◌+◌, ◌++◌, ℕ, Bool, true, false, if◌then◌else◌, List, [], ◌∷◌, length, refl, sym, ap, subst, ◌∙◌}
 use Rattle.std.specs.List.{AllByRecursion}
 use Rattle.std.proofs.lemmas.Bool.{or_right, lt-ltb, true≢false}
@@ -53,7 +54,7 @@ module _ (c : Scope) where
   held_of-loose sides k Join h = λ e. absurd cc
   held_of-loose sides k First h = λ e. absurd cc
 
-  -- nothing is put back in a record without a base
+  -- nothing is put back into a record without a base
   pub no_copy : (o : Origin) (field : ℕ) → is_copy c nowhere o field ≡ false
   no_copy (field_of base k) field = refl
   no_copy (key_at at) field = refl

@@ -1,4 +1,4 @@
--- The records that two calls begin with, empty or given to them, are the same in what is read.
+-- The records that two calls begin with, empty or given, are equal in what is read.
 use Rattle.std.proofs.Common.{◌≡◌, ◌<◌, ℕ, zero, suc, true, false, List, [], ◌∷◌, length, get_or, refl, sym, ap, ◌∙◌, arith}
 use Rattle.std.proofs.lemmas.Bool.{eqb-true, eq-eqb, both_ways, false_from_ne_true}
 use Rattle.std.proofs.lemmas.List.{length-replicate}
@@ -30,7 +30,7 @@ key_same (j ∷ ks) r q (suc at) h = key_same ks r q at h
 pub null_outside : {fields : ℕ} {s : FieldSet} {row : List Value} → IsWithin fields (Has s) row → (k : ℕ) → s k ≡ false → at_field row k ≡ Null
 null_outside {s = s} h k out = h.null k (λ e. both_ways (s k) out e)
 
--- a set without a field of the other
+-- a field of one set isn't in a disjoint one
 pub apart : (s t : FieldSet) (k : ℕ) → ((k : ℕ) → s k ≡ true → t k ≡ false) → t k ≡ true → s k ≡ false
 apart s t k h m = false_from_ne_true (s k) (λ e. both_ways (t k) (h k e) m)
 
@@ -38,12 +38,12 @@ module _ (R : FieldSet) (fields : ℕ) (x y : CallInput) (depth : ℕ) (rows oth
   abbrev Same : Held → List Value → List Value → Type 0
   Same h r q = SameRecord R fields x y depth rows others h r q
 
-  -- two empty records, where the anchors at a place are Null outside the set
+  -- two empty records, if the anchors at a place are Null outside the set
   pub empty_same : (base : Base) (s : FieldSet) → HaveBase x y depth rows others (side_of base) base s (empty_record fields) (empty_record fields)
       → Same (record { base = base; changed = s; depends = no_fields }) (empty_record fields) (empty_record fields)
   empty_same base s h = record { base = h; inside = λ sub k m. refl; long = refl; few = omega (arith, length-replicate fields Null) }
 
-  -- two records that are the only anchor, or the first one
+  -- two records that are the first anchor, or the only one
   pub first_same : (r q : List Value) → length r ≡ fields → length q ≡ fields → 0 < length (anchors left x) → r ≡ anchor_at left x 0 → q ≡ anchor_at left y 0
       → Same (record { base = first; changed = no_fields; depends = no_fields }) r q
   first_same r q rw qw there e f = record {
@@ -59,7 +59,7 @@ module _ (R : FieldSet) (fields : ℕ) (x y : CallInput) (depth : ℕ) (rows oth
     few = omega (arith, rw);
   }
 
--- ---- what an analysis stands on
+-- ---- what an analysis is based on
 
 abbrev pub scope : Kind → ℕ → FieldSet → FieldSet → List ℕ → List ℕ → Scope
 scope kind fields a b ks js = record { kind = kind; fields = fields; left = a; right = b; left_keys = ks; right_keys = js }

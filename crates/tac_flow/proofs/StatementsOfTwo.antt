@@ -1,4 +1,4 @@
--- Each statement of one line keeps what is known of two calls.
+-- Each statement of one line preserves what is known of two calls.
 use Rattle.std.proofs.Common.{◌≡◌, ◌<◌, ◌-◌, ◌&&◌, ◌||◌, not, Bool, true, false, Option, Some, None, ℕ, List, length, get_or, slice_set, refl, sym, ap, subst, ◌∙◌, arith}
 use Rattle.std.proofs.lemmas.Bool.{and_parts, or_left, or_right}
 use Rattle.pact_record.specs.declared.values.Value.{Value}
@@ -70,7 +70,7 @@ module _ (R : FieldSet) (c : Scope) (x y : CallInput) (calls : AreCalls R c x y)
       for_inputs s t (held_of c sides k Join) (λ i. joined_record (left_record i) (right_record i)) h.input h.other_input (calls.given (length sides) s.loops t.loops sides k Join can)
   named_same k s t First can h = for_inputs s t (held_of c sides k First) first_record h.input h.other_input (calls.given (length sides) s.loops t.loops sides k First can)
 
-  -- ---- a record in a field that isn't known
+  -- ---- reading a record in a field that isn't known
 
   everywhere : (k : State) (s t : Store) (from : Rec) → CanRead c.kind (length sides) from → Twins k s t → (w : FieldSet) → Sub (held_of c sides k from).depends R → Sub (less w (held_of c sides k from).changed) R
       → ((side : Side) → side_of (held_of c sides k from).base ≡ Some side → (i : ℕ) → w i ≡ false → fields_of c side i ≡ false)
@@ -89,7 +89,7 @@ module _ (R : FieldSet) (c : Scope) (x y : CallInput) (calls : AreCalls R c x y)
   input_fields Reduce a b i m e = cc
   input_fields CoGroup a b i m e = cc
 
-  -- all of a record that is read at its base, or that is no other's
+  -- the whole record that a statement reads is equal in both calls
   pub named_everywhere : (k : State) (s t : Store) (from : Rec) → CanRead c.kind (length sides) from → Twins k s t → Sub (all_of c sides k from) R
       → (i : ℕ) → at_field (named_record s from) i ≡ at_field (named_record t from) i
   named_everywhere k s t (Reg n) can h sub =

@@ -38,7 +38,7 @@ Each-map P Q f k [] [] [] h = tt
 Each-map P Q f k (x ∷ xs) (y ∷ bs) (z ∷ cs) h = (k x y z h.0, Each-map P Q f k xs bs cs h.1)
 Each-map P Q f k xs bs cs h = absurd h
 
--- of the first list joined with another one, either of the two
+-- if the first list is joined with another one, either list may be it
 pub Each-zipped_left : {A B C : Type 0} (P : A → B → C → Type 0) (f : A → A → A) → ((a o : A) (b : B) (c : C) → P a b c → P (f a o) b c) → (xs os : List A) (bs : List B) (cs : List C) → length os ≡ length xs
     → Each P xs bs cs → Each P (zipped f xs os) bs cs
 Each-zipped_left P f k [] os [] [] e h = tt

@@ -1,5 +1,6 @@
--- How often the body of a loop with a place is walked, over all the times that the loop is reached. Each walk that changes something uses
--- up room to change that what is kept has left. Nothing in the code counts walks: these are laws beside it.
+-- How often the body of a loop with a place is walked, over all the times that the loop is reached. Each walk that
+-- changes something uses up some of the room to change that the stored state has left. Nothing in the code counts
+-- walks: these are separate laws.
 use Rattle.std.proofs.Common.{◌≡◌, ◌≤◌, ◌+◌, ◌*◌, ℕ, suc, Option, Some, None, List, [], ◌∷◌, ◌⊎◌, inl, inr, sym, ap, refl, ◌∙◌, arith}
 use Rattle.tac_flow.specs.Known.{Known, Held, State, Origin, Base, first, bound, some, nowhere, joined}
 use Rattle.tac_flow.specs.Steps.{Scope}
@@ -42,7 +43,7 @@ rooms_less P r f [] [] h = omega arith
 rooms_less P r f (x ∷ xs) (y ∷ ys) h = omega (arith, f x y h.0, rooms_less P r f xs ys h.1)
 rooms_less P r f xs ys h = absurd h
 
--- where less is known, less room is left
+-- a state that knows less has less room
 pub less-room : (n : ℕ) (a b : State) → IsLess a b → room_state n b ≤ room_state n a
 less-room n a b h =
     omega (arith, rooms_less KnowsLess (room_known n) (known_room n) a.values b.values h.values, rooms_less HoldsLess (room_held n) (held_room n) a.records b.records h.records)
@@ -51,7 +52,7 @@ abbrev pub room_kept : ℕ → Option State → ℕ
 room_kept n None = walks_at_most n
 room_kept n (Some m) = room_state n m
 
--- That number of the loop's walks have changed something since `o` was kept of it.
+-- This number of the loop's walks have changed something since `o` was stored.
 pub record HasChanged (n changes : ℕ) (o : Option State) (j : State) : Type 0 where
   pub spent : changes + room_state n j ≤ room_kept n o
 
@@ -65,7 +66,7 @@ changed-next n changes o j t h g s = elim (state_grows n j t h g) as (λ _. (joi
   | inr p ↦ inr (record { spent = omega (arith, p, s.spent) })
 ]
 
--- over two times that it is reached, and so over all
+-- two times that it is reached together, and so all times
 pub changed-again : (n a b : ℕ) (o : Option State) (m j : State) → HasChanged n a o m → HasChanged n b (Some m) j → HasChanged n (a + b) o j
 changed-again n a b o m j h g = record { spent = omega (arith, h.spent, g.spent) }
 
@@ -89,11 +90,11 @@ changed-begun c scope k m h g =
 
 -- ---- how often a body is walked
 
--- A loop is reached `times` times, and each time one walk is written down. The first time, and the `begins` times when it doesn't begin where
--- it settled before, it also walks until nothing changes.
+-- A loop is reached `times` times, and each time the notes of one walk are kept. The first time, and the `begins` times
+-- when it doesn't begin where it settled before, it also walks until nothing changes.
 pub walks_of : (times begins changes settles walks limit : ℕ) → begins + changes ≤ limit → settles ≤ 1 + begins → walks ≡ times + settles + changes → walks ≤ times + limit + 1
 walks_of times begins changes settles walks limit le s e = omega (arith, le, s, e)
 
--- three loops, one inside the other: what the walks of one body are, the next loop is reached
+-- three loops, one inside the other: the next loop is reached as often as the body around it is walked
 pub three_deep : (limit outer inner innermost : ℕ) → outer ≤ 1 + limit + 1 → inner ≤ outer + limit + 1 → innermost ≤ inner + limit + 1 → innermost ≤ 3 * limit + 4
 three_deep limit outer inner innermost x y z = omega (arith, x, y, z)

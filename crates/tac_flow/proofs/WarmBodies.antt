@@ -1,4 +1,4 @@
--- A whole body is walked with nothing kept at first.
+-- The walk of a whole body begins with nothing stored.
 use Rattle.std.proofs.Common.{◌≡◌, ◌++◌, ℕ, zero, suc, Option, None, List, [], ◌∷◌, replicate, refl, sym, subst, ◌∙◌}
 use Rattle.tac_syntax.specs.Code.{Code, stop, plain, branch, again, each}
 use Rattle.tac_flow.specs.declared.facts.Facts.{Facts}

@@ -1,5 +1,5 @@
--- Loops that begin from where they settled before: what is kept of each loop of a body, where that fits a state in which the body is
--- reached again, and that a loop then settles where it does without.
+-- Loops that begin from where they settled before: when the stored states of a body's loops fit a state in which the
+-- body is reached again, and that a loop then settles where it would without them.
 use Rattle.std.proofs.Common.{◌≡◌, ◌≤◌, ◌<◌, ◌+◌, ◌++◌, ℕ, Bool, true, false, if◌then◌else◌, Option, Some, None, List, [], ◌∷◌, ◌⊎◌, inl, inr, length, refl, sym, ap, subst, ◌∙◌, arith}
 use Rattle.std.proofs.lemmas.Bool.{eq-eqb, ne_eqb, leb-false, lt-leb, true≢false}
 use Rattle.std.proofs.lemmas.List.{length-append}
@@ -38,7 +38,7 @@ memo-none true n ms e = e refl
 memo-none false n ms e = refl
 
 module _ (c : Scope) (least : ℕ) where
-  -- only what is kept of the body's own loops counts
+  -- only the stored states of the body's own loops count
   pub fits-frame : (code : Code) (sides : List Side) (n : ℕ) (ms other : Memos) (k : State) → ((i : ℕ) → n ≤ i → i < n + places least code → other i ≡ ms i) → Fits c least sides code n ms k → Fits c least sides code n other k
   fits-frame stop sides n ms other k f h = tt
   fits-frame (plain a next) sides n ms other k f h = fits-frame next sides n ms other _ f h
@@ -64,7 +64,7 @@ module _ (c : Scope) (least : ℕ) where
         fits-frame next sides (n + place large + places least body) ms other _ (λ i a b. f i (omega (arith, a)) (omega (arith, b))) h.1,
       )
 
-  -- in a short body no loop is large, and nothing is kept
+  -- in a short body no loop is large, and nothing is stored
   pub fits-short : (code : Code) (sides : List Side) (n : ℕ) (ms : Memos) (k : State) → count_of code < least → Fits c least sides code n ms k
   fits-short stop sides n ms k lt = tt
   fits-short (plain a next) sides n ms k lt = fits-short next sides n ms _ (omega (arith, lt))
@@ -108,7 +108,7 @@ module _ (c : Scope) (least : ℕ) where
       kept-less None a b h g l k = tt
       kept-less (Some m) a b h g l k = (k.0, less-trans m _ _ k.1 (settled-less c scope turn Q t a b h g k.2 l), t.more a b h g l k.2, k.3)
 
-      -- one turn more leads to the same end
+      -- one more turn leads to the same end
       pub settled-next : (j : State) → IsSound c j → Q j → settled c.fields turn (joined c.fields j (turn j)) ≡ settled c.fields turn j
       settled-next j h q =
           let s = settled c.fields turn j in
@@ -124,7 +124,7 @@ module _ (c : Scope) (least : ℕ) where
             at_end : (j : State) → IsSound c j → joined c.fields (settled c.fields turn j) (turn (settled c.fields turn j)) ≡ settled c.fields turn j
             at_end j h = settles c.fields turn t.small j h.small
 
-    -- ---- what fits fits where more is known
+    -- ---- what fits a state fits one that knows less
     pub fits-less : (code : Code) (sides : List Side) (depth n : ℕ) (ms : Memos) (a b : State) → depth ≡ length sides → IsWellFormed c.kind c.fields depth code → IsSound c a → IsSound c b → IsLess a b → IsClean c sides code a
         → Fits c least sides code n ms a → Fits c least sides code n ms b
     fits-less stop sides depth n ms a b e f h g l q m = tt
@@ -183,7 +183,7 @@ module _ (c : Scope) (least : ℕ) where
           fits-less next sides depth _ ms _ _ e f.3 (settled-turns c scope turn Q t _ x) (settled-turns c scope turn Q t _ y) (settled-less c scope turn Q t _ _ x y q.0 up) q.1 m.1,
         )
 
-  -- A loop with place n was reached in state k, when `first` was kept, and has come to state j.
+  -- A loop with place n was reached in state k, with `first` stored, and has come to state j.
   pub record IsTurning (large : Bool) (turn : State → State) (inside : List Side) (body : Code) (n : ℕ) (k : State) (first : Memos) (j : State) (ms : Memos) : Type 0 where
     pub settles : settled c.fields turn j ≡ settled c.fields turn k
     pub sound : IsSound c j
@@ -225,7 +225,7 @@ module _ (c : Scope) (least : ℕ) where
           frame = both_frames ms after s.frame w.frame;
         })
 
-    -- a walk that changed nothing: the state is kept
+    -- a walk that changed nothing: the state is stored
     pub turning-done : (j : State) (ms after : Memos) → IsTurning large turn inside body n k first j ms → (x : State) → IsWarmed c least inside body (n + place large) j ms x after → joined c.fields j (turn j) ≡ j
         → HasSettled c least large turn inside body n k first j (put large n j after)
     turning-done j ms after s x w same = record {
@@ -242,7 +242,7 @@ module _ (c : Scope) (least : ℕ) where
           put-there large n i j after away ∙ w.frame i wide ∙ s.frame i wide;
     }
 
-    -- what is kept already covers the state in which the loop is reached
+    -- what is stored already covers the state in which the loop is reached
     pub turning-skip : IsKept c (IsClean c inside body) turn (memo_at large first n) k → Fits c least inside body (n + place large) first (begun c.fields (memo_at large first n) k) → (j : State) → j ≡ begun c.fields (memo_at large first n) k → memo_at large first n ≡ Some j
         → HasSettled c least large turn inside body n k first j first
     turning-skip kept fits j is here =
@@ -258,7 +258,7 @@ module _ (c : Scope) (least : ℕ) where
           frame = λ i _. refl;
         }
 
-    -- the walk after that, whose notes are written down
+    -- the walk after that, whose notes are kept
     pub settled-kept : is_large least body ≡ large → (j : State) (ms last : Memos) → HasSettled c least large turn inside body n k first j ms → (y : State) → IsWarmed c least inside body (n + place large) j ms y last
         → IsKept c (IsClean c inside body) turn (memo_at large last n) k × Fits c least inside body (n + place large) last (begun c.fields (memo_at large last n) k)
     settled-kept size j ms last s y v = by_size large size s v where
@@ -308,7 +308,7 @@ module _ (c : Scope) (least : ℕ) where
   fits-split sides (turning count body) next n ms k h = ((h.0, tt), moved sides next ms _ (n + place (is_large least body) + places least body) _ (omega arith) h.1)
   fits-split sides (going_through name list body) next n ms k h = ((h.0, tt), moved sides next ms _ (n + place (is_large least body) + places least body) _ (omega arith) h.1)
 
-  -- what is kept fits the rest of a body after its first statement
+  -- what is stored fits the rest of a body after its first statement
   pub fits-rest : (sides : List Side) (s : Statement) (next : Code) (n : ℕ) (k j : State) (ms after : Memos) → Fits c least sides (onto s next) n ms k → IsWarmed c least sides (onto s stop) n k ms j after
       → Fits c least sides next (n + places least (onto s stop)) after j
   fits-rest sides s next n k j ms after h w =
@@ -330,7 +330,7 @@ module _ (c : Scope) (least : ℕ) where
     ];
   }
 
-  -- a body of no statement
+  -- a body without statements
   pub warmed-stop : (sides : List Side) (n : ℕ) (k : State) (ms : Memos) → IsWarmed c least sides stop n k ms k ms
   warmed-stop sides n k ms = record { state = refl; fits = tt; clean = tt; frame = λ i o. refl }
 

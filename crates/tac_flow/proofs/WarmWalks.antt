@@ -36,7 +36,7 @@ module _ (c : Scope) (least : ℕ) where
 
   -- ---- the statements of a body
 
-  -- What is left of the body is walked from here, and with that the whole is walked.
+  -- The rest of the body is walked from here, and that completes the walk of the whole.
   pub record WarmsOn (sides : List Side) (left whole : Code) (n : ℕ) (first : State) (ms : Memos) (start : Gathered) (m : ℕ) (now : State) (on : Memos) (so_far : Gathered) : Type 0 where
     pub ready : IsReady c least sides left m on now
     pub well_formed : IsWellFormed c.kind c.fields (length sides) left
@@ -62,7 +62,7 @@ module _ (c : Scope) (least : ℕ) where
       subst (λ (b : Code). (m ≡ n + places least b) × HasWarmed c least sides b n first ms now on start so_far) e
       (warms_end sides (code_of stmts) n first ms start m now on so_far (subst (λ (b : Code). WarmsOn sides b (code_of stmts) n first ms start m now on so_far) (code_past stmts i le) h))
 
-  -- what the first statement of the rest asks
+  -- what the first statement of the rest requires
   pub stmt_ready : (sides : List Side) (s : Statement) (next : Code) (m : ℕ) (now : State) (on : Memos) → IsReady c least sides (onto s next) m on now → IsReady c least sides (onto s stop) m on now
   stmt_ready sides s next m now on r = record { scope = r.scope; sound = r.sound; fits = (fits-split c least sides s next m on now r.fits).0 }
 
@@ -95,7 +95,7 @@ module _ (c : Scope) (least : ℕ) where
       (next_on sides (statement_of stmt) (code_of (drop (i + 1) stmts)) whole n first ms start m now on so_far then one more
       (subst (λ (b : Code). WarmsOn sides b whole n first ms start m now on so_far) (code_of-drop stmts i stmt lt e) h) w.1)
 
-  -- what the walk through the next statement asks
+  -- what the walk through the next statement requires
   pub asks_next : (sides : List Side) (stmts : List Stmt) (i : ℕ) (stmt : Stmt) (whole : Code) (n room : ℕ) (first : State) (ms : Memos) (start : Gathered) (m : ℕ) (now : State) (on : Memos) (so_far : Gathered)
       → i < length stmts → stmt ≡ get_or stmts i stmt → n + places least whole ≤ room → WarmsOn sides (code_of (drop i stmts)) whole n first ms start m now on so_far
       → IsWellFormed c.kind c.fields (length sides) (only stmt) × (m + places least (only stmt) ≤ room) × IsReady c least sides (only stmt) m on now
@@ -135,7 +135,7 @@ module _ (c : Scope) (least : ℕ) where
 
   -- ---- a loop
 
-  -- a loop that was reached in state k, and has come to j
+  -- a loop that was reached in state k and has come to j
   pub record IsUnderWay (inside : List Side) (body : Code) (name : Option ℕ) (n : ℕ) (k : State) (first : Memos) (j : State) (ms : Memos) : Type 0 where
     pub scope : IsSmallScope c
     pub sound : IsSound c k

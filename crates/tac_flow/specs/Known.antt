@@ -33,9 +33,10 @@ less s t k = s k && not (t k)
 
 -- ---- records of the input
 
--- A side is a group of a CoGroup; the records of every other kind are on the left. A base is the record that a register's record
--- began as: the first one (of a kind without groups the only one), the one bound to a loop's name, some record of a side, or none.
--- An origin is what a value is known to equal: a field of a named record, or a key value.
+-- A side is a group of a CoGroup; the records of every other kind are on the left. A base is the record that a
+-- register's record began as: the first one (the only one for a kind without groups), the one bound to a loop's name,
+-- some record of a side, or none. An origin is what a value is known to equal: a field of a named record, or a key
+-- value.
 abbrev pub same_side : Side → Side → Bool
 same_side left left = true
 same_side right right = true
@@ -68,12 +69,12 @@ names_one base = false
 
 -- ---- registers
 
--- of a value: the fields that it depends on, and its origin
+-- what is known of a value: the fields that it depends on, and its origin
 pub record Known : Type 0 where
   pub deps : FieldSet
   pub origin : Origin
 
--- of a record: its base, the fields in which it may differ from that, and the fields that those depend on
+-- what is known of a record: its base, the fields in which it may differ from that, and the fields that those depend on
 pub record Held : Type 0 where
   pub base : Base
   pub changed : FieldSet
@@ -98,12 +99,12 @@ joined_origin a b = if same_origin a b then a else unknown
 abbrev pub joined_known : Known → Known → Known
 joined_known a b = record { deps = either a.deps b.deps; origin = joined_origin a.origin b.origin }
 
--- every field where there is no base
+-- every field if there is no base
 abbrev pub changed_from : ℕ → Base → FieldSet → FieldSet
 changed_from fields nowhere s = fields_below fields
 changed_from fields base s = s
 
--- a field that is changed on one side alone depends on itself
+-- a field that is changed in only one of the two depends on itself
 abbrev pub joined_held : ℕ → Held → Held → Held
 joined_held fields a b =
     let base = joined_base a.base b.base in
@@ -125,7 +126,7 @@ joined_records fields xs ys = zipped (joined_held fields) xs ys
 abbrev pub joined : ℕ → State → State → State
 joined fields a b = record { values = joined_values a.values b.values; records = joined_records fields a.records b.records }
 
--- ---- a loop's name is bound anew
+-- ---- a loop's name is bound again
 
 abbrev pub dropped_base : ℕ → Base → Base
 dropped_base name (bound n side) = if n == name then some side else bound n side

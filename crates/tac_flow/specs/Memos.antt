@@ -1,4 +1,5 @@
--- What is kept of the loops of a body: for each large one the state in which it settled last. Their places are numbered in text order.
+-- What is stored about the loops of a body: for each large loop the state in which it settled last. Their places are
+-- numbered in text order.
 use Rattle.std.specs.Prelude.{ℕ, ◌+◌, ◌==◌, Bool, true, false, leb, if◌then◌else◌, Option, Some, None, List, get_or}
 use Rattle.tac_syntax.specs.Code.{Code, stop, plain, branch, again, each, count_of}
 use Rattle.tac_flow.specs.declared.facts.Facts.{Facts}
@@ -28,7 +29,7 @@ abbrev pub memo_at : Bool → Memos → ℕ → Option State
 memo_at true ms n = ms n
 memo_at false ms n = None
 
--- a loop begins at the state in which it is reached, joined with what is kept of it
+-- a loop begins at the state in which it is reached, joined with the state stored for it
 abbrev pub begun : ℕ → Option State → State → State
 begun fields None k = k
 begun fields (Some m) k = joined fields k m
@@ -37,7 +38,7 @@ abbrev pub put : Bool → ℕ → State → Memos → Memos
 put true n s ms i = if i == n then Some s else ms i
 put false n s ms i = ms i
 
--- a turn of a loop ends the name that it binds, if it binds one
+-- a turn of a loop ends by dropping the name that it binds, if it binds one
 abbrev pub dropped_any : Option ℕ → State → State
 dropped_any None k = k
 dropped_any (Some name) k = dropped name k

@@ -10,7 +10,7 @@ use Rattle.tac_flow.specs.Known.{FieldSet, fields_below, Side, left, right, side
 use Rattle.tac_flow.specs.Steps.{Scope, start_state}
 use Rattle.tac_flow.specs.Walks.{Note, decides, emits, notes}
 
--- ---- of what was written down
+-- ---- summaries of the notes
 
 -- the fields in which some emitted record may differ from its base
 abbrev pub writes_in : List Note → FieldSet
@@ -18,13 +18,13 @@ writes_in [] k = false
 writes_in (decides d ∷ ns) k = writes_in ns k
 writes_in (emits h ∷ ns) k = h.changed k || writes_in ns k
 
--- those below the number of fields in which each may
+-- the fields below the number of fields in which each emitted record may differ from its base
 abbrev pub common_in : ℕ → List Note → FieldSet
 common_in fields [] k = nat_lt k fields
 common_in fields (decides d ∷ ns) k = common_in fields ns k
 common_in fields (emits h ∷ ns) k = h.changed k && common_in fields ns k
 
--- what those fields depend on
+-- the fields that those depend on
 abbrev pub depends_in : List Note → FieldSet
 depends_in [] k = false
 depends_in (decides d ∷ ns) k = depends_in ns k
@@ -55,7 +55,7 @@ pub record FoundSets : Type 0 where
   pub anchor_left : Bool
   pub anchor_right : Bool
 
--- what the notes say of every field
+-- the summary of the notes
 pub record Gathered : Type 0 where
   pub writes : FieldSet
   pub common : FieldSet
@@ -80,11 +80,11 @@ reads_by c g k = g.depends k || g.control k || is_listed c.left_keys k || is_lis
 abbrev pub reads_in : Scope → List Note → FieldSet
 reads_in c ns = reads_by c (summary c.fields ns)
 
--- anchored on these sides
+-- the sets of a function that is anchored on these sides
 abbrev pub anchored : Bool → Bool → Scope → Gathered → FoundSets
 anchored l r c g = record { reads = reads_by c g; writes = g.writes; control = g.control; anchor_left = l; anchor_right = r }
 
--- a CoGroup anchored on neither side reads and writes all
+-- a CoGroup that is anchored on neither side reads and writes all fields
 abbrev pub by_anchors : Bool → Bool → Scope → Gathered → FoundSets
 by_anchors false false c g = record { reads = fields_below c.fields; writes = fields_below c.fields; control = g.control; anchor_left = false; anchor_right = false }
 by_anchors l r c g = anchored l r c g
@@ -99,7 +99,7 @@ notes_of c body = notes c [] body (start_state c)
 abbrev pub sets_of : Scope → Code → FoundSets
 sets_of c body = found_by c.kind c (summary c.fields (notes_of c body))
 
--- ---- what they are said of
+-- ---- what the sets are used for
 
 -- A CoGroup is anchored on the sides that its sets name, and every other function is anchored.
 abbrev pub IsAnchoredOn : Kind → Side → FoundSets → Type 0
@@ -117,6 +117,6 @@ pub record IsAlone (kind : Kind) (s : FoundSets) : Type 0 where
 abbrev pub IsTouched : FoundSets → ℕ → Code → ℕ → Type 0
 IsTouched s fields body k = Has s.reads k ⊎ Has s.writes k ⊎ Names fields k body
 
--- A Map gives one record for each, or at most one, and is decided by the keys.
+-- A Map emits exactly one record for each; or it emits at most one, and its control set has only key fields.
 abbrev pub IsBoundToKeys : ℕ → ℕ → FieldSet → FieldSet → Type 0
 IsBoundToKeys low high control keys = ((low ≡ 1) × (high ≡ 1)) ⊎ ((high ≤ 1) × ((k : ℕ) → Has control k → Has keys k))

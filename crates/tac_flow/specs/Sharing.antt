@@ -1,4 +1,4 @@
--- One context for all those in which the same is found of a function.
+-- One context for all those in which the findings about a function are equal.
 use Rattle.std.specs.Prelude.{Bool, true, false, ◌||◌}
 use Rattle.tac_syntax.specs.declared.contexts.Context.{Context}
 use Rattle.tac_syntax.specs.declared.functions.Kind.{Kind}
@@ -20,8 +20,8 @@ takes_numbers (branch on body other next) = takes_numbers body || (takes_numbers
 takes_numbers (again count body next) = takes_numbers body || takes_numbers next
 takes_numbers (each name list body next) = takes_numbers body || takes_numbers next
 
--- If no statement takes a field's number from a register, what is found of a CoGroup doesn't depend on the fields of its inputs, only on
--- their keys. All its contexts then share the one in which the inputs may hold no field at all.
+-- If no statement takes a field's number from a register, the findings about a CoGroup don't depend on the fields of
+-- its inputs, only on their keys. All its contexts then share the one in which the inputs hold no field.
 abbrev pub shared_by : Kind → Bool → Context → Context
 shared_by CoGroup false c = record c { left = 0; right = 0 }
 shared_by kind takes c = c

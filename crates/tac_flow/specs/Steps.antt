@@ -39,7 +39,7 @@ is_key_at (k ∷ ks) (suc at) field = is_key_at ks at field
 abbrev pub key_deps : Scope → ℕ → FieldSet
 key_deps c at k = is_key_at (keys_of c left) at k || is_key_at (keys_of c right) at k
 
--- the first position that has the field, where the list begins at position n
+-- the first position that has the field, if the list begins at position n; `other` if none has it
 abbrev pub key_or : Origin → ℕ → List ℕ → ℕ → Origin
 key_or other n [] field = other
 key_or other n (k ∷ ks) field = if field == k then key_at n else key_or other (suc n) ks field
@@ -66,7 +66,7 @@ value_at k n = get_or k.values n (record { deps = no_fields; origin = unknown })
 abbrev pub record_at : ℕ → State → ℕ → Held
 record_at fields k n = get_or k.records n (record { base = nowhere; changed = fields_below fields; depends = no_fields })
 
--- the record that a statement reads, where the loops around it are over these sides
+-- the record that a statement reads, if the surrounding loops are over these sides
 abbrev pub held_of : Scope → List Side → State → Rec → Held
 held_of c sides k (Reg n) = record_at c.fields k n
 held_of c sides k (Loop name) = unchanged (bound name (get_or sides (name - 1) left))
@@ -88,7 +88,8 @@ abbrev pub read_from : Scope → Held → ℕ → Known
 read_from c h field =
     if h.changed field then record { deps = h.depends; origin = unknown } else record { deps = only_field field; origin = origin_of c h.base field }
 
--- the fields in which the records of a side may have values; a record of a Map is on the left, and a pair is one record of both
+-- the fields in which the records of a side may have values; a Map's record is on the left, and a pair counts as one
+-- record with the fields of both
 abbrev pub fields_by : Kind → FieldSet → FieldSet → Side → FieldSet
 fields_by Map a b side = a
 fields_by Reduce a b side = a
@@ -99,11 +100,11 @@ fields_by kind a b side = either a b
 abbrev pub fields_of : Scope → Side → FieldSet
 fields_of c side = fields_by c.kind c.left c.right side
 
--- the fields of either side in which a record is its base
+-- the fields of both sides in which a record equals its base
 abbrev pub kept_of : Scope → Held → FieldSet
 kept_of c h = less (either c.left c.right) h.changed
 
--- What a value depends on that is read of a record in a field that isn't known: all of the record.
+-- what a value depends on that is read from a record in a field that isn't known: the whole record
 abbrev pub all_of : Scope → List Side → State → Rec → FieldSet
 all_of c sides k (Reg n) = let h = record_at c.fields k n in either h.depends (kept_of c h)
 all_of c sides k (Loop name) = fields_of c (get_or sides (name - 1) left)
@@ -119,7 +120,7 @@ abbrev pub is_key_of : Scope → Option Side → ℕ → ℕ → Bool
 is_key_of c (Some side) at field = is_key_at (keys_of c side) at field
 is_key_of c None at field = false
 
--- a value that is the base's own in that field
+-- whether a value is the base's own in that field
 abbrev pub is_copy : Scope → Base → Origin → ℕ → Bool
 is_copy c base (field_of other k) field = names_one base && same_base other base && (k == field)
 is_copy c base (key_at at) field = is_key_of c (side_of base) at field
@@ -129,7 +130,8 @@ abbrev pub written : Scope → Held → ℕ → Known → Held
 written c h field v =
     if is_copy c h.base v.origin field then record h { changed = without_field field h.changed } else record h { changed = with_field field h.changed; depends = either h.depends v.deps }
 
--- A field that isn't known is set to a value: each may have changed, and depends on the field's number, the value and what was there.
+-- A field that isn't known is set to a value: each field may have changed, and depends on the field's number, on the
+-- value and on what was there.
 abbrev pub written_at : Scope → Held → Known → Known → Held
 written_at c h at v = record h { changed = fields_below c.fields; depends = either h.depends (either (either at.deps v.deps) (kept_of c h)) }
 
@@ -160,6 +162,6 @@ learns c sides (set_field to field value) k = learns_record k to (written c (rec
 learns c sides (set_at to at value) k = learns_record k to (written_at c (record_at c.fields k to) (value_at k at) (value_at k value))
 learns c sides (emit_record from) k = k
 
--- before the first statement
+-- the state before the first statement
 abbrev pub start_state : Scope → State
 start_state c = record { values = replicate value_registers constant; records = replicate record_registers (fresh c) }

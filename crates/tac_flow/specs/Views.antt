@@ -1,4 +1,4 @@
--- The analysis's state as the code keeps it.
+-- The analysis's state as the code stores it.
 use Rattle.std.specs.Prelude.{◌≡◌, ◌||◌, ℕ, List, map, take}
 use Rattle.pact_record.specs.FieldSets.{has_field}
 use Rattle.tac_flow.specs.declared.facts.ValueFacts.{ValueFacts}
@@ -53,7 +53,7 @@ found_of s = record {
 abbrev pub sets_in : WithFields → Context → FoundSets
 sets_in f c = sets_of (scope_in f.function f.fields c) f.function.body
 
--- what is touched are the fields that are read or written, and these
+-- the touched fields are those that are read or written, and these
 abbrev pub IsTouchedOf : Sets → ℕ → Type 0
 IsTouchedOf s named = (k : ℕ) → has_field s.touched k ≡ (has_field s.reads k || has_field s.writes k || has_field named k)
 

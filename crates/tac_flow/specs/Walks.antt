@@ -7,7 +7,7 @@ use Rattle.tac_syntax.specs.Code.{Simple, emit_record, Code, stop, plain, branch
 use Rattle.tac_flow.specs.Known.{FieldSet, Side, left, right, State, Held, joined, dropped}
 use Rattle.tac_flow.specs.Steps.{Scope, learns, value_at, record_at}
 
--- What is written down on the way: what a branch is decided by, and what is known of a record that is emitted.
+-- A note on the way: what decides a branch, and what is known of a record that is emitted.
 pub data Note : Type 0 where
   decides : (deps : FieldSet) → Note
   emits : (held : Held) → Note
@@ -26,7 +26,8 @@ abbrev pub repeated : ℕ → (State → State) → State → State
 repeated zero f k = k
 repeated (suc n) f k = repeated n f (f k)
 
--- So often can a state change: each register's sets have room for so many fields, and what it is known to equal or began as can be lost once or twice.
+-- The greatest number of times that a state can change. Each set of a register can grow once for each field; what a
+-- value is known to equal can be lost once, and what a record began as twice.
 abbrev pub walks_at_most : ℕ → ℕ
 walks_at_most fields = value_registers * (fields + 1) + record_registers * (2 * fields + 2)
 
@@ -36,7 +37,7 @@ settled fields turn k = repeated (walks_at_most fields) (λ j. joined fields j (
 
 -- ---- bodies
 
--- the state after a body, where the loops around it are over these sides
+-- the state after a body, if the surrounding loops are over these sides
 abbrev pub walk : Scope → List Side → Code → State → State
 walk c sides stop k = k
 walk c sides (plain a next) k = walk c sides next (learns c sides a k)
@@ -45,7 +46,7 @@ walk c sides (again count body next) k = walk c sides next (walk c sides body (s
 walk c sides (each name list body next) k =
     walk c sides next (settled c.fields (λ j. dropped name (walk c (sides ++ side_of_list list ∷ []) body j)) (dropped name k))
 
--- what is written down in a body, in text order
+-- the notes on a body, in text order
 abbrev pub notes : Scope → List Side → Code → State → List Note
 notes c sides stop k = []
 notes c sides (plain a next) k = noted c a k ++ notes c sides next (learns c sides a k)

@@ -1,5 +1,5 @@
--- Warm walks, in which a loop begins from where it settled before: the order of states by what they know, what may be kept of a loop
--- when a body is reached again, and what each walk of the code asks and does.
+-- Warm walks, in which a loop begins from where it settled before: the order of states by what they know, what may be
+-- stored about a loop when a body is reached again, and what each walk of the code requires and does.
 use Rattle.std.specs.Prelude.{◌≡◌, ◌≤◌, ◌<◌, ◌+◌, ◌++◌, ℕ, Bool, true, false, ◌⊎◌, Option, Some, None, List, [], ◌∷◌, length}
 use Rattle.std.specs.List.{AllByRecursion}
 use Rattle.tac_syntax.specs.Limits.{value_registers, record_registers}
@@ -13,7 +13,7 @@ use Rattle.tac_flow.specs.Results.{Gathered}
 use Rattle.tac_flow.specs.Gathering.{gather}
 use Rattle.tac_flow.specs.Memos.{Memos, is_large, place, places, memo_at, begun, dropped_any}
 
--- ---- what every state of a walk keeps
+-- ---- invariants of every state of a walk
 
 abbrev pub IsSmallScope : Scope → Type 0
 IsSmallScope c = AreOfFields c.fields c.left c.right c.left_keys c.right_keys
@@ -25,14 +25,14 @@ pub record IsSmallHeld (n : ℕ) (h : Held) : Type 0 where
 abbrev pub IsSmallKnown : ℕ → Known → Type 0
 IsSmallKnown n v = IsBelow n v.deps
 
--- each set has fields below the bound alone, and there is each register
+-- each set has only fields below the bound, and all registers exist
 pub record IsSmall (n : ℕ) (k : State) : Type 0 where
   pub values : AllByRecursion (IsSmallKnown n) k.values
   pub records : AllByRecursion (IsSmallHeld n) k.records
   pub value_count : length k.values ≡ value_registers
   pub record_count : length k.records ≡ record_registers
 
--- where no base is left, all has changed
+-- if no base is left, all fields have changed
 abbrev pub IsLoose : ℕ → Held → Type 0
 IsLoose n h = h.base ≡ nowhere → (k : ℕ) → k < n → h.changed k ≡ true
 
@@ -45,7 +45,7 @@ pub record IsSound (c : Scope) (k : State) : Type 0 where
 abbrev pub Sub : FieldSet → FieldSet → Type 0
 Sub s t = (k : ℕ) → s k ≡ true → t k ≡ true
 
--- the same base, some record of its side, or none
+-- a base is loosened to itself, to some record of its side, or to none
 abbrev pub Loosens : Base → Base → Type 0
 Loosens a b = (b ≡ a) ⊎ ((side : Side) × (side_of a ≡ Some side) × (b ≡ some side)) ⊎ (b ≡ nowhere)
 
@@ -83,7 +83,7 @@ abbrev pub IsCleanHere : Scope → Simple → State → Type 0
 IsCleanHere c (set_field to field value) k = IsPlainCopy c (record_at c.fields k to) (value_at k value) field
 IsCleanHere c s k = Unit {0}
 
--- all that is put back on a walk from this state is plain; of a loop, in its first turn
+-- each value that is put back on a walk from this state depends on its field; for a loop, in its first turn
 abbrev pub IsClean : Scope → List Side → Code → State → Type 0
 IsClean c sides stop k = Unit {0}
 IsClean c sides (plain s next) k = IsCleanHere c s k × IsClean c sides next (learns c sides s k)
@@ -93,9 +93,10 @@ IsClean c sides (each name list body next) k =
     let inside = sides ++ side_of_list list ∷ [] in
     IsClean c inside body (dropped name k) × IsClean c sides next (settled c.fields (λ j. dropped name (walk c inside body j)) (dropped name k))
 
--- ---- what is kept of loops
+-- ---- what is stored about loops
 
--- What is kept of a loop is at most where the loop settles from this state, and another turn doesn't change it.
+-- The stored state of a loop knows at least what is known where the loop settles from this state, and another turn
+-- doesn't change it.
 abbrev pub IsKept : Scope → (State → Type 0) → (State → State) → Option State → State → Type 0
 IsKept c Q turn None k = Unit {0}
 IsKept c Q turn (Some m) k = IsSound c m × IsLess m (settled c.fields turn k) × Q k × (joined c.fields m (turn m) ≡ m)
@@ -134,7 +135,7 @@ pub record HasSettled (c : Scope) (least : ℕ) (large : Bool) (turn : State →
   pub clean : IsClean c inside body j → IsClean c inside body k
   pub frame : (i : ℕ) → (i < n) ⊎ (n + place large + places least body ≤ i) → ms i ≡ first i
 
--- ---- what the walks of the code ask and do
+-- ---- what the walks of the code require and do
 
 -- a statement without a body inside
 abbrev pub IsLine : Statement → Type 0

@@ -23,11 +23,11 @@ use crate::scopes::Scope;
 use pact_record::Fields;
 use tac_syntax::{Context, Kind, Valid};
 
-/// Which fields the function reads, writes and decides by, where the records of its inputs may have values in the
-/// context's fields alone. The function touches what it reads, writes and names in a `set`.
+/// Which fields the function reads, writes and decides by, if the records of its inputs may have values only in the
+/// context's fields. The function touches what it reads, writes and names in a `set`.
 ///
-/// The sets are those of the rules in `specs/Steps.antt`, `Walks.antt` and `Results.antt`, also where the context's two
-/// sides share a field. What they promise of calls, they promise where the sides share none.
+/// The sets are those of the rules in `specs/Steps.antt`, `Walks.antt` and `Results.antt`, even if the context's two
+/// sides share a field. Their promises about calls hold only if the sides share none.
 pub fn sets(f: &Valid, context: &Context) -> Sets
     requires { IsContextOf f.now.fields context.now }
     ensures sets { found_of result ≡ sets_in f.now context.now }
@@ -53,7 +53,7 @@ pub fn sets(f: &Valid, context: &Context) -> Sets
     found(&scope, &noted, f.named())
 }
 
-// What was noted, with the fields that the function names.
+// The sets that follow from the notes, with the fields that the function names.
 fn found(scope: &Scope, noted: &Noted, named: Fields) -> Sets
     requires { scope.now.fields ≤ MAX_FIELDS }
     ensures found { found_of result ≡ found_by scope.now.kind (scope_of scope.now) (noted_of noted.now) }
@@ -65,7 +65,7 @@ fn found(scope: &Scope, noted: &Noted, named: Fields) -> Sets
     }
 }
 
-// Of a CoGroup.
+// The sets of a CoGroup.
 fn by_anchors(scope: &Scope, noted: &Noted, named: Fields) -> Sets
     requires { scope.now.fields ≤ MAX_FIELDS }
     ensures found { found_of result ≡ results.by_anchors (noted_of noted.now).all_left (noted_of noted.now).all_right (scope_of scope.now) (noted_of noted.now) }
@@ -80,7 +80,7 @@ fn by_anchors(scope: &Scope, noted: &Noted, named: Fields) -> Sets
     }
 }
 
-// Anchored on neither side: it reads and writes all.
+// The sets of a CoGroup that is anchored on neither side: it reads and writes all fields.
 fn alone(scope: &Scope, noted: &Noted, named: Fields) -> Sets
     requires { scope.now.fields ≤ MAX_FIELDS }
     ensures found { found_of result ≡ results.by_anchors false false (scope_of scope.now) (noted_of noted.now) }

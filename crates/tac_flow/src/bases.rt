@@ -9,7 +9,7 @@ use tac_syntax::Side;
 /// The record that a register's record began as.
 #[derive(Clone, Copy, PartialEq, Eq)]
 pub(crate) enum Base {
-    /// The first record. Where there are no groups it is the only one.
+    /// The first record. For a kind without groups it is the only one.
     First,
     /// The one bound to a loop's name.
     Bound { name: u32, side: Side },

@@ -13,15 +13,15 @@ use crate::bases::{Base, Origin};
 use pact_record::Fields;
 use tac_syntax::{RECORD_REGISTERS, VALUE_REGISTERS};
 
-/// Of a value: the fields that it depends on, and what it is known to equal.
+/// What is known of a value: the fields that it depends on, and what it is known to equal.
 #[derive(Clone, Copy, PartialEq, Eq)]
 pub(crate) struct ValueFacts {
     pub(crate) deps: Fields,
     pub(crate) origin: Origin,
 }
 
-/// Of a record: what it began as, the fields in which it may differ from that, and the fields
-/// that those depend on.
+/// What is known of a record: what it began as, the fields in which it may differ from that, and the fields that those
+/// depend on.
 #[derive(Clone, Copy, PartialEq, Eq)]
 pub(crate) struct RecordFacts {
     pub(crate) base: Base,
@@ -29,7 +29,7 @@ pub(crate) struct RecordFacts {
     pub(crate) depends: Fields,
 }
 
-/// Of each register.
+/// What is known of each register.
 #[derive(Clone, Copy, PartialEq, Eq)]
 pub(crate) struct Facts {
     values: [ValueFacts; VALUE_REGISTERS as usize],
@@ -93,7 +93,7 @@ impl RecordFacts {
     }
 }
 
-// Every field where there is no base.
+// Every field if there is no base.
 fn changed_from(fields: u32, base: Base, set: Fields) -> Fields
     requires { fields ≤ MAX_FIELDS }
     ensures { has_field result ≡ known.changed_from fields base (has_field set) }

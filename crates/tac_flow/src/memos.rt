@@ -15,8 +15,8 @@ pub(crate) fn first_inside(memos: &[Option<Facts>], large: bool, n: usize) -> us
     if large { n + 1 } else { n }
 }
 
-/// Joins what is kept of a loop to the facts with which it is reached. If that changes nothing that was kept, the loop
-/// has settled, and the answer is true.
+/// Joins the stored facts of a loop with the facts with which it is reached. If that doesn't change the stored facts,
+/// the loop has settled, and the result is true.
 pub(crate) fn begin(
     memos: &[Option<Facts>],
     fields: u32,

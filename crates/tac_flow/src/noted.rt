@@ -1,4 +1,4 @@
-//! What is written down on the way through a body.
+//! The notes on the way through a body.
 
 ghost use Rattle.std.specs.Prelude.{◌≡◌, ◌≤◌};
 ghost use Rattle.pact_record.specs.declared.records.TheConstants.{MAX_FIELDS};
@@ -12,9 +12,8 @@ use crate::facts::RecordFacts;
 use pact_record::Fields;
 use tac_syntax::Side;
 
-/// What branches were decided by, and of the records that were emitted: the fields in which one
-/// may differ from its base, those in which each may, what these depend on, and whether each base
-/// is on the left, and on the right.
+/// What decided branches, and about the records that were emitted: the fields in which one may differ from its base,
+/// those in which each may, what these depend on, and whether each base is on the left, and on the right.
 #[derive(Clone, Copy)]
 pub(crate) struct Noted {
     pub(crate) writes: Fields,

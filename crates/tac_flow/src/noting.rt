@@ -18,15 +18,15 @@ use crate::walks::walk_body;
 use crate::warm::warm_body;
 use tac_syntax::Body;
 
-/// What is written down on the way through a body. In a warm walk each loop begins from where it settled before. If that
-/// might lead to another answer, the body is walked once more, and each loop begins from where it is reached.
+/// The notes on the way through a body. In a warm walk each loop begins from where it settled before. If that might
+/// lead to other notes, the body is walked once more, and each loop begins from where it is reached.
 pub(crate) fn noted_in(scope: &Scope, body: &Body) -> Noted
     requires well_formed { IsWellFormed scope.now.kind scope.now.fields 0 body.now }
     requires fields { scope.now.fields ≤ MAX_FIELDS }
     requires small { IsSmallScope (scope_of scope.now) }
     ensures { noted_of result ≡ gather (notes_of (scope_of scope.now) body.now) (nothing scope.now.fields) }
 {
-    // Without nested blocks each loop is reached once, and nothing is worth keeping.
+    // Without nested blocks each loop is reached once, and nothing is worth storing.
     if body.depth() < 2 {
         return noted_cold(scope, body);
     }
@@ -36,7 +36,7 @@ pub(crate) fn noted_in(scope: &Scope, body: &Body) -> Noted
     }
 }
 
-// Not inlined: every call of `sets` would then have this table in its frame.
+// Not inlined: otherwise every call of `sets` would have this table in its frame.
 #[inline(never)]
 fn noted_warm(scope: &Scope, body: &Body) -> Option<Noted>
     requires well_formed { IsWellFormed scope.now.kind scope.now.fields 0 body.now }

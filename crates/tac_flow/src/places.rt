@@ -1,4 +1,4 @@
-//! Which loops have a place in the table of what is kept of them.
+//! Which loops have a place in the table of stored facts.
 
 ghost use Rattle.std.specs.Prelude.{◌≡◌, ◌+◌, IfSome};
 ghost use Rattle.tac_syntax.specs.Trees.{only};
@@ -7,19 +7,18 @@ ghost use Rattle.tac_flow.specs.Memos.{place, places};
 
 use tac_syntax::{Body, Stmt};
 
-/// How many places there are. The table lies on the stack, at 2 KB a place, and `pact` is to need less than 192 KB of stack
-/// in all. If a function has more loops than this, only the largest have a place. With 20 places the worst function found
-/// took three times as long.
+/// The number of places. The table is on the stack, with 2 KB for each place, and `pact` has to need less than 192 KB
+/// of stack in all. If a function has more loops than this, only the largest have a place. With 20 places the worst
+/// function found took three times as long.
 pub(crate) const PLACES: usize = 40;
 
 // `least_size` tries multiples of this size.
 const STEP: u32 = 8;
 
-// As many multiples as it takes: a function of 1,000 statements, with loops at most 3 deep, has at most 37 loops of 80
-// statements.
+// Enough multiples: a function of 1,000 statements, with loops at most 3 deep, has at most 37 loops of 80 statements.
 const STEPS: u32 = 11;
 
-/// How many statements a loop's body needs for a place, so that there are places enough.
+/// How many statements a loop's body must have to get a place, so that there are enough places.
 pub(crate) fn least_size(body: &Body) -> u32 {
     for n in 0..STEPS {
         let least = n * STEP;

@@ -1,4 +1,4 @@
-//! What a function is called for, and what each of its statements teaches.
+//! The inputs that a function is called for, and what the analysis learns from each of its statements.
 
 ghost use Rattle.std.specs.Prelude.{◌≡◌, ◌<◌, ◌≤◌, length};
 ghost use Rattle.pact_record.specs.declared.records.TheConstants.{MAX_FIELDS};
@@ -12,8 +12,8 @@ use crate::facts::{RecordFacts, ValueFacts};
 use pact_record::{Fields, Keys};
 use tac_syntax::{Context, Kind, Side};
 
-/// A function's kind and number of fields, in a context. A loop has a place in the table of what is kept if its body has
-/// `least` statements or more.
+/// A function's kind and number of fields, in a context. A loop has a place in the table of stored facts if its body
+/// has at least `least` statements.
 #[derive(Clone, Copy)]
 pub(crate) struct Scope {
     pub(crate) kind: Kind,
@@ -49,7 +49,7 @@ impl Scope {
         key_field(&self.keys(Side::Left), at).union(key_field(&self.keys(Side::Right), at))
     }
 
-    // The fields of either side in which a record is its base.
+    // The fields of both sides in which a record equals its base.
     fn kept(&self, row: &RecordFacts) -> Fields
         ensures { has_field result ≡ steps.kept_of (scope_of self.now) (held_of row.now) }
     {
@@ -59,7 +59,7 @@ impl Scope {
             .minus(row.changed)
     }
 
-    /// What a register's record depends on, all of its fields together.
+    /// What a register's record depends on, over all of its fields.
     pub(crate) fn all_of_held(&self, row: &RecordFacts) -> Fields
         ensures { has_field result ≡ either (held_of row.now).depends (steps.kept_of (scope_of self.now) (held_of row.now)) }
     {
@@ -82,7 +82,7 @@ impl Scope {
         }
     }
 
-    /// What is known of a record after some field of it was set, by a number that depends on these fields.
+    /// What is known of a record after some field of it was set, whose number depends on these fields.
     pub(crate) fn written_at(
         &self,
         row: &RecordFacts,
@@ -211,7 +211,7 @@ fn is_key_at(keys: &Keys, at: u32, field: u32) -> bool
     at < keys.len() && field == keys.at(at)
 }
 
-// The field at that position, where there is one.
+// The field at that position, if there is one.
 fn key_field(keys: &Keys, at: u32) -> Fields
     ensures { has_field result ≡ steps.is_key_at keys.now at }
 {
@@ -222,7 +222,7 @@ fn key_field(keys: &Keys, at: u32) -> Fields
     }
 }
 
-// The first position that has the field, else the other origin.
+// The first position that has the field, or `other` if none has.
 fn key_or(other: Origin, keys: &Keys, field: u32) -> Origin
     ensures { result ≡ steps.key_or other 0 keys.now field }
 {

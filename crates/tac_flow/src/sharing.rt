@@ -1,4 +1,4 @@
-//! One context for all those in which the same is found of a function.
+//! One context for all those in which the findings about a function are equal.
 
 ghost use Rattle.std.specs.Prelude.{◌≡◌};
 ghost use Rattle.tac_syntax.specs.declared.functions.Kind.TheVariants.{CoGroup};
@@ -36,9 +36,9 @@ pub fn takes_numbers(body: &Body) -> bool
     false
 }
 
-/// A context in which `sets` finds the same of the function as in this one. A caller that keeps what it found has to keep
-/// it for the shared context only: a CoGroup has the same one whatever its inputs may hold, unless some statement takes a
-/// field's number from a register.
+/// A context in which `sets` finds the same for the function as in this one. A caller that stores findings needs to
+/// store them only for the shared context: a CoGroup has the same one for any fields of its inputs, unless some
+/// statement takes a field's number from a register.
 pub fn shared_context(f: &Valid, context: &Context) -> Context
     requires { IsContextOf f.now.fields context.now }
     ensures value { result ≡ sharing.shared_context f.now context.now }

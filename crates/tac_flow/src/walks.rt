@@ -57,7 +57,7 @@ fn learn_get(scope: &Scope, sides: &Sides, facts: &mut Facts, to: u32, from: Rec
     facts.set_value(to, scope.read_from(&row, field));
 }
 
-// What a value depends on that is read of the record in a field that isn't known.
+// What a value depends on that is read from the record in a field that isn't known.
 fn all_of(scope: &Scope, sides: &Sides, facts: &Facts, from: Rec) -> Fields
     requires { CanRead scope.now.kind (length (sides_of sides.now)) from }
     ensures { has_field result ≡ steps.all_of (scope_of scope.now) (sides_of sides.now) (state_of facts.now) from }
@@ -114,7 +114,7 @@ fn learn_set_at(scope: &Scope, facts: &mut Facts, to: u32, at: u32, value: u32)
     facts.set_record(to, row);
 }
 
-// A statement, and what is written down there.
+// A statement, and the notes on it.
 #[cycle(walk)]
 pub(crate) fn walk_stmt(
     scope: &Scope,

@@ -23,7 +23,7 @@ use crate::sides::Sides;
 use crate::walks::{side_of, walk_stmt, walks_at_most};
 use tac_syntax::{Body, LoopList, Stmt};
 
-// Whether a warm start is safe beside this `set`: a value that it puts back has to depend on the field.
+// Whether a warm start is safe in spite of this `set`: a value that it puts back has to depend on the field.
 fn is_plain_set(scope: &Scope, facts: &Facts, to: u32, field: u32, value: u32) -> bool
     requires to { to < record_registers }
     requires value { value < value_registers }
@@ -82,7 +82,7 @@ fn warm_line(
     if clean { Some(n) } else { None }
 }
 
-// A statement, and what is written down there. Returns the next free place, or None if a warm start isn't safe.
+// A statement, and the notes on it. Returns the next free place, or None if a warm start isn't safe.
 #[cycle(warm)]
 fn warm_stmt(
     scope: &Scope,
@@ -178,8 +178,8 @@ fn warm_if(
     Some(next)
 }
 
-// Walks through a loop's body until nothing changes, from where that settled before. Returns the first place for the
-// loops inside, or None as above.
+// Walks through a loop's body until nothing changes, from where the loop settled before. Returns the first place for
+// the loops inside, or None as above.
 #[cycle(warm)]
 fn settle(
     scope: &Scope,
@@ -238,7 +238,7 @@ fn warm_repeat(
     Some(next)
 }
 
-// Not inlined: each frame of `warm_body` would then hold its copy of the facts.
+// Not inlined: otherwise each frame of `warm_body` would hold its copy of the facts.
 #[cycle(warm)]
 #[inline(never)]
 fn warm_each(

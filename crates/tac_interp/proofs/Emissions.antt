@@ -1,4 +1,4 @@
--- What a call emitted in all, with the input's record where it passes and without it.
+-- What a call emitted in all, both if the input's record passes and if it doesn't.
 use Rattle.std.proofs.Common.{◌≡◌, ◌++◌, ◌∷◌, ℕ, [], Bool, true, false, None, List, length, refl, sym, ap, ◌∙◌, subst, append_assoc}
 use Rattle.std.specs.List.{AllByRecursion}
 use Rattle.pact_record.specs.declared.values.Value.{Value}
@@ -14,7 +14,7 @@ use Rattle.tac_interp.specs.declared.inputs.Input.TheVariants.{Record, Pair, Gro
 use Rattle.tac_interp.specs.Machine.{AreEmitted, input_of, record_of}
 use Rattle.tac_interp.proofs.Starts.{emitted-exec}
 
--- of the whole body, from the steps of a call
+-- what the whole body emits, from the steps of a call
 pub AreEmitted-exec : (f g : Function) (fields : ℕ) (input : CallInput) (start : Store) (passes : Bool) (emitted now : List (List Value)) → emitted ≡ now
     → AreEmitted passes (exec g.body start).input now (exec g.body start).emitted → g ≡ f → start ≡ start_store fields input → AreEmitted passes input emitted (Out fields f.body input)
 AreEmitted-exec f g fields input start passes emitted now n h e s =
@@ -46,7 +46,7 @@ none-passes passes input emitted all e h = subst (λ (b : Bool). AreEmitted b in
 pub one-passes : (passes : Bool) (input : CallInput) (emitted all : List (List Value)) → passes ≡ true → AreEmitted passes input emitted all → emitted ++ input_record input ∷ [] ≡ all
 one-passes passes input emitted all e h = (subst (λ (b : Bool). AreEmitted b input emitted all) e h).1
 
--- ---- behind what was emitted before
+-- ---- after what was emitted before
 
 pub all-behind : (before now emitted all : List (List Value)) → now ≡ before ++ emitted → emitted ≡ all → now ≡ before ++ all
 all-behind before now emitted all n e = n ∙ ap (λ (l : List (List Value)). before ++ l) e
@@ -59,6 +59,6 @@ pub AreWide-behind : (fields : ℕ) (before now emitted : List (List Value)) →
 AreWide-behind fields before now emitted n h w =
     subst (AreWide fields) (sym n) (AllByRecursion-append (λ (row : List Value). length row ≡ fields) before emitted h w)
 
--- as wide as a row that comes behind them
+-- all rows are as wide as a row that follows them
 pub one_width : (fields : ℕ) (row : List Value) (rows : List (List Value)) → length row ≡ fields → AreWide fields rows → AllByRecursion (λ held. length held ≡ length row) rows
 one_width fields row rows e h = AllByRecursion-weaker (λ (held : List Value). length held ≡ fields) (λ (held : List Value). length held ≡ length row) rows (λ held w. w ∙ sym e) h

@@ -23,7 +23,7 @@ length-filled zero blank (x ∷ xs) h = absurd (omega arith)
 length-filled (suc n) blank [] h = ap suc (length-filled n blank [] (omega arith))
 length-filled (suc n) blank (x ∷ xs) h = ap suc (length-filled n blank xs (omega arith))
 
--- what a register that wasn't set has, is what it had at the start
+-- a register that wasn't set has what it had at the start
 pub get_or-filled : {A : Type 0} (n at : ℕ) (blank other : A) (xs : List A) → at < n → get_or (filled n blank xs) at other ≡ get_or xs at blank
 get_or-filled zero at blank other xs h = absurd (omega arith)
 get_or-filled (suc n) zero blank other [] h = refl
@@ -31,7 +31,7 @@ get_or-filled (suc n) (suc at) blank other [] h = get_or-filled n at blank other
 get_or-filled (suc n) zero blank other (x ∷ xs) h = refl
 get_or-filled (suc n) (suc at) blank other (x ∷ xs) h = get_or-filled n at blank other xs (omega arith)
 
--- one is set in the first ones, filled up to it
+-- setting a register in the list of the first ones, filled up to it, sets it in all
 pub set-filled : {A : Type 0} (n m at : ℕ) (blank x : A) (xs : List A) → m ≡ at + 1 → at < n → filled n blank (slice_set (filled m blank xs) at x) ≡ slice_set (filled n blank xs) at x
 set-filled zero m at blank x xs e h = absurd (omega arith)
 set-filled (suc n) zero at blank x xs e h = absurd (omega (arith, e))

@@ -11,7 +11,7 @@ use Rattle.tac_interp.specs.declared.registers.Held.TheVariants.{Blank}
 use Rattle.tac_interp.specs.Registers.{AreAsWide, IsAsWide, filled, row_of}
 use Rattle.tac_interp.proofs.FilledRegisters.{get_or-filled, get_or-held, get_or-unset, set-filled}
 
--- what the registers have
+-- the records in the registers
 abbrev pub rows_of : ℕ → Option (List Value) → List Held → List (List Value)
 rows_of fields lent held = filled record_registers (empty_record fields) (map (row_of fields lent) held)
 
@@ -28,7 +28,7 @@ row-held fields at lent one held lt h e =
 pub row-unset : (fields at : ℕ) (lent : Option (List Value)) (held : List Held) → at < record_registers → length held ≤ at → empty_record fields ≡ get_or (rows_of fields lent held) at []
 row-unset fields at lent held lt h = sym (get_or-unset record_registers at (empty_record fields) [] (map (row_of fields lent) held) lt (omega (arith, length-map held (row_of fields lent), h)))
 
--- one is set, behind the filling
+-- setting a register, after the list was filled up to it
 pub rows-set : (fields at : ℕ) (lent : Option (List Value)) (one : Held) (row : List Value) (held reached : List Held) → at < record_registers → reached ≡ filled (at + 1) Blank held → row_of fields lent one ≡ row
     → rows_of fields lent (slice_set reached at one) ≡ slice_set (rows_of fields lent held) at row
 rows-set fields at lent one row held reached lt e f =
@@ -38,7 +38,7 @@ rows-set fields at lent one row held reached lt e f =
     ∙ ap (λ (l : List (List Value)). filled record_registers blank (slice_set l at row)) (ap (map (row_of fields lent)) e ∙ map-filled (row_of fields lent) (at + 1) Blank held)
     ∙ set-filled record_registers (at + 1) at blank row (map (row_of fields lent) held) refl lt
 
--- the one that is set, before it is
+-- the record of a register that is about to be set
 pub row-reached : (fields at : ℕ) (lent : Option (List Value)) (one : Held) (held reached : List Held) → at < record_registers → reached ≡ filled (at + 1) Blank held → one ≡ get_or reached at one
     → row_of fields lent one ≡ get_or (rows_of fields lent held) at []
 row-reached fields at lent one held reached lt e g =

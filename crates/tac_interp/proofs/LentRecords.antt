@@ -14,7 +14,7 @@ is_lent fields (Pair left right) h w = absurd h
 is_lent fields (Group keys one group) h w = absurd h
 is_lent fields (Groups keys one left right) h w = absurd h
 
--- for what the registers know of it
+-- the lent record has the width that the registers rely on
 pub IsLent-input : (fields : ℕ) (input : Input) (lent : Option (List Value)) → lent ≡ record_of input → IsOfRecord (input_of input) → HasWidth fields (input_of input) → IsLent fields lent
 IsLent-input fields input lent e h w = subst (IsLent fields) (sym e) (is_lent fields input h w)
 
@@ -27,7 +27,7 @@ the_record (Groups keys one left right) h = absurd h
 pub lent_row-input : (input : Input) (lent : Option (List Value)) → lent ≡ record_of input → IsOfRecord (input_of input) → lent_row lent ≡ input_record (input_of input)
 lent_row-input input lent e h = ap lent_row e ∙ the_record input h
 
--- what is lent is the record of a call for one
+-- the lent record is the record of a call for one record
 pub input-lent : (input : Input) (row : List Value) → record_of input ≡ Some row → IsOfRecord (input_of input) × (row ≡ input_record (input_of input))
 input-lent (Record now) row e = (tt, sym (ap lent_row e))
 input-lent (Pair left right) row e = cc

@@ -1,4 +1,4 @@
--- What the interpreter's machine is, and what it keeps.
+-- The model of the interpreter's machine, and its invariant.
 use Rattle.std.specs.Prelude.{◌≡◌, ◌≤◌, ◌<◌, ◌++◌, Bool, true, false, Option, None, Some, List, [], ◌∷◌, length, map}
 use Rattle.std.specs.List.{AllByRecursion}
 use Rattle.pact_record.specs.Record.{key_of}
@@ -35,7 +35,7 @@ HasKeyFields input = Unit {0}
 abbrev pub store_of : Inside → Store
 store_of m = record { fields = m.records.fields; input = input_of m.input; values = m.values; records = m.records.records; loops = map (λ r. r.now) m.loops.items; emitted = m.emitted }
 
--- a statement reads a record of the input or of a loop, and no register or join
+-- a statement reads a record of the input or of a loop, not a register or a join
 abbrev pub IsGiven : Rec → Type 0
 IsGiven (Reg k) = ⊥
 IsGiven Join = ⊥

@@ -11,7 +11,7 @@ use Rattle.tac_interp.specs.declared.registers.Held.{Held}
 use Rattle.tac_interp.specs.declared.registers.Held.TheVariants.{Blank, Own, Lent}
 use Rattle.tac_interp.specs.declared.registers.RecordRegisters.TheInside.{Inside}
 
--- so many at least: the first ones, and then what each had at the start
+-- at least n registers: the first ones, and then the value that each had at the start
 abbrev pub filled : {A : Type 0} → ℕ → A → List A → List A
 filled zero blank first = first
 filled (suc n) blank [] = blank ∷ filled n blank []
@@ -42,7 +42,7 @@ row_of fields lent Blank = empty_record fields
 row_of fields lent (Own row) = row
 row_of fields lent Lent = lent_row lent
 
--- a record that is there has so many fields
+-- a record that is there has this number of fields
 abbrev pub IsAsWide : ℕ → Option (List Value) → Held → Type 0
 IsAsWide fields lent Blank = Unit {0}
 IsAsWide fields lent (Own row) = length row ≡ fields

@@ -21,7 +21,7 @@ use pact_record::{Keys, OutOfMemory, Record};
 use std::alloc::Global;
 use tac_syntax::Valid;
 
-// What a call leaves. If `passes`, it also emits the input's record, after all records in `parts.emitted`.
+// The state after a call. If `passes`, it also emits the input's record, after all records in `parts.emitted`.
 #[derive(Drop)]
 struct Ended {
     parts: Parts,
@@ -183,8 +183,8 @@ pub fn pair_into(
     call_into(alloc, f, Input::Pair(left, right), scratch, out)
 }
 
-/// What a Reduce's function emits for the records of a group, in its order. The clauses speak of the
-/// key values that all of them have.
+/// What a Reduce's function emits for the records of a group, in its order. The clauses speak of the key values that
+/// all of the records have.
 pub fn call_group(alloc: Global, f: &Valid, keys: &Keys, group: &Rows) -> Result<Rows, OutOfMemory>
     requires kind { f.now.function.kind ≡ Reduce }
     requires keys { length keys.now ≡ f.now.function.keys }
@@ -226,8 +226,8 @@ pub fn group_into(
     call_into(alloc, f, Input::Group { keys, one, group }, scratch, out)
 }
 
-/// What a CoGroup's function emits for the groups of either side, in its order. One of them may be
-/// empty. The clauses speak of the key values that all of their records have.
+/// What a CoGroup's function emits for the groups of either side, in its order. One of them may be empty. The clauses
+/// speak of the key values that all of their records have.
 pub fn call_cogroup(
     alloc: Global,
     f: &Valid,

@@ -1,4 +1,4 @@
-//! What a function is called for.
+//! The inputs that a function is called for.
 
 ghost use Rattle.std.specs.Prelude.{◌≡◌, ◌<◌, length, get_or};
 ghost use Rattle.pact_record.specs.declared.values.Value.TheVariants.{Null};
@@ -11,7 +11,7 @@ ghost use Rattle.tac_interp.specs.Registers.{lent_of};
 use pact_record::{Keys, Record, Value};
 use tac_syntax::LoopList;
 
-/// What a call is for, by the function's kind.
+/// The input of a call, by the function's kind.
 #[derive(Drop)]
 pub(crate) enum Input<'a> {
     /// The record of a Map.

@@ -31,7 +31,7 @@ pub(crate) struct Machine<'a> {
     input: Input<'a>,
     values: ValueRegisters,
     records: RecordRegisters<'a>,
-    // of the loops around a statement, the outermost first
+    // the records of the loops around a statement, the outermost first
     loops: Vec<&'a Record>,
     emitted: Rows,
 }
@@ -49,7 +49,7 @@ impl<'a> Model for Machine<'a> {
     ghost invariant = { λ m. IsWide (store_of m) × HasKeyFields m.input × (m.records.lent ≡ record_of m.input) };
 }
 
-// What the operation gives, or None if one of the values or what it gives may be no number.
+// The result of the operation, or None if one of the values or the result may not be a number.
 #[inline(always)]
 fn number_of_both(op: Op2, first: &Value, second: &Value) -> Option<i64>
     ensures { IfSome result (λ n. applied2 op first.now second.now ≡ Int n) }
@@ -208,7 +208,7 @@ impl<'a> Machine<'a> {
         self.values.set(to, value)
     }
 
-    // The field that a register numbers.
+    // The field whose number is in a register.
     fn number_in(&self, at: u32) -> Option<u32>
         requires { at < value_registers }
         ensures { result ≡ numbered self.now.fields (value_in self.now at) }
@@ -357,7 +357,7 @@ impl<'a> Machine<'a> {
         Ok(false)
     }
 
-    /// What was emitted, and memory for the next call.
+    /// The records emitted, and memory for the next call.
     pub(crate) fn into_parts(self) -> Parts
         ensures { result.emitted ≡ self.entry.emitted }
     {

@@ -1,4 +1,5 @@
-//! Operations on two numbers. Most statements are one of these, and a number is cheaper to hand on than a value, which may hold a text.
+//! Operations on two numbers. Most statements are one of these, and a number is cheaper to pass on than a value, which
+//! may hold a text.
 
 ghost use Rattle.std.specs.Prelude.{◌≡◌, IfSome};
 ghost use Rattle.pact_record.specs.Operations as specs;
@@ -19,7 +20,7 @@ fn wrapped_sum(x: i64, y: i64) -> i64
     x.wrapping_add(y)
 }
 
-/// What the operation gives of two numbers, or None if that may be no number.
+/// The result of the operation for two numbers, or None if it may not be a number.
 #[inline(always)]
 pub(crate) fn on_numbers(op: Op2, x: i64, y: i64) -> Option<i64>
     ensures { IfSome result (λ n. applied2 op (Int x) (Int y) ≡ Int n) }

@@ -15,7 +15,7 @@ use std::alloc::Global;
 use std::cmp::Ordering;
 use tac_syntax::Valid;
 
-/// What a Map gives. A row that its function emits unchanged at its end is moved and not copied.
+/// The output of a Map. A row that its function emits unchanged at its end is moved and not copied.
 pub fn map_rows(alloc: Global, f: &Valid, rows: Rows) -> Result<Rows, OutOfMemory>
     requires kind { f.now.function.kind ≡ Map }
     requires widths { AreWide f.now.fields rows }
@@ -30,8 +30,8 @@ pub fn map_rows(alloc: Global, f: &Valid, rows: Rows) -> Result<Rows, OutOfMemor
     Ok(out)
 }
 
-// The calls for the pairs of one left record, behind what was given before. Where Nulls don't match, a key with one
-// matches nothing.
+// Appends the outputs of the calls for the pairs of one left record. If Nulls don't match, a key with a Null matches
+// nothing.
 fn append_pairs(
     alloc: Global,
     nulls: bool,
@@ -63,7 +63,7 @@ fn append_pairs(
     Ok(())
 }
 
-/// What a Match gives, where Nulls match in keys or don't.
+/// The output of a Match; `nulls` says whether Nulls match in keys.
 pub fn match_rows(
     alloc: Global,
     nulls: bool,
@@ -100,7 +100,7 @@ pub fn match_rows(
     Ok(out)
 }
 
-/// What a Cross gives: a Match without keys, in which each pair matches.
+/// The output of a Cross: a Match without keys, in which each pair matches.
 pub fn cross_rows(
     alloc: Global,
     f: &Valid,

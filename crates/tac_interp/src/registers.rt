@@ -20,7 +20,7 @@ use std::mem;
 pub(crate) struct ValueRegisters {
     // up to the greatest one that was set
     held: Vec<Value>,
-    // what every other one has
+    // the value of every other register
     null: Value,
 }
 
@@ -38,7 +38,7 @@ impl Model for ValueRegisters {
     ghost invariant = { λ r. (length r.held.items ≤ value_registers) × (r.null ≡ Null) };
 }
 
-// Puts Null behind the values, so that there is one at the place.
+// Appends Nulls, so that there is a value at the place.
 fn reach_value(held: &mut Vec<Value>, at: u32) -> Result<(), OutOfMemory>
     requires { at < value_registers }
     ensures reached { OnOk result (held.new.items ≡ filled (at + 1) Null held.old.items) }
@@ -78,8 +78,8 @@ impl ValueRegisters {
         &self.held[at as usize]
     }
 
-    // A number is written as such. A value that is moved as a whole is moved in pieces, and reading a number back from these takes longer than the rest
-    // of a statement.
+    // A number is written as such. A value that is moved as a whole is moved in pieces, and reading a number back from
+    // these takes longer than the rest of a statement.
     #[inline(always)]
     pub(crate) fn set(&mut self, at: u32, value: Value) -> Result<(), OutOfMemory>
         requires { at < value_registers }
@@ -177,7 +177,7 @@ pub(crate) struct RecordRegisters<'a> {
     source: Source<'a>,
     // up to the greatest one that was set
     held: Vec<Held>,
-    // what each field of a blank register has
+    // the value of each field of a blank register
     null: Value,
 }
 

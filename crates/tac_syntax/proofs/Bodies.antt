@@ -106,7 +106,7 @@ count_of-onto (choice on body other) next = omega arith
 count_of-onto (turning count body) next = omega arith
 count_of-onto (going_through name list body) next = omega arith
 
--- its own places come first
+-- The places of the statement itself come first.
 pub placed-onto : (p : Place) (s : Statement) (next : Code) → placed p (onto s next) ≡ placed p (onto s stop) ++ placed p next
 placed-onto p (one_line s) next = refl
 placed-onto p (choice on body other) next = simp (append_assoc, append-nil)

@@ -129,7 +129,7 @@ most_of (each name list body next) few s = elim (cases_Bool (most_emits body == 
   | inr some ↦ let here = ap (λ (b : Bool). if b then 0 else many) some in absurd (omega (arith, few, here))
 ]
 
--- ---- of a call
+-- ---- one call
 
 some_row : (kind : Kind) (x : CallInput) → IsInputOf kind x → HasSome x → SomeRow kind x
 some_row Map x h some list = cc

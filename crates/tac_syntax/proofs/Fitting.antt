@@ -1,4 +1,4 @@
--- A place that fits a store: what its statements name is there, and it fits after them.
+-- A place that fits a store: what its statements name exists, and the place still fits after them.
 use Rattle.std.proofs.Common.{◌≡◌, ◌<◌, ◌+◌, ◌-◌, ℕ, true, false, ◌||◌, not, ◌==◌, nat_le, List, [], ◌∷◌, length, take, refl, arith}
 use Rattle.std.proofs.lemmas.Bool.{leb-false, leb-true, eqb-true, not-false, or_parts, and_parts}
 use Rattle.std.proofs.lemmas.List.{length_push, length-take}

@@ -1,4 +1,4 @@
--- What each statement keeps, a body keeps.
+-- A body keeps what each of its statements keeps.
 use Rattle.std.proofs.Common.{◌≡◌, ℕ, zero, suc, Bool, true, false, if◌then◌else◌, List, [], ◌∷◌, ◌++◌, sym, subst}
 use Rattle.std.specs.List.{AllByRecursion}
 use Rattle.pact_record.specs.declared.values.Value.{Value}
@@ -10,7 +10,7 @@ use Rattle.tac_syntax.specs.Exec.{times, for_each, exec}
 use Rattle.tac_syntax.specs.Places.{Place, Placed, placed, at_place, in_if, in_repeat, in_each}
 use Rattle.pact_record.proofs.Lists.{AllByRecursion-left, AllByRecursion-right}
 
--- A fact of a place and a store that good statements keep, where the records that loops go through are good.
+-- A fact about a place and a store that good statements keep, if the records that loops go through are good.
 pub record IsKept (Good : Placed → Type 0) (GoodRow : List Value → Type 0) (Fact : Place → Store → Type 0) (input : CallInput) : Type 0 where
   pub same_input : (p : Place) (s : Store) → Fact p s → s.input ≡ input
   pub rows : (list : LoopList) → AllByRecursion GoodRow (rows_of input list)

@@ -1,4 +1,4 @@
--- Lawful inputs of each kind: what is said of them isn't said of nothing.
+-- Lawful inputs of each kind, which show that statements about lawful inputs aren't vacuous.
 use Rattle.std.proofs.Common.{◌≡◌, ℕ, zero, suc, pos, List, [], ◌∷◌, refl, arith}
 use Rattle.pact_record.specs.declared.values.Value.{Value}
 use Rattle.pact_record.specs.declared.values.Value.TheVariants.{Null, Int}

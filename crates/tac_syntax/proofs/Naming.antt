@@ -1,4 +1,5 @@
--- Which fields the statements of a body set, one after the other; those of a valid function are below its number of fields.
+-- Which fields the statements of a body set, one after another. Those of a valid function are below its number of
+-- fields.
 use Rattle.std.proofs.Common.{◌≡◌, ◌<◌, ◌+◌, ◌⊎◌, ◌↔◌, ◌||◌, ℕ, false, IsTrue, None, List, [], ◌∷◌, ◌++◌, inl, inr, sym, ◌∙◌, rules, arith}
 use Rattle.std.proofs.lemmas.Bool.{leb-false, or_cases, or_left, or_right}
 use Rattle.std.proofs.lemmas.List.Elements.{All-nil, All-cons, All-head, All-tail, All-contains, All-contains_itself, All-weaker, Contains-append_left, Contains-append_right}
@@ -22,7 +23,7 @@ Names-onto fields k (choice on body other) next = search rules
 Names-onto fields k (turning count body) next = search rules
 Names-onto fields k (going_through name list body) next = search rules
 
--- the fields found before a statement, or set by it or behind it, are those found before or in it, or set behind it
+-- The fields found before a statement, or set by it or after it, are those found up to its end, or set after it.
 pub found_more : (fields found more all k : ℕ) (s : Statement) (next whole : Code)
     → ((IsTrue (has_field found k) ⊎ Names fields k (onto s next)) ↔ Names fields k whole)
     → (IsTrue (has_field more k) ↔ Names fields k (onto s stop))

@@ -72,7 +72,7 @@ exec-onto (choice on body other) next s = refl
 exec-onto (turning count body) next s = refl
 exec-onto (going_through name list body) next s = refl
 
--- what is left, from the store so far, gives what the whole gives from the first store
+-- The rest, from the current store, gives what the whole gives from the first store.
 pub record RunsOn (left whole : Code) (now first : Store) : Type 0 where
   pub gives : exec left now ≡ exec whole first
   pub ready : IsReady left now

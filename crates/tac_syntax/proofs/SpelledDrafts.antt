@@ -1,4 +1,4 @@
--- One more declaration.
+-- A draft that can be spelled still can be with one more declaration.
 use Rattle.std.proofs.Common.{◌+◌, ℕ, Bool, true, false, if◌then◌else◌, List, [], ◌∷◌, ◌++◌, length, refl, sym, subst, length-append}
 use Rattle.tac_syntax.specs.declared.functions.Function.{Function}
 use Rattle.pact_record.proofs.Lists.{AllByRecursion-last}
@@ -22,7 +22,7 @@ AreDeclared-one version count (FunctionDecl number) h = absurd h
 AreDeclared-one version count (Op name kind function left right left_keys right_keys) h = (h, refl)
 AreDeclared-one version count (Sink input fields) h = (h, refl)
 
--- where the declaration was pushed, and where it was refused
+-- for a declaration that was pushed, and for one that was refused
 pub IsSpelledDraft-decl : (d : DraftData) (decl : Decl) (pushed : Bool) → IsSpelledDecl d.version decl → IsSpelledDraft d
     → IsSpelledDraft (record { version = d.version; fields = d.fields; functions = d.functions; decls = if pushed then d.decls ++ decl ∷ [] else d.decls })
 IsSpelledDraft-decl d decl false s h = h

@@ -1,4 +1,4 @@
--- The steps of a call come, within their bound, to what the recursion on its body gives.
+-- The steps of a call lead, within their bound, to what the recursion on its body gives.
 use Rattle.std.proofs.Common.{◌≡◌, ◌≤◌, ◌+◌, ◌*◌, ◌-◌, ℕ, zero, suc, max, Bool, true, false, if◌then◌else◌, List, [], ◌∷◌, ◌++◌, length, refl, sym, ◌∙◌, ap, subst, append-nil, arith, zero-add, suc-add, suc-mul}
 use Rattle.pact_record.specs.declared.values.Value.{Value}
 use Rattle.pact_record.specs.Value.{is_true}
@@ -11,7 +11,8 @@ use Rattle.tac_syntax.specs.Exec.{times, for_each, exec}
 abbrev state : Store → List Item → CallState
 state s items = record { store = s; items = items }
 
--- Within so many steps the first state comes to the second: whatever steps the second goes on with, the first comes to the same.
+-- The first state leads to the second within `bound` steps: what the second reaches in k steps, the first reaches in at
+-- most `bound + k`.
 record Leads (c d : CallState) (bound : ℕ) : Type 0 where
   more : (k : ℕ) → (n : ℕ) × (n ≤ bound + k) × (run n c ≡ run k d)
 
@@ -77,7 +78,7 @@ input-exec (each name list body next) s =
 
 -- ---- blocks
 
--- a body's steps on one input, whatever is to do behind it
+-- a body's steps on one input, with any items to do after it
 abbrev Does : CallInput → Code → (Store → Store) → ℕ → Type 0
 Does input body f bound = (s : Store) → s.input ≡ input → (rest : List Item) → Leads (state s (items_of input body ++ rest)) (state (f s) rest) bound
 
@@ -170,6 +171,6 @@ end_state-exec fields body input =
 pub Out-exec : (fields : ℕ) (body : Code) (input : CallInput) → Out fields body input ≡ (exec body (start_store fields input)).emitted
 Out-exec fields body input = ap (λ (c : CallState). c.store.emitted) (end_state-exec fields body input)
 
--- within its bound on steps a call is over
+-- A call ends within its bound on steps.
 pub end_state-items : (fields : ℕ) (body : Code) (input : CallInput) → (end_state fields body input).items ≡ []
 end_state-items fields body input = ap (λ (c : CallState). c.items) (end_state-exec fields body input)

@@ -18,7 +18,7 @@ use Rattle.pact_record.proofs.Lists.{AllByRecursion-left, AllByRecursion-right}
 use Rattle.tac_syntax.specs.Code.{Simple, load_int, load_text, load_null, move_value, get_field, get_at, get_key, apply_one, apply_two, new_record, copy_record, set_field, set_at, emit_record, Code, stop, plain, branch, again, each, simple}
 use Rattle.tac_syntax.specs.WellFormed.{CanRead, HasList, IsWellFormedSimple, IsWellFormed}
 
--- it keeps to the rules on loops
+-- A statement keeps the rules on loops.
 Turns : Placed → Type 0
 Turns x = (breaks_repeats x.place x.line ≡ false) × (breaks_nested_loops x.place x.line ≡ false)
 

@@ -29,8 +29,8 @@ pub record Store : Type 0 where
   pub loops : List (List Value)
   pub emitted : List (List Value)
 
--- What is still to do: a statement of one line, a choice between two bodies, a body so many times more, or a body once for
--- each record that is left, which is bound to the loop's name.
+-- What is still to do: a statement of one line, a choice between two bodies, a body for `count` more turns, or a body
+-- once for each of the remaining records, which is bound to the loop's name.
 pub data Item : Type 0 where
   act : (statement : Simple) → Item
   choose : (on : ℕ) → (body other : Code) → Item
@@ -81,7 +81,7 @@ first_record (of_pair left right) = []
 first_record (of_group key group) = get_or group 0 []
 first_record (of_groups key left right) = []
 
--- the record that a statement reads; no valid function reads one that its call hasn't
+-- the record that a statement reads; no valid function reads one that its call doesn't have
 abbrev pub named_record : Store → Rec → List Value
 named_record s (Reg k) = record_in s k
 named_record s (Loop name) = loop_record s name
@@ -110,17 +110,17 @@ rows_of (of_groups key left right) RightGroup = right
 
 -- ---- fields by number
 
--- the field that a value numbers: an Int from 0 up to below the number of fields
+-- the field whose number a value is: an Int from 0 to below the number of fields
 abbrev pub numbered : ℕ → Value → Option ℕ
 numbered fields (Int (pos n)) = if nat_lt n fields then Some n else None
 numbered fields v = None
 
--- a record's value in that field, if it is one
+-- a record's value in that field, or Null if there is none
 abbrev pub at_numbered : List Value → Option ℕ → Value
 at_numbered r (Some k) = at_field r k
 at_numbered r None = Null
 
--- a record with another value in that field, if it is one
+-- a record with another value in that field, or unchanged if there is none
 abbrev pub set_numbered : List Value → Option ℕ → Value → List Value
 set_numbered r (Some k) v = slice_set r k v
 set_numbered r None v = r
@@ -159,7 +159,8 @@ items_of input (branch on body other next) = choose on body other ∷ items_of i
 items_of input (again count body next) = turns_left count body ∷ items_of input next
 items_of input (each name list body next) = rows_left name (rows_of input list) body ∷ items_of input next
 
--- A loop's name, one more than the number of loops around it, is bound to a record; theirs stay bound.
+-- Binds a loop's name to a record. The name is one more than the number of `each` around the loop; their names stay
+-- bound.
 abbrev pub bind : Store → ℕ → List Value → Store
 bind s name row = record s { loops = take (name - 1) s.loops ++ row ∷ [] }
 
@@ -204,7 +205,7 @@ longest (of_pair left right) = 0
 longest (of_group key group) = length group
 longest (of_groups key left right) = max (length left) (length right)
 
--- a bound on the steps of a body where each list has at most n records
+-- a bound on the steps of a body if each list has at most n records
 abbrev pub turns : ℕ → Code → ℕ
 turns n stop = 0
 turns n (plain s next) = 1 + turns n next

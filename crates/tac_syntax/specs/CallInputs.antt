@@ -1,4 +1,4 @@
--- What a call of a function of each kind is for.
+-- What a function of each kind is called for.
 use Rattle.std.specs.Prelude.{◌≡◌, ◌≤◌, ◌<◌, ◌+◌, ℕ, length}
 use Rattle.pact_record.specs.Widths.{AreWide}
 use Rattle.tac_syntax.specs.declared.functions.Kind.{Kind}
@@ -30,20 +30,20 @@ IsInputOf Cross input = IsOfPair input
 IsInputOf Reduce input = IsOfGroup input
 IsInputOf CoGroup input = IsOfGroups input
 
--- A group has a record, and so has one of the two groups of a CoGroup.
+-- The group of a Reduce has a record, and so has at least one of the two groups of a CoGroup.
 abbrev pub HasSome : CallInput → Type 0
 HasSome (of_group key group) = 0 < length group
 HasSome (of_groups key left right) = 0 < length left + length right
 HasSome input = Unit {0}
 
--- an input with a key has so many key values
+-- An input with a key has at least `keys` key values.
 abbrev pub HasKeys : ℕ → CallInput → Type 0
 HasKeys keys (of_record row) = Unit {0}
 HasKeys keys (of_pair left right) = Unit {0}
 HasKeys keys (of_group key group) = keys ≤ length key
 HasKeys keys (of_groups key left right) = keys ≤ length key
 
--- each record of an input has so many fields, and a group of a Reduce has a first record
+-- Each record of an input has `fields` fields, and the group of a Reduce has a first record.
 abbrev pub HasWidth : ℕ → CallInput → Type 0
 HasWidth fields (of_record row) = length row ≡ fields
 HasWidth fields (of_pair left right) = (length left ≡ fields) × (length right ≡ fields)

@@ -1,4 +1,4 @@
--- Bodies as trees, and what each of their statements says by itself.
+-- Bodies as trees, and the lines that their statements have without the bodies inside.
 use Rattle.std.specs.Prelude.{ℕ, ℤ, List, ◌+◌, max}
 use Rattle.pact_record.specs.declared.operations.Op1.{Op1}
 use Rattle.pact_record.specs.declared.operations.Op2.{Op2}
@@ -22,7 +22,7 @@ pub data Simple : Type 0 where
   set_at : (to at value : ℕ) → Simple
   emit_record : (from : ℕ) → Simple
 
--- A body: its first statement, and the body that follows it. A block has the bodies inside it besides.
+-- A body: its first statement, and the body that follows it. A block also has the bodies inside it.
 pub data Code : Type 0 where
   stop : Code
   plain : (simple : Simple) → (next : Code) → Code
@@ -30,7 +30,8 @@ pub data Code : Type 0 where
   again : (count : ℕ) → (body next : Code) → Code
   each : (name : ℕ) → (list : LoopList) → (body next : Code) → Code
 
--- The lines of a body: a statement of one line, the first line of a block, and the two that only part and end blocks.
+-- A line of a body: a statement of one line, the first line of a block, the line that separates the bodies of an `if`,
+-- or the line that ends a block.
 pub data Line : Type 0 where
   simple : (simple : Simple) → Line
   test : (on : ℕ) → Line
@@ -39,7 +40,7 @@ pub data Line : Type 0 where
   otherwise : Line
   close : Line
 
--- one body after the other
+-- one body after another
 abbrev pub joined : Code → Code → Code
 joined stop d = d
 joined (plain s next) d = plain s (joined next d)
@@ -55,7 +56,7 @@ nesting (branch on body other next) = max (1 + max (nesting body) (nesting other
 nesting (again count body next) = max (1 + nesting body) (nesting next)
 nesting (each name list body next) = max (1 + nesting body) (nesting next)
 
--- how many statements there are; a block is one beside those inside it
+-- how many statements there are; a block counts as one, in addition to those inside it
 abbrev pub count_of : Code → ℕ
 count_of stop = 0
 count_of (plain s next) = 1 + count_of next
@@ -63,7 +64,7 @@ count_of (branch on body other next) = 1 + (count_of body + count_of other) + co
 count_of (again count body next) = 1 + count_of body + count_of next
 count_of (each name list body next) = 1 + count_of body + count_of next
 
--- how many statements stand in no block
+-- how many statements are outside all blocks
 abbrev pub length_of : Code → ℕ
 length_of stop = 0
 length_of (plain s next) = 1 + length_of next

@@ -187,7 +187,7 @@ abbrev pub is_stop : Code → Bool
 is_stop stop = true
 is_stop body = false
 
--- an empty second body of an `if` has no line, nor has the one that parts it from the first
+-- An empty second body of an `if` has no lines, and no line separates it from the first.
 abbrev pub other_lines : Bool → List Line → List Line → List Line
 other_lines empty lines rest = if empty then rest else otherwise ∷ (lines ++ rest)
 
@@ -198,7 +198,7 @@ lines_of (branch on body other next) = test on ∷ (lines_of body ++ other_lines
 lines_of (again count body next) = turns count ∷ (lines_of body ++ (close ∷ lines_of next))
 lines_of (each name list body next) = over name list ∷ (lines_of body ++ (close ∷ lines_of next))
 
--- what is left begins with no statement
+-- The remaining lines don't begin with a statement.
 abbrev Ends : List Line → Type 0
 Ends [] = Unit {0}
 Ends (otherwise ∷ l) = Unit {0}

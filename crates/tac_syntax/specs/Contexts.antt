@@ -1,4 +1,4 @@
--- Which fields the inputs of a function may have values in.
+-- In which fields the inputs of a function may have values.
 use Rattle.std.specs.Prelude.{◌≡◌, ◌≤◌, ℕ, Bool, true, false, List}
 use Rattle.pact_record.specs.FieldSets.{has_field}
 use Rattle.pact_record.specs.Widths.{AreBelow}
@@ -26,9 +26,10 @@ pub record AreOfFields (fields : ℕ) (l r : FieldSet) (ks js : List ℕ) : Type
 abbrev pub IsContextOf : ℕ → Context → Type 0
 IsContextOf fields c = AreOfFields fields (has_field c.left) (has_field c.right) c.left_keys c.right_keys
 
--- ---- apart from how sets are kept
+-- ---- independent of how sets are stored
 
--- The fields of either side as those of which something holds: a set's members, or attributes, of which no set is made.
+-- The fields of either side, given by a predicate: membership of a set, or being an attribute, for which no set is
+-- made.
 pub record Ports : Type 1 where
   pub left : ℕ → Type 0
   pub right : ℕ → Type 0

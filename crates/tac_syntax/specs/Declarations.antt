@@ -11,7 +11,7 @@ use Rattle.tac_syntax.specs.Grammar.{IsNumber}
 use Rattle.tac_syntax.specs.Names.{is_name, is_file_name}
 use Rattle.tac_syntax.specs.Versions.{field_limit}
 
--- the word by which texts tell what a source or an operator does
+-- the word that names what a source or an operator does in texts
 abbrev pub kind_word : OpKind → List ℕ
 kind_word SourceKind = codes "source"
 kind_word Map = codes "map"
@@ -28,7 +28,7 @@ pub record IsKeyList (keys : List ℕ) : Type 0 where
   pub few : length keys ≤ key_limit
   pub numbers : AreNumbers keys
 
--- at most so many
+-- at least one column and at most `most`, all with numbers that a text can spell
 pub record AreColumns (most : ℕ) (columns : List Column) : Type 0 where
   pub some : 1 ≤ length columns
   pub few : length columns ≤ most

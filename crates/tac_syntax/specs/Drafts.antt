@@ -1,4 +1,4 @@
--- Programs as their text has them.
+-- Programs as their text declares them.
 use Rattle.std.specs.Prelude.{◌≡◌, ◌≤◌, ◌+◌, ℕ, List, [], ◌∷◌, length}
 use Rattle.std.specs.List.{AllByRecursion}
 use Rattle.tac_syntax.specs.declared.functions.Function.{Function}
@@ -9,7 +9,7 @@ use Rattle.tac_syntax.specs.FieldRegisters.{Takes, has_registers}
 use Rattle.tac_syntax.specs.Functions.{IsSpelledFunction}
 use Rattle.tac_syntax.specs.Versions.{IsVersion, field_limit}
 
--- the version, the number of fields, the functions in text order, and the declarations in theirs
+-- the version, the number of fields, and the functions and the declarations in text order
 pub record DraftData : Type 0 where
   pub version : ℕ
   pub fields : ℕ
@@ -22,7 +22,7 @@ AreDeclared version n count [] = n ≡ count
 AreDeclared version n count (FunctionDecl number ∷ decls) = (number ≡ n) × AreDeclared version (n + 1) count decls
 AreDeclared version n count (decl ∷ decls) = IsSpelledDecl version decl × AreDeclared version n count decls
 
--- some text spells it
+-- Some text spells the program.
 pub record IsSpelledDraft (d : DraftData) : Type 0 where
   pub version : IsVersion d.version
   pub some_field : 1 ≤ d.fields

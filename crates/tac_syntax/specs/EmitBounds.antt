@@ -7,7 +7,7 @@ use Rattle.tac_syntax.specs.Call.{CallInput, Out}
 use Rattle.tac_syntax.specs.CallInputs.{IsInputOf, HasSome}
 use Rattle.tac_syntax.specs.Code.{Simple, emit_record, Code, stop, plain, branch, again, each}
 
--- All numbers stop here, where they say no more than "many".
+-- All numbers are capped here; this one says no more than "many".
 abbrev pub many : ℕ
 many = 1000000
 
@@ -37,7 +37,7 @@ most_emits (branch on body other next) = capped (max (most_emits body) (most_emi
 most_emits (again count body next) = capped (capped (count * most_emits body) + most_emits next)
 most_emits (each name list body next) = capped ((if most_emits body == 0 then 0 else many) + most_emits next)
 
--- What two numbers say of each call: it emits at least so many records, and at most so many, where that isn't "many".
+-- Each call emits at least `low` records, and at most `high` of them unless `high` is "many".
 pub record AreBounds (kind : Kind) (fields : ℕ) (body : Code) (low high : ℕ) : Type 0 where
   pub least : (x : CallInput) → IsInputOf kind x → HasSome x → low ≤ length (Out fields body x)
   pub most : high < many → (x : CallInput) → length (Out fields body x) ≤ high

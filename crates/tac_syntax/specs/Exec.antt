@@ -1,16 +1,17 @@
--- The same by recursion on the body: what its statements do to the registers and the output, one after the other.
+-- What a call does, by recursion on the body: what its statements do to the registers and the output, one after
+-- another.
 use Rattle.std.specs.Prelude.{ℕ, zero, suc, if◌then◌else◌, List, [], ◌∷◌}
 use Rattle.pact_record.specs.declared.values.Value.{Value}
 use Rattle.pact_record.specs.Value.{is_true}
 use Rattle.tac_syntax.specs.Code.{Code, stop, plain, branch, again, each}
 use Rattle.tac_syntax.specs.Call.{Store, value_in, after, bind, rows_of}
 
--- so many times
+-- applies a function n times
 abbrev pub times : ℕ → (Store → Store) → Store → Store
 times zero f s = s
 times (suc n) f s = times n f (f s)
 
--- once for each record, which is bound to the loop's name
+-- applies a function once for each record, which is bound to the loop's name
 abbrev pub for_each : ℕ → List (List Value) → (Store → Store) → Store → Store
 for_each name [] f s = s
 for_each name (row ∷ rows) f s = for_each name rows f (f (bind s name row))

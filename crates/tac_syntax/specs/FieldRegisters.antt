@@ -1,4 +1,4 @@
--- Bodies that take a field's number from a register only where that may be.
+-- Bodies that take a field's number from a register only if that is allowed.
 use Rattle.std.specs.Prelude.{◌≡◌, ◌==◌, ℕ, Bool, true}
 use Rattle.tac_syntax.specs.Code.{Simple, get_at, set_at, Code, stop, plain, branch, again, each}
 
@@ -14,6 +14,6 @@ Takes registers (branch on body other next) = Takes registers body × Takes regi
 Takes registers (again count body next) = Takes registers body × Takes registers next
 Takes registers (each name list body next) = Takes registers body × Takes registers next
 
--- It may be from version 2 on.
+-- Version 2 allows it.
 abbrev pub has_registers : ℕ → Bool
 has_registers version = version == 2

@@ -1,5 +1,6 @@
--- What the calls of one function have in common. An input is lawful in a context; two lawful inputs may agree on what is read; and their
--- outputs then begin as records at the same places, and differ from these only where something is written.
+-- What the calls of one function have in common. An input is lawful in a context, and two lawful inputs may agree on
+-- what is read. If they do, each output begins as a record of its input, at the same places for both, and differs from
+-- that record only in what is written.
 use Rattle.std.specs.Prelude.{◌≡◌, ◌<◌, ◌≤◌, ◌⊎◌, ℕ, false, List, [], ◌∷◌, length, get_or}
 use Rattle.std.specs.List.{AllByRecursion, AllZip}
 use Rattle.pact_record.specs.declared.values.Value.{Value}
@@ -17,7 +18,7 @@ use Rattle.tac_syntax.specs.Contexts.{FieldSet, Ports, Side, left, right}
 abbrev pub AreApart : (ℕ → Type 0) → (ℕ → Type 0) → Type 0
 AreApart s t = (k : ℕ) → s k → t k → ⊥
 
--- a record of so many fields that is Null outside a set
+-- a record with `fields` fields that is Null outside a set
 pub record IsWithin (fields : ℕ) (set : ℕ → Type 0) (row : List Value) : Type 0 where
   pub width : length row ≡ fields
   pub null : (k : ℕ) → (set k → ⊥) → at_field row k ≡ Null
@@ -62,7 +63,7 @@ pub record InputsAgree (reads : FieldSet) (x y : CallInput) : Type 0 where
 
 -- ---- outputs
 
--- The records that an output may begin as. The side matters for a CoGroup alone.
+-- The records that an output may begin as. The side matters only for a CoGroup.
 abbrev pub anchors : Side → CallInput → List (List Value)
 anchors side (of_record row) = row ∷ []
 anchors side (of_pair l r) = joined_record l r ∷ []
@@ -70,13 +71,13 @@ anchors side (of_group key group) = group
 anchors left (of_groups key l r) = l
 anchors right (of_groups key l r) = r
 
--- Outputs of two calls: they agree on what is written, and each is its own anchor elsewhere.
+-- One output of each of two calls. The two agree on what is written, and each is its own anchor in all other fields.
 pub record AreAnchored (writes : FieldSet) (a b out other : List Value) : Type 0 where
   pub written : Agree writes out other
   pub kept : (k : ℕ) → writes k ≡ false → at_field out k ≡ at_field a k
   pub other_kept : (k : ℕ) → writes k ≡ false → at_field other k ≡ at_field b k
 
--- Equally many outputs, and one list of places, each of a record, serves those of both calls.
+-- Two calls with equally many outputs. One list of places, each of a record, serves both.
 abbrev pub AreAnchoredAt : FieldSet → List (List Value) → List (List Value) → List ℕ → List (List Value) → List (List Value) → Type 0
 AreAnchoredAt writes xs ys [] [] [] = Unit {0}
 AreAnchoredAt writes xs ys (p ∷ places) (r ∷ outs) (q ∷ others) =
@@ -86,7 +87,7 @@ AreAnchoredAt writes xs ys places outs others = ⊥
 abbrev pub HaveAnchors : FieldSet → Side → CallInput → CallInput → List (List Value) → List (List Value) → Type 0
 HaveAnchors writes side x y outs others = (places : List ℕ) × AreAnchoredAt writes (anchors side x) (anchors side y) places outs others
 
--- What holds of the outputs of any two calls for lawful inputs that agree on what is read.
+-- A property of the outputs of any two calls for lawful inputs that agree on what is read.
 abbrev pub ForTwoCalls : Kind → ℕ → Ports → FieldSet → (CallInput → List (List Value)) → (CallInput → CallInput → List (List Value) → List (List Value) → Type 0) → Type 0
 ForTwoCalls kind fields c reads call P = (x y : CallInput) → IsLawful kind fields c x → IsLawful kind fields c y → InputsAgree reads x y → P x y (call x) (call y)
 
@@ -94,13 +95,14 @@ ForTwoCalls kind fields c reads call P = (x y : CallInput) → IsLawful kind fie
 abbrev pub HasForm : Kind → ℕ → Ports → FieldSet → FieldSet → Side → (CallInput → List (List Value)) → Type 0
 HasForm kind fields c reads writes side call = ForTwoCalls kind fields c reads call (HaveAnchors writes side)
 
--- The form of those that are anchored on neither.
+-- The form of calls that are anchored on neither side.
 abbrev pub HasFormAlone : Kind → ℕ → Ports → FieldSet → FieldSet → (CallInput → List (List Value)) → Type 0
 HasFormAlone kind fields c reads writes call = ForTwoCalls kind fields c reads call (λ x y. AllZip (Agree writes))
 
 -- ---- groups of keys
 
--- A Map gives at most one record for each. It gives one for all, or equally many for those that agree on the keys.
+-- A Map emits at most one record for each input. Either it emits one for each input, or it emits equally many for
+-- inputs that agree on the keys.
 pub record KeepsGroups (fields : ℕ) (c : Ports) (keys : FieldSet) (call : CallInput → List (List Value)) : Type 0 where
   pub few : (r : List Value) → IsLawful Map fields c (of_record r) → length (call (of_record r)) ≤ 1
   pub decided : ((r : List Value) → IsLawful Map fields c (of_record r) → length (call (of_record r)) ≡ 1)

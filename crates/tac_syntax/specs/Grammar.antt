@@ -20,7 +20,7 @@ IsLoopName n = (1 ≤ n) × (n ≤ 64)
 abbrev pub IsTurnCount : ℕ → Type 0
 IsTurnCount n = (1 ≤ n) × (n ≤ 1000)
 
--- a literal stands for the bytes of a text
+-- the bytes that a literal can denote
 abbrev pub IsLiteral : List ℕ → Type 0
 IsLiteral bytes = (length bytes ≤ text_limit) × IsUtf8 bytes
 
@@ -51,7 +51,7 @@ IsSpelledSimple (set_field to field value) = IsNumber to × IsNumber field × Is
 IsSpelledSimple (set_at to at value) = IsNumber to × IsNumber at × IsNumber value
 IsSpelledSimple (emit_record from) = IsNumber from
 
--- a line, inside so many `each`: a loop's name is one more than these
+-- a line inside `lists` loops over lists; a loop's name is one more than their number
 abbrev pub IsSpelledLine : ℕ → Line → Type 0
 IsSpelledLine lists (simple s) = IsSpelledSimple s
 IsSpelledLine lists (test on) = IsNumber on

@@ -12,6 +12,6 @@ pub record IsInRange (x : Placed) : Type 0 where
   pub fields : breaks_fields x.place x.line ≡ false
   pub key_positions : breaks_key_positions x.place x.line ≡ false
 
--- each statement of a body at a place
+-- Each statement of a body at a place is in range.
 abbrev pub AreInRange : Place → Code → Type 0
 AreInRange p c = AllByRecursion IsInRange (placed p c)

@@ -1,29 +1,29 @@
 -- Numbers of the language.
 use Rattle.std.specs.Prelude.{ℕ}
 
--- there are so many registers for values, and for records
+-- how many value registers there are, and how many record registers
 abbrev pub value_registers : ℕ
 value_registers = 32
 
 abbrev pub record_registers : ℕ
 record_registers = 8
 
--- a body is nested at most so many blocks deep
+-- the greatest depth to which a body's blocks are nested
 abbrev pub nesting_limit : ℕ
 nesting_limit = 64
 
--- a valid function has at most so many statements
+-- the most statements that a valid function can have
 abbrev pub statement_limit : ℕ
 statement_limit = 1000
 
--- an `if` of a valid function stands inside at most so many others
+-- An `if` of a valid function is inside fewer than this many others.
 abbrev pub if_limit : ℕ
 if_limit = 8
 
--- and a loop, `each` or `repeat`, inside at most so many
+-- A loop of a valid function, `each` or `repeat`, is inside fewer than this many others.
 abbrev pub loop_limit : ℕ
 loop_limit = 3
 
--- the turns of nested `repeat` come to at most so many
+-- the greatest product of the counts of nested `repeat`
 abbrev pub turn_limit : ℕ
 turn_limit = 100000

@@ -4,7 +4,7 @@ use Rattle.tac_syntax.specs.declared.statements.Rec.{Rec}
 use Rattle.tac_syntax.specs.Limits.{value_registers, record_registers}
 use Rattle.tac_syntax.specs.Code.{Simple, load_int, load_text, load_null, move_value, get_field, get_at, get_key, apply_one, apply_two, new_record, copy_record, set_field, set_at, emit_record}
 
--- It names registers that there are, fields below the number of fields, and records and positions of keys that are there.
+-- It names only registers that exist, fields below the number of fields, and records and key positions that exist.
 abbrev pub NamesOnly : ℕ → (Rec → Type 0) → (ℕ → Type 0) → Simple → Type 0
 NamesOnly fields HasRecord HasKey (load_int to value) = to < value_registers
 NamesOnly fields HasRecord HasKey (load_text to bytes) = to < value_registers

@@ -15,11 +15,11 @@ is_capital_letter b = nat_le 65 b && nat_le b 90
 abbrev pub is_digit : ℕ → Bool
 is_digit b = nat_le 48 b && nat_le b 57
 
--- behind its first letter a name has small letters, digits and underscores
+-- After its first letter a name has small letters, digits and underscores.
 abbrev pub is_name_byte : ℕ → Bool
 is_name_byte b = is_small_letter b || is_digit b || (b == 95)
 
--- a small letter, and at most 31 bytes behind it
+-- a small letter, and at most 31 bytes after it
 abbrev pub is_name : List ℕ → Bool
 is_name [] = false
 is_name (b ∷ bs) = is_small_letter b && all_bytes is_name_byte bs && nat_le (length bs) 31

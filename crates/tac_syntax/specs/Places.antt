@@ -4,8 +4,9 @@ use Rattle.tac_syntax.specs.declared.functions.Kind.{Kind}
 use Rattle.tac_syntax.specs.declared.functions.Function.{Function}
 use Rattle.tac_syntax.specs.Code.{Code, stop, plain, branch, again, each, Line, simple, test, turns, over}
 
--- The function that a statement stands in and its number of fields; the number of `if`, of loops of either kind and of `each` around
--- it; and the product of the counts of the `repeat` around it.
+-- Where a statement is. `kind`, `keys` and `fields` are those of its function. `ifs`, `loops` and `lists` count the
+-- `if`, the loops of either kind and the `each` around it. `repeats` is the product of the counts of the `repeat`
+-- around it.
 pub record Place : Type 0 where
   pub kind : Kind
   pub keys : ℕ
@@ -28,7 +29,7 @@ in_repeat count p = record p { loops = p.loops + 1; repeats = p.repeats * count 
 abbrev pub in_each : Place → Place
 in_each p = record p { loops = p.loops + 1; lists = p.lists + 1 }
 
--- a statement with its place; of a block the first line
+-- a statement with its place; a block is given by its first line
 pub record Placed : Type 0 where
   pub place : Place
   pub line : Line

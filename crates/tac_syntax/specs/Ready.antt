@@ -1,4 +1,4 @@
--- Where a statement and a body may be run.
+-- When a statement and a body may be run.
 use Rattle.std.specs.Prelude.{◌≡◌, ◌≤◌, ◌<◌, ◌+◌, ℕ, List, length}
 use Rattle.pact_record.specs.declared.values.Value.{Value}
 use Rattle.tac_syntax.specs.declared.statements.Rec.{Rec}
@@ -12,7 +12,7 @@ use Rattle.tac_syntax.specs.Places.{Place, in_each}
 use Rattle.tac_syntax.specs.CallInputs.{IsOfRecord, IsOfPair, IsOfGroup, IsInputOf, HasKeys}
 use Rattle.tac_syntax.specs.InRange.{AreInRange}
 
--- a place fits a call: its number of fields, its input, and the loops' names that are bound
+-- A place fits a call, by its number of fields, its input, and the loops' names that are bound.
 pub record Fits (p : Place) (width : ℕ) (input : CallInput) (loops : List (List Value)) : Type 0 where
   pub fields : p.fields ≡ width
   pub kind : IsInputOf p.kind input
@@ -38,7 +38,7 @@ HasRecord s Right = IsOfPair s.input
 HasRecord s Join = IsOfPair s.input
 HasRecord s First = IsOfGroup s.input
 
--- what a statement of one line names is there
+-- What a statement of one line names exists.
 abbrev pub CanAct : Simple → Store → Type 0
 CanAct statement s = NamesOnly s.fields (HasRecord s) (λ at. at < length (key_values s.input)) statement
 
@@ -49,7 +49,7 @@ pub record IsReadyIn (name : ℕ) (body : Code) (s : Store) : Type 0 where
   pub in_range : AreInRange (in_each place) body
   pub fits : FitsStore place s
 
--- what a statement names is there, and the bodies inside it may be run
+-- What a statement names exists, and the bodies inside it may be run.
 abbrev pub CanStart : Statement → Store → Type 0
 CanStart (one_line a) s = CanAct a s
 CanStart (choice on body other) s = (on < value_registers) × IsReady body s × IsReady other s

@@ -1,4 +1,4 @@
--- What a valid function keeps to, and which statement breaks which rule.
+-- The rules that a valid function keeps, and which statement breaks which of them.
 use Rattle.std.specs.Prelude.{ℕ, Bool, true, false, not, ◌&&◌, ◌||◌, ◌==◌, ◌+◌, ◌*◌, nat_le, nat_lt}
 use Rattle.tac_syntax.specs.declared.functions.Kind.{Kind}
 use Rattle.tac_syntax.specs.declared.functions.Kind.TheVariants.{Map, Match, Cross, Reduce, CoGroup}
@@ -88,8 +88,8 @@ misses_operand p (get_key to at) = not (is_reduce p.kind || is_cogroup p.kind)
 misses_operand p (copy_record to from) = not (has_record p from)
 misses_operand p statement = false
 
--- An operand or a list that the kind or the place doesn't have, a key where the kind has none, or a loop whose name isn't one more
--- than the number of `each` around it.
+-- An operand or a list that the kind or the place doesn't have, a key if the kind has none, or a loop whose name isn't
+-- one more than the number of `each` around it.
 abbrev pub breaks_operands : Place → Line → Bool
 breaks_operands p (simple s) = misses_operand p s
 breaks_operands p (over name list) = not (has_list p list) || not (name == p.lists + 1)
@@ -102,7 +102,7 @@ no_field p (get_field to from field) = nat_le p.fields field
 no_field p (set_field to field value) = nat_le p.fields field
 no_field p statement = false
 
--- a field number of F or more
+-- a field number that isn't below the number of fields
 abbrev pub breaks_fields : Place → Line → Bool
 breaks_fields p (simple s) = no_field p s
 breaks_fields p line = false
@@ -111,7 +111,7 @@ abbrev pub no_key_position : Place → Simple → Bool
 no_key_position p (get_key to at) = nat_le p.keys at
 no_key_position p statement = false
 
--- a key position of the function's number of keys or more
+-- a key position that isn't below the function's number of keys
 abbrev pub breaks_key_positions : Place → Line → Bool
 breaks_key_positions p (simple s) = no_key_position p s
 breaks_key_positions p line = false
@@ -129,14 +129,14 @@ breaks_nested_loops p (turns count) = nat_le loop_limit p.loops
 breaks_nested_loops p (over name list) = nat_le loop_limit p.loops
 breaks_nested_loops p line = false
 
--- a `repeat` of no turn, or one whose turns times those of the `repeat` around it are above 100,000
+-- a `repeat` of zero turns, or one whose turns, multiplied by those of the `repeat` around it, exceed 100,000
 abbrev pub breaks_repeats : Place → Line → Bool
 breaks_repeats p (turns count) = (count == 0) || nat_lt turn_limit (p.repeats * count)
 breaks_repeats p line = false
 
 -- ---- all of them
 
--- the number of a rule in what users are told
+-- the number of a rule in messages to users
 abbrev pub code_of_rule : Rule → ℕ
 code_of_rule Registers = 1
 code_of_rule Operands = 2

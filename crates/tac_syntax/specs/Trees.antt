@@ -41,7 +41,7 @@ statement_of (Each name list body) = going_through name list body
 abbrev pub before : Stmt → Code → Code
 before stmt next = onto (statement_of stmt) next
 
--- the first line of a statement, which says it without the bodies inside
+-- the first line of a statement, without the bodies inside
 abbrev pub line_of : Statement → Line
 line_of (one_line s) = simple s
 line_of (choice on body other) = test on
@@ -59,7 +59,7 @@ abbrev pub code_of : List Stmt → Code
 code_of [] = stop
 code_of (stmt ∷ stmts) = before stmt (code_of stmts)
 
--- a body without its first so many statements
+-- a body without its first n statements
 abbrev pub skip : ℕ → Code → Code
 skip zero c = c
 skip (suc n) stop = stop

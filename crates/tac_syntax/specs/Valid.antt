@@ -6,12 +6,12 @@ use Rattle.tac_syntax.specs.declared.rules.Rule.{Rule}
 use Rattle.tac_syntax.specs.Places.{Placed, placed, top_place}
 use Rattle.tac_syntax.specs.Rules.{breaks, code_of_rule}
 
--- the number of the first of the statements that breaks the rule, where they are numbered from n
+-- the number of the first statement that breaks the rule, with the statements numbered from n
 abbrev pub first_break_from : Rule → ℕ → List Placed → Option ℕ
 first_break_from rule n [] = None
 first_break_from rule n (p ∷ ps) = if breaks rule n p.place p.line then Some n else first_break_from rule (n + 1) ps
 
--- in text order, from 0
+-- numbered in text order, from 0
 abbrev pub first_break : Rule → Function → ℕ → Option ℕ
 first_break rule f fields = first_break_from rule 0 (placed (top_place f fields) f.body)
 

@@ -5,6 +5,6 @@ use Rattle.pact_record.specs.declared.records.TheConstants.{MAX_FIELDS}
 abbrev pub IsVersion : ℕ → Type 0
 IsVersion version = (version ≡ 1) ⊎ (version ≡ 2)
 
--- a program has at most so many fields, a source so many columns, and a sink so many fields
+-- the most fields of a program, columns of a source, and fields of a sink
 abbrev pub field_limit : ℕ → ℕ
 field_limit version = if version == 2 then MAX_FIELDS else 64

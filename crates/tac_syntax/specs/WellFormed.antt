@@ -1,4 +1,4 @@
--- Bodies whose statements name only what their kind and place have, but for positions of keys, which any may be.
+-- Bodies whose statements name only what their kind and place have, except that any key position is allowed.
 use Rattle.std.specs.Prelude.{◌≡◌, ◌≤◌, ◌<◌, ◌+◌, ℕ, true}
 use Rattle.tac_syntax.specs.declared.functions.Kind.{Kind}
 use Rattle.tac_syntax.specs.declared.statements.Rec.{Rec}
@@ -10,7 +10,7 @@ use Rattle.tac_syntax.specs.Rules.{is_map, is_pairing, is_reduce, is_cogroup}
 use Rattle.tac_syntax.specs.Code.{Simple, Code, stop, plain, branch, again, each}
 use Rattle.tac_syntax.specs.NamedThings.{NamesOnly}
 
--- a loop's name that is bound inside so many loops
+-- a loop's name that is bound inside `depth` loops over lists
 abbrev pub InScope : ℕ → ℕ → Type 0
 InScope depth name = (1 ≤ name) × (name ≤ depth)
 
@@ -36,7 +36,7 @@ HasList kind RightGroup = is_cogroup kind ≡ true
 abbrev pub IsWellFormedSimple : Kind → ℕ → ℕ → Simple → Type 0
 IsWellFormedSimple kind fields depth statement = NamesOnly fields (CanRead kind depth) (λ at. Unit {0}) statement
 
--- inside so many loops
+-- a body inside `depth` loops over lists
 abbrev pub IsWellFormed : Kind → ℕ → ℕ → Code → Type 0
 IsWellFormed kind fields depth stop = Unit {0}
 IsWellFormed kind fields depth (plain a next) = IsWellFormedSimple kind fields depth a × IsWellFormed kind fields depth next

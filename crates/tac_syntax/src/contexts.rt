@@ -6,15 +6,15 @@ ghost use Rattle.tac_syntax.specs.Contexts.{IsContextOf};
 
 use pact_record::{Fields, Keys};
 
-/// An input of an operator. The only one of a Map or a Reduce is the left one.
+/// An input of an operator. A Map and a Reduce have only the left one.
 #[derive(Clone, Copy, Debug, PartialEq, Eq)]
 pub enum Side {
     Left,
     Right,
 }
 
-/// Which fields of the records of either input may be other than Null, and the key fields of either.
-/// A Map and a Reduce have those of the left input alone.
+/// Which fields of either input's records may be non-Null, and the key fields of either input. A Map and a Reduce have
+/// only those of the left input.
 #[derive(Clone, Copy, Debug, PartialEq, Eq, Hash)]
 pub struct Context {
     pub left: Fields,
@@ -24,7 +24,7 @@ pub struct Context {
 }
 
 impl Context {
-    /// The fields of this context and of the other, which is of the same keys.
+    /// The union of both contexts' fields. `other` is assumed to have the same keys.
     pub fn union(&self, other: &Context) -> Context
         ensures left { (k : ℕ) → has_field result.left k ≡ (has_field self.now.left k || has_field other.now.left k) }
         ensures right { (k : ℕ) → has_field result.right k ≡ (has_field self.now.right k || has_field other.now.right k) }

@@ -18,7 +18,7 @@ pub enum OpKind {
 }
 
 impl OpKind {
-    /// The word by which texts tell the kind.
+    /// The word that names the kind in texts.
     pub fn word(self) -> &'static [u8]
         ensures { result.now ≡ kind_word self }
     {
@@ -33,7 +33,7 @@ impl OpKind {
     }
 }
 
-/// One declaration of a program. What it refers to is given by its name, and may not be there.
+/// One declaration of a program. It refers to others by name, and they needn't exist.
 #[derive(Debug, Drop)]
 pub enum Decl {
     Source {

@@ -1,4 +1,4 @@
-//! Programs as their text has them.
+//! Programs as their text declares them.
 
 ghost use Rattle.std.specs.Prelude.{◌≡◌, ◌≤◌, ◌++◌, ◌∷◌, [], length, OnOk, OnErr};
 ghost use Rattle.pact_record.specs.declared.records.TheConstants.{MAX_FIELDS};
@@ -15,8 +15,7 @@ use pact_record::OutOfMemory;
 use std::alloc::Global;
 use std::marker::Model;
 
-/// A program that some text spells. What its declarations name may not be there, and its
-/// functions may not be valid.
+/// A program that some text spells. What its declarations name needn't exist, and its functions needn't be valid.
 #[derive(Debug, Drop)]
 pub struct Draft {
     version: u32,
@@ -39,7 +38,7 @@ impl Model for Draft {
 }
 
 impl Draft {
-    /// A program of the version with so many fields and no declaration.
+    /// A program of this version with `fields` fields and without declarations.
     pub fn new(alloc: Global, version: u32, fields: u32) -> Draft
         requires version { IsVersion version }
         requires fields { (1 ≤ fields) × (fields ≤ field_limit version) }
@@ -53,7 +52,7 @@ impl Draft {
         }
     }
 
-    /// Puts a declaration behind the others that isn't one of a function.
+    /// Appends a declaration, other than one of a function.
     pub fn push(&mut self, decl: Decl) -> Result<(), OutOfMemory>
         requires { IsSpelledDecl self.old.version decl }
         ensures ok { let d = self.old in
@@ -64,7 +63,7 @@ impl Draft {
         Ok(())
     }
 
-    /// Puts a function behind the others, and its declaration behind the others.
+    /// Appends a function, and its declaration.
     pub fn push_function(&mut self, function: Function) -> Result<(), OutOfMemory>
         requires spelled { IsSpelledFunction function }
         requires registers { Takes (has_registers self.old.version) function.body }
@@ -76,7 +75,7 @@ impl Draft {
         let number = self.functions.len();
         self.decls.reserve(1)?;
         self.functions.push(function)?;
-        // there is room for it
+        // This can't fail: there is room for it.
         let _ = self.decls.push(Decl::Function { number });
         Ok(())
     }

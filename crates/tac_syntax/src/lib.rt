@@ -1,12 +1,12 @@
 //! Functions in three-address code, what one call of a function means, and programs as they are declared.
 //!
-//! A function's body is a tree of statements over value registers and record registers. The
-//! meaning of a call is given in small steps, in `specs/Call.antt`: a state holds the registers,
-//! what was emitted and a flat list of the items still to do, and each step takes the first item
-//! away. `specs/Rules.antt` has the rules that a valid function keeps to; a `Valid` is one.
+//! A function's body is a tree of statements over value registers and record registers. The meaning of a call is given
+//! in small steps, in `specs/Call.antt`: a state holds the registers, what was emitted and a flat list of the items
+//! still to do, and each step takes the first item away. `specs/Rules.antt` has the rules that a valid function keeps;
+//! a `Valid` is a valid function.
 //!
-//! A `Draft` is what a program's text declares: its functions, and sources, operators and sinks in text order. Nothing of it
-//! is resolved or tested. A reader of texts makes one, and a writer spells it.
+//! A `Draft` is what a program's text declares, in text order: functions, sources, operators and sinks. Nothing in it
+//! is resolved or checked. A reader of texts makes a `Draft`, and a writer spells it.
 #![tactic(auto)]
 
 pub mod contexts;

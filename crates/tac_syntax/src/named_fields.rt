@@ -9,7 +9,8 @@ ghost use Rattle.tac_syntax.specs.Trees.{only};
 use crate::statements::{Body, Stmt};
 use pact_record::Fields;
 
-// The fields that the statement sets, or those inside it: all of a program with so many where one takes its field from a register.
+// The fields that the statement sets, or those inside it. If one of them takes its field from a register, these are all
+// `fields` fields of the program.
 #[cycle(named)]
 fn named_by(stmt: &Stmt, fields: u32) -> Fields
     requires fields { fields ≤ MAX_FIELDS }

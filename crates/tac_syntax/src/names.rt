@@ -4,10 +4,10 @@ ghost use Rattle.std.specs.Prelude.{◌≡◌};
 ghost use Rattle.tac_syntax.specs.Names.{all_bytes};
 ghost use Rattle.tac_syntax.specs.Names as specs;
 
-/// A name has at most so many bytes.
+/// The most bytes that a name can have.
 pub const MAX_NAME: usize = 32;
 
-/// A file's name has at most so many bytes.
+/// The most bytes that a file's name can have.
 pub const MAX_FILE_NAME: usize = 200;
 
 fn is_name_byte(byte: u8) -> bool

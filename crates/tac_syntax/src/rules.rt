@@ -1,36 +1,34 @@
-//! What a valid function keeps to.
+//! The rules that a valid function keeps.
 
 ghost use Rattle.std.specs.Prelude.{◌≡◌};
 ghost use Rattle.tac_syntax.specs.Rules.{code_of_rule};
 
-/// A loop of a valid function stands inside fewer than so many others.
+/// A loop of a valid function is inside fewer than this many others.
 pub const MAX_LOOPS: u32 = 3;
 
 /// A rule of valid functions, named for what breaks it.
 #[derive(Clone, Copy, Debug, PartialEq, Eq)]
 pub enum Rule {
-    /// V1: a register that there isn't: values have `v0` to `v31`, records `r0` to `r7`.
+    /// V1: a register that doesn't exist. Values have `v0` to `v31`, records `r0` to `r7`.
     Registers,
-    /// V2: a statement, record, list or loop's name that isn't there for this kind of function, or at
-    /// this place.
+    /// V2: a statement, record, list or loop's name that this kind of function, or this place in it, doesn't have.
     Operands,
     /// V3: a field that records don't have.
     Fields,
     /// V4: a key that the function doesn't have.
     KeyPositions,
-    /// V5: an `if` that eight `if` stand around.
+    /// V5: an `if` inside eight others.
     NestedIfs,
-    /// V6: a `repeat` or `each` that three of them stand around.
+    /// V6: a `repeat` or `each` inside three others of either kind.
     NestedLoops,
-    /// V7: a statement behind the first 1,000.
+    /// V7: a statement after the first 1,000.
     Statements,
-    /// V8: a `repeat` of no turn, or one whose turns times those of the `repeat` around it are
-    /// above 100,000.
+    /// V8: a `repeat` of zero turns, or one whose turns, multiplied by those of the `repeat` around it, exceed 100,000.
     Repeats,
 }
 
 impl Rule {
-    /// The number behind the letter V in what users are told.
+    /// The number after the letter V in messages to users.
     pub fn code(self) -> u32
         ensures { result ≡ code_of_rule self }
     {

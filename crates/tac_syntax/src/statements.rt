@@ -16,7 +16,7 @@ pub const VALUE_REGISTERS: u32 = 32;
 /// The record registers are numbered below this.
 pub const RECORD_REGISTERS: u32 = 8;
 
-/// A body is nested at most so many blocks deep.
+/// The greatest depth to which a body's blocks are nested.
 pub const MAX_NESTING: u32 = 64;
 
 /// A record that a statement reads.
@@ -24,7 +24,7 @@ pub const MAX_NESTING: u32 = 64;
 pub enum Rec {
     /// A record register.
     Reg(u32),
-    /// The record that an enclosing `each` is at. The outermost one has the name 1.
+    /// The current record of an enclosing `each`. The outermost `each` has the name 1.
     Loop(u32),
     /// The record that a Map's function is called for.
     Input,
@@ -32,7 +32,7 @@ pub enum Rec {
     Left,
     /// The right record of a Match or Cross.
     Right,
-    /// In each field the left record's value where it isn't Null, else the right one's.
+    /// A record with, in each field, the left record's value if it isn't Null, and otherwise the right record's.
     Join,
     /// The first record of a Reduce's group.
     First,
@@ -78,7 +78,8 @@ pub enum Stmt {
         from: Rec,
         field: u32,
     },
-    /// The value register becomes the field of the record that the other one numbers, Null where it numbers none.
+    /// The value register becomes the field of the record whose number is in register `at`, or Null if `at` holds no
+    /// field's number.
     GetAt {
         to: u32,
         from: Rec,
@@ -89,13 +90,13 @@ pub enum Stmt {
         to: u32,
         at: u32,
     },
-    /// The value register becomes what the operation gives.
+    /// The value register becomes the operation's result.
     One {
         to: u32,
         op: Op1,
         a: u32,
     },
-    /// The value register becomes what the operation gives.
+    /// The value register becomes the operation's result.
     Two {
         to: u32,
         op: Op2,
@@ -117,8 +118,8 @@ pub enum Stmt {
         field: u32,
         value: u32,
     },
-    /// The field of the register's record that the first value register numbers becomes the second one's value. Where
-    /// it numbers none, nothing changes.
+    /// The field of the register's record whose number is in value register `at` becomes the value of register `value`.
+    /// Nothing changes if `at` holds no field's number.
     SetAt {
         to: u32,
         at: u32,
@@ -128,18 +129,18 @@ pub enum Stmt {
     Emit {
         from: u32,
     },
-    /// The body where the value register holds something true, else the other one.
+    /// Runs `body` if the value register holds a true value, and `other` if not.
     If {
         on: u32,
         body: Body,
         other: Body,
     },
-    /// The body so many times.
+    /// Runs the body `count` times.
     Repeat {
         count: u32,
         body: Body,
     },
-    /// The body once for each record of the list, in its order.
+    /// Runs the body once for each record of the list, in its order.
     Each {
         name: u32,
         list: LoopList,
@@ -147,12 +148,12 @@ pub enum Stmt {
     },
 }
 
-/// Why a statement wasn't put behind a body. It is handed back.
+/// Why a statement wasn't appended to a body. The statement is handed back.
 #[derive(Debug, Drop)]
 pub enum NotPushed {
     /// The body would be nested more than `MAX_NESTING` blocks deep.
     Deep { stmt: Stmt },
-    /// Want of memory, or of a number for one statement more.
+    /// Out of memory, or no number can hold the new number of statements.
     Memory { stmt: Stmt },
 }
 
@@ -161,7 +162,7 @@ pub enum NotPushed {
 #[cycle(tree)]
 pub struct Body {
     stmts: Vec<Stmt>,
-    // how deep they are nested, and how many they are with those in blocks
+    // the depth to which they are nested, and their number including those in blocks
     depth: u32,
     size: u32,
 }
@@ -201,7 +202,7 @@ impl Body {
         }
     }
 
-    /// Puts a statement behind the others.
+    /// Appends a statement.
     pub fn push(&mut self, stmt: Stmt) -> Result<(), NotPushed>
         ensures ok { OnOk result (self.new ≡ joined self.old (only stmt)) }
         ensures fits { OnOk result (nesting (only stmt) ≤ nesting_limit) }
@@ -227,21 +228,21 @@ impl Body {
         }
     }
 
-    // How many statements there are with one more, where a number holds it.
+    // How many statements there are with this one more, if a number can hold it.
     fn size_with(&self, stmt: &Stmt) -> Option<u32>
         ensures { IfSome result (λ n. n ≡ count_of self.now + count_of (only stmt.now)) }
     {
         self.size.checked_add(stmt.size()?)
     }
 
-    /// How many statements stand in no block.
+    /// How many statements are outside all blocks.
     pub fn len(&self) -> usize
         ensures { result ≡ length_of self.now }
     {
         self.stmts.len()
     }
 
-    /// A statement by its place among those that stand in no block.
+    /// A statement by its place among those outside all blocks.
     pub fn at(&self, n: usize) -> &Stmt
         requires { n < length_of self.now }
         ensures { skip n self.now ≡ before result.now (skip (n + 1) self.now) }
@@ -249,7 +250,7 @@ impl Body {
         &self.stmts[n]
     }
 
-    /// The statements that stand in no block.
+    /// The statements outside all blocks.
     pub fn stmts(&self) -> &[Stmt]
         ensures { code_of result.now ≡ self.now }
     {
@@ -264,7 +265,7 @@ impl Body {
         self.depth
     }
 
-    /// How many statements there are, those in blocks among them.
+    /// How many statements there are, including those in blocks.
     pub fn size(&self) -> u32
         ensures { result ≡ count_of self.now }
     {
@@ -288,7 +289,7 @@ impl Body {
 }
 
 impl Stmt {
-    // How deep a body is that is this statement alone.
+    // The depth of a body with only this statement.
     fn depth(&self) -> u32
         ensures { result ≡ nesting (only self.now) }
     {
@@ -300,7 +301,7 @@ impl Stmt {
         }
     }
 
-    // How many statements a body has that is this statement alone, where a number holds it.
+    // How many statements a body with only this statement has, if a number can hold it.
     fn size(&self) -> Option<u32>
         ensures { IfSome result (λ n. n ≡ count_of (only self.now)) }
     {

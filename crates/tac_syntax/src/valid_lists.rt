@@ -39,7 +39,7 @@ impl ValidList {
         ensures err { OnErr result (self.new ≡ self.old) }
         ensures handed_back { IfErr result (λ e. e.value ≡ valid) }
     {
-        // it is valid
+        // The call makes it known that the function is valid.
         let _function = valid.function();
         self.held.push(valid)
     }

@@ -11,7 +11,7 @@ use pact_record::{Fields, OutOfMemory};
 use std::alloc::Global;
 use std::marker::Model;
 
-/// A function with the number of fields of its program, which keeps to every rule.
+/// A function with the number of fields of its program. It keeps every rule.
 #[derive(Debug, Drop)]
 pub struct Valid {
     function: Function,
@@ -54,7 +54,7 @@ impl Valid {
         self.fields
     }
 
-    /// The fields that some `set` of the function names, and all fields where one takes its field from a register.
+    /// The fields that some `set` of the function names, or all fields if a `set` takes its field from a register.
     pub fn named(&self) -> Fields
         ensures { (k : ℕ) → IsTrue (has_field result k) ↔ Names self.now.fields k self.now.function.body }
     {

@@ -5,7 +5,8 @@ ghost use Rattle.tac_syntax.specs.Versions.{field_limit};
 
 use pact_record::MAX_FIELDS;
 
-/// A program of the version has at most so many fields, a source of it so many columns, and a sink so many fields.
+/// The most fields that a program of this version can have. It also limits the columns of a source and the fields of a
+/// sink.
 pub fn field_limit(version: u32) -> u32
     ensures { result ≡ field_limit version }
 {

@@ -1,5 +1,5 @@
--- The lines of a body, one after the other: a body's own lines may follow each other and make it, and lines that may follow each other are
--- those of what they make.
+-- The lines of a body, one after another. A body's own lines may follow each other and build it, and lines that may
+-- follow each other are those of what they build.
 use Rattle.std.proofs.Common.{◌≡◌, ◌≤◌, Bool, true, Some, List, refl, ap, ◌<◌, ◌+◌, inl, inr, ℕ, Option, [], ◌∷◌, ◌++◌, length, sym, subst, ◌∙◌, append_assoc, append-nil, arith}
 use Rattle.std.proofs.lemmas.Bool.{le-leb}
 use Rattle.tac_syntax.specs.Code.{Code, stop, plain, branch, again, each, joined, nesting, Simple, load_int, load_text, load_null, move_value, get_field, get_at, get_key, apply_one, apply_two, new_record, copy_record, set_field, set_at, emit_record, Line, simple, test, turns, over, otherwise, close}
@@ -39,7 +39,7 @@ with_statement-fits blocks body statement h = rw (le-leb (nesting statement) nes
 
 -- ---- a block that ends
 
--- the statement that a block is with its last body
+-- the statement that a block becomes with its last body
 abbrev pub ended : Block → Code → Code
 ended (If on before) body = branch on body stop stop
 ended (Else on first before) body = branch on first body stop
@@ -53,7 +53,7 @@ built-close (Else on first before) around body h = with_statement-fits around be
 built-close (Repeat count before) around body h = with_statement-fits around before (again count body stop) h
 built-close (Each name list before) around body h = with_statement-fits around before (each name list body stop) h
 
--- ---- a statement may stand where it is spelled and takes what it may
+-- ---- a statement is allowed if it can be spelled and takes fields from registers only if it may
 
 may_stand : (registers : Bool) (s : Simple) → IsSpelledSimple s → TakesSimple registers s → MayStandSimple registers s
 may_stand registers (get_at to from at) h t = (h, t)
@@ -95,7 +95,7 @@ no_lines (branch on body other next) (first, second, rest, a, b, c, inr e) = abs
 no_lines (again count body next) h = absurd (let e = h.4 in cc)
 no_lines (each name list body next) h = absurd (let e = h.4 in cc)
 
--- a statement, and those behind it
+-- a statement, and those after it
 followed : (registers : Bool) (blocks : List Block) (body statement next : Code) (lines : List Line)
     → StepsTo registers (build blocks (joined body statement)) lines (build blocks (joined (joined body statement) next))
     → StepsTo registers (build blocks (joined body statement)) lines (build blocks (joined body (joined statement next)))
@@ -141,7 +141,7 @@ body_steps registers (each name list body next) lines b (first, rest, p, r, e) f
     let inside = Steps-append (MayInside registers) built_on (build (Each name list b.body ∷ b.blocks) stop) (build (Each name list b.body ∷ b.blocks) body) _ first (close ∷ rest) turn last in
     rw e (((omega (arith, deep), fits.0), tt), inside)
 
--- ---- lines that may follow each other are those of what they make
+-- ---- lines that may follow each other are those of what they build
 
 pub SpellsBody-joined : (a b : Code) (x y : List Line) → SpellsBody a x → SpellsBody b y → SpellsBody (joined a b) (x ++ y)
 SpellsBody-joined stop b x y p q = rw p q
@@ -175,7 +175,7 @@ Takes-joined registers (each name list body a) b p q = (p.0, Takes-joined regist
 FitsBody-joined : (registers : Bool) (blocks lists : ℕ) (a b : Code) → FitsBody registers blocks lists a → FitsBody registers blocks lists b → FitsBody registers blocks lists (joined a b)
 FitsBody-joined registers blocks lists a b p q = (IsSpelled-joined lists a b p.0 q.0, omega (arith, p.1, q.1, nesting-joined a b), Takes-joined registers a b p.2 q.2)
 
--- a line behind those that were read
+-- more lines after those that were read
 behind : (outer inside lines more : List Line) → lines ≡ outer ++ inside → lines ++ more ≡ outer ++ (inside ++ more)
 behind outer inside lines more e = rw e (append_assoc outer inside more)
 
@@ -218,7 +218,8 @@ FitsBuild-ended registers block around body fits =
 
 -- ---- one line
 
--- where a line that may follow leads: what was read still fits, and the lines with it are those of what they have come to
+-- what a line that may follow leads to: what was built still fits, and its lines are those that were read, including
+-- this one
 record On (registers : Bool) (blocks : List Block) (body : Code) (l : Line) : Type 0 where
   next : Build
   taken : built (build blocks body) l ≡ Some next
@@ -284,7 +285,7 @@ line_on registers blocks body close fits may = end_on registers blocks body fits
 pub fits_step : (registers : Bool) (b : Build) (l : Line) → FitsBuild registers b → MayInside registers b l → FitsBuild registers (built_on b l)
 fits_step registers b l fits may = let on = line_on registers b.blocks b.body l fits may in subst (FitsBuild registers) (sym (ap (built_or b) on.taken)) on.fits
 
--- what a step on such a line comes to
+-- the result of a step on such a line
 pub IsBuilt-inside : (registers : Bool) (b now : Build) (l : Line) (taken : Bool) → FitsBuild registers b → MayInside registers b l → IsBuilt (built b l) taken now → (taken ≡ true) × (now ≡ built_on b l)
 IsBuilt-inside registers b now l taken fits may h =
     let on = line_on registers b.blocks b.body l fits may in
@@ -303,7 +304,7 @@ pub front_whole : (registers : Bool) (blocks : List Block) (body : Code) (lines 
 front_whole registers [] body lines e (outer, inside, p, q, f) fits = (subst (SpellsBody body) (sym (f ∙ ap (λ (x : List Line). x ++ inside) p)) q, fits.1.0, omega (arith, fits.1.1), fits.1.2)
 front_whole registers (block ∷ around) body lines e front fits = absurd cc
 
--- so many `end` as there are open blocks
+-- one `end` for each open block
 pub ends : (registers : Bool) (blocks : List Block) (body : Code) → FitsBuild registers (build blocks body) → (more : List Line) × (c : Code) × Steps (MayInside registers) built_on (build blocks body) more (build [] c)
 ends registers [] body fits = ([], body, refl)
 ends registers (block ∷ around) body fits =

@@ -23,11 +23,11 @@ use Rattle.tac_text.specs.StatementLines.{LinePlace, MayStand, MayStandSimple}
 use Rattle.tac_text.specs.StatementFaults.{is_target, Wanted, wanted_by, form_fault, is_op1, is_op2, target_alone, assignment_fault, block_fault, word_fault, statement_fault}
 use Rattle.tac_text.specs.declared.operation_words.TheConstants.{OPS1, OPS2}
 
--- the line whose words these are, which may stand
+-- an allowed line with these words
 abbrev pub LineFor : LinePlace → List LineWord → Type 0
 LineFor p words = (l : Line) × (words ≡ words_of_line l) × MayStand p l
 
--- ---- lines that are no assignments
+-- ---- lines that aren't assignments
 
 -- a line of a first word and the words of slots, whose values make it
 line_of_slots : (p : LinePlace) (word name : List ℕ) (words : List LineWord) (slots : List Slot) → AreUsual slots → (line : Values slots → Line)
@@ -42,7 +42,7 @@ line_of_slots p word name words slots usual line spelled may good is h =
 block_parts : (p : LinePlace) (slots : List Slot) (words : List LineWord) → block_fault p slots words ≡ None → (p.blocks < nesting_limit) × (first_fault slots words ≡ None)
 block_parts p slots words h = by_cases (nat_lt p.blocks nesting_limit) _ _ (λ room rest. (ltb-true p.blocks nesting_limit room, rest)) (λ _ e. absurd cc) h
 
--- the same for the first line of a block
+-- `line_of_slots`, for the first line of a block
 line_of_block : (p : LinePlace) (word name : List ℕ) (words : List LineWord) (slots : List Slot) → AreUsual slots → (line : Values slots → Line)
     → ((xs : Values slots) → words_of_line (line xs) ≡ plain_word name ∷ words_then slots xs []) → (p.blocks < nesting_limit → (xs : Values slots) → AllFit slots xs → MayStand p (line xs))
     → AreLineWords words → word ≡ name → block_fault p slots words ≡ None → LineFor p (plain_word word ∷ words)

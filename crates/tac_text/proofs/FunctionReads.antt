@@ -1,4 +1,5 @@
--- The lines of a text lead a reader of functions on exactly where a function's text goes on; what it has read, and what it tells of it.
+-- The lines of a text lead a reader of functions on exactly where a function's text goes on. Then what it has read, and
+-- which faults it reports.
 use Rattle.std.proofs.Common.{◌≡◌, ◌≢◌, ℕ, Bool, true, false, List, [], ◌∷◌, ◌++◌, map, Some, None, refl, ap, sym, subst, ◌∙◌, arith, ◌≤◌, ◌<◌, ◌⊎◌, ◌+◌, max, inl, inr, length, drop, Option, Err, append_assoc, append-nil, length-append}
 use Rattle.std.proofs.lemmas.List.{map-append, drop_all}
 use Rattle.tac_syntax.specs.declared.functions.Function.{Function}
@@ -49,7 +50,7 @@ words_of_inside [] = refl
 words_of_inside (l ∷ lines) = ap (λ (x : List (List LineWord)). words_of_line l ∷ x) (words_of_inside lines)
 
 module _ (registers : Bool) where
-  -- ---- what may follow has words of its own
+  -- ---- a line that may follow has words of its own
 
   some_follow : (s : FunctionState) (l : FunctionLine) → MayFollow registers s l → words_of_function_line l ≢ []
   some_follow waiting (header name kind keys) h e = absurd cc
@@ -66,7 +67,7 @@ module _ (registers : Bool) where
   pub function_sayings : AreSayings words_of_function_line (MayFollow registers)
   function_sayings = record { some = some_follow; unique = unique_follow }
 
-  -- ---- and no fault
+  -- ---- these words have no fault
 
   fault_none : (s : FunctionState) → function_fault (place_at registers s) [] ≡ None
   fault_none waiting = refl
@@ -92,7 +93,7 @@ module _ (registers : Bool) where
 
   -- ---- a function's lines may follow each other
 
-  -- what an open function takes leads on
+  -- Words that an open function takes lead to the next state.
   pub LeadsOn-TakesWords : (ended : Bool) (words : List LineWord) (old now : OpenData) → TakesWords registers ended words old now → LeadsOn registers ended words (Some old) (Some now)
   LeadsOn-TakesWords true words old now (e, none, same) = (old, refl, none, e, ap Some same)
   LeadsOn-TakesWords false words old now (l, e, may, same) = (inside l, e, may.0, ap reading same ∙ sym (after_inside-inside l old.build.blocks old may.1))
@@ -127,7 +128,7 @@ module _ (registers : Bool) where
 
   -- ---- lines that may follow each other are those of a function
 
-  -- what the lines were that led to a state
+  -- the lines that led to a state
   abbrev pub LedBy : FunctionState → List FunctionLine → Type 0
   LedBy waiting ls = ls ≡ []
   LedBy (reading o) ls = (lines : List Line) × (ls ≡ header o.name o.kind o.keys ∷ map inside lines) × IsHeader o.name o.kind o.keys × Front o.build lines × FitsBuild registers o.build
@@ -201,7 +202,7 @@ module _ (registers : Bool) where
   leads_unique : (s t u : FunctionState) (lines : List (List ℕ)) → Leads registers s lines t → Leads registers s lines u → t ≡ u
   leads_unique s t u lines p q = Runs-unique words_of_function_line (MayFollow registers) after function_sayings s t u lines p q
 
-  -- behind the end only lines without words follow
+  -- After the end only lines without words follow.
   whole_stays : (f : Function) (lines : List (List ℕ)) (t : FunctionState) → Leads registers (whole f) lines t → t ≡ whole f
   whole_stays f [] t p = sym p
   whole_stays f (line ∷ lines) t (inl p) = whole_stays f lines t p.1
@@ -230,7 +231,7 @@ module _ (registers : Bool) where
   none_behind [] b e h = h e
   none_behind (x ∷ a) b e h = cc
 
-  -- what stands behind a text's front, up to its last line
+  -- the lines after a text's prefix, up to its last line
   last_behind : (front c others : List (List ℕ)) (last : List ℕ) (f : Function) (t : FunctionState) → front ++ c ≡ others ++ last ∷ [] → c ≢ [] → Leads registers (whole f) c t → HasWords last []
   last_behind [] c others last f t e some p = whole_last f others last t (subst (λ (x : List (List ℕ)). Leads registers (whole f) x t) e p)
   last_behind (line ∷ front) c [] last f t e some p = let rest : front ++ c ≡ [] = cc in absurd (none_behind front c rest some)
@@ -239,7 +240,7 @@ module _ (registers : Bool) where
   no_end : (last : List ℕ) → HasWords last (words_of_line close) → ¬ HasWords last []
   no_end last h k = let same = IsLine-unique (trimmed last) (words_of_line close) [] h k in cc
 
-  -- the text of a function that ends registers with its `end` has no other such text in front
+  -- A function's text that ends with its `end` has no function's text as a proper prefix.
   nothing_behind : (f g : Function) (front c text : List (List ℕ)) → text ≡ front ++ c → FunctionText registers f front → FunctionText registers g text → EndsWithEnd text → (c ≡ []) × (f ≡ g)
   nothing_behind f g front [] text e p q end =
       let same : whole f ≡ whole g = leads_unique waiting (whole f) (whole g) text (subst (λ (x : List (List ℕ)). Leads registers waiting x (whole f)) (sym (e ∙ append-nil front)) (Leads-FunctionText f front p)) (Leads-FunctionText g text q) in
@@ -272,7 +273,7 @@ module _ (registers : Bool) where
     pub within : at ≤ length text
     pub few : number ≤ at
 
-  -- the lines with one more
+  -- the lines that were read, with one more
   one_more_line : (text : List ℕ) (start at next : ℕ) (front : List (List ℕ)) (line : List ℕ) → lines_of (drop start text) ≡ front ++ lines_of (drop at text) → lines_of (drop at text) ≡ line ∷ lines_of (drop next text)
       → lines_of (drop start text) ≡ (front ++ line ∷ []) ++ lines_of (drop next text)
   one_more_line text start at next front line e h = e ∙ ap (λ (x : List (List ℕ)). front ++ x) h ∙ sym (append_assoc front (line ∷ []) (lines_of (drop next text)))
@@ -307,7 +308,7 @@ module _ (registers : Bool) where
   not_whole None f e = cc
   not_whole (Some o) f e = cc
 
-  -- No function's text begins these lines where the reader has come to no end, and can't go on.
+  -- No function's text begins these lines if the reader hasn't come to an end and can't go on.
   no_function : (all front rest : List (List ℕ)) (s : FunctionState) → all ≡ front ++ rest → Leads registers waiting front s → ((f : Function) → s ≢ whole f)
       → ((first later : List (List ℕ)) (t : FunctionState) → rest ≡ first ++ later → Leads registers s first t → first ≡ [])
       → (f : Function) (x r : List (List ℕ)) → FunctionText registers f x → all ≡ x ++ r → ⊥
@@ -336,7 +337,7 @@ module _ (registers : Bool) where
   stuck_at_end s [] others t e p = refl
   stuck_at_end s (line ∷ first) others t e p = absurd cc
 
-  -- the lines as they are parted at the faulty one
+  -- the lines, split at the faulty one
   parted : (text : List ℕ) (start at next : ℕ) (front : List (List ℕ)) (line : List ℕ) → lines_of (drop start text) ≡ front ++ lines_of (drop at text) → lines_of (drop at text) ≡ line ∷ lines_of (drop next text)
       → lines_of (drop start text) ≡ front ++ line ∷ lines_of (drop next text)
   parted text start at next front line e h = e ∙ ap (λ (x : List (List ℕ)). front ++ x) h

@@ -1,4 +1,4 @@
--- The words of a header, which are those of no other, and words without a fault; some line has them.
+-- The words of a header: no other header has them, they have no fault, and some line has them.
 use Rattle.std.proofs.Common.{◌≡◌, ◌≢◌, ◌≤◌, ℕ, List, [], ◌∷◌, Option, Some, None, codes, bytes_eq, decimal, refl, ap, sym, subst, ◌∙◌, arith}
 use Rattle.tac_syntax.specs.declared.functions.Kind.{Kind}
 use Rattle.tac_syntax.specs.declared.functions.Kind.TheVariants.{Map, Match, Cross, Reduce, CoGroup}
@@ -39,7 +39,7 @@ header_fault-header_words name kind keys h = rw (h.0, kind_named-kind_word kind)
 abbrev pub HeaderFor : List LineWord → Type 0
 HeaderFor words = (name : List ℕ) × (kind : Kind) × (keys : ℕ) × (words ≡ header_words name kind keys) × IsHeader name kind keys
 
--- what stands behind a kind, with the number of keys
+-- the words after a kind, with the number of keys
 abbrev KeysFor : Kind → List LineWord → Type 0
 KeysFor kind words = (keys : ℕ) × (words ≡ key_words kind keys) × HasKeys kind keys
 
@@ -52,7 +52,7 @@ keys_of_words Reduce words good h = some_keys words good h
 keys_of_words CoGroup words good h = some_keys words good h
 keys_of_words kind words good h = (0, none_left words h, refl)
 
--- words behind the name
+-- the words after the name
 abbrev KindFor : List LineWord → Type 0
 KindFor words = (kind : Kind) × (keys : ℕ) × (words ≡ plain_word (kind_word kind) ∷ key_words kind keys) × HasKeys kind keys
 
@@ -91,7 +91,7 @@ one_keys Reduce k m h l e = keys_value k m h.1 l.1 (let same : decimal k ≡ dec
 one_keys CoGroup k m h l e = keys_value k m h.1 l.1 (let same : decimal k ≡ decimal m = cc in same)
 one_keys kind k m h l e = h ∙ sym l
 
--- two headers with the same words are one
+-- Two headers with the same words are equal.
 pub one_header : (a b : List ℕ) (j k : Kind) (m n : ℕ) → IsHeader a j m → IsHeader b k n → header_words a j m ≡ header_words b k n → header a j m ≡ header b k n
 one_header a b j k m n h l e =
     let name : a ≡ b = cc in

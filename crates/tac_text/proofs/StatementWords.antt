@@ -1,4 +1,5 @@
--- The words without a fault are those of the lines that may stand, some line has them, and no two lines that may stand have the same.
+-- Words without a fault are those of the allowed lines. Some line of a text has them, and no two allowed lines have the
+-- same words.
 use Rattle.std.specs.List.{AllByRecursion}
 use Rattle.pact_record.specs.declared.operations.Op1.{Op1}
 use Rattle.pact_record.specs.declared.operations.Op1.TheVariants.{Not, IsNull, Len}
@@ -59,7 +60,7 @@ each_op2 P h Cat = h.1.1.1.1.1.1.1.1.1.1.1.1.1.0
 
 -- ---- lines from their words
 
--- the bytes of a word: a literal's are those that it stands for
+-- the bytes of a word; for a literal, those that it denotes
 abbrev pub word_bytes : LineWord → List ℕ
 word_bytes (plain_word bytes) = bytes
 word_bytes (literal_word bytes) = bytes
@@ -67,7 +68,7 @@ word_bytes (literal_word bytes) = bytes
 abbrev pub line_texts : Line → List (List ℕ)
 line_texts l = map word_bytes (words_of_line l)
 
--- ---- what words stand for
+-- ---- what words mean
 
 abbrev word_in : List (List ℕ) → ℕ → List ℕ
 word_in words n = get_or words n []
@@ -76,7 +77,7 @@ abbrev signed_in : List ℕ → ℤ
 signed_in [] = pos 0
 signed_in (b ∷ bs) = if b == 45 then neg_ℤ (pos (number_in bs)) else pos (number_in (b ∷ bs))
 
--- behind its letter
+-- the number after a register's letter
 abbrev register_in : List ℕ → ℕ
 register_in word = number_in (drop 1 word)
 
@@ -96,7 +97,7 @@ get_said to from word = if begins_with (codes "@") word then simple (get_at to f
 abbrev set_said : (to : ℕ) → List ℕ → (value : ℕ) → Line
 set_said to word value = if begins_with (codes "@") word then simple (set_at to (register_in (drop 1 word)) value) else simple (set_field to (number_in word) value)
 
--- behind a target, `=` and the word that says what is assigned
+-- the line of a target, the form after its `=`, and the words after the form
 abbrev assigned_line : (target form : List ℕ) → List (List ℕ) → Line
 assigned_line target form words =
     if bytes_eq form (codes "int") then simple (load_int (register_in target) (signed_in (word_in words 0)))
@@ -110,7 +111,7 @@ assigned_line target form words =
     else (if nat_lt 1 (length words) then simple (apply_two (register_in target) (unwrap_or (named_in op2_word OPS2 form) Add) (register_in (word_in words 0)) (register_in (word_in words 1)))
     else simple (apply_one (register_in target) (unwrap_or (named_in op1_word OPS1 form) Not) (register_in (word_in words 0)))))))))))
 
--- behind another first word
+-- the line of another first word, and the words after it
 abbrev other_line : List ℕ → List (List ℕ) → Line
 other_line first words =
     if bytes_eq first (codes "set") then set_said (register_in (word_in words 0)) (word_in words 1) (register_in (word_in words 2))
@@ -123,7 +124,7 @@ other_line first words =
 abbrev pub line_in : List (List ℕ) → Line
 line_in words = if bytes_eq (word_in words 1) (codes "=") then assigned_line (word_in words 0) (word_in words 2) (drop 3 words) else other_line (word_in words 0) (drop 1 words)
 
--- ---- a word stands for what it was made of
+-- ---- a word means what it was made from
 
 signed_in-digits : (w : List ℕ) → AllDigits 10 w → signed_in w ≡ pos (number_in w)
 signed_in-digits [] h = refl
@@ -197,7 +198,7 @@ line_in-line_texts lists (over name list) h = rw (number_in-decimal name (omega 
 line_in-line_texts lists otherwise h = refl
 line_in-line_texts lists close h = refl
 
--- ---- what may stand has no fault
+-- ---- an allowed line has no fault
 
 is_target-value : (n : ℕ) → IsNumber n → is_target (value_register n) ≡ true
 is_target-value n h = rw (are_digits-decimal n (omega (arith, h))) refl
@@ -271,7 +272,7 @@ IsSpelledLine-MayStand p (over name items) h = h.1
 IsSpelledLine-MayStand p otherwise h = tt
 IsSpelledLine-MayStand p close h = tt
 
--- the line that words are for
+-- the line that these words mean
 abbrev pub line_of : List LineWord → Line
 line_of words = line_in (map word_bytes words)
 
@@ -288,7 +289,7 @@ words_of_line-some lists l h e =
     let none : words_of_line (line_of []) ≡ [] = subst (λ (m : Line). words_of_line m ≡ []) same e in
     cc
 
--- ---- what a line's reader answers
+-- ---- the results of a line's reader
 
 gives_line : (p : LinePlace) (said : Option Line) (words : List LineWord) → IsLineAt p said words → (l : Line) → MayStand p l → words ≡ words_of_line l → said ≡ Some l
 gives_line p None words read l may e = absurd read

@@ -1,4 +1,4 @@
--- What is written of a function is its text, whatever follows.
+-- A function's written text is a text of the function, with any bytes after it.
 use Rattle.std.proofs.Common.{◌≡◌, ◌<◌, ◌+◌, ℕ, Bool, List, [], ◌∷◌, ◌++◌, length, drop, get_or, ap, sym, ◌∙◌, append_assoc, ◌≤◌, inl, inr, true, map, refl, subst, arith, length-append}
 use Rattle.std.proofs.lemmas.List.{at_drop_more, map-append}
 use Rattle.tac_syntax.specs.Code.{Code, stop, simple, test, turns, over, close, plain, branch, again, each, Line, otherwise, nesting}
@@ -23,7 +23,7 @@ use Rattle.tac_text.proofs.HeaderWords.{AreFine-header_words}
 
 -- ---- a body, statement after statement
 
--- the parts of a block, and a text behind it
+-- the parts of a block, and a text after it
 block_then : (a b c d : List ℕ) → a ++ (b ++ (c ++ d)) ≡ (a ++ (b ++ (c ++ []))) ++ d
 block_then a b c d = simp append_assoc
 
@@ -37,7 +37,7 @@ body_text-onto depth (choice on body other) c =
 body_text-onto depth (turning count body) c = block_then (at_depth depth (turns count)) (body_text (depth + 1) body) (at_depth depth close) (body_text depth c)
 body_text-onto depth (going_through name list body) c = block_then (at_depth depth (over name list)) (body_text (depth + 1) body) (at_depth depth close) (body_text depth c)
 
--- behind a statement more, less is left to write
+-- After one more statement, the statements after it are left to write.
 pub written_more : (now new whole : List ℕ) (depth : ℕ) (stmts : List Stmt) (n : ℕ) (stmt : Stmt) → n < length stmts → stmt ≡ get_or stmts n stmt → now ++ body_text depth (code_of (drop n stmts)) ≡ whole
     → new ≡ now ++ body_text depth (only stmt) → new ++ body_text depth (code_of (drop (n + 1) stmts)) ≡ whole
 written_more now new whole depth stmts n stmt h e before more =
@@ -152,7 +152,7 @@ FunctionAt-written registers f written h takes deep e rest =
     let ends = HasWords-canonical_line 0 (words_of_line close) (AreLineWords-fine (words_of_line close) (refl, tt)) in
     (w.front ++ last_line ∷ [], omega arith, omega (arith, length-append written rest), lines ∙ behind, text, (w.front, last_line, refl, ends))
 
--- written one part after the other
+-- The parts of a function, written one after another, are its spelling.
 pub function_spelling-parts : (f : Function) (words : List (List ℕ)) (empty first inside all : List ℕ) → empty ≡ [] → words ≡ map word_text (header_words f.name f.kind f.keys)
     → first ≡ empty ++ line_text 0 words → inside ≡ first ++ body_text 1 f.body → all ≡ inside ++ at_depth 0 close → all ≡ function_spelling f
 function_spelling-parts f words empty first inside all e head a b c =

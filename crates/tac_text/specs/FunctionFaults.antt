@@ -11,7 +11,7 @@ use Rattle.tac_text.specs.FunctionLines.{kind_word}
 use Rattle.text_lines.specs.Slots.{Slot, identifier, number, fault_then, first_fault}
 use Rattle.tac_text.specs.StatementLines.{LinePlace}
 
--- before the header, inside the function, and behind its `end`
+-- before the header, inside the function, and after its `end`
 pub data FunctionPlace : Type 0 where
   header_due : FunctionPlace
   inside_body : (place : LinePlace) → FunctionPlace
@@ -26,30 +26,30 @@ abbrev pub kind_of_word : LineWord → Option Kind
 kind_of_word (plain_word word) = kind_named word
 kind_of_word (literal_word bytes) = None
 
--- what stands behind a kind: the number of keys for the kinds that have keys
+-- what is expected after a kind: the number of keys for the kinds that have keys
 abbrev pub key_slots : Kind → List Slot
 key_slots Reduce = number 1 key_limit ∷ []
 key_slots CoGroup = number 1 key_limit ∷ []
 key_slots kind = []
 
--- fault 9 where a word is no kind
+-- fault 9 if a word isn't a kind
 abbrev pub keys_fault : Option Kind → List LineWord → Option ℕ
 keys_fault None words = Some 9
 keys_fault (Some kind) words = first_fault (key_slots kind) words
 
--- the words behind the name
+-- the fault of the words after the name
 abbrev pub kind_fault : List LineWord → Option ℕ
 kind_fault [] = Some 4
 kind_fault (word ∷ words) = keys_fault (kind_of_word word) words
 
--- the words behind `function`
+-- the fault of the words after `function`
 abbrev pub named_fault : List LineWord → Option ℕ
 named_fault words = fault_then kind_fault (identifier ∷ []) words
 
 abbrev pub is_part_or_end : List ℕ → Bool
 is_part_or_end word = bytes_eq word (codes "else") || bytes_eq word (codes "end")
 
--- Another word than `function` is fault 10 where it would part or end a block, and else fault 3.
+-- A first word other than `function` has fault 10 if it is `else` or `end`, and otherwise fault 3.
 abbrev pub header_fault : List LineWord → Option ℕ
 header_fault [] = None
 header_fault (plain_word word ∷ words) =
@@ -58,7 +58,7 @@ header_fault (literal_word bytes ∷ words) = Some 3
 
 -- ---- functions
 
--- behind the `end` nothing is read
+-- After the `end` no words may follow.
 abbrev pub ended_fault : List LineWord → Option ℕ
 ended_fault [] = None
 ended_fault (word ∷ words) = Some 3
@@ -68,7 +68,7 @@ function_fault header_due words = header_fault words
 function_fault (inside_body place) words = statement_fault place words
 function_fault function_ended words = ended_fault words
 
--- what is told where the text ends
+-- the fault reported if the text ends here
 abbrev pub function_missing : FunctionPlace → Option ℕ
 function_missing header_due = Some 10
 function_missing (inside_body place) = Some 10

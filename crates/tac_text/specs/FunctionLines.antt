@@ -15,8 +15,9 @@ use Rattle.tac_text.specs.StatementSpelling.{words_of_line}
 
 -- ---- bodies
 
--- Its statements, one after the other: a statement of one line is that line; a block is its first line, the lines of the body inside it,
--- and `end`. Between the bodies of an `if` stands `else`, which may be left out where the second body has no lines.
+-- The lines of a body's statements, in order. A statement of one line is that line. A block is its first line, the
+-- lines of the body inside it, and `end`. The bodies of an `if` are separated by `else`, which may be left out if the
+-- second body has no lines.
 abbrev pub SpellsBody : Code → List Line → Type 0
 SpellsBody stop lines = lines ≡ []
 SpellsBody (plain s next) lines = (rest : List Line) × (lines ≡ simple s ∷ rest) × SpellsBody next rest
@@ -37,7 +38,7 @@ kind_word Cross = codes "cross"
 kind_word Reduce = codes "reduce"
 kind_word CoGroup = codes "cogroup"
 
--- the number of keys, where the kind has keys
+-- the number of keys, for a kind that has keys
 abbrev pub key_words : Kind → ℕ → List LineWord
 key_words Reduce keys = plain_word (decimal keys) ∷ []
 key_words CoGroup keys = plain_word (decimal keys) ∷ []
@@ -46,7 +47,7 @@ key_words kind keys = []
 abbrev pub header_words : List ℕ → Kind → ℕ → List LineWord
 header_words name kind keys = plain_word (codes "function") ∷ plain_word name ∷ plain_word (kind_word kind) ∷ key_words kind keys
 
--- a function's first line, or one behind it
+-- a function's first line, or a later one
 pub data FunctionLine : Type 0 where
   header : (name : List ℕ) → (kind : Kind) → (keys : ℕ) → FunctionLine
   inside : (line : Line) → FunctionLine
@@ -65,11 +66,12 @@ abbrev pub SpellsFunction : Function → List (List LineWord) → Type 0
 SpellsFunction f said =
     (lines : List Line) × SpellsBody f.body lines × (said ≡ header_words f.name f.kind f.keys ∷ (map words_of_line lines ++ words_of_line close ∷ []))
 
--- some text spells it
+-- Some text spells the function.
 abbrev pub IsWritable : Function → Type 0
 IsWritable f = IsSpelledFunction f × (nesting f.body ≤ nesting_limit)
 
--- These lines are the function's text, where fields may be taken from registers or may not. Lines without words may stand anywhere, behind the `end` too.
+-- These lines are the function's text. `registers` says whether registers may name fields. Lines without words may be
+-- anywhere, also after the `end`.
 pub record FunctionText (registers : Bool) (f : Function) (text : List (List ℕ)) : Type 0 where
   pub said : List (List LineWord)
   pub says : Say text said
@@ -80,7 +82,7 @@ pub record FunctionText (registers : Bool) (f : Function) (text : List (List ℕ
 abbrev pub EndsWithEnd : List (List ℕ) → Type 0
 EndsWithEnd text = (front : List (List ℕ)) × (last : List ℕ) × (text ≡ front ++ last ∷ []) × HasWords last (words_of_line close)
 
--- In these bytes the function's text stands from one place up to another, the first behind the line of its `end`.
+-- In these bytes the function's text goes from one offset to another, which is just after the line of its `end`.
 abbrev pub FunctionAt : Bool → Function → List ℕ → ℕ → ℕ → Type 0
 FunctionAt registers f text at behind =
     (front : List (List ℕ)) × (at ≤ behind) × (behind ≤ length text) × (lines_of (drop at text) ≡ front ++ lines_of (drop behind text)) × FunctionText registers f front × EndsWithEnd front

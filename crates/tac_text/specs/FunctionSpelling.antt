@@ -9,14 +9,14 @@ use Rattle.tac_text.specs.FunctionLines.{header_words}
 
 -- ---- bodies
 
--- no line stands inside more blocks than this, with room for those that a body stands in
+-- No line is inside more blocks than this, with room for the blocks around a body.
 abbrev pub deepest : ℕ
 deepest = 1000
 
 abbrev pub at_depth : ℕ → Line → List ℕ
 at_depth depth l = line_spelling depth (words_of_line l)
 
--- the second body of an `if`, behind the line that parts it from the first, where it isn't empty
+-- the second body of an `if`, after its `else`; nothing if it is empty
 abbrev pub other_text : ℕ → Bool → List ℕ → List ℕ
 other_text depth empty text = if empty then [] else at_depth depth otherwise ++ text
 

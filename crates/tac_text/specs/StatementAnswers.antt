@@ -1,4 +1,4 @@
--- What reading the words of a line answers, and what a line that was read says.
+-- The results of reading the words of a line, and what a line that was read says.
 use Rattle.std.specs.Prelude.{Bool, Option, Some, None, ◌≡◌, ℕ, List, ◌∷◌, Result, Ok, Err, codes}
 use Rattle.tac_syntax.specs.Code.{Line, simple, test, turns, over, otherwise, close}
 use Rattle.tac_syntax.specs.Trees.{Statement, one_line, statement_of}
@@ -35,12 +35,12 @@ abbrev pub HasWordsOf : Bool → Statement → List LineWord → Type 0
 HasWordsOf registers (one_line s) words = (words ≡ words_of_simple s) × MayStandSimple registers s
 HasWordsOf registers stmt words = ⊥
 
--- the statement whose words these are behind a target, `=` and a form, or their fault
+-- The words after a target, `=` and a form make this statement, or their fault is reported.
 abbrev pub ReadsForm : (registers : Bool) → (form target : List ℕ) → Result Stmt NotRead → List LineWord → Type 0
 ReadsForm registers form target (Ok stmt) words = HasWordsOf registers (statement_of stmt) (plain_word target ∷ plain_word (codes "=") ∷ plain_word form ∷ words)
 ReadsForm registers form target (Err e) words = IsFaultOf e (form_fault target (wanted_by registers form) words)
 
--- the statement whose words these are behind a target, or their fault
+-- The words after a target make this statement, or their fault is reported.
 abbrev pub ReadsAssignment : Bool → List ℕ → Result Stmt NotRead → List LineWord → Type 0
 ReadsAssignment registers target (Ok stmt) words = HasWordsOf registers (statement_of stmt) (plain_word target ∷ words)
 ReadsAssignment registers target (Err e) words = IsFaultOf e (assignment_fault registers target words)
@@ -54,8 +54,8 @@ abbrev pub ReadsLine : LinePlace → Result BodyLine NotRead → List LineWord �
 ReadsLine p (Ok line) words = IsLineAt p (said line) words
 ReadsLine p (Err e) words = IsFaultOf e (statement_fault p words)
 
--- ---- what follows
+-- ---- the result for a line's own words
 
--- this line, or want of memory
+-- The result is this line, or out of memory.
 abbrev pub GivesLine : Result BodyLine NotRead → Line → Type 0
 GivesLine r l = Gives (λ b. said b ≡ Some l) r

@@ -1,4 +1,4 @@
--- What is wrong with a line that should be a statement's: the first fault from the left.
+-- What is wrong with a line that should be a statement's: its first fault from the left.
 use Rattle.std.specs.Prelude.{ℕ, ◌+◌, Bool, ◌||◌, if◌then◌else◌, is_some, nat_lt, Option, Some, None, List, [], ◌∷◌, codes, bytes_eq}
 use Rattle.pact_record.specs.declared.operations.Op1.TheVariants.{Not, IsNull, Len}
 use Rattle.tac_syntax.specs.Coding.{all_op2}
@@ -20,7 +20,7 @@ is_op1 word = is_some (named_in op1_word (Not ∷ IsNull ∷ Len ∷ []) word)
 abbrev pub is_op2 : List ℕ → Bool
 is_op2 word = is_some (named_in op2_word all_op2 word)
 
--- what the word behind `=` wants: the letter of the target, and the words behind it
+-- what the word after `=` requires: the letter of the target, and the words after it
 pub record Wanted : Type 0 where
   pub letter : ℕ
   pub slots : List Slot
@@ -48,7 +48,7 @@ abbrev pub form_wanted : Bool → LineWord → Option Wanted
 form_wanted registers (plain_word word) = wanted_by registers word
 form_wanted registers (literal_word bytes) = None
 
--- the target by itself, where no form says which is wanted
+-- the fault of a target if no form says which kind of register is expected
 abbrev pub target_alone : List ℕ → Option ℕ
 target_alone word = numbered_fault 0 255 word
 
@@ -56,7 +56,7 @@ abbrev pub form_fault : List ℕ → Option Wanted → List LineWord → Option 
 form_fault target None words = or_else (target_alone target) (Some 9)
 form_fault target (Some w) words = or_else (register_fault w.letter target) (first_fault w.slots words)
 
--- the words behind the target
+-- the fault of a target and the words after it
 abbrev pub assignment_fault : Bool → List ℕ → List LineWord → Option ℕ
 assignment_fault registers target [] = or_else (target_alone target) (Some 4)
 assignment_fault registers target (equals ∷ []) = or_else (target_alone target) (if is_plain (codes "=") equals then Some 4 else Some 8)
@@ -64,7 +64,7 @@ assignment_fault registers target (equals ∷ form ∷ words) = if is_plain (cod
 
 -- ---- lines
 
--- A block inside 64 others is told at its first word, before the line's other faults.
+-- A block inside 64 others has its fault at its first word, before the line's other faults.
 abbrev pub block_fault : LinePlace → List Slot → List LineWord → Option ℕ
 block_fault p slots words = if nat_lt p.blocks nesting_limit then first_fault slots words else Some 10
 
@@ -82,7 +82,7 @@ word_fault p word words =
     else (if bytes_eq word (codes "end") then first_fault [] words
     else (if is_target word then assignment_fault p.registers word words else Some 3)))))))
 
--- the fault of a line with words, and None where it has none
+-- the fault of a line with words, or None
 abbrev pub statement_fault : LinePlace → List LineWord → Option ℕ
 statement_fault p [] = None
 statement_fault p (plain_word word ∷ words) = word_fault p word words

@@ -1,11 +1,11 @@
--- Which lines of statements may stand at a place.
+-- Which lines of statements are allowed at a place.
 use Rattle.std.specs.Prelude.{◌≡◌, ◌<◌, ℕ, Bool, true}
 use Rattle.tac_syntax.specs.Code.{Simple, get_at, set_at, Line, simple, test, turns, over, otherwise, close}
 use Rattle.tac_syntax.specs.Limits.{nesting_limit}
 use Rattle.tac_syntax.specs.Grammar.{IsSpelledSimple, IsSpelledLine}
 
--- How many blocks and how many of them are `each`, whether the innermost is the first body of an `if`, and whether fields may be taken
--- from registers.
+-- How many blocks are open, how many of them are `each`, whether the innermost is the first body of an `if`, and
+-- whether registers may name fields.
 pub record LinePlace : Type 0 where
   pub blocks : ℕ
   pub lists : ℕ
@@ -17,7 +17,7 @@ MayStandSimple registers (get_at to from at) = IsSpelledSimple (get_at to from a
 MayStandSimple registers (set_at to at value) = IsSpelledSimple (set_at to at value) × (registers ≡ true)
 MayStandSimple registers s = IsSpelledSimple s
 
--- a block stands inside fewer than 64 others, `else` in the first body of an `if`
+-- A block is inside fewer than 64 others, and `else` ends the first body of an `if`.
 abbrev pub MayStand : LinePlace → Line → Type 0
 MayStand p (simple s) = MayStandSimple p.registers s
 MayStand p (test on) = (p.blocks < nesting_limit) × IsSpelledLine p.lists (test on)

@@ -37,11 +37,11 @@ op2_word Cat = codes "cat"
 
 -- ---- statements
 
--- what stands behind a register and `=`
+-- an assignment: a register, `=`, a form, and the words after it
 abbrev pub assigned : (register form : List ℕ) → List LineWord → List LineWord
 assigned register form words = plain_word register ∷ plain_word (codes "=") ∷ plain_word form ∷ words
 
--- the words of a line; a literal is the bytes that it stands for
+-- the words of a line, with a literal as the bytes that it denotes
 abbrev pub words_of_simple : Simple → List LineWord
 words_of_simple (load_int to value) = assigned (value_register to) (codes "int") (plain_word (signed_decimal value) ∷ [])
 words_of_simple (load_text to bytes) = assigned (value_register to) (codes "text") (literal_word bytes ∷ [])

@@ -1,4 +1,4 @@
-//! A body built from its lines, one after the other.
+//! A body built from its lines, one after another.
 
 ghost use Rattle.std.specs.Bool.{OnFalse, OnTrue};
 ghost use Rattle.std.specs.Prelude.{◌≡◌, ◌≤◌, ◌<◌, ◌∷◌, [], length, reverse, IfOk, true};
@@ -15,7 +15,7 @@ use std::marker::Model;
 use std::mem;
 use tac_syntax::{Body, LoopList, NotPushed, Stmt};
 
-/// A block that is open, with what stood before it in the body around it.
+/// An open block, with the statements before it in the body around it.
 #[derive(Debug, Drop)]
 pub enum Block {
     If {
@@ -63,7 +63,7 @@ fn may_part(blocks: &[Block]) -> bool
     }
 }
 
-/// A body as far as its lines were read.
+/// A body as read so far.
 #[derive(Debug, Drop)]
 pub struct Builder {
     // the innermost last
@@ -93,7 +93,7 @@ impl Builder {
         }
     }
 
-    /// Where the next line stands, and whether fields may be taken from registers there.
+    /// The place of the next line. `registers` says whether registers may name fields there.
     pub fn place(&self, registers: bool) -> Place
         requires { length self.now.blocks ≤ nesting_limit }
         ensures { result ≡ place_of registers self.now }
@@ -124,7 +124,7 @@ impl Builder {
         }
     }
 
-    // The body as far as it was read, in whose place an empty one stands.
+    // Takes the body as read so far, and leaves an empty one.
     fn take_body(&mut self, alloc: Global) -> Body
         ensures body { result ≡ self.old.body }
         ensures rest { self.new ≡ record { blocks = self.old.blocks; body = stop } }
@@ -199,7 +199,7 @@ impl Builder {
         }
     }
 
-    /// Takes one line more, if it may stand here.
+    /// Takes one more line. Returns false if the line isn't allowed here; what was built so far is then unspecified.
     pub fn step(&mut self, alloc: Global, line: BodyLine) -> Result<bool, OutOfMemory>
         ensures { IfOk result (λ taken. (l : Line) → said line ≡ Some l → IsBuilt (built self.old l) taken self.new) }
     {
@@ -222,7 +222,7 @@ impl Builder {
         }
     }
 
-    /// The body, where each block was ended.
+    /// The body, if each block was ended.
     pub fn into_body(self) -> Option<Body>
         ensures { result ≡ finished self }
     {

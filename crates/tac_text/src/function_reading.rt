@@ -17,7 +17,7 @@ use std::alloc::Global;
 use tac_syntax::Function;
 use text_lines::{LineWord, NotRead, TextFault, line_at, read_words, trim_line};
 
-// Takes the words of one line more, and tells whether they were the function's own `end`.
+// Takes the words of one more line, and returns whether they were the function's own `end`.
 fn take_words(
     alloc: Global,
     registers: bool,
@@ -38,7 +38,7 @@ fn take_words(
     }
 }
 
-// Takes one line more, and tells whether it was the function's own `end`.
+// Takes one more line, and returns whether it was the function's own `end`.
 fn take_line(
     alloc: Global,
     registers: bool,
@@ -55,7 +55,7 @@ fn take_line(
     take_words(alloc, registers, begun, words.words())
 }
 
-// The function that is open, at its `end`.
+// The open function, whose `end` was read.
 fn finished(begun: Option<OpenFunction>) -> Function
     requires { (o : OpenData) × (begun ≡ Some o) × (o.build.blocks ≡ []) }
     ensures { (o : OpenData) → begun ≡ Some o → result ≡ function_of o }
@@ -66,7 +66,8 @@ fn finished(begun: Option<OpenFunction>) -> Function
     }
 }
 
-// The function whose text begins at a place, where fields may be taken from registers or may not.
+// The function whose text begins at offset `at`, and the offset after it. `registers` says whether registers may name
+// fields.
 fn read_with(
     alloc: Global,
     text: &[u8],
@@ -78,7 +79,7 @@ fn read_with(
     ensures function_always { (f : Function) (behind : ℕ) → FunctionAt registers f text.now at behind → GivesFunction result f behind }
     ensures fault { IfErr result (λ e. IsFunctionFault registers e (lines_of (drop at text.now))) }
 
-    // What is read can be written.
+    // The function can be written again.
     ensures writable { IfOk result (λ r. IsSpelledFunction r.0) }
     ensures takes { IfOk result (λ r. Takes registers r.0.body) }
 {
@@ -101,8 +102,8 @@ fn read_with(
     })
 }
 
-/// The function whose text begins at a place in a program of the version, and the place behind the line of its `end`. Fields are taken from
-/// registers in version 2 alone.
+/// The function whose text begins at offset `at` in a program of this version, and the offset after the line of its
+/// `end`. Registers may name fields only in version 2.
 pub fn read_function(
     alloc: Global,
     text: &[u8],
@@ -115,7 +116,7 @@ pub fn read_function(
     ensures function_always { (f : Function) (behind : ℕ) → FunctionAt (has_registers version) f text.now at behind → GivesFunction result f behind }
     ensures fault { IfErr result (λ e. IsFunctionFault (has_registers version) e (lines_of (drop at text.now))) }
 
-    // What is read can be written.
+    // The function can be written again.
     ensures writable { IfOk result (λ r. IsSpelledFunction r.0) }
     ensures takes { IfOk result (λ r. Takes (has_registers version) r.0.body) }
 {

@@ -76,12 +76,12 @@ fn header_words(alloc: Global, function: &Function) -> Result<Words, OutOfMemory
 pub fn write_function(alloc: Global, function: &Function) -> Result<Bytes, OutOfMemory>
     requires { IsSpelledFunction function.now }
     ensures spelled { IfOk result (λ text. text ≡ function_spelling function.now) }
-    // with version 2, whatever follows it
+    // In version 2 the text is read back as the function, with any text after it.
     ensures read_again { IfOk result (λ text. (rest : List ℕ) → FunctionAt true function.now (text ++ rest) 0 (length text)) }
-    // and with version 1, where no field is taken from a register
+    // In version 1 it is too, if no register names a field.
     ensures read_in_first { IfOk result (λ text. Takes false function.now.body → (rest : List ℕ) → FunctionAt false function.now (text ++ rest) 0 (length text)) }
 {
-    // it is at most 64, so depths can be counted
+    // `depth` makes it known that the nesting is at most 64, so no depth overflows.
     let _nesting = function.body.depth();
     let mut out = Bytes::new(alloc);
     put_line(&mut out, 0, &header_words(alloc, function)?)?;

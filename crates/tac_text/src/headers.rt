@@ -34,7 +34,7 @@ fn read_kind(words: &mut Cursor<'_>) -> Result<Kind, NotRead>
     }
 }
 
-// What stands behind a kind.
+// The number of keys after a kind, and the line's end.
 fn read_keys(kind: Kind, words: &mut Cursor<'_>) -> Result<u32, NotRead>
     ensures { ReadsKeys kind result words.old }
 {

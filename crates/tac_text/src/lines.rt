@@ -1,4 +1,4 @@
-//! What the lines of a body say, and where they stand.
+//! What the lines of a body say, and the places that they are at.
 
 use std::marker::Model;
 use tac_syntax::{LoopList, Stmt};
@@ -14,14 +14,14 @@ pub enum BodyLine {
     Repeat { count: u32 },
     /// The first line of an `each`.
     Each { name: u32, list: LoopList },
-    /// The line that parts the bodies of an `if`.
+    /// The line that separates the bodies of an `if`.
     Else,
     /// The line that ends a block.
     End,
 }
 
-/// Where a line stands: in how many blocks, and how many of them are `each`, and whether the innermost is the
-/// first body of an `if`; and whether fields may be taken from registers there.
+/// The place of a line: how many blocks are open, how many of them are `each`, whether the innermost is the first body
+/// of an `if`, and whether registers may name fields.
 #[derive(Clone, Copy, Debug, PartialEq, Eq)]
 pub struct Place {
     pub blocks: u32,

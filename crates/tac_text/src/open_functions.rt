@@ -1,4 +1,4 @@
-//! Functions as far as their lines were read.
+//! Functions whose lines are being read.
 
 ghost use Rattle.std.specs.Bool.{OnFalse, OnTrue};
 ghost use Rattle.std.specs.Prelude.{◌≡◌, ◌<◌, ℕ, [], None, Some, true, IfErr, IfOk, OnOk, length, List};
@@ -24,7 +24,8 @@ use std::marker::Model;
 use tac_syntax::{Function, Kind};
 use text_lines::{LineWord, NotRead};
 
-/// A function whose header was read, with some lines of its body. Where memory is wanting the lines are lost.
+/// A function whose header was read, with some lines of its body. If a call reports out of memory, the lines may be
+/// lost.
 #[derive(Debug, Drop)]
 pub struct OpenFunction {
     name: Word,
@@ -63,7 +64,7 @@ fn begin(alloc: Global, words: &[LineWord]) -> Result<OpenFunction, NotRead>
     })
 }
 
-/// The function that a header's words begin.
+/// A function from the words of its header, without lines.
 pub fn read_header(alloc: Global, words: &[LineWord]) -> Result<OpenFunction, NotRead>
     requires some { 0 < length words.now }
     ensures header { IfOk result (λ f. (words.now ≡ header_words f.name f.kind f.keys) × IsHeader f.name f.kind f.keys × (f.build ≡ build_start)) }
@@ -105,7 +106,8 @@ impl OpenFunction {
         }
     }
 
-    /// Takes the words of one line more, where fields may be taken from registers or may not, and tells whether they were the function's own `end`.
+    /// Takes the words of one more line, and returns whether they were the function's own `end`. `registers` says
+    /// whether registers may name fields.
     pub fn read_line(
         &mut self,
         alloc: Global,
@@ -128,7 +130,7 @@ impl OpenFunction {
         Ok(false)
     }
 
-    /// The function, at its `end`.
+    /// The function, once its `end` was read.
     pub fn finish(self) -> Function
         requires { self.build.blocks ≡ [] }
         ensures function { result ≡ function_of self }

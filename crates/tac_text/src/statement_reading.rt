@@ -23,7 +23,7 @@ use text_lines::{
     Cursor, FieldWord, LineWord, NotRead, is_in_form, is_in_range, is_word, record_in, value_in,
 };
 
-// ---- assignments, behind the word that says what is assigned
+// ---- assignments, after the form: the word that says what is assigned
 
 fn read_int(target: &[u8], words: &mut Cursor<'_>) -> Result<Stmt, NotRead>
     ensures { (registers : Bool) → ReadsForm registers (codes "int") target.now result words.old }
@@ -132,7 +132,7 @@ fn read_two(op: Op2, target: &[u8], words: &mut Cursor<'_>) -> Result<Stmt, NotR
     Ok(Stmt::Two { to, op, a, b })
 }
 
-// The target's own fault, and else one behind it.
+// The target's own fault, or `what` if it has none.
 fn target_or(target: &[u8], what: u32) -> NotRead
     ensures { IsFaultOf result (or_else (target_alone target.now) (Some what)) }
 {
@@ -177,8 +177,8 @@ fn read_form(
     }
 }
 
-// The words behind a target. The form tells which register the target is to be, so its fault is told behind one
-// of `=` and of the form.
+// The words after a target. Only the form says which kind of register the target must be. If `=` or the form is missing
+// or wrong, a target whose number is out of range is reported first.
 fn read_assignment(
     alloc: Global,
     registers: bool,
@@ -201,7 +201,7 @@ fn read_assignment(
     }
 }
 
-// ---- other lines, behind their first word
+// ---- other lines, after their first word
 
 fn read_set(place: Place, words: &mut Cursor<'_>) -> Result<BodyLine, NotRead>
     ensures { ReadsLine place result (plain_word (codes "set") ∷ words.old) }
@@ -224,7 +224,7 @@ fn read_emit(words: &mut Cursor<'_>) -> Result<BodyLine, NotRead>
     Ok(BodyLine::Plain(Stmt::Emit { from }))
 }
 
-// A block stands inside fewer than 64 others.
+// A block must be inside fewer than 64 others.
 fn room_for_block(place: Place) -> Result<(), NotRead>
     ensures room { OnOk result (place.blocks < nesting_limit) }
     ensures full { OnErr result (nesting_limit ≤ place.blocks) }
@@ -291,7 +291,7 @@ fn is_target(word: &[u8]) -> bool
     is_in_form(b'v', word) || is_in_form(b'r', word)
 }
 
-// By the line's first word, with the words behind it.
+// Reads a line by its first word; `words` are the words after it.
 fn read_behind(
     alloc: Global,
     place: Place,
@@ -334,7 +334,7 @@ fn read_line(alloc: Global, place: Place, words: &[LineWord]) -> Result<BodyLine
     }
 }
 
-/// The line that words say at a place, or their first fault.
+/// The line that the words make at a place, or their first fault.
 pub fn read_statement(alloc: Global, place: Place, words: &[LineWord]) -> Result<BodyLine, NotRead>
     requires some { 0 < length words.now }
     requires words { AreLineWords words.now }

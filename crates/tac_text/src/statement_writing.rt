@@ -32,7 +32,7 @@ fn put_words(out: &mut Bytes, words: &[Bytes]) -> Result<(), OutOfMemory>
     Ok(())
 }
 
-/// Puts a line behind a text: two spaces for each open block, the words with one space between, a line feed.
+/// Appends a line to a text: two spaces for each open block, the words with one space between, and a line feed.
 pub fn put_line(out: &mut Bytes, depth: u32, words: &Words) -> Result<(), OutOfMemory>
     ensures { OnOk result (out.new ≡ out.old ++ line_text depth words.now) }
 {
@@ -44,7 +44,7 @@ pub fn put_line(out: &mut Bytes, depth: u32, words: &Words) -> Result<(), OutOfM
     out.extend_from_slice(b"\n")
 }
 
-/// Puts a line of one word.
+/// Appends a line of one word.
 pub fn put_word(alloc: Global, out: &mut Bytes, depth: u32, word: &[u8]) -> Result<(), OutOfMemory>
     ensures { OnOk result (out.new ≡ out.old ++ line_text depth (word.now ∷ [])) }
 {
@@ -74,7 +74,7 @@ fn put_escaped(out: &mut Bytes, byte: u8) -> Result<(), OutOfMemory>
     }
 }
 
-// A text between quotation marks.
+// A text between quotation marks, with escapes.
 fn literal_of(alloc: Global, text: &[u8]) -> Result<Bytes, OutOfMemory>
     ensures { IfOk result (λ word. word ≡ literal text.now) }
 {

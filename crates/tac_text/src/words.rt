@@ -1,4 +1,4 @@
-//! Words of a line, made one after the other.
+//! The words of a line, made one after another.
 
 ghost use Rattle.std.specs.Prelude.{◌≡◌, ◌++◌, ◌∷◌, [], IfOk, map};
 ghost use Rattle.std.specs.Fmt.{decimal, signed_decimal};
@@ -38,7 +38,7 @@ impl Words {
         &self.held
     }
 
-    /// These words, and behind them this one.
+    /// These words, with one more at the end.
     pub fn and(mut self, word: Bytes) -> Result<Words, OutOfMemory>
         ensures { IfOk result (λ words. words ≡ self ++ word ∷ []) }
     {
@@ -52,7 +52,7 @@ impl Words {
         self.and(Bytes::from_slice(alloc, word)?)
     }
 
-    /// A number behind other bytes, such as a register.
+    /// Adds a word that ends with a number, such as a register.
     pub fn and_number(self, alloc: Global, front: &[u8], number: u32) -> Result<Words, OutOfMemory>
         ensures { IfOk result (λ words. words ≡ self ++ (front.now ++ decimal number) ∷ []) }
     {
@@ -62,14 +62,14 @@ impl Words {
         self.and(word)
     }
 
-    /// A number with its sign.
+    /// Adds a number with its sign.
     pub fn and_signed(self, alloc: Global, number: i64) -> Result<Words, OutOfMemory>
         ensures { IfOk result (λ words. words ≡ self ++ signed_decimal number ∷ []) }
     {
         self.and_word(alloc, number.to_string(alloc)?.as_bytes())
     }
 
-    /// A record that is read.
+    /// Adds a record that is read.
     pub fn and_record(self, alloc: Global, from: Rec) -> Result<Words, OutOfMemory>
         ensures { IfOk result (λ words. words ≡ self ++ record_word from ∷ []) }
     {

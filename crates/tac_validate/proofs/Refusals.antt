@@ -35,7 +35,7 @@ place_of_rule NestedLoops = (5, refl, omega arith, refl)
 place_of_rule Statements = (6, refl, omega arith, refl)
 place_of_rule Repeats = (7, refl, omega arith, refl)
 
--- the rules before a place in the list are kept
+-- The rules before a place in the list are kept.
 pub record KeepsBefore (f : Function) (fields n : ℕ) : Type 0 where
   pub keeps : (k : ℕ) → k < n → Keeps (rule_at k) f fields
 
@@ -56,7 +56,7 @@ refusal_at f fields n at code below first e h = record {
       subst (λ (r : Rule). Keeps r f fields) p.3 (h.keeps p.0 (omega (arith, p.1, less, e, code_of_rule-at n below)));
 }
 
--- a function that has a refusal isn't valid
+-- A function that has a refusal isn't valid.
 pub refusal_excludes_validity : (f : Function) (fields code at : ℕ) → IsRefusal f fields code at → IsValid f fields → ⊥
 refusal_excludes_validity f fields code at refusal valid =
     let none = valid.keeps refusal.rule in

@@ -1,4 +1,4 @@
--- The turns of a place count for one rule, and only as far as its limit.
+-- The turns of a place matter only for one rule, and only up to its limit.
 use Rattle.std.proofs.Common.{◌≡◌, ◌<◌, ◌*◌, ℕ, Bool, zero, suc, ◌||◌, ◌==◌, nat_lt, min, inl, inr, refl, ap, sym, ◌∙◌, arith}
 use Rattle.std.proofs.Math.Nat.{mul_assoc, mul-suc, mul-zero, min-le_left, eq-or-lt_of_le}
 use Rattle.std.proofs.lemmas.Bool.{lt-ltb}
@@ -10,7 +10,7 @@ use Rattle.tac_syntax.specs.Places.{Place}
 use Rattle.tac_syntax.specs.Rules.{breaks, breaks_repeats}
 use Rattle.tac_validate.specs.Stands.{most_turns}
 
--- times any count, both are above the limit or neither is
+-- Multiplied by any count, both are above the limit or neither is.
 pub record SameTurns (a b : ℕ) : Type 0 where
   pub above : (count : ℕ) → nat_lt turn_limit (a * count) ≡ nat_lt turn_limit (b * count)
 
@@ -30,7 +30,7 @@ above-capped limit most x (suc k) h =
 pub same_turns-capped : (x : ℕ) → SameTurns (min x most_turns) x
 same_turns-capped x = record { above = λ (count : ℕ). above-capped turn_limit most_turns x count (omega arith) }
 
--- whether a statement breaks a rule is the same at a place with such other turns
+-- At a place with such other turns a statement breaks the same rules.
 repeats-turns : (p : Place) (r : ℕ) (l : Line) → SameTurns r p.repeats → breaks_repeats (record p { repeats = r }) l ≡ breaks_repeats p l
 repeats-turns p r (turns count) same = ap (λ (t : Bool). (count == 0) || t) (same.above count)
 repeats-turns p r l same = refl

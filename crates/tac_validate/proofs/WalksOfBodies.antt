@@ -1,4 +1,4 @@
--- What going through a body finds, one statement after the other.
+-- What going through a body finds, one statement after another.
 use Rattle.std.proofs.Common.{◌≡◌, ◌+◌, ◌*◌, ℕ, Bool, true, false, if◌then◌else◌, List, [], ◌∷◌, ◌++◌, length, Option, Some, None, Result, Ok, Err, min, refl, ap, sym, ◌∙◌, arith, length-append, append-nil}
 use Rattle.tac_syntax.specs.declared.rules.Rule.{Rule}
 use Rattle.tac_syntax.proofs.Bodies.{placed-onto}
@@ -28,7 +28,7 @@ length-placed p (each name list body next) =
 
 -- ---- statements in text order
 
--- what is found in some, and where that is no break, in those after them
+-- what is found in some statements, and if that isn't a break, in those after them
 bind : Result ℕ Broken → (ℕ → Result ℕ Broken) → Result ℕ Broken
 bind (Err b) f = Err b
 bind (Ok m) f = f m
@@ -66,7 +66,7 @@ found_or-first rule n (p ∷ ps) next e =
 walked-through : (rule : Rule) (n : ℕ) (p : Place) (c : Code) → walked rule n p c ≡ through rule n (placed p c)
 walked-through rule n p c = found_or-first rule n (placed p c) (n + count_of c) (omega (arith, length-placed p c))
 
--- where no break is found, what is told is the number after the last statement
+-- If no break is found, the result is the number after the last statement.
 found_or-ok : (o : Option ℕ) (next m : ℕ) → found_or o next ≡ Ok m → m ≡ next
 found_or-ok None next m e = cc
 found_or-ok (Some at) next m e = cc
@@ -83,7 +83,7 @@ walked-onto rule n p s next =
     ∙ through-append rule n (placed p (onto s stop)) (placed p next)
     ∙ ap (λ (r : Result ℕ Broken). bind r (λ m. through rule m (placed p next))) (sym (walked-through rule n p (onto s stop)))
 
--- where the statement and those inside it keep to the rule
+-- for a statement that keeps the rule, with all statements inside it
 pub walked-next : (rule : Rule) (n m : ℕ) (p : Place) (s : Statement) (next : Code) → walked rule n p (onto s stop) ≡ Ok m → walked rule n p (onto s next) ≡ walked rule m p next
 unfolding bind
 walked-next rule n m p s next e =
@@ -91,13 +91,13 @@ walked-next rule n m p s next e =
     ∙ ap (λ (r : Result ℕ Broken). bind r (λ m. through rule m (placed p next))) e
     ∙ sym (walked-through rule m p next)
 
--- where one of them breaks it
+-- for a statement that breaks the rule, or has one inside it that does
 pub walked-found : (rule : Rule) (n : ℕ) (b : Broken) (p : Place) (s : Statement) (next : Code) → walked rule n p (onto s stop) ≡ Err b → walked rule n p (onto s next) ≡ Err b
 unfolding bind
 walked-found rule n b p s next e =
     walked-onto rule n p s next ∙ ap (λ (r : Result ℕ Broken). bind r (λ m. through rule m (placed p next))) e
 
--- ---- a place with other turns that are as many for the rules
+-- ---- a place with other turns that make no difference to the rules
 
 abbrev Alike : Rule → List Placed → List Placed → Type 0
 Alike rule xs ys = (n : ℕ) → through rule n xs ≡ through rule n ys

@@ -9,13 +9,13 @@ ghost use Rattle.tac_syntax.specs.Trees.{first_line};
 use crate::places::Place;
 use tac_syntax::{Kind, LoopList, MAX_LOOPS, RECORD_REGISTERS, Rec, Rule, Stmt, VALUE_REGISTERS};
 
-// A function has at most so many statements.
+// The most statements that a valid function can have.
 const MAX_STATEMENTS: u32 = 1_000;
 
-// An `if` stands inside fewer than so many others.
+// An `if` of a valid function is inside fewer than this many others.
 const MAX_IFS: u32 = 8;
 
-// The turns of nested `repeat` come to at most so many.
+// The greatest product of the counts of nested `repeat`.
 const MAX_TURNS: u64 = 100_000;
 
 /// Whether the statement with this number in text order breaks the rule.
@@ -124,7 +124,7 @@ fn breaks_repeats(place: Place, stmt: &Stmt) -> bool
     }
 }
 
-// Whether so many turns times those of the `repeat` around them are too many.
+// Whether `count` turns, multiplied by those of the `repeat` around them, are too many.
 fn has_many_turns(place: Place, count: u32) -> bool
     ensures { result ≡ nat_lt turn_limit (place.repeats * count) }
 {

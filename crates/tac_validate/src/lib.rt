@@ -1,7 +1,7 @@
-//! Says which functions are valid.
+//! Decides which functions are valid.
 //!
-//! A function is gone through once for each rule, in the order of the rules' codes. The first
-//! statement in text order that breaks the first rule that is broken is told.
+//! A function is gone through once for each rule, in the order of the rules' codes. A refusal gives the first rule that
+//! is broken, and the first statement in text order that breaks it.
 #![tactic(auto)]
 
 mod breaks;

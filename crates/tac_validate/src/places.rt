@@ -1,4 +1,4 @@
-//! Where a statement stands.
+//! Where a statement is in its function.
 
 ghost use Rattle.std.specs.Prelude.{◌≡◌, ◌+◌, ◌<◌, ◌^◌};
 ghost use Rattle.tac_syntax.specs.Places.{top_place, in_if, in_each};
@@ -6,9 +6,9 @@ ghost use Rattle.tac_validate.specs.Stands.{place_of, in_repeat_capped};
 
 use tac_syntax::{Function, Kind};
 
-/// The function that a statement stands in and its number of fields; the number of `if`, of loops
-/// of either kind and of `each` around it; and the product of the counts of the `repeat` around
-/// it, or the largest number where that is less.
+/// Where a statement is. `kind`, `keys` and `fields` are those of its function. `ifs`, `loops` and `lists` count the
+/// `if`, the loops of either kind and the `each` around it. `repeats` is the product of the counts of the `repeat`
+/// around it, or the largest number of its type if that is less.
 #[derive(Clone, Copy)]
 pub struct Place {
     pub kind: Kind,

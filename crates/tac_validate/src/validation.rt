@@ -19,18 +19,18 @@ const RULES: [Rule; 8] = [
     Rule::Repeats,
 ];
 
-/// Why a function isn't valid. It is handed back.
+/// Why a function isn't valid. The function is handed back.
 #[derive(Debug, Drop)]
 pub struct Refused {
-    /// The number behind the letter V of the rule that is broken, from 1 to 8.
+    /// The number of the rule that is broken, from 1 to 8, as after the letter V.
     pub code: u32,
     /// The number of the first statement that breaks it, from 0 in text order.
     pub at: u32,
     pub function: Function,
 }
 
-/// The function where it keeps to every rule in a program of so many fields. Where it breaks some,
-/// the least code is told.
+/// The function, if it keeps every rule in a program with `fields` fields. If it breaks some, the least code is
+/// reported.
 pub fn validate(function: Function, fields: u32) -> Result<Valid, Refused>
     requires some_field { 1 ≤ fields }
     requires few_fields { fields ≤ MAX_FIELDS }

@@ -29,8 +29,8 @@ pub fn first_break(rule: Rule, function: &Function, fields: u32) -> Option<u32>
     }
 }
 
-// Goes through a body whose first statement has that number, up to the first statement that breaks
-// the rule. Where none does, the answer is the number after the last one.
+// Goes through a body whose first statement has number `number`, up to the first statement that breaks the rule. If
+// none does, the result is the number after the last statement.
 #[cycle(walk)]
 fn walk_body(rule: Rule, place: Place, body: &Body, number: u32) -> Result<u32, Broken>
     requires numbered { number + count_of body.now < 2 ^ 32 }

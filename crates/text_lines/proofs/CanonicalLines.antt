@@ -1,5 +1,5 @@
--- A canonical line is read as the words that it was made of, the words that are read of a line can be written again, and whatever follows a text
--- of canonical lines, they are the same lines.
+-- A canonical line is read back as its words, and words that were read from a line can be written again. A text of
+-- canonical lines has the same lines for any text after it.
 use Rattle.std.proofs.Common.{◌≡◌, ◌==◌, ◌*◌, inl, inr, ℕ, zero, suc, Bool, true, false, List, [], ◌∷◌, ◌++◌, map, flat_map, replicate, IsUtf8, refl, ap, sym, subst, ◌∙◌, arith, ◌<◌, append-nil, ◌^◌, ◌&&◌, ◌+◌, ◌%◌, ℤ, pos, negsuc, nat_lt, nat_le, length, FitsSigned, w64, decimal, ◌≢◌, append_assoc}
 use Rattle.std.specs.List.{AllByRecursion}
 use Rattle.std.proofs.lemmas.Bool.{eqb-true, or_parts, and_from, and_parts, lt-ltb, ltb-true, ne_eqb}
@@ -19,7 +19,7 @@ use Rattle.tac_syntax.specs.Names.{is_file_byte, is_file_name, all_bytes, is_sma
 
 -- ---- literals
 
--- a byte is spelled by its own escape or by itself
+-- A byte is spelled by its own escape, or is its own spelling.
 spelled_byte : (b : ℕ) (backslash quote feed return tab : Bool)
     → (b == 92) ≡ backslash → (b == 34) ≡ quote → (b == 10) ≡ feed → (b == 13) ≡ return → (b == 9) ≡ tab → SpellsByte (escaped b) b
 spelled_byte b true quote feed return tab p q r s t = let e = eqb-true b 92 p in rw e (inr (92, refl, refl))
@@ -39,7 +39,7 @@ SpellsBytes-escaped (b ∷ bytes) =
 
 -- ---- no carriage return, and UTF-8
 
--- bytes that no first fault stands in
+-- bytes without fault 1
 record IsClean (bytes : List ℕ) : Type 0 where
   utf8 : IsUtf8 bytes
   no_return : has_return bytes ≡ false
@@ -53,7 +53,7 @@ IsClean-append x y p q = record { utf8 = IsUtf8-append x y p.utf8 q.utf8; no_ret
 pub has_feed-append : (x y : List ℕ) → has_feed x ≡ false → has_feed y ≡ false → has_feed (x ++ y) ≡ false
 has_feed-append x y h k = list_any-append (λ (b : ℕ). b == 10) x y ∙ rw (h, k) refl
 
--- neither byte that ends a line stands in an escape
+-- An escape has neither of the bytes that end a line.
 clean_return : (b : ℕ) → has_return (escaped b) ≡ false
 clean_return b = grind (arith, nat_tests)
 
@@ -82,11 +82,11 @@ IsClean-word_text : (word : LineWord) → IsLineWord word → IsClean (word_text
 IsClean-word_text (plain_word bytes) h = record { utf8 = h.1; no_return = h.2 }
 IsClean-word_text (literal_word bytes) h = IsClean-literal bytes h.1
 
--- words behind others
+-- words after others, with a space before each
 abbrev more_text : List LineWord → List ℕ
 more_text words = flat_map (λ v. 32 ∷ v) (map word_text words)
 
--- what holds of spaces, and of two texts together, holds of a line where it holds of its words
+-- A property that holds for spaces, and for two texts joined, holds for a line if it holds for its words.
 pub record OfTexts (P : List ℕ → Type 0) : Type 0 where
   pub nothing : P []
   pub space : P (32 ∷ [])
@@ -153,7 +153,7 @@ trimmed-no_return [] h = refl
 trimmed-no_return (b ∷ []) h = let p = or_parts (b == 13) false h in rw p.0 refl
 trimmed-no_return (b ∷ c ∷ line) h = let p = or_parts (b == 13) (has_return (c ∷ line)) h in ap (λ (x : List ℕ). b ∷ x) (trimmed-no_return (c ∷ line) p.1)
 
--- a canonical line has its words in a text, too
+-- A canonical line also has its words as a line of a text.
 pub HasWords-canonical_line : (depth : ℕ) (words : List LineWord) → AreLineWords words → HasWords (canonical_line depth words) words
 HasWords-canonical_line depth words h =
     let line = IsLine-canonical_line depth words h in
@@ -208,7 +208,7 @@ is_fine b = nat_lt 35 b && nat_lt b 128
 abbrev pub are_fine : List ℕ → Bool
 are_fine bytes = all_bytes is_fine bytes
 
--- not empty, and all its bytes are so
+-- not empty, and each byte is fine
 abbrev pub is_fine_word : List ℕ → Bool
 is_fine_word [] = false
 is_fine_word (b ∷ bytes) = are_fine (b ∷ bytes)

@@ -12,7 +12,7 @@ use Rattle.tac_syntax.specs.Grammar.{IsNumber}
 use Rattle.tac_syntax.specs.Names.{is_digit}
 use Rattle.text_lines.specs.Digits.{are_digits, is_number_word, is_in_range, is_signed_word}
 
--- no byte is another than a digit
+-- Each byte is a digit.
 abbrev pub HasNoOther : List ℕ → Type 0
 HasNoOther ds = list_any (λ b. not (is_digit b)) ds ≡ false
 
@@ -86,12 +86,12 @@ is_signed_word-signed_decimal (pos n) h =
     is_signed_word-digits (decimal n) (are_digits-decimal n small) (is_in_range-decimal 0 (2 ^ 63 - 1) n (omega arith) (omega (arith, h)) small)
 is_signed_word-signed_decimal (negsuc n) h = is_in_range-decimal 1 (2 ^ 63) (suc n) (omega arith) (omega (arith, h)) (omega (arith, h))
 
--- ---- what a test of a word tells
+-- ---- what a test of a word implies
 
 short_by_first : (ds : List ℕ) → 0 < length ds → (nat_le (length ds) 1 || not (get_or ds 0 0 == 48)) ≡ true → get_or ds 0 0 ≡ 48 → length ds ≡ 1
 short_by_first ds some h e = grind (arith, nat_tests)
 
--- a number in range is spelled so
+-- A word that is a number in range is the decimal spelling of one.
 pub number_spelled : (low high : ℕ) (word : List ℕ) → high < 2 ^ 64 → is_in_range low high word ≡ true → (n : ℕ) × (word ≡ decimal n) × (low ≤ n) × (n ≤ high)
 number_spelled low high word small h =
     let bounds = and_parts (is_number_word word && nat_le low (digits_value 10 word)) _ h in
@@ -103,7 +103,7 @@ number_spelled low high word small h =
     let lead = short_by_first word some spelled.1 in
     (digits_value 10 word, sym (decimal-digits_value own_digits word (no_other word spelled.0) some lead (omega (arith, below, small))), above, below)
 
--- and it is the one that its digits are worth
+-- That number is the value of the digits.
 pub number_read : (low high n : ℕ) (word : List ℕ) → high < 2 ^ 64 → n ≡ number_in word → is_in_range low high word ≡ true → (word ≡ decimal n) × (low ≤ n) × (n ≤ high)
 number_read low high n word small e h =
     let s = number_spelled low high word small h in

@@ -1,4 +1,4 @@
--- What holds where no fault is told, and what a test of a word tells.
+-- What follows if no fault is reported, and what a test of a word implies.
 use Rattle.std.proofs.Common.{◌≡◌, ◌≢◌, ◌<◌, ◌+◌, ℕ, Bool, true, false, if◌then◌else◌, List, [], ◌∷◌, length, get_or, drop, is_some, Option, Some, None, Result, Ok, Err, bytes_eq, refl, ap, ◌∙◌, arith}
 use Rattle.std.proofs.lemmas.List.{at_drop_more}
 use Rattle.std.proofs.lemmas.Slice.Eq.{bytes_eq-Decides}
@@ -15,7 +15,7 @@ pub by_cases : {A C : Type 0} (b : Bool) (x y : A) {v : A} → (b ≡ true → x
 by_cases true x y f g h = f refl h
 by_cases false x y f g h = g refl h
 
--- the same where the answer goes into a function
+-- `by_cases`, for a choice that is passed to a function
 pub by_cases_of : {A B C : Type 0} (f : A → B) (b : Bool) (x y : A) {v : B} → (b ≡ true → f x ≡ v → C) → (b ≡ false → f y ≡ v → C) → f (if b then x else y) ≡ v → C
 by_cases_of f true x y g k h = g refl h
 by_cases_of f false x y g k h = k refl h
@@ -31,7 +31,7 @@ or_else-none (Some what) b h = absurd cc
 pub same_word : (w v : List ℕ) → bytes_eq w v ≡ true → w ≡ v
 same_word w v h = (bytes_eq-Decides w v).0 h
 
--- What a reader of words answers, by what it reads and the fault that it tells.
+-- The result of a reader of words, from what it reads and the fault that it reports.
 pub Gives-read : {T : Type 0} (r : Result T NotRead) (Good Wanted : T → Type 0) (told : Option ℕ) → IfOk r Good → IfErr r (λ e. IsFaultOf e told) → told ≡ None
     → ((x : T) → Good x → Wanted x) → Gives Wanted r
 Gives-read (Ok x) Good Wanted told read fault none wanted = wanted x read
@@ -44,17 +44,17 @@ TellsFault-read (Ok x) Good told read fault sound what h = let none = sound x re
 TellsFault-read (Err (Fault e)) Good told read fault sound what h = cc
 TellsFault-read (Err Memory) Good told read fault sound what h = tt
 
--- what is named so has that word
+-- A word that was found is the word of its item.
 pub named_as : {X : Type 0} (name : X → List ℕ) (xs : List X) (word : List ℕ) (x : X) → named_in name xs word ≡ Some x → word ≡ name x
 named_as name [] word x h = absurd cc
 named_as name (y ∷ xs) word x h = by_cases (bytes_eq word (name y)) _ _
     (λ e is. let same : y ≡ x = cc in same_word word (name y) e ∙ ap name same) (λ _ k. named_as name xs word x k) h
 
--- behind one that doesn't have it
+-- The search moves past an item with another word.
 pub named_in-next : {X : Type 0} (name : X → List ℕ) (xs : List X) (n : ℕ) (x : X) (word : List ℕ) → n < length xs → bytes_eq word (name (get_or xs n x)) ≡ false → named_in name (drop n xs) word ≡ named_in name (drop (n + 1) xs) word
 named_in-next {X = X} name xs n x word h other = at_drop_more (λ (ys : List X). named_in name ys word) xs n x h ∙ rw other refl
 
--- a word that one of these has
+-- A word that the search finds is the word of one of these.
 pub named : {X : Type 0} (name : X → List ℕ) (P : X → Type 0) (xs : List X) (word : List ℕ) → AllByRecursion P xs → is_some (named_in name xs word) ≡ true → (x : X) × (word ≡ name x) × P x
 named name P [] word all h = absurd cc
 named {X = X} name P (x ∷ xs) word all h = by_cases_of (λ (found : Option X). is_some found) (bytes_eq word (name x)) (Some x) (named_in name xs word)

@@ -1,4 +1,5 @@
--- The words that fill slots: operands that are read from them, and the values that words without a fault stand for, slot by slot.
+-- The words that fill slots: the operands that are read from them, and the values of words without a fault, slot by
+-- slot.
 use Rattle.std.proofs.Common.{◌≡◌, ◌≤◌, ◌<◌, ◌^◌, ◌==◌, ◌++◌, ◌⊎◌, inr, Bool, false, ℕ, take, drop, zero, suc, if◌then◌else◌, ◌-◌, ℤ, pos, negsuc, true, List, [], ◌∷◌, None, FitsSigned, w64, codes, bytes_eq, decimal, take-append-drop, refl, ap, sym, ◌∙◌, arith, ◌≢◌, ◌+◌, ◌-ℤ◌, to_z, of_z, to_z-of_z, Some, IsTrue, Option}
 use Rattle.std.specs.Fmt.{signed_decimal}
 use Rattle.std.specs.Str.Parse.{AllDigits, digits_value}
@@ -27,13 +28,13 @@ use Rattle.text_lines.specs.CanonicalLines.{AreLineWords, IsLineWord}
 use Rattle.text_lines.specs.LineGrammar.{LineWord, plain_word, literal_word}
 use Rattle.text_lines.proofs.CanonicalLines.{IsFine, are_fine-word, fine_decimal, fine_file_name, fine_name, fine_numbered, fine_signed, is_fine, is_fine_word, is_fine_word-append}
 
--- ---- words that are no numbers
+-- ---- words that aren't numbers
 
--- no digit is another byte
+-- A digit isn't a byte outside the digits' range.
 pub digit_other : (b k : ℕ) (bs : List ℕ) → AllDigits 10 (b ∷ bs) → (k < 48) ⊎ (57 < k) → (b == k) ≡ false
 digit_other b k bs h apart = let d = digit_from_value b h.0 in grind (arith, nat_tests)
 
--- digits are no word that another byte begins
+-- Digits aren't a word that begins with a byte outside the digits' range.
 bytes_eq-digits : (w : List ℕ) (k : ℕ) (v : List ℕ) → AllDigits 10 w → (k < 48) ⊎ (57 < k) → bytes_eq w (k ∷ v) ≡ false
 bytes_eq-digits [] k v h apart = refl
 bytes_eq-digits (b ∷ bs) k v h apart = let e = digit_other b k bs h apart in rw e refl
@@ -86,7 +87,7 @@ name_fault-loop_name n h =
 
 -- ---- what has no fault fills its slot
 
--- a number behind a letter
+-- a letter and a number
 abbrev pub Numbered : (letter low high : ℕ) → List ℕ → Type 0
 Numbered letter low high word = (n : ℕ) × (word ≡ letter ∷ decimal n) × (low ≤ n) × (n ≤ high)
 
@@ -135,7 +136,7 @@ name_spelled name (b ∷ bytes) h = by_cases (is_in_form 120 (b ∷ bytes)) _ _
     (λ _ e. absurd cc) rest)
     (λ _ e. absurd cc) h
 
--- what stands behind the bytes that a word begins with
+-- A word that begins with a prefix is that prefix and the bytes after it.
 split_at : (front word : List ℕ) (n : ℕ) → bytes_eq (take n word) front ≡ true → word ≡ front ++ drop n word
 split_at front word n h = sym (take-append-drop n word) ∙ ap (λ (x : List ℕ). x ++ drop n word) (same_word (take n word) front h)
 
@@ -162,7 +163,7 @@ below_minus_one : (n : ℕ) → negsuc 0 -ℤ pos n ≡ negsuc n
 below_minus_one zero = refl
 below_minus_one (suc n) = let same : 0 + n ≡ n = omega arith in ap (λ (m : ℕ). negsuc (suc m)) same
 
--- one less than the size goes into 63 bits
+-- The size minus one fits 63 bits.
 minus : (n : ℕ) → 1 ≤ n → n ≤ 2 ^ 63 → to_z w64 (of_z w64 (negsuc 0 -ℤ to_z w64 (n - 1))) ≡ negsuc (n - 1)
 minus n some high =
     let fits : FitsSigned w64 (negsuc (n - 1)) = omega (arith, some, high) in
@@ -195,7 +196,7 @@ name_told name n word e other low high =
 
 -- ---- one slot
 
--- what stands in a slot
+-- the value of a slot
 abbrev pub Value : Slot → Type 0
 Value (register letter) = ℕ
 Value operand = Rec
@@ -236,7 +237,7 @@ Fits file_name name = IsTrue (is_file_name name)
 Fits column c = IsNumber c.field
 Fits slot x = Unit {0}
 
--- numbers that the code can hold, and words that stand in lines
+-- slots with numbers that the code can hold, and with words that can occur in lines
 abbrev pub IsUsual : Slot → Type 0
 IsUsual (fixed word) = is_fine_word word ≡ true
 IsUsual (register letter) = is_fine letter ≡ true
@@ -308,7 +309,7 @@ fine_slot identifier name usual h = fine_name name h
 fine_slot file_name name usual h = fine_file_name name h
 fine_slot column c usual h = fine_column c.field c.text h
 
--- ---- the slots of a line, and the words behind them
+-- ---- the slots of a line, and the words after them
 
 abbrev pub Values : List Slot → Type 0
 Values [] = Unit {0}

@@ -1,4 +1,4 @@
--- The lines of a text take a reader through one run, and what it has come to tells the first fault.
+-- The lines of a text take a reader through one run, and the state that it reaches determines the first fault.
 use Rattle.std.proofs.Common.{◌≡◌, ◌≢◌, inl, inr, ℕ, ◌+◌, max, List, [], ◌∷◌, ◌++◌, map, length, Option, Some, refl, sym, subst, ◌∙◌, append_assoc, append-nil}
 use Rattle.text_lines.specs.CanonicalLines.{AreLineWords, canonical_line}
 use Rattle.text_lines.specs.declared.faults.NotRead.{NotRead}
@@ -25,7 +25,7 @@ Runs-parts words May step s u [] b p = (s, refl, p)
 Runs-parts words May step s u (line ∷ a) b (inl p) = let q = Runs-parts words May step s u a b p.1 in (q.0, inl (p.0, q.1), q.2)
 Runs-parts words May step s u (line ∷ a) b (inr p) = let q = Runs-parts words May step (step s p.0) u a b p.3 in (q.0, inr (p.0, p.1, p.2, q.1), q.2)
 
--- a line with no words says nothing
+-- A line without words says nothing.
 silent : {State Saying : Type 0} (words : Saying → List LineWord) (May : State → Saying → Type 0) → AreSayings words May
     → (s : State) (l : Saying) (line : List ℕ) → HasWords line [] → May s l → ¬ HasWords line (words l)
 silent words May h s l line none may some = h.some s l may (IsLine-unique (trimmed line) (words l) [] some none)
@@ -40,7 +40,7 @@ Runs-unique words May step h s t u (line ∷ lines) (inr p) (inr q) =
     let same = h.unique s p.0 q.0 p.2 q.2 (IsLine-unique (trimmed line) (words p.0) (words q.0) p.1 q.1) in
     Runs-unique words May step h (step s p.0) t u lines p.3 (subst (λ (l : _). Runs words May step (step s l) lines u) (sym same) q.3)
 
--- what lines say takes a reader where each of it may be said
+-- Lines take a reader along if each of their sayings is allowed.
 pub Runs-said : {State Saying : Type 0} (words : Saying → List LineWord) (May : State → Saying → Type 0) (step : State → Saying → State) (s t : State) (lines : List (List ℕ)) (said : List (List LineWord)) (ls : List Saying)
     → Say lines said → said ≡ map words ls → Steps May step s ls t → Runs words May step s lines t
 Runs-said words May step s t [] said [] p e q = q
@@ -68,13 +68,13 @@ pub Steps-append : {State Saying : Type 0} (May : State → Saying → Type 0) (
 Steps-append May step s t u [] b p q = subst (λ (x : _). Steps May step x b u) (sym p) q
 Steps-append May step s t u (l ∷ a) b p q = (p.0, Steps-append May step (step s l) t u a b p.1 q)
 
--- what holds of the steps so far holds of one more, and so of all
+-- A property that one more step keeps is kept by all steps.
 pub Steps-kept : {State Saying : Type 0} (May : State → Saying → Type 0) (step : State → Saying → State) (P : State → List Saying → Type 0)
     → ((s : State) (l : Saying) (ls : List Saying) → P s ls → May s l → P (step s l) (ls ++ l ∷ [])) → (s t : State) (ls more : List Saying) → P s ls → Steps May step s more t → P t (ls ++ more)
 Steps-kept May step P on s t ls [] h p = subst (P t) (sym (append-nil ls)) (subst (λ (x : _). P x ls) p h)
 Steps-kept May step P on s t ls (l ∷ more) h p = subst (P t) (append_assoc ls (l ∷ []) more) (Steps-kept May step P on (step s l) t (ls ++ l ∷ []) more (on s l ls h p.0) p.1)
 
--- what may be said can stand in a text
+-- Allowed sayings can be written as a text.
 written_steps : {State Saying : Type 0} (words : Saying → List LineWord) (May : State → Saying → Type 0) (step : State → Saying → State) → ((s : State) (l : Saying) → May s l → AreLineWords (words l))
     → (s t : State) (ls : List Saying) → Steps May step s ls t → (lines : List (List ℕ)) × Runs words May step s lines t
 written_steps words May step good s t [] p = ([], p)
@@ -82,7 +82,7 @@ written_steps words May step good s t (l ∷ ls) p =
     let rest = written_steps words May step good (step s l) t ls p.1 in
     (canonical_line 0 (words l) ∷ rest.0, inr (l, HasWords-canonical_line 0 (words l) (good s l p.0), p.0, rest.1))
 
--- lines begin a whole text where steps to some whole one can follow theirs
+-- Lines begin a whole text if steps to a whole one can follow theirs.
 pub IsStart-run : {State Saying : Type 0} (Whole : List (List ℕ) → Type 0) (words : Saying → List LineWord) (May : State → Saying → Type 0) (step : State → Saying → State) (start : State)
     → AreSayings words May → ((s : State) (l : Saying) → May s l → AreLineWords (words l))
     → ((s : State) (ls : List Saying) → Steps May step start ls s → (more : List Saying) × (t : State) × Steps May step s more t × ((text : List (List ℕ)) → Runs words May step start text t → Whole text))
@@ -95,7 +95,8 @@ IsStart-run Whole words May step start h good finish front s run =
 
 -- ---- faults
 
--- A grammar and a reader of it: each whole text takes the reader somewhere, and each text that takes it somewhere can become whole.
+-- A grammar and a reader of it: each whole text takes the reader somewhere, and each text that takes it somewhere can
+-- become whole.
 pub record Reads {State Saying : Type 0} (Whole : List (List ℕ) → Type 0) (words : Saying → List LineWord) (May : State → Saying → Type 0) (step : State → Saying → State) (start : State) : Type 0 where
   pub whole : (text : List (List ℕ)) → Whole text → (t : State) × Runs words May step start text t
   pub begins : (front : List (List ℕ)) (s : State) → Runs words May step start front s → IsStart Whole front
@@ -128,7 +129,7 @@ place_behind Whole words May step start fault h f r front s run line = (
       r.begins (front ++ line ∷ []) more.0 (Runs-append words May step start s more.0 front (line ∷ []) run more.1),
 )
 
--- what is told of a line that has no words
+-- the fault of a line that has no words
 pub IsLineFault-HasCause : (fault : List LineWord → Option ℕ) (e : NotRead) (bytes line : List ℕ) → bytes ≡ trimmed line → HasCause e bytes → IsLineFault fault e line
 IsLineFault-HasCause fault (Fault what) bytes line same h = inl (subst (HasCause (Fault what)) same h)
 IsLineFault-HasCause fault Memory bytes line same h = tt
@@ -160,7 +161,7 @@ IsFaultyLine-run Whole words May step start place_of fault h f r text front late
       told = told;
     }
 
--- what is told of the line behind a run
+-- the fault of the line after a run
 pub TellsFirst-line : {State Saying Place : Type 0} (Whole : List (List ℕ) → Type 0) (words : Saying → List LineWord) (May : State → Saying → Type 0) (step : State → Saying → State) (start : State) (place_of : State → Place) (fault : Place → List LineWord → Option ℕ) (missing : Place → Option ℕ)
     → AreSayings words May → TellsFaults words May (λ x. fault (place_of x)) → Reads Whole words May step start
     → (text front later : List (List ℕ)) (line : List ℕ) (number : ℕ) (s : State) (why : NotRead) → Runs words May step start front s → text ≡ front ++ line ∷ later → number ≡ length front + 1

@@ -1,4 +1,4 @@
--- Lists of words of one slot: what fits has no fault, and words without a fault are those of a list that fits.
+-- Lists of words of one slot: what fits has no fault, and faultless words are those of a list that fits.
 use Rattle.std.proofs.Common.{◌≡◌, ◌≢◌, ◌≤◌, ◌+◌, ◌-◌, ◌==◌, ℕ, suc, true, false, List, [], ◌∷◌, ◌++◌, map, length, None, refl, ap, sym, ◌∙◌, append_assoc, append-nil, arith, length-append}
 use Rattle.std.specs.List.{AllByRecursion}
 use Rattle.std.proofs.lemmas.Bool.Decides.{nat_tests}
@@ -9,7 +9,7 @@ use Rattle.text_lines.specs.LineGrammar.{LineWord}
 use Rattle.text_lines.specs.Slots.{Slot, slot_fault, ListEnd, line_end, items_fault, list_fault}
 use Rattle.text_lines.proofs.Faultless.{by_cases, or_else-none}
 
--- the list ends before these words, and nothing is wrong with what is behind
+-- The list ends before these words, and nothing is wrong with the words after its end.
 abbrev pub IsEnded : ListEnd → List LineWord → Type 0
 IsEnded e [] = e.missing ≡ None
 IsEnded e (word ∷ words) = (e.ends word ≡ true) × (e.behind words ≡ None)

@@ -1,4 +1,4 @@
--- The lines of a text: the first one, the end of each, and that those from a place on tell the place.
+-- The lines of a text: the first one, and the end of each. The lines from an offset on determine that offset.
 use Rattle.std.proofs.Common.{◌≡◌, ◌<◌, ◌+◌, ◌==◌, ℕ, suc, Bool, false, List, [], ◌∷◌, ◌++◌, length, take, drop, get_or, refl, ap, sym, subst, ◌∙◌, arith, ◌≢◌, ◌≤◌, inl, inr, zero, true}
 use Rattle.std.specs.List.{list_any}
 use Rattle.std.proofs.lemmas.Bool.{or_parts, cases_lt}
@@ -47,7 +47,7 @@ trimmed-other (x ∷ y ∷ xs) b h = ap (λ (r : List ℕ). x ∷ r) (trimmed-ot
 
 -- ---- places
 
--- the bytes of lines, with a line feed behind each
+-- how many bytes lines have, with a line feed after each
 abbrev bytes_in : List (List ℕ) → ℕ
 bytes_in [] = 0
 bytes_in (line ∷ lines) = length line + 1 + bytes_in lines
@@ -68,7 +68,7 @@ one_more : (b c : ℕ) (bytes : List ℕ) (feed : Bool) → (b == 10) ≡ feed �
 one_more b c bytes true p = rw p (omega arith)
 one_more b c bytes false p = rw p (bytes_in-with_front b (lines_of (c ∷ bytes)) (lines_of-some c bytes (c == 10) refl))
 
--- each byte in front counts
+-- Each byte before the offset counts.
 bytes_in-drop : (text : List ℕ) (at : ℕ) → at < length text → bytes_in (lines_of text) ≡ at + bytes_in (lines_of (drop at text))
 bytes_in-drop text zero h = omega arith
 bytes_in-drop [] (suc at) h = absurd (omega (arith, h))
@@ -87,7 +87,7 @@ at_end text a b h end e =
 before_end : (text : List ℕ) (a b : ℕ) → a < length text → b < length text → lines_of (drop a text) ≡ lines_of (drop b text) → a ≡ b
 before_end text a b h k e = omega (arith, ap bytes_in e, bytes_in-drop text a h, bytes_in-drop text b k)
 
--- the places of a text from which its lines are the same are one
+-- Two offsets of a text with the same lines after them are equal.
 pub one_place : (text : List ℕ) (a b : ℕ) → a ≤ length text → b ≤ length text → lines_of (drop a text) ≡ lines_of (drop b text) → a ≡ b
 one_place text a b h k e = elim (cases_lt a (length text)) [
   | inl a_before ↦ elim (cases_lt b (length text)) [

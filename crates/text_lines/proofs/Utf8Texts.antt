@@ -1,4 +1,5 @@
--- Texts that are UTF-8: cut at an ASCII byte and joined there, and a literal exactly where what it stands for is.
+-- UTF-8 texts: they can be cut and joined at an ASCII byte, and a literal is UTF-8 exactly if the bytes that it denotes
+-- are.
 use Rattle.std.proofs.Common.{◌<◌, ◌+◌, ℕ, zero, suc, List, [], ◌∷◌, ◌++◌, length, get_or, IsUtf8, subst, arith, length-append, ◌≡◌, inl, inr, Some, ap, sym, ◌∙◌, append_assoc}
 use Rattle.std.proofs.Math.Seq.{get_or-append_seam, take-append_seam, drop-append-add}
 use Rattle.std.proofs.lemmas.Str.{IsUtf8-append, IsUtf8-take, IsUtf8-drop, IsUtf8-from_ascii, IsCharBoundary-before_ascii, IsCharBoundary-after_ascii, IsUtf8-nil}
@@ -32,13 +33,13 @@ IsUtf8-around_ascii x b y h p q = IsUtf8-append x (b ∷ y) p (IsUtf8-append (b 
 
 -- ---- escapes
 
--- the two bytes that an escape joins
+-- The byte after a backslash, and the byte that the escape denotes, are ASCII.
 are_ascii : (e b : ℕ) → escaped_byte e ≡ Some b → (e < 128) × (b < 128)
 are_ascii e b h = (grind (arith, nat_tests), grind (arith, nat_tests))
 
--- ---- from the text to its meaning, and back
+-- ---- from a text to its meaning, and back
 
--- one byte, where what follows it goes over behind whatever stands before
+-- one byte, if decoding what follows it keeps a text UTF-8 after any prefix
 meaning_of_byte : (front first rest : List ℕ) (b : ℕ) (bytes : List ℕ) → SpellsByte first b → ((before : List ℕ) → IsUtf8 (before ++ rest) → IsUtf8 (before ++ bytes))
     → IsUtf8 (front ++ (first ++ rest)) → IsUtf8 (front ++ b ∷ bytes)
 meaning_of_byte front first rest b bytes (inl own) more h =

@@ -1,4 +1,5 @@
--- A line has the words that are read of it, and no others: each byte of a word, and each word, can be read in one way.
+-- A line has the words that are read from it, and no others: each byte of a word, and each word, can be read in only
+-- one way.
 use Rattle.std.proofs.Common.{◌≡◌, ◌≢◌, ◌≤◌, ◌<◌, ◌-◌, ◌⊎◌, ◌==◌, ◌||◌, if◌then◌else◌, inl, inr, ℕ, Bool, true, false, List, [], ◌∷◌, ◌++◌, length, take, drop, get_or, Option, Some, None, refl, ap, sym, subst, ◌∙◌, append_assoc, length-append, arith, IsUtf8}
 use Rattle.std.specs.List.{AllByRecursion}
 use Rattle.std.proofs.lemmas.Bool.{eqb-true, eqb-false, ne_eqb, or_parts}
@@ -9,9 +10,9 @@ use Rattle.text_lines.specs.LineGrammar.{LineWord, plain_word, literal_word, is_
 use Rattle.text_lines.specs.LineReading.{behind_gap, IsWordStart, plain_byte, before, escape_byte, literal_byte, byte_at, IsByte, Chain, IsStuck, IsWordAt, NextWord}
 use Rattle.text_lines.proofs.Faultless.{by_cases}
 
--- ---- one thing behind the other
+-- ---- one thing after another
 
--- each line goes on in one way
+-- Each line goes on in only one way.
 abbrev IsOneWay : {X : Type 0} → (List ℕ → X → List ℕ → Type 0) → Type 0
 IsOneWay {X = X} Next = (line : List ℕ) (x y : X) (rest last : List ℕ) → Next line x rest → Next line y last → (x ≡ y) × (rest ≡ last)
 
@@ -112,7 +113,7 @@ IsWordStart-at : (line : List ℕ) (word : LineWord) (rest : List ℕ) → IsWor
 IsWordStart-at line (plain_word bytes) rest h = h.0
 IsWordStart-at line (literal_word bytes) rest h = subst IsWordStart (sym h.1) refl
 
--- what a literal's bytes behind its opening quotation mark are, and where it can end
+-- The bytes after a literal's opening quotation mark, and the place where it ends, are determined.
 literal_is : (line inside bytes rest : List ℕ) → line ≡ 34 ∷ inside → Chain (IsByte true) inside bytes rest → literal_byte rest ≡ None
     → (word : LineWord) (last : List ℕ) → IsWordAt line word last → (literal_word bytes ≡ word) × (rest ≡ 34 ∷ last) × (length bytes ≤ text_limit) × IsWordEnd last
 literal_is line inside bytes rest e h stuck (plain_word other) last k = absurd (k.1 (ap (λ (x : List ℕ). get_or x 0 0) e))
@@ -140,7 +141,7 @@ IsWordAt-one_way line (literal_word bytes) word rest last h k =
     let behind : 34 ∷ rest ≡ 34 ∷ last = same.1 in
     (same.0, cc)
 
--- a word is read where it is spelled, and nowhere else
+-- A word is read where it is spelled.
 IsWordAt-spelled : (text : List ℕ) (word : LineWord) (rest : List ℕ) → SpellsWord text word → IsWordEnd rest → IsWordAt (text ++ rest) word rest
 IsWordAt-spelled text (plain_word []) rest h end = absurd h.1
 IsWordAt-spelled text (plain_word (b ∷ bytes)) rest h end =
@@ -219,7 +220,7 @@ SpellsWords-chain line (word ∷ words) rest h end =
 end_stuck : (line : List ℕ) → IsWordEnd (behind_gap line) → IsStuck NextWord line
 end_stuck line end word rest h = ¬IsWordStart-end (behind_gap line) end (IsWordStart-at (behind_gap line) word rest h)
 
--- where no word can be read, none that spell the line are left
+-- If no word can be read from the rest, the words read so far are all the words of the line.
 pub words_read : (line : List ℕ) (words : List LineWord) (rest : List ℕ) → Chain NextWord line words rest → IsStuck NextWord rest
     → (others : List LineWord) → SpellsWords line others → (words ≡ others) × IsWordEnd (behind_gap rest)
 words_read line words rest h stuck others k =
@@ -237,7 +238,7 @@ NextWord-shorter line word rest h =
     shorter [] end e = absurd (¬IsWordStart-end rest end (subst IsWordStart e (IsWordStart-at (behind_gap line) word rest h)))
     shorter (b ∷ text) end e = omega (arith, ap length e, length-append text rest)
 
--- ---- a line has words or one fault, and no two of these
+-- ---- a line has either words or one fault
 
 SpellsWords-unique : (line : List ℕ) (words others : List LineWord) → SpellsWords line words → SpellsWords line others → words ≡ others
 SpellsWords-unique line words others h k =
@@ -251,7 +252,7 @@ pub ¬IsGarbled-clean : (line : List ℕ) → IsUtf8 line → has_return line �
 pub IsLine-unique : (line : List ℕ) (words others : List LineWord) → IsLine line words → IsLine line others → words ≡ others
 IsLine-unique line words others h k = SpellsWords-unique line words others h.2 k.2
 
--- a line with words has no fault
+-- A line with words has no fault.
 pub ¬HasLineFault-IsLine : (line : List ℕ) (words : List LineWord) (what : ℕ) → IsLine line words → ¬ HasLineFault what line
 ¬HasLineFault-IsLine line words what h (inl first) = ¬IsGarbled-clean line h.0 h.1 first.1
 ¬HasLineFault-IsLine line words what h (inr second) = second.1.1 words h.2

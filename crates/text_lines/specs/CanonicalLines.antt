@@ -11,12 +11,12 @@ abbrev pub spaced : List (List ℕ) → List ℕ
 spaced [] = []
 spaced (w ∷ ws) = w ++ flat_map (λ v. 32 ∷ v) ws
 
--- two spaces for each block that is open, and a line feed behind the words
+-- two spaces for each open block, the words, and a line feed
 abbrev pub line_text : ℕ → List (List ℕ) → List ℕ
 line_text depth words = (replicate (2 * depth) 32 ++ spaced words) ++ 10 ∷ []
 
--- A byte of a literal: a backslash, a quotation mark, a line feed, a carriage return and a tab are two bytes, each other byte stands
--- for itself.
+-- The spelling of a byte in a literal. A backslash, quotation mark, line feed, carriage return or tab is spelled by two
+-- bytes. Any other byte is its own spelling.
 abbrev pub escaped : ℕ → List ℕ
 escaped b =
     if b == 92 then 92 ∷ 92 ∷ []
@@ -35,15 +35,15 @@ abbrev pub word_text : LineWord → List ℕ
 word_text (plain_word bytes) = bytes
 word_text (literal_word bytes) = literal bytes
 
--- two spaces for each block that is open, and one between words, without the line feed
+-- two spaces for each open block, and one between words, without the line feed
 abbrev pub canonical_line : ℕ → List LineWord → List ℕ
 canonical_line depth words = replicate (2 * depth) 32 ++ spaced (map word_text words)
 
--- with it
+-- the canonical line with its line feed
 abbrev pub line_spelling : ℕ → List LineWord → List ℕ
 line_spelling depth words = line_text depth (map word_text words)
 
--- a word that some line has
+-- a word that can occur in a line
 abbrev pub IsLineWord : LineWord → Type 0
 IsLineWord (plain_word bytes) = IsPlainSpelling bytes × IsUtf8 bytes × (has_return bytes ≡ false)
 IsLineWord (literal_word bytes) = IsLiteral bytes

@@ -1,4 +1,4 @@
--- Words of digits, and what is told of a word.
+-- Words of digits, and the faults of words.
 use Rattle.std.specs.Prelude.{ℕ, ◌^◌, ◌-◌, ◌==◌, Bool, false, not, ◌&&◌, ◌||◌, if◌then◌else◌, nat_le, Option, Some, None, List, [], ◌∷◌, length, get_or}
 use Rattle.std.specs.List.{list_any}
 use Rattle.std.specs.Str.Parse.{digits_value}
@@ -7,7 +7,7 @@ use Rattle.tac_syntax.specs.Names.{is_digit}
 abbrev pub are_digits : List ℕ → Bool
 are_digits bytes = not (list_any (λ b. not (is_digit b)) bytes) && nat_le 1 (length bytes)
 
--- decimal, without a zero in front
+-- decimal digits without a leading zero, except for 0 itself
 abbrev pub is_number_word : List ℕ → Bool
 is_number_word bytes = are_digits bytes && (nat_le (length bytes) 1 || not (get_or bytes 0 0 == 48))
 
@@ -24,7 +24,7 @@ abbrev pub is_in_form : ℕ → List ℕ → Bool
 is_in_form letter [] = false
 is_in_form letter (b ∷ bytes) = (b == letter) && are_digits bytes
 
--- ---- what is told
+-- ---- faults
 
 abbrev pub told_unless : Bool → ℕ → Option ℕ
 told_unless holds what = if holds then None else Some what

@@ -2,13 +2,13 @@
 use Rattle.std.specs.Prelude.{◌≡◌, ◌≤◌, ◌⊎◌, ℕ, Bool, true, false, ◌||◌, ◌==◌, if◌then◌else◌, List, [], ◌∷◌, ◌++◌, length, Option, Some, None, IsUtf8, bytes_eq}
 use Rattle.std.specs.List.{AllByRecursion, list_any}
 use Rattle.pact_record.specs.Limits.{text_limit}
--- A `LineWord` is a word as it stands in the line, or the bytes that a literal stands for.
+-- A `LineWord` is a plain word as the line spells it, or the bytes that a literal denotes.
 pub use Rattle.text_lines.specs.declared.line_words.LineWord.{LineWord}
 pub use Rattle.text_lines.specs.declared.line_words.LineWord.TheVariants.{Plain as plain_word, Literal as literal_word}
 
 -- ---- words
 
--- a word as it stands in the line, and not a literal that stands for it
+-- The word is plain and equal to `name`. A literal never is, even with the same bytes.
 abbrev pub is_plain : List ℕ → LineWord → Bool
 is_plain name (plain_word word) = bytes_eq word name
 is_plain name (literal_word bytes) = false
@@ -17,20 +17,20 @@ is_plain name (literal_word bytes) = false
 abbrev pub is_blank : ℕ → Bool
 is_blank b = (b == 32) || (b == 9)
 
--- a word ends before a blank and before a comment
+-- A word ends before a blank or a comment.
 abbrev pub ends_word : ℕ → Bool
 ends_word b = is_blank b || (b == 35)
 
--- not empty, and begun by no quotation mark
+-- not empty, and doesn't begin with a quotation mark
 abbrev pub IsPlainSpelling : List ℕ → Type 0
 IsPlainSpelling [] = ⊥
 IsPlainSpelling (b ∷ bytes) = ((b == 34) ≡ false) × AllByRecursion (λ c. ends_word c ≡ false) (b ∷ bytes)
 
--- In a literal each byte stands for itself, but a backslash, a quotation mark and a carriage return.
+-- In a literal each byte is its own spelling, except a backslash, a quotation mark and a carriage return.
 abbrev pub needs_escape : ℕ → Bool
 needs_escape b = (b == 92) || (b == 34) || (b == 13)
 
--- what a byte behind a backslash stands for
+-- the byte that an escape denotes, by the byte after its backslash
 abbrev pub escaped_byte : ℕ → Option ℕ
 escaped_byte e =
     if e == 92 then Some 92
@@ -39,7 +39,7 @@ escaped_byte e =
     else (if e == 114 then Some 13
     else (if e == 116 then Some 9 else None))))
 
--- by itself or by its escape
+-- The text is the byte's own spelling, or its escape.
 abbrev pub SpellsByte : List ℕ → ℕ → Type 0
 SpellsByte text b = ((text ≡ b ∷ []) × (needs_escape b ≡ false)) ⊎ ((e : ℕ) × (text ≡ 92 ∷ e ∷ []) × (escaped_byte e ≡ Some b))
 
@@ -56,23 +56,23 @@ SpellsWord text (literal_word bytes) = (inside : List ℕ) × (text ≡ 34 ∷ (
 abbrev pub IsGap : List ℕ → Type 0
 IsGap bytes = AllByRecursion (λ b. is_blank b ≡ true) bytes
 
--- a word may stand before these bytes
+-- A word may end before these bytes.
 abbrev pub IsWordEnd : List ℕ → Type 0
 IsWordEnd [] = Unit {0}
 IsWordEnd (b ∷ bytes) = ends_word b ≡ true
 
--- nothing, or what a `#` begins
+-- nothing, or bytes that begin with `#`
 abbrev pub IsComment : List ℕ → Type 0
 IsComment [] = Unit {0}
 IsComment (b ∷ bytes) = b ≡ 35
 
--- blanks and words by turns, and behind them blanks and perhaps a comment
+-- alternating blanks and words, then blanks and possibly a comment
 abbrev pub SpellsWords : List ℕ → List LineWord → Type 0
 SpellsWords line [] = (gap comment : List ℕ) × (line ≡ gap ++ comment) × IsGap gap × IsComment comment
 SpellsWords line (word ∷ words) =
     (gap text rest : List ℕ) × (line ≡ gap ++ (text ++ rest)) × IsGap gap × SpellsWord text word × IsWordEnd rest × SpellsWords rest words
 
--- a carriage return that isn't of the line's end
+-- a carriage return that doesn't belong to the line's end
 abbrev pub has_return : List ℕ → Bool
 has_return line = list_any (λ b. b == 13) line
 
@@ -81,11 +81,11 @@ IsLine line words = IsUtf8 line × (has_return line ≡ false) × SpellsWords li
 
 -- ---- faults
 
--- fault 1
+-- fault 1: not UTF-8, or a carriage return
 abbrev pub IsGarbled : List ℕ → Type 0
 IsGarbled line = (¬ IsUtf8 line) ⊎ (has_return line ≡ true)
 
--- fault 2: fault 1 doesn't stand, and no words spell the line
+-- fault 2: the line doesn't have fault 1, and no words spell it
 abbrev pub IsUnspelled : List ℕ → Type 0
 IsUnspelled line = (¬ IsGarbled line) × ((words : List LineWord) → ¬ SpellsWords line words)
 

@@ -10,7 +10,7 @@ use Rattle.tac_syntax.specs.declared.statements.Rec.TheVariants.{Reg, Loop, Inpu
 use Rattle.tac_syntax.specs.declared.statements.LoopList.{LoopList}
 use Rattle.tac_syntax.specs.declared.statements.LoopList.TheVariants.{Group, Left as LeftGroup, Right as RightGroup}
 
--- the one of these that has this word
+-- the first of these that has this word
 abbrev pub named_in : {X : Type 0} → (X → List ℕ) → List X → List ℕ → Option X
 named_in name [] word = None
 named_in name (x ∷ xs) word = if bytes_eq word (name x) then Some x else named_in name xs word
@@ -38,20 +38,20 @@ list_word Group = codes "group"
 list_word LeftGroup = codes "left"
 list_word RightGroup = codes "right"
 
--- a field is its number, or the register that has it behind `@`
+-- A field is spelled by its number, or by `@` and the register that holds it.
 abbrev pub field_text : FieldWord → List ℕ
 field_text (Number n) = decimal n
 field_text (Register n) = codes "@" ++ value_register n
 
--- registers tell fields only where they may
+-- A register may name a field only if `registers` is true.
 abbrev pub IsSpelledField : Bool → FieldWord → Type 0
 IsSpelledField registers (Number n) = IsNumber n
 IsSpelledField registers (Register n) = IsNumber n × (registers ≡ true)
 
--- a column is its field's number behind `text:` or `int:`
+-- A column is spelled by `text:` or `int:` and its field's number.
 abbrev pub column_text : Column → List ℕ
 column_text c = (if c.text then codes "text:" else codes "int:") ++ decimal c.field
 
--- the record of a word that has no number
+-- the record that a word without a number names
 abbrev pub fixed_record : List ℕ → Option Rec
 fixed_record word = named_in record_word (Input ∷ Left ∷ Right ∷ Join ∷ First ∷ []) word

@@ -22,9 +22,10 @@ use pact_record::Column;
 use std::marker::Model;
 use tac_syntax::{LoopList, Rec, is_file_name, is_name};
 
-/// The words of a line that aren't read yet. Each call that reads a word moves behind it, or tells the first fault
-/// of these words: fault 4 where there is none, fault 6 for no name, fault 7 for a number out of range, fault 8 for a
-/// word of another kind. Behind a fault nothing is known of the place.
+/// The words of a line that aren't read yet. Each call that reads a word moves past it, or returns the first fault of
+/// these words: fault 4 if no word is left, fault 6 if a name is expected and the word isn't one, fault 7 if a number
+/// is expected and the word isn't one in its range, fault 8 if the word is of another kind than expected. After a fault
+/// the cursor's position is unspecified.
 #[derive(Debug, Drop)]
 pub struct Cursor<'a> {
     words: &'a [LineWord],
@@ -46,7 +47,7 @@ impl<'a> Cursor<'a> {
         Cursor { words }
     }
 
-    /// The next word, whatever it is.
+    /// The next word, of any kind.
     pub fn next(&mut self) -> Result<&'a LineWord, NotRead>
         ensures word { IfOk result (λ word. self.old ≡ word.now ∷ self.new) }
         ensures fault { IfErr result (λ e. (e ≡ Fault 4) × (self.old ≡ [])) }
@@ -60,7 +61,7 @@ impl<'a> Cursor<'a> {
         }
     }
 
-    // The next word, or this fault where it is a literal.
+    // The next word, which must be plain: a literal has the fault `what`.
     fn plain(&mut self, what: u32) -> Result<&'a [u8], NotRead>
         ensures word { IfOk result (λ word. self.old ≡ plain_word word.now ∷ self.new) }
         ensures fault { IfErr result (λ e. IsNoPlain what e self.old) }
@@ -79,7 +80,7 @@ impl<'a> Cursor<'a> {
         self.words.len()
     }
 
-    /// Whether the next word is the one of this name, which is then read.
+    /// Whether the next word is `name`. If it is, it is read; otherwise the cursor doesn't move.
     pub fn skips(&mut self, name: &[u8]) -> bool
         ensures yes { OnTrue result (self.old ≡ plain_word name.now ∷ self.new) }
         ensures other { OnFalse result ((self.new ≡ self.old) × IsOther name.now self.old) }
@@ -96,7 +97,7 @@ impl<'a> Cursor<'a> {
         }
     }
 
-    /// The word of this name.
+    /// Reads the word `name`; any other word has fault 8.
     pub fn fixed(&mut self, name: &[u8]) -> Result<(), NotRead>
         ensures { ReadsNext (fixed name.now) (λ _. Unit {0}) (λ _. plain_word name.now) result self.old self.new }
     {
@@ -107,28 +108,28 @@ impl<'a> Cursor<'a> {
         }
     }
 
-    /// A value register, as its number.
+    /// The number of a value register, such as 3 for `v3`.
     pub fn value(&mut self) -> Result<u32, NotRead>
         ensures { ReadsNext (register 118) IsNumber (λ n. plain_word (value_register n)) result self.old self.new }
     {
         value_in(self.plain(8)?)
     }
 
-    /// A record register, as its number.
+    /// The number of a record register, such as 3 for `r3`.
     pub fn record(&mut self) -> Result<u32, NotRead>
         ensures { ReadsNext (register 114) IsNumber (λ n. plain_word (record_register n)) result self.old self.new }
     {
         record_in(self.plain(8)?)
     }
 
-    /// A record that is read: a register, a loop's name or a record of the kind.
+    /// A record that is read: a register, a loop's name, or a record that the function's kind provides, such as `in`.
     pub fn operand(&mut self) -> Result<Rec, NotRead>
         ensures { ReadsNext operand IsSpelledRecord (λ from. plain_word (record_word from)) result self.old self.new }
     {
         operand_in(self.plain(8)?)
     }
 
-    /// A number in a range.
+    /// A number from `low` to `high`.
     pub fn number(&mut self, low: u32, high: u32) -> Result<u32, NotRead>
         ensures read { ReadsNext (number low high) (λ n. (low ≤ n) × (n ≤ high)) (λ n. plain_word (decimal n)) result self.old self.new }
         ensures told { IfErr result IsTold }
@@ -136,7 +137,7 @@ impl<'a> Cursor<'a> {
         number_in(low, high, self.plain(7)?)
     }
 
-    /// The field of a record.
+    /// The field of a record: its number, or `@` and a value register if `registers` is true.
     pub fn field(&mut self, registers: bool) -> Result<FieldWord, NotRead>
         ensures { ReadsNext (which_field registers) (IsSpelledField registers) (λ x. plain_word (field_text x)) result self.old self.new }
     {
@@ -150,7 +151,7 @@ impl<'a> Cursor<'a> {
         signed_in(self.plain(7)?)
     }
 
-    /// A literal, as the bytes that it stands for.
+    /// The bytes of a literal, with its escapes decoded.
     pub fn literal(&mut self) -> Result<&'a [u8], NotRead>
         ensures { ReadsNext text (λ _. Unit {0}) (λ bytes. literal_word bytes.now) result self.old self.new }
     {
@@ -160,7 +161,7 @@ impl<'a> Cursor<'a> {
         }
     }
 
-    /// The name of a loop, as its number: fault 11 where it isn't the one that this place wants.
+    /// The number in a loop's name. Fault 11 if it isn't `name`, the only one that is allowed at this place.
     pub fn loop_name(&mut self, name: u64) -> Result<u32, NotRead>
         ensures { ReadsNext (loop name) (λ n. (n ≡ name) × IsLoopName n) (λ n. plain_word (loop_name n)) result self.old self.new }
     {
@@ -174,7 +175,7 @@ impl<'a> Cursor<'a> {
         list_in(self.plain(8)?)
     }
 
-    /// A name of what a program declares.
+    /// The name of a declaration.
     pub fn name(&mut self) -> Result<&'a [u8], NotRead>
         ensures { ReadsNext identifier (λ name. IsTrue (names.is_name name.now)) (λ name. plain_word name.now) result self.old self.new }
     {
@@ -205,7 +206,7 @@ impl<'a> Cursor<'a> {
         column_in(self.plain(8)?)
     }
 
-    /// The line's end: fault 5 where a word is left over.
+    /// Checks that no word is left. Fault 5 if one is.
     pub fn end(&mut self) -> Result<(), NotRead>
         ensures read { ReadsEnd result self.old }
         ensures told { IfErr result IsTold }

@@ -1,4 +1,4 @@
-//! Why words aren't read.
+//! Why a line couldn't be read.
 
 ghost use Rattle.std.specs.Prelude.{◌≡◌};
 ghost use Rattle.text_lines.specs.declared.faults.NotRead.TheVariants.{Fault};
@@ -8,16 +8,16 @@ ghost use Rattle.text_lines.specs.LineReading.{IsTold};
 use crate::lines::TextFault;
 use pact_record::OutOfMemory;
 
-/// Why a line, or a part of one, isn't read.
+/// Why a line, or a part of one, couldn't be read.
 #[derive(Clone, Copy, Debug, PartialEq, Eq)]
 pub enum NotRead {
-    /// Its first fault, by its number.
+    /// The number of its first fault.
     Fault { what: u32 },
     Memory,
 }
 
 impl NotRead {
-    /// The number of a fault that is told.
+    /// The number of a fault.
     pub fn told(self) -> u32
         requires { IsTold self }
         ensures { self ≡ Fault result }
@@ -28,7 +28,7 @@ impl NotRead {
         }
     }
 
-    /// Why a text isn't read, where this is why its line of that number isn't.
+    /// Why a text couldn't be read, if this is why line `line` of it couldn't.
     pub fn at_line(self, line: u64) -> TextFault
         ensures { result ≡ told_at line self }
     {

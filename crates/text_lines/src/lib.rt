@@ -1,9 +1,9 @@
 //! Lines of a text, and the words of a line.
 //!
-//! `read_words` reads one line as its words exactly, where literals stand for their bytes, and a `Cursor` reads
-//! these words from the left, each for what is wanted at its place. `specs/LineGrammar.antt` says which bytes spell
-//! which words, and which faults a line can have before its words are looked at; `specs/Slots.antt` says what can be
-//! wanted of a word, and what is wrong with one that stands there.
+//! `read_words` reads one line into its words, with literals decoded to their bytes. A `Cursor` reads these words from
+//! the left; each call reads the word that is expected next. `specs/LineGrammar.antt` says which bytes spell which
+//! words, and which faults a line can have before its words are looked at. `specs/Slots.antt` says what can be expected
+//! of a word, and which fault a word has that doesn't fit.
 #![tactic(auto)]
 
 mod cursors;

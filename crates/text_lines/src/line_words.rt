@@ -1,4 +1,4 @@
-//! The words of one line, where literals stand for their bytes.
+//! The words of one line, with literals decoded to their bytes.
 
 ghost use Rattle.std.specs.Prelude.{◌≡◌, ◌++◌, ◌∷◌, [], bytes_eq, IfErr, OnErr, OnOk};
 ghost use Rattle.text_lines.specs.LineGrammar.{is_plain};
@@ -10,14 +10,14 @@ use std::marker::Model;
 /// A word of a line.
 #[derive(Debug, Drop)]
 pub enum LineWord {
-    /// A word as it stands in the line.
+    /// A word as the line spells it.
     Plain(Bytes),
-    /// What a literal stands for: its bytes without quotation marks and escapes.
+    /// The bytes of a literal, without quotation marks and with escapes decoded.
     Literal(Bytes),
 }
 
 impl LineWord {
-    /// Whether the word stands in the line as this name; a literal never does.
+    /// Whether the word is plain and equal to `name`. A literal never is, even with the same bytes.
     pub fn is_plain(&self, name: &[u8]) -> bool
         ensures { result ≡ is_plain name.now self.now }
     {
@@ -67,7 +67,7 @@ impl LineWords {
     }
 }
 
-/// Whether a word is the one of that name.
+/// Whether a word has exactly the bytes of `name`.
 pub fn is_word(word: &[u8], name: &[u8]) -> bool
     ensures { result ≡ bytes_eq word.now name.now }
 {

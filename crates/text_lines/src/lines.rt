@@ -5,7 +5,7 @@ ghost use Rattle.text_lines.specs.TextLines.{lines_of, trimmed};
 
 use pact_record::OutOfMemory;
 
-/// Why a text isn't read.
+/// Why a text couldn't be read.
 #[derive(Clone, Copy, Debug, PartialEq, Eq)]
 pub enum TextFault {
     /// The first faulty line and its first fault, by their numbers; lines count from 1.
@@ -23,7 +23,7 @@ impl From<OutOfMemory> for TextFault {
     }
 }
 
-/// The first line of a text without its line feed, and what stands behind that.
+/// The first line of a text without its line feed, and the text after that line feed.
 pub fn first_line(text: &[u8]) -> (&[u8], &[u8])
     requires { 0 < length text.now }
     ensures lines { lines_of text.now ≡ result.0.now ∷ lines_of result.1.now }
@@ -38,7 +38,7 @@ pub fn first_line(text: &[u8]) -> (&[u8], &[u8])
     (text, text.split_at(text.len()).1)
 }
 
-/// The line of a text that begins at a place, without its line feed, and the place behind that.
+/// The line that begins at offset `at`, without its line feed, and the offset after that line feed.
 pub fn line_at(text: &[u8], at: usize) -> (&[u8], usize)
     requires { at < length text.now }
     ensures lines { lines_of (drop at text.now) ≡ result.0.now ∷ lines_of (drop result.1 text.now) }

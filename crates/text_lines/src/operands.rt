@@ -34,14 +34,14 @@ fn are_digits(word: &[u8]) -> bool
     word.len() >= 1
 }
 
-// Decimal, without a zero in front.
+// Decimal digits without a leading zero, except for 0 itself.
 fn is_number_word(word: &[u8]) -> bool
     ensures { result ≡ is_number_word word.now }
 {
     are_digits(word) && (word.len() <= 1 || word[0] != b'0')
 }
 
-// None where the number doesn't fit.
+// None if the number doesn't fit 64 bits.
 fn number_of(word: &[u8]) -> Option<u64>
     ensures fits { are_digits word.now ≡ true → digits_value 10 word.now < 2 ^ 64 → result ≡ Some (digits_value 10 word.now) }
     ensures large { are_digits word.now ≡ true → 2 ^ 64 ≤ digits_value 10 word.now → result ≡ None }
@@ -52,7 +52,7 @@ fn number_of(word: &[u8]) -> Option<u64>
     }
 }
 
-// The number that a word in a range spells.
+// The number that a word spells, if it is from `low` to `high`.
 fn number_between(low: u64, high: u64, word: &[u8]) -> Option<u64>
     ensures some { IfSome result (λ n. (word.now ≡ decimal n) × (low ≤ n) × (n ≤ high) × (is_in_range low high word.now ≡ true)) }
     ensures none { IfNone result (is_in_range low high word.now ≡ false) }
@@ -72,7 +72,7 @@ pub fn is_in_range(low: u64, high: u64, word: &[u8]) -> bool
     number_between(low, high, word).is_some()
 }
 
-/// Whether a word is a letter with one or more digits behind it.
+/// Whether a word is the letter followed by one or more digits.
 pub fn is_in_form(letter: u8, word: &[u8]) -> bool
     ensures { result ≡ is_in_form letter word.now }
 {
@@ -82,7 +82,7 @@ pub fn is_in_form(letter: u8, word: &[u8]) -> bool
     }
 }
 
-/// A number in a range.
+/// A number from `low` to `high`.
 pub fn number_in(low: u32, high: u32, word: &[u8]) -> Result<u32, NotRead>
     ensures read { ReadsPlain (told_unless (is_in_range low high word.now) 7) (λ n. (low ≤ n) × (n ≤ high)) decimal result word.now }
     ensures told { IfErr result IsTold }
@@ -109,7 +109,7 @@ pub fn signed_in(word: &[u8]) -> Result<i64, NotRead>
     }
 }
 
-// A letter with a number behind it.
+// The number after the letter in a word such as `v3`.
 fn numbered(letter: u8, low: u32, high: u32, word: &[u8]) -> Result<u32, NotRead>
     ensures { ReadsPlain (if is_in_form letter word.now then numbered_fault low high word.now else Some 8)
         (λ n. (low ≤ n) × (n ≤ high)) (λ n. letter ∷ decimal n) result word.now }
@@ -120,21 +120,21 @@ fn numbered(letter: u8, low: u32, high: u32, word: &[u8]) -> Result<u32, NotRead
     number_in(low, high, &word[1..])
 }
 
-/// A value register, as its number.
+/// The number of a value register, such as 3 for `v3`.
 pub fn value_in(word: &[u8]) -> Result<u32, NotRead>
     ensures { ReadsPlain (register_fault 118 word.now) IsNumber value_register result word.now }
 {
     numbered(b'v', 0, 255, word)
 }
 
-/// A record register, as its number.
+/// The number of a record register, such as 3 for `r3`.
 pub fn record_in(word: &[u8]) -> Result<u32, NotRead>
     ensures { ReadsPlain (register_fault 114 word.now) IsNumber record_register result word.now }
 {
     numbered(b'r', 0, 255, word)
 }
 
-/// The name of a loop, of which only this one may stand here.
+/// The number in a loop's name. Fault 11 if it isn't `name`, the only one that is allowed at this place.
 pub fn name_in(name: u64, word: &[u8]) -> Result<u32, NotRead>
     ensures { ReadsPlain (name_fault name word.now) (λ n. (n ≡ name) × IsLoopName n) loop_name result word.now }
 {
@@ -164,7 +164,7 @@ fn fixed_record(word: &[u8]) -> Option<Rec>
     }
 }
 
-/// A record that is read: a register, a loop's name or a record of the kind.
+/// A record that is read: a register, a loop's name, or a record that the function's kind provides, such as `in`.
 pub fn operand_in(word: &[u8]) -> Result<Rec, NotRead>
     ensures { ReadsPlain (operand_fault word.now) IsSpelledRecord record_word result word.now }
 {
@@ -177,16 +177,16 @@ pub fn operand_in(word: &[u8]) -> Result<Rec, NotRead>
     Ok(Rec::Loop(numbered(b'x', 1, 64, word)?))
 }
 
-/// How a statement tells the field of a record.
+/// How a statement names the field of a record.
 #[derive(Clone, Copy, Debug, PartialEq, Eq)]
 pub enum FieldWord {
     /// By its number.
     Number(u32),
-    /// By the value register that has its number.
+    /// By the value register that holds its number.
     Register(u32),
 }
 
-/// The field of a record: its number, or a value register behind `@` where fields may be taken from registers.
+/// The field of a record: its number, or `@` and a value register if `registers` is true.
 pub fn field_in(registers: bool, word: &[u8]) -> Result<FieldWord, NotRead>
     ensures { ReadsPlain (field_fault registers word.now) (IsSpelledField registers) field_text result word.now }
 {

@@ -1,4 +1,4 @@
-//! One line of a text, read as its words, one behind the other.
+//! Reads one line of a text into its words, from left to right.
 
 ghost use Rattle.std.specs.Prelude.{◌≡◌, ◌<◌, ◌≤◌, ◌∷◌, List, ℕ, IfNone, IfOk, IfSome, None, Some, length, false, IfErr, IsUtf8};
 ghost use Rattle.std.specs.Bool.{OnFalse, OnTrue};
@@ -20,7 +20,7 @@ fn ends_word(byte: u8) -> bool
     matches!(byte, b' ' | b'\t' | b'#')
 }
 
-// What a byte behind a backslash stands for.
+// The byte that an escape denotes, by the byte after its backslash.
 fn meaning(byte: u8) -> Option<u8>
     ensures { result ≡ escaped_byte byte }
 {
@@ -34,7 +34,7 @@ fn meaning(byte: u8) -> Option<u8>
     }
 }
 
-// What stands behind the blanks that a line begins with.
+// The line after its leading blanks.
 fn behind_gap(line: &[u8]) -> &[u8]
     ensures { result.now ≡ reading.behind_gap line.now }
 {
@@ -67,7 +67,7 @@ fn plain_byte(line: &[u8]) -> Option<(u8, &[u8])>
     }
 }
 
-// The next byte that a literal stands for, and what follows its spelling.
+// The next byte that a literal denotes, and what follows that byte's spelling.
 fn literal_byte(line: &[u8]) -> Option<(u8, &[u8])>
     ensures some { IfSome result (λ r. literal_byte line.now ≡ Some (r.0, r.1.now)) }
     ensures none { IfNone result (literal_byte line.now ≡ None) }
@@ -97,7 +97,7 @@ fn next_byte(is_literal: bool, line: &[u8]) -> Option<(u8, &[u8])>
     }
 }
 
-// As many bytes of a word as there are, and what follows them.
+// The longest run of bytes of a word, and what follows it.
 fn word_bytes(alloc: Global, is_literal: bool, line: &[u8]) -> Result<(Bytes, &[u8]), OutOfMemory>
     ensures bytes { IfOk result (λ r. Chain (IsByte is_literal) line.now r.0 r.1.now) }
     ensures no_more { IfOk result (λ r. byte_at is_literal r.1.now ≡ None) }
@@ -113,7 +113,7 @@ fn word_bytes(alloc: Global, is_literal: bool, line: &[u8]) -> Result<(Bytes, &[
     }
 }
 
-// What stands behind a literal's closing quotation mark.
+// The line after a literal's closing quotation mark, if a word may end there.
 fn behind_literal(line: &[u8]) -> Option<&[u8]>
     ensures some { IfSome result (λ rest. (line.now ≡ 34 ∷ rest.now) × IsWordEnd rest.now) }
     ensures none { IfNone result ((rest : List ℕ) → line.now ≡ 34 ∷ rest → IsWordStart rest) }
@@ -124,7 +124,7 @@ fn behind_literal(line: &[u8]) -> Option<&[u8]>
     }
 }
 
-// The word that a line begins with, and what stands behind it.
+// The word that a line begins with, and what follows it.
 fn next_word(alloc: Global, line: &[u8]) -> Result<Option<(LineWord, &[u8])>, OutOfMemory>
     requires { IsWordStart line.now }
     ensures word { IfOk result (λ found. IfSome found (λ r. IsWordAt line.now r.0 r.1.now)) }
@@ -149,7 +149,7 @@ fn scan(alloc: Global, line: &[u8]) -> Result<Option<LineWords>, OutOfMemory>
     let mut rest = line;
     loop {
         let next = behind_gap(rest);
-        // behind blanks that is the line's end or a comment
+        // After blanks, this is the line's end or a comment.
         if is_word_end(next) {
             return Ok(Some(words));
         }
@@ -168,16 +168,16 @@ fn is_garbled(line: &[u8]) -> bool
     str::from_utf8(line).is_err() || line.contains(&b'\r')
 }
 
-/// The words of a line, whose own line end is cut off. Fault 1: the line isn't UTF-8, or has a carriage return.
-/// Fault 2: a literal of it isn't closed, has an escape that there isn't, is too long, or is followed by neither a
-/// blank nor a comment.
+/// The words of a line, which is given without its line end. Fault 1: the line isn't UTF-8, or has a carriage return.
+/// Fault 2: a literal isn't closed, has an unknown escape, is longer than `MAX_TEXT` bytes, or is followed by something
+/// other than a blank or a comment.
 pub fn read_words(alloc: Global, line: &[u8]) -> Result<LineWords, NotRead>
     ensures words { IfOk result (λ words. IsLine line.now words) }
     ensures fault { IfErr result (λ e. HasCause e line.now) }
     ensures words_always { (words : List LineWord) → IsLine line.now words → GivesWords result words }
     ensures fault_always { (what : ℕ) → HasLineFault what line.now → TellsFault result what }
 
-    // What is read can be written, and what is written is read back.
+    // The words can be written again, and a canonical line is read back as its words.
     ensures writable { IfOk result (λ words. AreLineWords words) }
     ensures canonical { (depth : ℕ) (words : List LineWord) → AreLineWords words → line.now ≡ canonical_line depth words
         → GivesWords result words }

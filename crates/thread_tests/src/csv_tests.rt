@@ -1,4 +1,4 @@
-//! Texts of sources read in parts, beside the read by one thread.
+//! Texts of sources read in parts, compared with the read by one thread.
 
 ghost use Rattle.std.specs.Prelude.{◌≤◌, ◌<◌, length, IfOk};
 ghost use Rattle.std.specs.List.{AllByRecursion};
@@ -28,7 +28,7 @@ fn columns_of(alloc: Global) -> Result<Columns, OutOfMemory>
     Ok(columns)
 }
 
-// What a read of a text came to, and another one.
+// The result of a read of a text, and how it compares with another one.
 #[derive(Clone, Copy, PartialEq)]
 enum Outcome {
     SameRows,
@@ -61,7 +61,7 @@ fn compare(one: &Result<Rows, BadRow>, other: &Result<Rows, BadRow>) -> Outcome 
     }
 }
 
-// What all reads of the text came to, by one thread and in each number of parts from 0 to `most`.
+// The result of all reads of the text, by one thread and in each number of parts from 0 to `most`.
 fn outcome_of<R: Threads + Sync>(
     rt: &R,
     alloc: Global,
@@ -158,7 +158,8 @@ const INSERTED: &[&[u8]] = &[
     b"\xEF\xBB\xBF",
 ];
 
-// Whether parts have what the whole text has, wherever these bytes are inserted, at the text's end too.
+// Whether the parts have what the whole text has, for every place at which these bytes are inserted, including the
+// text's end.
 fn same_everywhere<R: Threads + Sync>(
     rt: &R,
     alloc: Global,
@@ -186,7 +187,7 @@ fn quotes_line_ends_and_marks_may_be_anywhere(rt: HostRuntime) -> Result<(), Fai
 
 const ROWS: u64 = 24;
 
-// A text with this number of rows, of which one has a field too few.
+// A text with this number of rows, one of which has a field too few.
 fn with_bad_row(alloc: Global, bad: u64) -> Result<Vec<u8>, Fail> {
     let mut text = Vec::new(alloc);
     for row in 0..ROWS {

@@ -1,4 +1,4 @@
-//! Gates and flags, of which no contract says what they answer.
+//! Gates and flags. No contract says what they return.
 
 use std::sync::Wait;
 use std::test::Fail;
@@ -37,7 +37,7 @@ fn flags_tell_who_has_started_and_left(rt: HostRuntime) -> Result<(), Fail> {
     Ok(())
 }
 
-// How often a thread naps for a tenth of a millisecond while worker 0 is before its event at this gate.
+// How often a thread naps for a tenth of a millisecond while worker 0 waits at this gate before its event.
 fn naps_beside<R: Threads + Wait + Sync>(rt: &R, gate: &HoldGate) -> u32 {
     let meeting = MeetGate::new(2, 10_000_000);
     let flags = Flags::new(2);
@@ -62,7 +62,7 @@ fn naps_beside<R: Threads + Wait + Sync>(rt: &R, gate: &HoldGate) -> u32 {
     naps
 }
 
-// In how many of ten tries it naps twenty times at least.
+// In how many of ten tries the thread naps at least twenty times.
 fn long_waits<R: Threads + Wait + Sync>(rt: &R, gate: &HoldGate) -> u32 {
     let mut long = 0u32;
     for _ in 0..10u32 {
@@ -73,8 +73,8 @@ fn long_waits<R: Threads + Wait + Sync>(rt: &R, gate: &HoldGate) -> u32 {
     long
 }
 
-// Fifty million turns take a tenth of a second at least. A machine that is busy may hold back a thread that isn't to be
-// held, or one that is to nap, but not most times.
+// Fifty million turns take at least a tenth of a second. A busy machine may delay a thread that the gate doesn't hold,
+// or one that should nap, but not in most tries.
 #[test]
 fn a_gate_holds_its_own_worker_alone(rt: HostRuntime) -> Result<(), Fail> {
     assert!(rt; long_waits(&rt, &HoldGate::new(0, 50_000_000)) > 5);

@@ -1,9 +1,12 @@
-//! Tests of pipes, gates, runs, reads and lines on threads, over what the libraries make public: what a pipe holds and in
-//! which order it gives it, what gates and flags answer, that a run on threads gives what the run on one thread and the
-//! plain evaluation give, that a source read in parts has the rows, or the first bad row, that a read by one thread
-//! reports, and that lines made in parts are those that one thread makes.
+//! Tests of pipes, gates, runs, reads and lines on threads, over what the libraries make public.
 //!
-//! `programs` makes programs and the rows of their sources of texts, and `outcomes` compares what runs gave.
+//! - What a pipe holds, and in which order it gives it.
+//! - What gates and flags return.
+//! - A run on threads gives what the run on one thread and the plain evaluation give.
+//! - A source read in parts has the rows, or the first bad row, that a read by one thread reports.
+//! - Lines made in parts are those that one thread makes.
+//!
+//! `programs` makes programs and the rows of their sources from texts, and `outcomes` compares what runs gave.
 #![tactic(auto)]
 
 #[cfg(test)]

@@ -1,4 +1,5 @@
-//! Lines made in parts, beside those that one thread makes; and rows that are sorted, projected and written whole.
+//! Lines made in parts, compared with those that one thread makes; and rows that are sorted, projected and written
+//! whole.
 
 ghost use Rattle.std.specs.Prelude.{◌≡◌, ◌<◌, ◌∷◌, [], length, IfOk};
 ghost use Rattle.std.specs.List.{AllByRecursion};

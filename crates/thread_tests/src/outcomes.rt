@@ -1,4 +1,4 @@
-//! What runs gave, beside each other.
+//! Comparisons of what runs gave.
 
 use pact_bag::{Counts, Outcome, Rows};
 use std::test::Fail;

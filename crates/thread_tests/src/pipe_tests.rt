@@ -11,7 +11,8 @@ use std::marker::Brand;
 use std::sync::Wait;
 use std::test::Fail;
 
-// Every third note is a batch, of one record without values, and the others are end marks, so that notes in another order are told apart.
+// Every third note is a batch of one record without values, and the others are end marks. So notes in another order can
+// be distinguished.
 fn note(alloc: Global, number: u32) -> Result<Note, Fail>
     ensures { IfOk result (IsNote 0) }
 {
@@ -27,7 +28,7 @@ fn is_batch(note: &Note) -> bool {
     matches!(note, Note::Batch(_))
 }
 
-// A pipe for one note, to which a second one doesn't go.
+// A pipe holds one note, and refuses a second one.
 fn holds_one<R: Wait>(rt: &R, alloc: Global) -> Result<bool, Fail> {
     let (pipe, mut put, mut take) = pipe::<Brand, R>(rt, alloc, 1)?;
     if pipe.put(rt, &mut put, note(alloc, 0)?).is_err() {
@@ -54,7 +55,7 @@ fn holds_one<R: Wait>(rt: &R, alloc: Global) -> Result<bool, Fail> {
 
 const DEPTH: u32 = 4;
 
-// Fills and drains a pipe in turns, with so many events in all. Whether each note came out where it should.
+// Fills and drains a pipe in turns, with `events` events in all. True if each note came out in its place.
 fn keeps_order<R: Wait>(rt: &R, alloc: Global, events: u32) -> Result<bool, Fail> {
     let (pipe, mut put, mut take) = pipe::<Brand, R>(rt, alloc, DEPTH)?;
     for n in 0..events {

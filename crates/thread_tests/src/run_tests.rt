@@ -1,4 +1,4 @@
-//! Runs on threads, beside the run on one thread and the plain evaluation.
+//! Runs on threads, compared with the run on one thread and the plain evaluation.
 
 ghost use Rattle.std.specs.Prelude.{◌≤◌};
 ghost use Rattle.plan_trees.specs.Physicals.{worker_limit};
@@ -112,7 +112,7 @@ enum Way<'a> {
     Picks(&'a [u32]),
 }
 
-// What a run and the evaluation give, where the numbers are within their limits.
+// What a run and the plain evaluation give. The numbers are within their limits.
 fn outcomes<L: Local, R: Threads + Wait + Sync, G: Gate>(
     rt: &R,
     alloc: Global,
@@ -130,7 +130,7 @@ fn outcomes<L: Local, R: Threads + Wait + Sync, G: Gate>(
     let inputs = inputs(alloc, &program, rows)?;
     let _some = layouts(&program, program.plan());
     let physical = layout(&program, program.plan(), 0, options.workers);
-    // a layout tells for how many workers it is
+    // `workers` makes it known that `physical` is a layout, and for how many workers.
     let workers = physical.workers();
     let options = Options { workers, ..options };
     let (batch, depth) = (options.batch, options.depth);
@@ -166,7 +166,7 @@ fn agrees<L: Local, R: Threads + Wait + Sync, G: Gate>(
     same_outcomes(found, wanted)
 }
 
-// Whether runs of each kind of operator agree, and of several.
+// Whether runs of each kind of operator agree with the evaluation, and a run of several operators.
 fn all_agree<R: Threads + Wait + Sync>(
     rt: &R,
     alloc: Global,
@@ -198,7 +198,7 @@ fn all_agree<R: Threads + Wait + Sync>(
     )
 }
 
-// The same for few workers and many, small batches and pipes and large ones.
+// Whether all of these runs agree, for few workers and many, and for small and large batches and pipes.
 fn agree_in_all_sizes<R: Threads + Wait + Sync>(
     rt: &R,
     alloc: Global,
@@ -230,12 +230,12 @@ fn runs_in_turn_give_what_the_evaluation_gives(rt: HostRuntime) -> Result<(), Fa
     Ok(())
 }
 
-// The number behind a number.
+// The number after a number, in a fixed sequence.
 fn stepped(x: u32) -> u32 {
     ((u64::from(x) * 48_271 + 1) % 2_147_483_647) as u32
 }
 
-// So many numbers, each of which the one before it tells.
+// The next `count` numbers of the sequence after `seed`.
 fn numbers(alloc: Global, seed: u32, count: usize) -> Result<Vec<u32>, Fail> {
     let mut numbers = Vec::new(alloc);
     let mut x = seed;
@@ -270,12 +270,12 @@ pub fn picked_alike(alloc: Global, text: &str, rows: &[&str]) -> Result<bool, Fa
     Ok(true)
 }
 
-// The same number so often.
+// `count` times the same number.
 fn repeated(alloc: Global, number: u32, count: usize) -> Result<Vec<u32>, Fail> {
     Ok(vec![in alloc; number; count]?)
 }
 
-// Numbers that pick events: none, the first event each time, the last one, and any.
+// Numbers that pick events: none, the first event each time, the last one each time, and any.
 fn schedules(alloc: Global) -> Result<[Vec<u32>; 4], Fail> {
     Ok([
         Vec::new(alloc),
@@ -294,7 +294,7 @@ fn thousand(alloc: Global) -> Result<String, Fail> {
     Ok(text)
 }
 
-// Whether the one row tells their sum.
+// Whether the only row has their sum.
 fn tells_sum(found: &Outcome) -> bool {
     let rows = found.rows.rows();
     rows.len() == 1
@@ -304,7 +304,7 @@ fn tells_sum(found: &Outcome) -> bool {
         )
 }
 
-// Whether sixteen workers, of whom one gets all records, find the sum of a thousand.
+// Whether sixteen workers, of which one gets all records, find the sum of a thousand rows.
 fn sums_thousand<R: Threads + Wait + Sync, G: Gate>(
     rt: &R,
     alloc: Global,
@@ -341,7 +341,7 @@ fn every_schedule_gives_one_sum(rt: HostRuntime) -> Result<(), Fail> {
     Ok(())
 }
 
-// Whether sixteen workers sum three rows, whichever strategy keeps the records.
+// Whether sixteen workers sum three rows, with either strategy for keeping the records.
 fn sums_three<R: Threads + Wait + Sync, G: Gate>(
     rt: &R,
     alloc: Global,
@@ -372,7 +372,7 @@ fn both_strategies_sum_by_every_schedule(rt: HostRuntime) -> Result<(), Fail> {
     Ok(())
 }
 
-// Whether the sums by workers who hand over one record at a time are those of one thread.
+// Whether the sums by workers that hand over one record at a time are those of one thread.
 fn sums_agree<R: Threads + Wait + Sync, G: Gate>(
     rt: &R,
     alloc: Global,
@@ -419,7 +419,7 @@ fn each_of_four_workers_ends_its_own_instances(rt: HostRuntime) -> Result<(), Fa
     Ok(())
 }
 
-// Holds whoever comes with this event for so many turns.
+// Holds the worker that comes with the event of this number for `turns` turns.
 #[derive(Drop)]
 struct StopGate {
     event: u64,
@@ -483,7 +483,7 @@ fn a_worker_that_is_held_back_changes_no_answer(rt: HostRuntime) -> Result<(), F
     Ok(())
 }
 
-// Notes which workers had an event, and whether one had an event after a later worker's.
+// Keeps track of which workers had an event, and whether one had an event after a later worker's.
 #[derive(Drop)]
 struct OrderGate {
     last: AtomicU64,

@@ -1,4 +1,4 @@
-//! What workers tell each other.
+//! What workers report to each other.
 
 use crossbeam_utils::CachePadded;
 use std::sync::Wait;
@@ -14,7 +14,7 @@ pub struct Flags {
 }
 
 impl Flags {
-    /// For so many workers, of whom none has started or left.
+    /// Flags for this number of workers, none of which has started or left.
     pub fn new(workers: u32) -> Flags {
         Flags {
             workers,
@@ -23,18 +23,19 @@ impl Flags {
         }
     }
 
-    /// One worker more has started. Each calls it once.
+    /// One more worker has started. Each worker calls it once.
     pub fn start(&self) {
         self.started.fetch_add(1, Ordering::SeqCst);
     }
 
-    /// A worker leaves unfinished. Those that nap are woken.
+    /// A worker leaves unfinished. This wakes those that nap.
     pub fn leave(&self) {
         self.gone.store(1, Ordering::SeqCst);
         self.gone.wake_all();
     }
 
-    /// Leaves the processor to other threads for about that long, or until a worker leaves unfinished. It may return at once.
+    /// Leaves the processor to other threads for about that time, or until a worker leaves unfinished. It may return at
+    /// once.
     pub fn nap<R: Wait>(&self, rt: &R, time: Duration) {
         self.gone.park_timeout(rt, 0, time);
     }

@@ -1,6 +1,6 @@
 //! What a worker calls before each of its events.
 
-/// What kind of event comes.
+/// The kind of the event that comes next.
 #[derive(Clone, Copy, Debug, PartialEq, Eq)]
 pub enum Act {
     /// A note is put.
@@ -13,8 +13,8 @@ pub enum Act {
 
 /// A place at which workers can be held.
 pub trait Gate: Sync {
-    /// Called before every event, on the thread of the worker whose event it is, and also before a put or a take that then finds its pipe full or empty.
-    /// It may take a while, but always returns, and tells nothing.
+    /// Called before every event, on the thread of the event's worker, and also before a put or a take that then finds
+    /// its pipe full or empty. It may take a while, but it always returns, and it returns nothing.
     fn before(&self, worker: u32, act: Act);
 }
 

@@ -3,7 +3,8 @@
 use crate::gates::{Act, Gate};
 use std::hint;
 
-/// At this gate one worker counts so many turns before each of its events, and every other goes on at once. It waits for nobody and keeps no account.
+/// This gate makes one worker spin for a number of turns before each of its events, and lets every other worker go on
+/// at once. It waits for no other worker and keeps no record.
 #[derive(Drop)]
 pub struct HoldGate {
     worker: u32,
@@ -11,8 +12,8 @@ pub struct HoldGate {
 }
 
 impl HoldGate {
-    /// A gate for the worker with that number; one that no worker has holds nobody. In a turn the worker's processor is told that it spins: the
-    /// thread isn't yielded.
+    /// A gate for the worker with that number; if no worker has it, the gate holds nobody. In each turn the processor
+    /// is given a spin hint; the thread isn't yielded.
     pub fn new(worker: u32, turns: u64) -> HoldGate {
         HoldGate { worker, turns }
     }

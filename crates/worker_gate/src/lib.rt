@@ -1,8 +1,9 @@
-//! Gates at which workers can be held, and the flags by which workers tell each other that they have started or left.
+//! Gates at which workers can be held, and the flags by which workers report that they have started or left.
 //!
-//! A worker calls a `Gate` before each of its events; with `OpenGate` it goes on at once, `MeetGate` makes all workers meet at their first event, and
-//! `HoldGate` holds one of them back. A gate tells a worker nothing. What an atomic holds no contract here says: the answers of `MeetGate` and of `Flags`
-//! are tested, not proved, and no promise of a run rests on them. Nothing here takes memory.
+//! A worker calls a `Gate` before each of its events. With `OpenGate` it goes on at once, `MeetGate` makes all workers
+//! meet at their first event, and `HoldGate` holds one of them back. A gate returns nothing to a worker. No contract
+//! here says what an atomic holds: the results of `MeetGate` and of `Flags` are tested, not proved, and no promise
+//! about a run depends on them. Nothing here takes memory.
 #![tactic(auto)]
 
 mod flags;

@@ -6,7 +6,8 @@ use crate::gates::{Act, Gate};
 use std::sync::atomic::{AtomicU64, Ordering};
 use std::thread;
 
-/// At this gate each worker's first event waits until every worker has reached its first event, or until so many turns are over.
+/// At this gate each worker's first event waits until every worker has reached its first event, or until a number of
+/// turns is over.
 #[derive(Drop)]
 pub struct MeetGate {
     // A bit for each worker.
@@ -18,13 +19,13 @@ pub struct MeetGate {
     ends: [AtomicU64; 16],
 }
 
-// A worker's bit. There are at most 16 workers, and a number beyond them has none.
+// A worker's bit. There are at most 16 workers, and a number of 16 or more has no bit.
 fn bit_of(worker: u32) -> u64 {
     if worker < 16 { 1u64 << worker } else { 0 }
 }
 
 impl MeetGate {
-    /// A gate to which nobody has come. In a turn a waiting worker looks once for the others and yields.
+    /// A gate to which no worker has come. In each turn a waiting worker checks once for the others and yields.
     pub fn new(workers: u32, turns: u64) -> MeetGate
         requires { (1 ≤ workers) × (workers ≤ 16) }
     {
@@ -57,13 +58,15 @@ impl MeetGate {
         }
     }
 
-    /// Whether every worker saw all the others at its first event, so that all of them were at work at once. It is what the atomics hold when it is
-    /// asked, and nothing is promised of it: ask when the workers have returned.
+    /// Whether every worker saw all the others at its first event, so that all of them were at work at once. It reads
+    /// the atomics at the time of the call, and no contract says anything about it: call it after the workers have
+    /// returned.
     pub fn met(&self) -> bool {
         self.has_all(&self.saw)
     }
 
-    /// How often the gate was called for the worker with `Act::End`; 0 for a number of 16 or more. Nothing is promised of it either.
+    /// How often the gate was called for the worker with `Act::End`; 0 for a number of 16 or more. No contract says
+    /// anything about it either.
     pub fn ends(&self, worker: u32) -> u64 {
         match self.ends.get(worker as usize) {
             Some(count) => count.load(Ordering::SeqCst),

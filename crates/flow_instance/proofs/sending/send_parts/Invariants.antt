@@ -5,7 +5,7 @@ use Rattle.plan_trees.specs.declared.physicals.Ship.TheVariants.{Partition}
 use Rattle.flow_instance.specs.Sending.{AreFew, AreSentSoFar, IsSplit, IsTurn}
 use Rattle.flow_instance.proofs.sending.send_parts.Given as goal
 
--- the parts of the receivers whose turn comes are the ones that were handed in
+-- the parts of the receivers that still have a turn are unchanged
 abbrev pub invariant-loop-n : goal.invariant-loop-n
 invariant-loop-n l =
     ((fields : ℕ) (keys : List ℕ) (rows : Bag) → AreWide fields rows → IsSplit keys l.workers rows l.fn.parts.items → AreSentSoFar fields l.workers (Partition keys) l.from l.n rows l.queue.items)

@@ -17,6 +17,6 @@ returns-clause-goes g c =
     let out = c.put_end-put.ensures.out in
     let whole = ap notes_in (sym c.put_end-put.ensures.end) ∙ c.in_ok-notes.ensures
     ∙ ap (λ (o : Option AnEnd). notes_in o ++ c.in_ok-notes.notes.items) (c.take_end-take.ensures.end ∙ out.takes id.edge id.from id.to) in
-    on_ok_weaker c.push.result
-    (λ done. goes_closed c.args.pipes.now c.take.new.self ws last c.args.lists.now c.push.new.self id c.in-Some.pipe c.in_ok-notes.notes.items c.take.ensures.changed (sym c.take.ensures.found ∙ c.in-Some.is) c.requires
-    (both_out ws mid last id.edge id.from id.to out c.take_end-take.ensures.out) whole done) c.push.ensures.ok
+    on_ok_weaker c.list_left.result
+    (λ done. goes_closed c.args.pipes.now c.take.new.self ws last c.args.lists.now c.list_left.new.lists id c.in-Some.pipe c.in_ok-notes.notes.items c.take.ensures.changed (sym c.take.ensures.found ∙ c.in-Some.is) c.requires
+    (both_out ws mid last id.edge id.from id.to out c.take_end-take.ensures.out) whole done) c.list_left.ensures

@@ -1,6 +1,6 @@
 use Rattle.std.proofs.Common.{refl}
 use Rattle.std.proofs.lemmas.Result.{err_from_is_err_and}
-use Rattle.pact_top.proofs.DecidedStages.{file-NamesDiffer}
+use Rattle.pact_load.proofs.DecidedLoading.{file-NamesDiffer}
 use Rattle.pact_top.proofs.CommandsRun.{check_certificate, check_program, check_refused, check_told}
 use Rattle.pact_top.proofs.answering.check.Goals as goal
 

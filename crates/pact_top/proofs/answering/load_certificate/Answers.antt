@@ -1,6 +1,6 @@
 use Rattle.std.proofs.lemmas.Result.{err_from_is_err_and}
 use Rattle.pact_top.specs.Work.{certificate}
-use Rattle.pact_top.proofs.AnswersOfStages.{comes_decided, comes_err}
+use Rattle.pact_load.proofs.AnswersOfStages.{comes_decided, comes_err}
 use Rattle.pact_top.proofs.answering.load_certificate.Goals as goal
 
 pub returns-in_err-text : goal.returns-in_err-text

@@ -1,7 +1,8 @@
 use Rattle.std.proofs.lemmas.Result.{err_from_is_err_and}
 use Rattle.pact_top.specs.CommandTexts.{to_show}
-use Rattle.pact_top.specs.Work.{loaded}
-use Rattle.pact_top.proofs.CommandsRun.{is_loaded, made_err, made_texts}
+use Rattle.pact_load.specs.Loading.{loaded}
+use Rattle.pact_load.proofs.ProgramsLoaded.{is_loaded}
+use Rattle.pact_top.proofs.CommandsRun.{made_err, made_texts}
 use Rattle.pact_top.proofs.answering.plan.Goals as goal
 
 pub returns-in_err-loaded : goal.returns-in_err-loaded

@@ -1,7 +1,7 @@
 use Rattle.std.proofs.Common.{refl}
 use Rattle.std.proofs.lemmas.Result.{err_from_is_err_and}
 use Rattle.pact_top.specs.CommandTexts.{to_analyse}
-use Rattle.pact_top.specs.Work.{program_file}
+use Rattle.pact_load.specs.Loading.{program_file}
 use Rattle.pact_top.proofs.CommandsRun.{made_err, made_texts}
 use Rattle.pact_top.proofs.answering.sets.Goals as goal
 

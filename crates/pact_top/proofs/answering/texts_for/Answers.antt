@@ -2,7 +2,7 @@ use Rattle.std.proofs.Common.{◌≡◌, sym, ap, ◌∙◌}
 use Rattle.pact_words.specs.Words.{asked, to_certify, to_check, to_drill, to_generate, to_iterate, to_plan, to_run, to_tell_sets}
 use Rattle.pact_top.specs.CommandTexts.{to_make, to_sum_up}
 use Rattle.pact_top.specs.Work.{at_once}
-use Rattle.pact_top.proofs.AnswersOfStages.{comes_alone}
+use Rattle.pact_load.proofs.AnswersOfStages.{comes_alone}
 use Rattle.pact_top.proofs.answering.texts_for.Goals as goal
 
 pub returns-in-Run : goal.returns-in-Run

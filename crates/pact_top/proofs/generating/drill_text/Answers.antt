@@ -3,7 +3,7 @@ use Rattle.std.proofs.lemmas.Result.{IfOk-weaker}
 use Rattle.drill_program.proofs.DrillRows.{are_inputs}
 use Rattle.pact_operators.specs.Inputs.{AreInputsOf}
 use Rattle.pact_top.specs.CommandTexts.{IsRun}
-use Rattle.pact_top.specs.declared.loaded.Loaded.{Loaded}
+use Rattle.pact_load.specs.declared.loaded.Loaded.{Loaded}
 use Rattle.pact_top.proofs.Drills.{is_drill_text}
 use Rattle.pact_top.proofs.RunPlans.{run-AreWide}
 use Rattle.pact_top.proofs.generating.drill_text.Goals as goal

@@ -3,7 +3,7 @@ use Rattle.std.proofs.lemmas.Result.{IfOk-weaker}
 use Rattle.plan_printer.specs.FoundText.{found_text}
 use Rattle.plan_printer.proofs.plans.push_findings.Goals as goal
 
--- over any texts, so that nothing goes into what is found
+-- stated for any texts, so that the proof doesn't unfold the text of the findings
 two_lines : (text first second all a b c d end : List ℕ) → first ≡ text ++ (a ++ b) → second ≡ first ++ (c ++ d) → all ≡ second ++ end
     → all ≡ text ++ (a ++ (b ++ (c ++ (d ++ end))))
 two_lines text first second all a b c d end e f g =

@@ -6,7 +6,7 @@ use Rattle.plan_printer.specs.FoundText.{found_text}
 use Rattle.plan_printer.specs.PlanText.{operator_name}
 use Rattle.plan_printer.proofs.plans.push_step.Goals as goal
 
--- over any texts, so that nothing goes into what is found
+-- stated for any texts, so that the proof doesn't unfold the text of the findings
 findings_behind : (text first all a b c d e f name rest : List ℕ) → f ≡ name → first ≡ text ++ (a ++ (b ++ (c ++ (d ++ (e ++ f))))) → all ≡ first ++ rest
     → all ≡ text ++ (a ++ (b ++ (c ++ (d ++ (e ++ (name ++ rest))))))
 findings_behind text first all a b c d e f name rest same h k =

@@ -5,7 +5,7 @@ use Rattle.reorder_pair.specs.declared.legality.Condition.{Condition}
 use Rattle.plan_printer.specs.PlanText.{step_text, steps_text}
 use Rattle.plan_printer.proofs.plans.push_steps.Goals as goal
 
--- one exchange more
+-- one more exchange
 steps_text-next : (p : ProgramData) (steps : List Condition) (n : ℕ) (step : Condition) (text next whole : List ℕ) → n < length steps → step ≡ get_or steps n step
     → next ≡ text ++ step_text p (n + 1) step → text ++ steps_text p (n + 1) (drop n steps) ≡ whole → next ++ steps_text p (n + 1 + 1) (drop (n + 1) steps) ≡ whole
 steps_text-next p steps n step text next whole within is more so_far =

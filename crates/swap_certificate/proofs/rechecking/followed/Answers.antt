@@ -31,7 +31,7 @@ returns-in-Err-clause-checked c memory =
     followed-fault c.args.program.now c.args.c.now c.steps-step-items.result.now c.steps-step-items.ensures at.step-index at.number at.plan at.invariant.0
     c.step-item.result c.step-item.is c.loop-step-test.true c.in-Err.fault (c.in-Err.ensures.step memory)
 
--- ---- behind the last step
+-- ---- after the last step
 
 pub returns-then-is_line-clause-checked : goal.returns-then-is_line-clause-checked
 returns-then-is_line-clause-checked c memory =

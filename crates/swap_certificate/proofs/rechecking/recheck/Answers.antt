@@ -17,7 +17,7 @@ returns-then-not-is_version-clause-checked c memory =
 pub returns-then-not-is_version-clause-only : goal.returns-then-not-is_version-clause-only
 returns-then-not-is_version-clause-only c other h = checked-one c.args.program.now c.requires.names c.args.c.now _ other (returns-then-not-is_version-clause-checked c) h
 
--- ---- the same
+-- ---- the same version
 
 pub returns-clause-checked : goal.returns-clause-checked
 returns-clause-checked c memory = inr (c.is_version.ensures.0 c.if-not-is_version.false, c.followed.ensures.checked memory)

@@ -1,4 +1,4 @@
--- Two texts in a row are UTF-8, and the test has shown that they aren't too many bytes.
+-- Two texts in a row are UTF-8, and the test has shown that they aren't too long.
 use Rattle.std.proofs.Common.{◌≡◌, ◌∙◌, ◌≤◌, ◌++◌, IsUtf8, ap, subst, sym, arith, length}
 use Rattle.std.proofs.lemmas.List.{length-append}
 use Rattle.std.proofs.lemmas.Str.{IsUtf8-append}

@@ -1,0 +1,12 @@
+pub mod AnswersOfStages
+pub mod DecidedLoading
+pub mod FilesRead
+pub mod FilesInPieces
+pub mod MadePrograms
+pub mod NumberedTwice
+pub mod PartsRead
+pub mod ProgramsLoaded
+pub mod Sources
+pub mod SourcesByName
+pub mod StageLaws
+pub mod StagesOfItems

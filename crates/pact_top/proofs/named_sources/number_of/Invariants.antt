@@ -1,5 +1,0 @@
-use Rattle.pact_top.proofs.SourcesByName.{AreOthers}
-use Rattle.pact_top.proofs.named_sources.number_of.Given as goal
-
-abbrev pub invariant-loop-at : goal.invariant-loop-at
-invariant-loop-at l = AreOthers l.ops l.name l.at
