@@ -61,3 +61,21 @@ needs_the_c_library() { objdump -f ../release/pact_program >/dev/null 2>&1 && re
 if have objdump 'what the released program needs'; then
     count needs_the_c_library
 fi
+
+# What docs/installing.md shows puts the program, its page and its completions into a home of their own, and takes them away again.
+shown_under() { # a heading: its first block of commands
+    awk -v heading="## $1" '/^## / { inside = $0 == heading } /^```/ && shown { exit } shown; inside && /^```sh/ { shown = 1 }' ../docs/installing.md
+}
+home=$scratch/home
+mkdir "$home"
+follows() { [ -n "$(shown_under "$1")" ] && (cd .. && HOME=$home bash -e <(cd tests && shown_under "$1") >/dev/null 2>&1); }
+is_installed() {
+    cmp -s "$home/.local/bin/pact" ../release/pact_program && [ "$("$home/.local/bin/pact" gen 1 2 | wc -l)" = 2 ] &&
+        cmp -s "$home/.local/share/man/man1/pact.1" "$manual" && cmp -s "$home/.local/share/bash-completion/completions/pact" "$completions" &&
+        "$home/.local/bin/explain" 'function f: V3 at statement 2' </dev/null | grep -q '^explain: '
+}
+is_removed() { [ -z "$(find "$home" -type f -o -type l)" ]; }
+count follows Install
+count is_installed
+count follows Remove
+count is_removed
