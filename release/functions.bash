@@ -1,6 +1,7 @@
 # shellcheck shell=bash
 # What the launcher, the release and the gate share: which sources the program is made of, of which a program was made, and how one is built.
-# Whoever reads this in has set `root`, the top of the repository. A folder with a program holds `pact_program` and `built_of`, whose lines are
+# Whoever reads this in has set `root`, the top of the repository. A folder with a program NAME holds NAME and what it was built of, `built_of` for
+# `pact_program` and `NAME.built_of` for another one, whose lines are
 #   sources SUM       the checksum of the sources, as sum_of_sources has it
 #   toolchain LINE    what `rt version` prints
 #   program SUM       the checksum of the program
@@ -38,12 +39,12 @@ sum_of() {
     sum=$(sha256sum) && echo "${sum%% *}"
 }
 
-# The checksum over crates.txt, HANDLES and every file below src/, specs/ and proofs/ of those crates, with their names. The toolchain refuses links
-# there, so none is followed.
+# The checksum over crates.txt, HANDLES and every file below src/, specs/ and proofs/ of a program's crates, with their names. The toolchain refuses
+# links there, so none is followed.
 sum_of_sources() (
     cd "$root" || exit 1
     places=(crates.txt HANDLES)
-    for crate in $(crates_of pact_program); do
+    for crate in $(crates_of "${1:-pact_program}"); do
         for part in "crates/$crate"/{src,specs,proofs}; do
             [ ! -d "$part" ] || places+=("$part")
         done
@@ -53,20 +54,28 @@ sum_of_sources() (
 
 # ---- programs
 
-# What a folder's `built_of` has behind a word.
-built_of() {
-    sed -n "s/^$2 //p" "$1/built_of" 2>/dev/null
+# The file that says what a program was built of.
+record_of() {
+    case ${1:-pact_program} in
+    pact_program) echo built_of ;;
+    *) echo "$1.built_of" ;;
+    esac
 }
 
-# Puts a program into a folder, the sources having this checksum.
+# What that file of a folder has behind a word, of a program.
+built_of() {
+    sed -n "s/^$2 //p" "$1/$(record_of "${3-}")" 2>/dev/null
+}
+
+# Puts a program into a folder under a name, the sources having this checksum.
 put_program() {
-    local folder=$1 program=$2 sources=$3 toolchain
+    local folder=$1 program=$2 sources=$3 name=${4:-pact_program} toolchain
     trap 'rm -f "$folder/program.$$" "$folder/built_of.$$"' RETURN
     toolchain=$(rt version) && mkdir -p "$folder" && cp "$program" "$folder/program.$$" && chmod 755 "$folder/program.$$" || return 1
     printf '%s\n' "sources $sources" "toolchain $toolchain" "program $(sum_of <"$folder/program.$$")" \
         "size $(stat -c %s "$folder/program.$$")" >"$folder/built_of.$$" || return 1
     # Whoever looks between the two finds another checksum, and so no program.
-    mv -T "$folder/program.$$" "$folder/pact_program" && mv -T "$folder/built_of.$$" "$folder/built_of"
+    mv -T "$folder/program.$$" "$folder/$name" && mv -T "$folder/built_of.$$" "$folder/$(record_of "$name")"
 }
 
 # A number at a place of an ELF file: how many bytes it has, and where.
@@ -91,22 +100,25 @@ loaded_part() {
         tail -c +65 "$program" | head -c $((last - 64))
 }
 
-# Whether this machine can start the program, which without words tells the usage and ends with 2.
+# Whether this machine can start the program. Without words it prints what words it takes, and ends with 2, or with 0 if that is its answer.
 runs_here() {
     "$1" >/dev/null 2>&1
-    [ $? -eq 2 ]
+    case $? in
+    0 | 2) ;;
+    *) return 1 ;;
+    esac
 } 2>/dev/null
 
 # Why the program of a folder can't stand for the sources with this checksum; nothing, where it can.
 why_not() {
-    local folder=$1 sources=$2
-    if ! [ -f "$folder/pact_program" ] || ! [ -f "$folder/built_of" ]; then
+    local folder=$1 sources=$2 name=${3:-pact_program}
+    if ! [ -f "$folder/$name" ] || ! [ -f "$folder/$(record_of "$name")" ]; then
         echo 'is missing'
-    elif [ "$(built_of "$folder" sources)" != "$sources" ]; then
+    elif [ "$(built_of "$folder" sources "$name")" != "$sources" ]; then
         echo 'is of other sources'
-    elif [ "$(sum_of <"$folder/pact_program")" != "$(built_of "$folder" program)" ]; then
+    elif [ "$(sum_of <"$folder/$name")" != "$(built_of "$folder" program "$name")" ]; then
         echo 'is damaged'
-    elif ! runs_here "$folder/pact_program"; then
+    elif ! runs_here "$folder/$name"; then
         echo "doesn't run here (it is for Linux on x86-64 with the GNU C library, 2.34 or later, and has to be executable)"
     fi
 }

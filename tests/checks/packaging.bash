@@ -72,7 +72,7 @@ follows() { [ -n "$(shown_under "$1")" ] && (cd .. && HOME=$home bash -e <(cd te
 is_installed() {
     cmp -s "$home/.local/bin/pact" ../release/pact_program && [ "$("$home/.local/bin/pact" gen 1 2 | wc -l)" = 2 ] &&
         cmp -s "$home/.local/share/man/man1/pact.1" "$manual" && cmp -s "$home/.local/share/bash-completion/completions/pact" "$completions" &&
-        "$home/.local/bin/explain" 'function f: V3 at statement 2' </dev/null | grep -q '^explain: '
+        "$home/.local/bin/explain" 'function f: V3 at statement 2' 2>&1 </dev/null | grep -q '^explain: '
 }
 is_removed() { [ -z "$(find "$home" -type f -o -type l)" ]; }
 count follows Install

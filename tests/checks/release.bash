@@ -49,3 +49,15 @@ fails_to_make() { ! make_release "$1"; }
 count fails_to_make "$tree/crates.txt"
 count fails_to_make "$tree/none"
 count checked 1 'release: the released program is missing'
+# another program beside it: what it was built of has its name, and only its own sources count
+fresh
+count make_release "$linked" low
+count test -s "$tree/release/low.built_of"
+count checked 0 '' "$linked" low
+appended crates/pact_program/src/main.rt
+count checked 0 '' "$linked" low
+count checked 1 'release: the released program is of other sources' ''
+appended crates/low/src/lib.rt
+count checked 1 'release: the released program low is of other sources' "$linked" low
+rm "$tree/release/low" "$tree/release/low.built_of"
+count checked 1 'release: the released program low is missing' '' low

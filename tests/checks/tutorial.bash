@@ -8,6 +8,7 @@ rm -f "$tutorial"/clone/examples/shop/*_rows.csv   # of a reader who worked in t
 printf '#!/usr/bin/env bash\nexec %q "$@"\n' "$pact" >"$tutorial/clone/pact"
 chmod +x "$tutorial/clone/pact"
 ln -s "$(readlink -f ../explain)" "$tutorial/clone/explain"
+export PACT_EXPLAIN=${PACT_EXPLAIN:-$PWD/../release/pact_explain}
 
 # Each shell block becomes LINE.sh, and the block right after it LINE.out, which is empty if there is none; LINE is that of the first.
 awk -v to="$tutorial/blocks" '

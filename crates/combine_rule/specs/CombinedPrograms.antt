@@ -1,5 +1,5 @@
 -- The combined plan of a physical plan.
-use Rattle.std.specs.Prelude.{◌≡◌, ◌<◌, ◌⊎◌, ℕ, zero, suc, List, [], ◌∷◌, Some, decimal, get_or, length, slice_get, ◌+◌, true}
+use Rattle.std.specs.Prelude.{◌≡◌, ◌<◌, ◌⊎◌, ℕ, zero, suc, List, [], ◌∷◌, Some, get_or, length, slice_get, ◌+◌, true}
 use Rattle.plan_trees.specs.declared.physicals.Ship.TheVariants.{Forward, Partition}
 use Rattle.plan_trees.specs.Inserted.{inserted_above}
 use Rattle.plan_trees.specs.Physicals.{PhysicalData}
@@ -7,7 +7,7 @@ use Rattle.plan_trees.specs.Plans.{PlanTree, root_of, subtree_of, has, over}
 use Rattle.tac_syntax.specs.Valid.{WithFields}
 use Rattle.tac_syntax.specs.declared.declarations.OpKind.TheVariants.{Reduce}
 use Rattle.pact_operators.specs.declared.operators.Op.{Op}
-use Rattle.pact_operators.specs.Insertions.{inserted_into, replaced_in}
+use Rattle.pact_operators.specs.Insertions.{inserted_into, inserted_op, replaced_in}
 use Rattle.pact_operators.specs.Programs.{ProgramData, is_operator_kind, times_of_kind}
 use Rattle.ship_strategy.specs.PlanFacts.{attribute}
 use Rattle.combine_rule.specs.Combinable.{IsCombinable, sender_with, merger_with}
@@ -37,10 +37,9 @@ pub record CanCombine (s : Planned) (at : ℕ) : Type 0 where
   pub room : times_of_kind is_operator_kind s.program.ops < 16
   pub function_room : length s.program.functions < 63
 
--- The inserted operator: a name that no program text can declare, and the keys of the Reduce. Parts that a Reduce
--- doesn't have are empty.
+-- the inserted operator, with the keys of the Reduce
 abbrev pub sender_op : (new : ℕ) → Op → Op
-sender_op new op = record { name = decimal new; kind = Reduce; function = 0; left_keys = op.left_keys; right_keys = []; file = []; columns = [] }
+sender_op new op = inserted_op new 0 Reduce op.left_keys
 
 abbrev pub sender_for : (s : Planned) (at : ℕ) → CanCombine s at → WithFields
 sender_for s at c = record { function = sender_with c.called.function s.program.fields c.combinable.register c.op.left_keys (attribute s.program c.input); fields = s.program.fields }

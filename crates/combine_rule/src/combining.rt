@@ -11,17 +11,11 @@ ghost use Rattle.combine_rule.specs.CombinedRuns.{IsCountedFor, AreSentOnce, All
 use crate::deciding::combinable;
 use crate::halves::partial;
 use crate::parts::Partial;
-use itoa::Buffer;
 use pact_operators::{Op, Program, context, insert, replace};
-use pact_record::{Columns, Keys, OutOfMemory, Word};
+use pact_record::OutOfMemory;
 use plan_trees::{Parts, Physical, Ship};
 use std::alloc::Global;
 use tac_syntax::OpKind;
-
-// A Reduce is combined only while the program has fewer operators and functions than these limits.
-const MAX_OPERATORS: usize = 16;
-
-const MAX_FUNCTIONS: usize = 63;
 
 /// A program with a physical plan of it, in which each Reduce that may be combined is. The list pairs the number of
 /// each inserted operator with that of its Reduce.
@@ -30,19 +24,6 @@ pub struct Combined {
     pub program: Program,
     pub physical: Physical,
     pub of: Vec<(u32, u32)>,
-}
-
-// The number of operators, without the sources.
-fn operators(ops: &[Op]) -> usize
-    ensures { result ≡ times_of_kind is_operator_kind ops.now }
-{
-    let mut count = 0;
-    for op in ops {
-        if op.kind != OpKind::Source {
-            count += 1;
-        }
-    }
-    count
 }
 
 // Whether the operator is a Reduce that may be combined.
@@ -64,32 +45,12 @@ fn can_combine(program: &Program, physical: &Physical, at: u32) -> bool
     let Ship::Partition(_) = ship else {
         return false;
     };
-    if operators(program.ops()) >= MAX_OPERATORS {
-        return false;
-    }
-    if program.functions().len() >= MAX_FUNCTIONS {
+    // the inserted operator calls one function, and the Reduce another one
+    if !program.has_room(2) {
         return false;
     }
     let attributes = context(program, physical.plan(), at).left;
     combinable(program.function_at(at), &op.left_keys, attributes)
-}
-
-// The operator that is inserted to call the sender.
-fn sender_op(alloc: Global, new: u32, keys: Keys) -> Result<Op, OutOfMemory>
-    ensures { IfOk result (λ op. op ≡ record { name = decimal new; kind = Reduce; function = 0; left_keys = keys; right_keys = []; file = []; columns = [] }) }
-{
-    let mut buffer = Buffer::new();
-    let name = Word::from_bytes(alloc, buffer.format(new).as_bytes())?;
-    let file = Word::from_bytes(alloc, b"")?;
-    Ok(Op {
-        name,
-        kind: OpKind::Reduce,
-        function: 0,
-        left_keys: keys,
-        right_keys: Keys::new(),
-        file,
-        columns: Columns::new(alloc),
-    })
 }
 
 // Combines the Reduce.
@@ -110,7 +71,7 @@ fn combine_one(
     let attributes = context(&program, physical.plan(), at).left;
     let keys = program.ops()[at as usize].left_keys;
     let Partial { sender, merger } = partial(alloc, program.function_at(at), &keys, attributes)?;
-    let op = sender_op(alloc, new, keys)?;
+    let op = Op::inserted(alloc, new, OpKind::Reduce, keys)?;
     let (grown, moved) = insert(program, physical, below, op, sender)?;
     let changed = replace(grown, at, merger)?;
     Ok((changed, moved))

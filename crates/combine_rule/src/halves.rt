@@ -20,19 +20,7 @@ use crate::slots::{Slot, slots, spare_register};
 use order_free::Accumulation;
 use pact_record::{Fields, Keys, Op2, OutOfMemory, Word};
 use std::alloc::Global;
-use tac_syntax::{Body, Function, LoopList, NotPushed, Rec, Stmt, Valid};
-
-// Appends a statement to a body.
-fn put(body: &mut Body, stmt: Stmt) -> Result<(), OutOfMemory>
-    requires { nesting (only stmt) ≤ nesting_limit }
-    ensures { OnOk result (body.new ≡ joined body.old (only stmt)) }
-{
-    match body.push(stmt) {
-        Ok(()) => Ok(()),
-        Err(NotPushed::Memory { .. }) => Err(OutOfMemory),
-        Err(NotPushed::Deep { .. }) => unreachable!(),
-    }
-}
+use tac_syntax::{Body, Function, LoopList, Rec, Stmt, Valid};
 
 // Appends copies of statements to a body.
 fn put_copies(alloc: Global, body: &mut Body, stmts: &[Stmt]) -> Result<(), OutOfMemory>
@@ -40,7 +28,7 @@ fn put_copies(alloc: Global, body: &mut Body, stmts: &[Stmt]) -> Result<(), OutO
     ensures { OnOk result (body.new ≡ joined body.old (code_of stmts.now)) }
 {
     for stmt in stmts {
-        put(body, stmt.copy(alloc)?)?;
+        body.append(stmt.copy(alloc)?)?;
     }
     Ok(())
 }
@@ -51,13 +39,10 @@ fn put_zeros(body: &mut Body, slots: &[Slot]) -> Result<(), OutOfMemory>
 {
     for slot in slots {
         if let Accumulation::Sum = slot.by {
-            put(
-                body,
-                Stmt::Int {
-                    to: slot.register,
-                    value: 0,
-                },
-            )?;
+            body.append(Stmt::Int {
+                to: slot.register,
+                value: 0,
+            })?;
         }
     }
     Ok(())
@@ -68,21 +53,15 @@ fn put_keys(body: &mut Body, register: u32, keys: &Keys) -> Result<(), OutOfMemo
     ensures { OnOk result (body.new ≡ joined body.old (keying register 0 keys.now stop)) }
 {
     for n in 0..keys.len() {
-        put(
-            body,
-            Stmt::Key {
-                to: register,
-                at: n,
-            },
-        )?;
-        put(
-            body,
-            Stmt::Set {
-                to: 0,
-                field: keys.at(n),
-                value: register,
-            },
-        )?;
+        body.append(Stmt::Key {
+            to: register,
+            at: n,
+        })?;
+        body.append(Stmt::Set {
+            to: 0,
+            field: keys.at(n),
+            value: register,
+        })?;
     }
     Ok(())
 }
@@ -92,14 +71,11 @@ fn put_values(body: &mut Body, slots: &[Slot]) -> Result<(), OutOfMemory>
     ensures { OnOk result (body.new ≡ joined body.old (giving slots.now stop)) }
 {
     for slot in slots {
-        put(
-            body,
-            Stmt::Set {
-                to: 0,
-                field: slot.field,
-                value: slot.register,
-            },
-        )?;
+        body.append(Stmt::Set {
+            to: 0,
+            field: slot.field,
+            value: slot.register,
+        })?;
     }
     Ok(())
 }
@@ -120,23 +96,17 @@ fn gathering(alloc: Global, register: u32, slots: &[Slot]) -> Result<Body, OutOf
 {
     let mut body = Body::new(alloc);
     for slot in slots {
-        put(
-            &mut body,
-            Stmt::Get {
-                to: register,
-                from: Rec::Loop(1),
-                field: slot.field,
-            },
-        )?;
-        put(
-            &mut body,
-            Stmt::Two {
-                to: slot.register,
-                op: op_of(slot.by),
-                a: slot.register,
-                b: register,
-            },
-        )?;
+        body.append(Stmt::Get {
+            to: register,
+            from: Rec::Loop(1),
+            field: slot.field,
+        })?;
+        body.append(Stmt::Two {
+            to: slot.register,
+            op: op_of(slot.by),
+            a: slot.register,
+            b: register,
+        })?;
     }
     Ok(body)
 }
@@ -155,18 +125,15 @@ fn sender(
     let mut body = Body::new(alloc);
     put_copies(alloc, &mut body, p.front)?;
     put_zeros(&mut body, slots)?;
-    put(
-        &mut body,
-        Stmt::Each {
-            name: 1,
-            list: LoopList::Group,
-            body: p.inner.copy(alloc)?,
-        },
-    )?;
-    put(&mut body, Stmt::New { to: 0 })?;
+    body.append(Stmt::Each {
+        name: 1,
+        list: LoopList::Group,
+        body: p.inner.copy(alloc)?,
+    })?;
+    body.append(Stmt::New { to: 0 })?;
     put_keys(&mut body, register, keys)?;
     put_values(&mut body, slots)?;
-    put(&mut body, Stmt::Emit { from: 0 })?;
+    body.append(Stmt::Emit { from: 0 })?;
     Ok(body)
 }
 
@@ -177,14 +144,11 @@ fn merger(alloc: Global, p: &Pieces<'_>, register: u32, slots: &[Slot]) -> Resul
 {
     let mut body = Body::new(alloc);
     put_copies(alloc, &mut body, p.front)?;
-    put(
-        &mut body,
-        Stmt::Each {
-            name: 1,
-            list: LoopList::Group,
-            body: gathering(alloc, register, slots)?,
-        },
-    )?;
+    body.append(Stmt::Each {
+        name: 1,
+        list: LoopList::Group,
+        body: gathering(alloc, register, slots)?,
+    })?;
     put_copies(alloc, &mut body, p.rest)?;
     Ok(body)
 }

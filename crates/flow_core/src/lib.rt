@@ -1,11 +1,13 @@
 //! A plan's instances and pipes on one thread, event by event.
 //!
-//! A `World` has an instance of each source and operator on each worker, each with the notes on the pipes that leave it.
-//! `enabled` says whether an event can happen, and `step` lets it happen. `replay` goes through a list of events,
+//! A `World` has an instance of each source and operator on each worker, each with the notes on the pipes that leave
+//! it. `enabled` says whether an event can happen, and `step` lets it happen. `replay` goes through a list of events,
 //! `run_alone` picks its own until every instance is done, and `run_picked` has them picked by numbers. The promises of
-//! all five speak of histories: a world represents the notes that were put and taken so far. `unstarted_rows` has what
-//! the instances of a plan start from, so that a caller may start them on threads. `World::resume` makes a world of
-//! instances and of notes that represent some history, whichever caller let the events happen.
+//! all five speak of histories: a world represents the notes that were put and taken so far.
+//!
+//! A caller that lets the events happen itself begins with `start_instances`, or with `unstarted_rows`, which has what
+//! the instances start from, so that they may start on threads. `World::resume` makes a world of instances and notes
+//! that represent some history.
 #![tactic(auto)]
 
 pub mod alone;
@@ -26,6 +28,6 @@ pub use flow_instance::{Event, PipeId};
 pub use lefts::{InstanceList, Instances, NoteLists};
 pub use picks::run_picked;
 pub use replays::replay;
-pub use starting::{UnstartedRow, start_in_turn, start_rows, unstarted_rows};
+pub use starting::{UnstartedRow, start_in_turn, start_instances, unstarted_rows};
 pub use stops::Replay;
 pub use worlds::World;

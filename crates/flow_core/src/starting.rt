@@ -10,7 +10,7 @@ ghost use Rattle.plan_trees.specs.Physicals.{PhysicalData};
 ghost use Rattle.pact_record.specs.Widths.{AreWide};
 ghost use Rattle.flow_instance.specs.Limits.{batch_limit};
 ghost use Rattle.flow_instance.specs.Spots.{setting};
-ghost use Rattle.flow_core.specs.Starting.{AreAllUnstarted, AreDealt, AreUnstarted, CanStartRow, HaveAtMost, StartAllFrom, StartFrom, TakesOwn, first_share};
+ghost use Rattle.flow_core.specs.Starting.{AreAllStarted, AreAllUnstarted, AreDealt, AreUnstarted, CanStartRow, HaveAtMost, StartAllFrom, StartFrom, TakesOwn, first_share};
 
 use crate::lefts::{InstanceList, Instances};
 use crate::stations::Queue;
@@ -33,7 +33,9 @@ impl UnstartedRow {
     /// more.
     pub fn share_len(&self) -> usize
         ensures first { result ≡ first_share self.now.held.items }
-        ensures most { (p : ProgramData) (physical : PhysicalData) (size at : ℕ) (rows : Bag) → AreUnstarted p physical size at rows physical.workers self.now.held.items → HaveAtMost result self.now.held.items }
+        ensures most { (p : ProgramData) (physical : PhysicalData) (size at : ℕ) (rows : Bag)
+            → AreUnstarted p physical size at rows physical.workers self.now.held.items
+            → HaveAtMost result self.now.held.items }
     {
         match self.held.first() {
             Some(unstarted) => unstarted.share_len(),
@@ -120,7 +122,8 @@ fn unstarted_row(
     requires none { is_source_kind (kind_at program.now.ops at) ≡ false → rows ≡ [] }
     requires batch { 1 ≤ batch }
     requires at { at < length program.now.ops }
-    ensures { IfOk result (λ row. AreUnstarted program.now physical.now batch at rows physical.now.workers row.held.items) }
+    ensures { IfOk result (λ row. AreUnstarted program.now physical.now batch at rows physical.now.workers
+        row.held.items) }
 {
     let workers = physical.workers();
     let mut held = Vec::with_capacity(alloc, workers as usize)?;
@@ -146,7 +149,8 @@ pub fn unstarted_rows(
     requires plan { IsPlanOf program.now.functions program.now.ops physical.now.tree }
     requires inputs { AreInputsOf program.now inputs }
     requires batch { (1 ≤ batch) × (batch ≤ batch_limit) }
-    ensures { IfOk result (λ rows. AreAllUnstarted program.now physical.now inputs batch (length program.now.ops) rows.items) }
+    ensures { IfOk result (λ rows. AreAllUnstarted program.now physical.now inputs batch
+        (length program.now.ops) rows.items) }
 {
     let ops = program.ops();
     // `workers` makes it known that a physical plan has few numbers.
@@ -176,8 +180,8 @@ pub fn start_in_turn<L: Local>(
     Ok(Instances { held })
 }
 
-/// The instances of all rows, started one after the other.
-pub fn start_rows<L: Local>(
+// The instances of all rows, started one after the other.
+fn start_rows<L: Local>(
     alloc: Global,
     rows: Vec<UnstartedRow>,
 ) -> Result<InstanceList<L>, OutOfMemory>
@@ -189,4 +193,22 @@ pub fn start_rows<L: Local>(
         all.push_reserved(start_in_turn(alloc, row)?);
     }
     Ok(InstanceList { rows: all })
+}
+
+/// The plan's instances at their start, by number and then by worker. Each row of a source moves to its worker. An
+/// instance emits batches of at most `batch` records.
+pub fn start_instances<L: Local>(
+    alloc: Global,
+    program: &Program,
+    physical: &Physical,
+    inputs: Inputs,
+    batch: u32,
+) -> Result<InstanceList<L>, OutOfMemory>
+    requires plan { IsPlanOf program.now.functions program.now.ops physical.now.tree }
+    requires inputs { AreInputsOf program.now inputs }
+    requires batch { (1 ≤ batch) × (batch ≤ batch_limit) }
+    ensures { IfOk result (AreAllStarted (setting program.now inputs physical.now) batch (length program.now.ops)) }
+{
+    let rows = unstarted_rows(alloc, program, physical, inputs, batch)?;
+    start_rows(alloc, rows)
 }

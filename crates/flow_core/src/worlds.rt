@@ -20,7 +20,7 @@ ghost use Rattle.flow_core.specs.Laws.{ObeysLaws};
 ghost use Rattle.flow_core.specs.Worlds.{HasBatchSize, IsStanding, IsWhole, StandsForSome, depth_limit, instance_in, no_station, queue_in, seen, station_in};
 
 use crate::resuming::empty_rows;
-use crate::starting::{start_rows, unstarted_rows};
+use crate::starting::start_instances;
 use crate::stations::{Row, Station};
 use crate::wirings::Wiring;
 use flow_instance::{Event, Note, PipeId, Want};
@@ -100,8 +100,7 @@ impl<L: Local> World<L> {
     {
         // `fields` makes it known that this is a program, and `workers` that this is a physical plan.
         let (_fields, workers) = (program.fields(), physical.workers());
-        let rows = unstarted_rows(alloc, program, physical, inputs, batch)?;
-        let instances = start_rows(alloc, rows)?;
+        let instances = start_instances(alloc, program, physical, inputs, batch)?;
         let stations = empty_rows(alloc, workers, instances)?;
         Ok(World {
             alloc,
@@ -222,8 +221,10 @@ impl<L: Local> World<L> {
         requires from { pipe.from < self.old.physical.workers }
         requires to { pipe.to < self.old.physical.workers }
         ensures note { result ≡ first_note (queue_in self.old.stations pipe.edge pipe.from pipe.to) }
-        ensures instances { (at worker : ℕ) → instance_in self.new.stations at worker ≡ instance_in self.old.stations at worker }
-        ensures queue { ListChanged (queue_in self.old.stations) pipe (later (queue_in self.old.stations pipe.edge pipe.from pipe.to)) (queue_in self.new.stations) }
+        ensures instances { (at worker : ℕ) → instance_in self.new.stations at worker
+            ≡ instance_in self.old.stations at worker }
+        ensures queue { ListChanged (queue_in self.old.stations) pipe
+            (later (queue_in self.old.stations pipe.edge pipe.from pipe.to)) (queue_in self.new.stations) }
         ensures whole { IsWhole self.new.physical self.new.stations }
         ensures physical { self.new.physical ≡ self.old.physical }
         ensures depth { self.new.depth ≡ self.old.depth }
@@ -243,9 +244,13 @@ impl<L: Local> World<L> {
         requires whole { IsWhole self.old.physical self.old.stations }
         requires has { has at self.old.physical.tree ≡ true }
         requires worker { worker < self.old.physical.workers }
-        ensures took { OnOk result ((s : Spot) (taken : ℕ → ℕ → List NoteData) (put : ℕ → List NoteData) → IsLocal s worker (instance_in self.old.stations at worker) taken put → Took s worker (instance_in self.old.stations at worker) port from note (instance_in self.new.stations at worker)) }
+        ensures took { OnOk result ((s : Spot) (taken : ℕ → ℕ → List NoteData) (put : ℕ → List NoteData)
+            → IsLocal s worker (instance_in self.old.stations at worker) taken put
+            → Took s worker (instance_in self.old.stations at worker) port from note
+            (instance_in self.new.stations at worker)) }
         ensures others { OnOk result (OthersSame (seen self.old) at worker (seen self.new)) }
-        ensures queues { OnOk result ((edge a b : ℕ) → queue_in self.new.stations edge a b ≡ queue_in self.old.stations edge a b) }
+        ensures queues { OnOk result ((edge a b : ℕ)
+            → queue_in self.new.stations edge a b ≡ queue_in self.old.stations edge a b) }
         ensures whole { OnOk result (IsWhole self.new.physical self.new.stations) }
         ensures physical { self.new.physical ≡ self.old.physical }
         ensures depth { self.new.depth ≡ self.old.depth }
@@ -270,7 +275,8 @@ impl<L: Local> World<L> {
     fn take(&mut self, pipe: PipeId) -> Result<(), OutOfMemory>
         requires can { enabled self.old.physical self.old.depth (seen self.old) (events.Take pipe) ≡ true }
         requires stands { StandsForSome self.old }
-        ensures stepped { OnOk result ((g : Setting) (h : History) → IsStanding g self.old h → Steps g (seen self.old) (events.Take pipe) (seen self.new)) }
+        ensures stepped { OnOk result ((g : Setting) (h : History) → IsStanding g self.old h
+            → Steps g (seen self.old) (events.Take pipe) (seen self.new)) }
         ensures whole { OnOk result (IsWhole self.new.physical self.new.stations) }
         ensures physical { self.new.physical ≡ self.old.physical }
         ensures depth { self.new.depth ≡ self.old.depth }
@@ -286,7 +292,8 @@ impl<L: Local> World<L> {
     fn change(&mut self, event: Event) -> Result<(), OutOfMemory>
         requires can { enabled self.old.physical self.old.depth (seen self.old) event ≡ true }
         requires stands { StandsForSome self.old }
-        ensures stepped { OnOk result ((g : Setting) (h : History) → IsStanding g self.old h → Steps g (seen self.old) event (seen self.new)) }
+        ensures stepped { OnOk result ((g : Setting) (h : History) → IsStanding g self.old h
+            → Steps g (seen self.old) event (seen self.new)) }
         ensures whole { OnOk result (IsWhole self.new.physical self.new.stations) }
         ensures physical { self.new.physical ≡ self.old.physical }
         ensures depth { self.new.depth ≡ self.old.depth }
@@ -305,14 +312,17 @@ impl<L: Local> World<L> {
     pub fn step(&mut self, event: Event) -> Result<(), OutOfMemory>
         requires can { enabled self.old.physical self.old.depth (seen self.old) event ≡ true }
         requires stands { StandsForSome self.old }
-        ensures stepped { OnOk result ((g : Setting) (h : History) → IsStanding g self.old h → Steps g (seen self.old) event (seen self.new)) }
-        ensures standing { OnOk result ((g : Setting) (h : History) → IsStanding g self.old h → IsStanding g self.new (noted (seen self.old) event h)) }
+        ensures stepped { OnOk result ((g : Setting) (h : History) → IsStanding g self.old h
+            → Steps g (seen self.old) event (seen self.new)) }
+        ensures standing { OnOk result ((g : Setting) (h : History) → IsStanding g self.old h
+            → IsStanding g self.new (noted (seen self.old) event h)) }
         ensures room { OnOk result (KeepsDepth self.old.depth (seen self.old) event (seen self.new)) }
         ensures physical { self.new.physical ≡ self.old.physical }
         ensures depth { self.new.depth ≡ self.old.depth }
         ensures stands { OnOk result (StandsForSome self.new) }
         ensures laws { OnOk result (ObeysLaws self.new) }
-        ensures parts { OnOk result ((at worker : ℕ) → (instance_in self.new.stations at worker).part ≡ (instance_in self.old.stations at worker).part) }
+        ensures parts { OnOk result ((at worker : ℕ) → (instance_in self.new.stations at worker).part
+            ≡ (instance_in self.old.stations at worker).part) }
     {
         self.change(event)
     }

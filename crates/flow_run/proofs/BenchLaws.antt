@@ -1,4 +1,4 @@
--- Events of own instances keep each instance following from the lists of its ends.
+-- After events of the worker's own instances, each instance still follows from the lists of its ends.
 use Rattle.std.proofs.Common.{◌≡◌, ◌≢◌, ◌<◌, ◌⊎◌, inl, inr, ◌||◌, ℕ, Bool, true, false, Option, Some, None, List, [], ◌∷◌, ◌++◌, slice_get, refl, ap, sym, ◌∙◌, subst}
 use Rattle.std.proofs.lemmas.Bool.{cases_eq}
 use Rattle.plan_trees.specs.Distinct.{AreDifferent}
@@ -20,7 +20,7 @@ use Rattle.flow_run.specs.Benches.{AllLocal, Bench, Ends, Happens, LocalAt, Puts
 pub by_place : (P : ℕ → Type 0) (at : ℕ) → P at → ((k : ℕ) → k ≢ at → P k) → (k : ℕ) → P k
 by_place P at here others k = elim (cases_eq k at) as (λ _. P k) [ inl e ↦ subst P (sym e) here | inr n ↦ others k n ]
 
--- the notes taken at a port that reads an edge, or that isn't there
+-- the notes taken at a port that reads an edge, or that doesn't exist
 abbrev pub lists_of : Bench → Option Port → (from worker : ℕ) → List Note
 lists_of b o from worker = lists_at (λ edge from to. b.taken edge from) o from worker
 
@@ -33,7 +33,7 @@ unended_by true y e = absurd (cc)
 unended_by false y e = e
 
 module _ (g : Setting) (worker : ℕ) (different : AreDifferent (nodes g.physical.tree)) where
-  -- what the plan says of a number
+  -- facts of the plan for one number
   abbrev spot_at : ℕ → Spot
   spot_at k = spot g (subtree_of k g.physical.tree)
 
@@ -117,7 +117,7 @@ module _ (g : Setting) (worker : ℕ) (different : AreDifferent (nodes g.physica
   happens_kept b c at there local (inr (inl h)) = takes_kept b c at there local h
   happens_kept b c at there local (inr (inr h)) = ends_kept b c at local h
 
-  -- each instance that followed from the lists of its ends follows from those that they have after events of own instances
+  -- if each instance followed from the lists of its ends, it still does after events of the worker's own instances
   pub works_kept : (count : ℕ) → ((at : ℕ) → at < count → has at g.physical.tree ≡ true) → (b c : Bench) → AllLocal g worker b → Works worker count b c → AllLocal g worker c
   works_kept count only b c local nothing = local
   works_kept count only b c local (rested {d} at back less h) = rests_kept _ c at (works_kept count only b _ local back) h

@@ -1,4 +1,4 @@
--- Tables with nothing in them, and tables with something else at one place.
+-- Empty tables, and tables of which one place has changed.
 use Rattle.std.proofs.Common.{◌≡◌, ◌<◌, ℕ, zero, suc, Option, None, Some, List, [], ◌∷◌, get_or, length, replicate, set, refl, ap, sym, ◌∙◌, subst, arith}
 use Rattle.std.specs.List.{AllByRecursion}
 use Rattle.std.proofs.lemmas.Bool.{cases_eq, cases_lt}
@@ -71,7 +71,7 @@ module _ {T : Type 0} where
         ];
       }
 
-  -- where something stands there is a place
+  -- a table has each place that isn't empty
   pub there_by : (rows : List (List (Option T))) (a b : ℕ) (x : T) → cell rows a b ≡ Some x → HasPlace rows a b
   there_by rows a b x e = elim (cases_lt a (length rows)) as (λ _. HasPlace rows a b) [
     | inr past ↦

@@ -13,7 +13,7 @@ use Rattle.flow_core.specs.Left.{IsPipeOf, LeftOn, left_on}
 use Rattle.flow_core.proofs.LeftWorlds.{left_elsewhere, left_here, left_on-append}
 use Rattle.flow_run.specs.Ends.{IsEndOf, PipeTables, notes_in}
 use Rattle.flow_run.specs.Tables.{IsTakenOut, cell_in}
-use Rattle.flow_run.specs.Remains.{AreEnds, AreGathered, Goes, IsBeyond, IsClosed, IsThere, IsWithout, Remains, history_of, put_at, take_at}
+use Rattle.flow_run.specs.WorkerData.{AreEnds, AreGathered, Goes, IsBeyond, IsClosed, IsThere, IsWithout, WorkerData, history_of, put_at, take_at}
 
 -- ---- places
 
@@ -52,7 +52,7 @@ ends_none o e f g = subst (λ (x : Option APipe). IsEndOf x e) (sym f) (subst (I
 
 -- ---- one step after another
 
-pub goes_then : {pipes mid last : PipeTables} {ws ws_mid ws_last : List Remains} {lists lists_mid lists_last : List LeftOn} → Goes pipes ws lists mid ws_mid lists_mid → Goes mid ws_mid lists_mid last ws_last lists_last
+pub goes_then : {pipes mid last : PipeTables} {ws ws_mid ws_last : List WorkerData} {lists lists_mid lists_last : List LeftOn} → Goes pipes ws lists mid ws_mid lists_mid → Goes mid ws_mid lists_mid last ws_last lists_last
     → Goes pipes ws lists last ws_last lists_last
 goes_then {pipes} {mid} {last} {ws} {ws_mid} {ws_last} {lists} {lists_mid} {lists_last} a b = record {
   ends = b.ends;
@@ -62,15 +62,15 @@ goes_then {pipes} {mid} {last} {ws} {ws_mid} {ws_last} {lists} {lists_mid} {list
   instances = b.instances ∙ a.instances;
 }
 
-pub goes_first : (pipes : PipeTables) (ws : List Remains) (lists : List LeftOn) → AreEnds pipes ws → Goes pipes ws lists pipes ws lists
+pub goes_first : (pipes : PipeTables) (ws : List WorkerData) (lists : List LeftOn) → AreEnds pipes ws → Goes pipes ws lists pipes ws lists
 goes_first pipes ws lists e = record { ends = e; hold = λ h x. x; gone = λ edge from to x. x; of_plan = λ p x. x; instances = refl }
 
--- ---- a pipe that isn't there
+-- ---- a pipe that doesn't exist
 
 same_pipes : (pipes new : PipeTables) (edge from to : ℕ) → IsTakenOut pipes edge from to new → cell_in pipes edge from to ≡ None → (a b c : ℕ) → cell_in new a b c ≡ cell_in pipes a b c
 same_pipes pipes new edge from to t none = each_place (λ a b c. cell_in new a b c ≡ cell_in pipes a b c) edge from to (t.here ∙ sym none) t.elsewhere
 
-pub goes_none : (pipes new : PipeTables) (ws : List Remains) (lists : List LeftOn) (edge from to : ℕ) → IsTakenOut pipes edge from to new → cell_in pipes edge from to ≡ None → AreEnds pipes ws → Goes pipes ws lists new ws lists
+pub goes_none : (pipes new : PipeTables) (ws : List WorkerData) (lists : List LeftOn) (edge from to : ℕ) → IsTakenOut pipes edge from to new → cell_in pipes edge from to ≡ None → AreEnds pipes ws → Goes pipes ws lists new ws lists
 goes_none pipes new ws lists edge from to t none e =
     let same = same_pipes pipes new edge from to t none in
     record {
@@ -93,7 +93,7 @@ all_more : {X : Type 0} (P : X → Type 0) (xs : List X) (x : X) → AllByRecurs
 all_more P [] x h p = (p, tt)
 all_more P (y ∷ xs) x h p = (h.0, all_more P xs x h.1 p)
 
-module _ (pipes new : PipeTables) (ws rest : List Remains) (lists more : List LeftOn) (id : PipeId) (pipe : APipe) (notes : List Note) (t : IsTakenOut pipes id.edge id.from id.to new)
+module _ (pipes new : PipeTables) (ws rest : List WorkerData) (lists more : List LeftOn) (id : PipeId) (pipe : APipe) (notes : List Note) (t : IsTakenOut pipes id.edge id.from id.to new)
     (is : cell_in pipes id.edge id.from id.to ≡ Some pipe) (e : AreEnds pipes ws) (w : IsWithout ws id.edge id.from id.to rest)
     (whole : notes_in (put_at ws id.edge id.from id.to) ≡ notes_in (take_at ws id.edge id.from id.to) ++ notes) (more_is : more ≡ lists ++ record { pipe = id; notes = notes } ∷ []) where
   abbrev one : LeftOn
@@ -105,7 +105,7 @@ module _ (pipes new : PipeTables) (ws rest : List Remains) (lists more : List Le
   left_same : (a b c : ℕ) → IsElsewhere a b c id.edge id.from id.to → left_on more a b c ≡ left_on lists a b c
   left_same a b c other = left_more a b c ∙ ap (λ (l : List Note). left_on lists a b c ++ l) (left_elsewhere one a b c (apart id a b c other)) ∙ append-nil (left_on lists a b c)
 
-  abbrev HoldsAt : History → PipeTables → List Remains → List LeftOn → (a b c : ℕ) → Type 0
+  abbrev HoldsAt : History → PipeTables → List WorkerData → List LeftOn → (a b c : ℕ) → Type 0
   HoldsAt h pipes ws lists a b c = IsThere ws lists a b c (h.put a b c) (h.taken a b c) ⊎ IsClosed pipes lists a b c (h.put a b c) (h.taken a b c)
 
   hold_here : (h : History) → HoldsAt h pipes ws lists id.edge id.from id.to → HoldsAt h new rest more id.edge id.from id.to
@@ -153,11 +153,11 @@ module _ (pipes new : PipeTables) (ws rest : List Remains) (lists more : List Le
 
 -- ---- all pipes
 
--- the number of a pipe, over all edges, senders and receivers
+-- each place has a number
 abbrev pub number_of : (edge from to : ℕ) → ℕ
 number_of edge from to = edge * 256 + (from * 16 + to)
 
--- those of the first numbers are gone
+-- the pipes with the first `n` numbers are gone
 abbrev pub AreGone : PipeTables → (count : ℕ) → Type 0
 AreGone pipes count = (edge from to : ℕ) → from < 16 → to < 16 → number_of edge from to < count → cell_in pipes edge from to ≡ None
 
@@ -187,7 +187,7 @@ all_gone pipes new inside keeps gone edge from to = elim (cases_lt edge 64) as (
   ]
 ]
 
-pub gathered : (pipes new : PipeTables) (ws rest : List Remains) (lists : List LeftOn) → ((edge from to : ℕ) → IsBeyond edge from to → cell_in pipes edge from to ≡ None) → Goes pipes ws [] new rest lists → AreGone new 16384
+pub gathered : (pipes new : PipeTables) (ws rest : List WorkerData) (lists : List LeftOn) → ((edge from to : ℕ) → IsBeyond edge from to → cell_in pipes edge from to ≡ None) → Goes pipes ws [] new rest lists → AreGone new 16384
     → AreGathered pipes ws lists rest
 gathered pipes new ws rest lists inside g gone =
     let none = all_gone pipes new inside g.gone gone in

@@ -1,14 +1,16 @@
--- What workers have left stands for what their ends have put and taken.
+-- The world that the workers have left represents what their ends have put and taken.
 use Rattle.std.proofs.Common.{◌≡◌, ◌<◌, ◌≤◌, ◌&&◌, inl, inr, nat_lt, ℕ, Bool, true, false, true≢false, List, [], get_or, length, map, replicate, slice_get, arith, refl, sym, ap, ◌∙◌, subst}
-use Rattle.std.specs.Prelude.{Option, Some, None, if◌then◌else◌}
+use Rattle.std.specs.Prelude.{IfOk, Result, Ok, Err, Option, Some, None, if◌then◌else◌}
 use Rattle.std.proofs.lemmas.Bool.{cases_lt}
 use Rattle.std.proofs.lemmas.Bool.Decides.{nat_tests}
 use Rattle.std.proofs.lemmas.List.{get_or_past, length-replicate}
 use Rattle.batch_channel.specs.Ends.{APipe, AnEnd}
+use Rattle.pact_bag.specs.declared.outcomes.Outcome.{Outcome}
 use Rattle.pact_operators.specs.Allowed.{Bag, Counted}
 use Rattle.pact_operators.specs.Inputs.{AreInputsOf}
 use Rattle.pact_operators.specs.PlanOps.{plan_ops}
 use Rattle.pact_operators.specs.Programs.{IsPlanOf, IsProgram, ProgramData}
+use Rattle.pact_record.specs.Widths.{AreWide}
 use Rattle.ship_strategy.specs.PlanFacts.{facts_of}
 use Rattle.ship_strategy.specs.Ships.{LegalShip}
 use Rattle.plan_trees.specs.Physicals.{IsPhysical, PhysicalData, has_edge, ship_at}
@@ -21,12 +23,14 @@ use Rattle.flow_instance.specs.declared.notes.Note.{Note}
 use Rattle.flow_instance.specs.Instances.{Instance}
 use Rattle.flow_instance.specs.Local.{IsLocal}
 use Rattle.flow_instance.specs.Spots.{Port, Setting, ports_of, setting, spot}
+use Rattle.flow_instance.specs.Spread.{Spread}
 use Rattle.flow_instance.specs.Worlds.{History, IsOutside, Stands, lists_at}
 use Rattle.flow_core.specs.Left.{AreOfPlan, IsPipeOf, LeftOn, StandForSome, instance_of, left_world}
 use Rattle.flow_core.specs.Worlds.{IsStanding, WorldData, no_instance}
 use Rattle.flow_run.specs.Ends.{IsEndOf, IsPipeIf, PipeTables, goes_along, notes_in}
+use Rattle.flow_run.specs.Outcomes.{IsPlanOutcome}
 use Rattle.flow_run.specs.Tables.{cell, cell_in}
-use Rattle.flow_run.specs.Remains.{AreEnds, AreGathered, AreLocal, AreLocalForSome, HaveReturned, IsBeyond, Remains, history_of, nothing, put_at, remains_at, take_at, with_columns}
+use Rattle.flow_run.specs.WorkerData.{AreEnds, AreGathered, AreLocal, AreLocalForSome, HaveReturned, IsBeyond, WorkerData, history_of, nothing, put_at, worker_at, take_at, with_columns}
 use Rattle.flow_run.proofs.Arranged.{length_columns, row_at, row_item, row_length}
 use Rattle.flow_run.proofs.Closing.{ends_none, no_end, no_some}
 
@@ -74,7 +78,7 @@ no_cell a b rows e =
 
 -- ---- workers that have returned
 
-module _ (physical : PhysicalData) (ops : ℕ) (pipes : PipeTables) (ws : List Remains) (r : HaveReturned physical ops pipes ws) where
+module _ (physical : PhysicalData) (ops : ℕ) (pipes : PipeTables) (ws : List WorkerData) (r : HaveReturned physical ops pipes ws) where
   pub there_of_plan : (edge from to : ℕ) (pipe : APipe) → cell_in pipes edge from to ≡ Some pipe → IsPipeOf physical (record { edge = edge; from = from; to = to })
   there_of_plan edge from to pipe is = of_plan physical edge from to (goes_there (goes_along physical edge from to) (cell_in pipes edge from to) pipe (r.of_plan.each edge from to) is)
 
@@ -97,35 +101,35 @@ module _ (physical : PhysicalData) (ops : ℕ) (pipes : PipeTables) (ws : List R
         | inr further ↦ elim further as (λ _. ⊥) [ inl more ↦ omega (arith, more, f, few) | inr more ↦ omega (arith, more, t, few) ]
       ])
 
-  no_worker : (worker : ℕ) → physical.workers ≤ worker → remains_at ws worker ≡ nothing
+  no_worker : (worker : ℕ) → physical.workers ≤ worker → worker_at ws worker ≡ nothing
   no_worker worker more = get_or_past ws worker nothing (omega (arith, more, r.workers))
 
   pub returned_ends : AreEnds pipes ws
   returned_ends = record {
     puts = λ edge from to. elim (cases_lt from physical.workers) as (λ _. IsEndOf (cell_in pipes edge from to) (put_at ws edge from to)) [
       | inl below ↦ (r.puts from below).each edge to
-      | inr more ↦ ends_none (cell_in pipes edge from to) (put_at ws edge from to) (none_from edge from to (inl more)) (no_cell edge to (remains_at ws from).puts (ap (λ (w : Remains). w.puts) (no_worker from more)))
+      | inr more ↦ ends_none (cell_in pipes edge from to) (put_at ws edge from to) (none_from edge from to (inl more)) (no_cell edge to (worker_at ws from).puts (ap (λ (w : WorkerData). w.puts) (no_worker from more)))
     ];
     takes = λ edge from to. elim (cases_lt to physical.workers) as (λ _. IsEndOf (cell_in pipes edge from to) (take_at ws edge from to)) [
       | inl below ↦ (r.takes to below).each edge from
-      | inr more ↦ ends_none (cell_in pipes edge from to) (take_at ws edge from to) (none_from edge from to (inr more)) (no_cell edge from (remains_at ws to).takes (ap (λ (w : Remains). w.takes) (no_worker to more)))
+      | inr more ↦ ends_none (cell_in pipes edge from to) (take_at ws edge from to) (none_from edge from to (inr more)) (no_cell edge from (worker_at ws to).takes (ap (λ (w : WorkerData). w.takes) (no_worker to more)))
     ];
   }
 
   pub none_put : (edge from to : ℕ) → IsOutside physical.workers from to → notes_in (put_at ws edge from to) ≡ []
   none_put edge from to out = ap notes_in (no_end (cell_in pipes edge from to) (put_at ws edge from to) (none_from edge from to out) (returned_ends.puts edge from to))
 
--- ---- what stands
+-- ---- the world that they have left
 
-module _ (p : ProgramData) (physical : PhysicalData) (plan : IsPlanOf p.functions p.ops physical.tree) (pipes : PipeTables) (ws rest : List Remains) (r : HaveReturned physical (length p.ops) pipes ws)
-    (lists : List LeftOn) (g : AreGathered pipes ws lists rest) (rows : List (List Instance)) (rows_are : rows ≡ with_columns (replicate (length p.ops) []) (map (λ (w : Remains). w.instances) rest)) where
-  rows_first : rows ≡ with_columns (replicate (length p.ops) []) (map (λ (w : Remains). w.instances) ws)
+module _ (p : ProgramData) (physical : PhysicalData) (plan : IsPlanOf p.functions p.ops physical.tree) (pipes : PipeTables) (ws rest : List WorkerData) (r : HaveReturned physical (length p.ops) pipes ws)
+    (lists : List LeftOn) (g : AreGathered pipes ws lists rest) (rows : List (List Instance)) (rows_are : rows ≡ with_columns (replicate (length p.ops) []) (map (λ (w : WorkerData). w.instances) rest)) where
+  rows_first : rows ≡ with_columns (replicate (length p.ops) []) (map (λ (w : WorkerData). w.instances) ws)
   rows_first = rows_are ∙ ap (with_columns (replicate (length p.ops) [])) g.instances
 
   rows_long : length rows ≡ length p.ops
-  rows_long = ap length rows_first ∙ length_columns (replicate (length p.ops) []) (map (λ (w : Remains). w.instances) ws) ∙ length-replicate (length p.ops) []
+  rows_long = ap length rows_first ∙ length_columns (replicate (length p.ops) []) (map (λ (w : WorkerData). w.instances) ws) ∙ length-replicate (length p.ops) []
 
-  row_is : (at : ℕ) → at < length p.ops → get_or rows at [] ≡ map (λ own. get_or own at no_instance) (map (λ (w : Remains). w.instances) ws)
+  row_is : (at : ℕ) → at < length p.ops → get_or rows at [] ≡ map (λ own. get_or own at no_instance) (map (λ (w : WorkerData). w.instances) ws)
   row_is at less = ap (λ (l : List (List Instance)). get_or l at []) rows_first ∙ row_at (length p.ops) ws at less r.instances
 
   pub gathered_of_plan : AreOfPlan physical rows lists
@@ -136,7 +140,7 @@ module _ (p : ProgramData) (physical : PhysicalData) (plan : IsPlanOf p.function
     pipes = g.of_plan physical (there_of_plan physical (length p.ops) pipes ws r);
   }
 
-  same_instance : (at worker : ℕ) → has at physical.tree ≡ true → worker < physical.workers → instance_of rows at worker ≡ get_or (remains_at ws worker).instances at no_instance
+  same_instance : (at worker : ℕ) → has at physical.tree ≡ true → worker < physical.workers → instance_of rows at worker ≡ get_or (worker_at ws worker).instances at no_instance
   same_instance at worker there below =
       ap (λ (l : List Instance). get_or l worker no_instance) (row_is at (number_below p.ops at physical.tree there plan.arity)) ∙ row_item ws at worker (omega (arith, below, r.workers))
 
@@ -163,30 +167,41 @@ module _ (p : ProgramData) (physical : PhysicalData) (plan : IsPlanOf p.function
 
 -- ---- worker by worker
 
--- the lists of a worker's own ends at a port are those of all workers there
-own_taken : (ws : List Remains) (worker : ℕ) (o : Option Port) (from : ℕ)
-    → lists_at (λ edge from _. notes_in (cell (remains_at ws worker).takes edge from)) o from worker ≡ lists_at (history_of ws).taken o from worker
+-- at a port, the lists of the worker's own ends are those of the history
+own_taken : (ws : List WorkerData) (worker : ℕ) (o : Option Port) (from : ℕ)
+    → lists_at (λ edge from _. notes_in (cell (worker_at ws worker).takes edge from)) o from worker ≡ lists_at (history_of ws).taken o from worker
 own_taken ws worker None from = refl
 own_taken ws worker (Some port) from = refl
 
--- where each instance of each worker follows from the lists of its worker's ends, all do
-pub all_local : (g : Setting) (ws : List Remains)
+-- from single workers to all of them
+pub all_local : (g : Setting) (ws : List WorkerData)
     → ((worker : ℕ) → worker < g.physical.workers → (at : ℕ) → has at g.physical.tree ≡ true
-    → IsLocal (spot g (subtree_of at g.physical.tree)) worker (get_or (remains_at ws worker).instances at no_instance)
-    (λ port from. lists_at (λ edge from _. notes_in (cell (remains_at ws worker).takes edge from)) (slice_get (ports_of g.physical (subtree_of at g.physical.tree)) port) from worker)
-    (λ to. notes_in (cell (remains_at ws worker).puts at to)))
+    → IsLocal (spot g (subtree_of at g.physical.tree)) worker (get_or (worker_at ws worker).instances at no_instance)
+    (λ port from. lists_at (λ edge from _. notes_in (cell (worker_at ws worker).takes edge from)) (slice_get (ports_of g.physical (subtree_of at g.physical.tree)) port) from worker)
+    (λ to. notes_in (cell (worker_at ws worker).puts at to)))
     → AreLocal g ws
 all_local g ws each at worker there below =
     let t = subtree_of at g.physical.tree in
-    subst (λ (taken : ℕ → ℕ → List Note). IsLocal (spot g t) worker (get_or (remains_at ws worker).instances at no_instance) taken (λ to. notes_in (cell (remains_at ws worker).puts at to)))
+    subst (λ (taken : ℕ → ℕ → List Note). IsLocal (spot g t) worker (get_or (worker_at ws worker).instances at no_instance) taken (λ to. notes_in (cell (worker_at ws worker).puts at to)))
     (λ i port from. own_taken ws worker (slice_get (ports_of g.physical t) port) from i) (each worker below at there)
 
--- ---- what one thread counts at the end, of this physical plan
+-- ---- the end of a run
 
-pub counted_from : (p : ProgramData) (physical : PhysicalData) (w : WorldData) (rows : Bag) (counts : List ℕ) (inputs : List Bag) (h : History) → w.physical ≡ physical
-    → ((inputs : List Bag) (h : History) → IsProgram p → AreInputsOf p inputs → IsPlanOf p.functions p.ops w.physical.tree → LegalShip (facts_of p w.physical.tree) w.physical → IsStanding (setting p inputs w.physical) w h
-    → Counted (plan_ops p inputs) w.physical.tree rows counts)
-    → IsProgram p → AreInputsOf p inputs → IsPlanOf p.functions p.ops physical.tree → LegalShip (facts_of p physical.tree) physical → IsStanding (setting p inputs physical) w h → Counted (plan_ops p inputs) physical.tree rows counts
-counted_from p physical w rows counts inputs h same all =
-    subst (λ (q : PhysicalData). IsProgram p → AreInputsOf p inputs → IsPlanOf p.functions p.ops q.tree → LegalShip (facts_of p q.tree) q → IsStanding (setting p inputs q) w h → Counted (plan_ops p inputs) q.tree rows counts)
-    same (all inputs h)
+-- a run on one thread, from a world that represents a history of the plan's run
+pub plan_outcome : {E : Type 0} (p : ProgramData) (inputs : List Bag) (physical : PhysicalData) (w : WorldData) (h : History) (r : Result Outcome E) → w.physical ≡ physical
+    → IsProgram p → AreInputsOf p inputs → IsPlanOf p.functions p.ops physical.tree → IsStanding (setting p inputs physical) w h
+    → IfOk r (λ o. (g : Setting) (h : History) → IsStanding g w h → Spread g o.rows o.counts)
+    → IfOk r (λ o. (p : ProgramData) (inputs : List Bag) (h : History) → IsProgram p → AreInputsOf p inputs → IsPlanOf p.functions p.ops w.physical.tree → LegalShip (facts_of p w.physical.tree) w.physical
+    → IsStanding (setting p inputs w.physical) w h → Counted (plan_ops p inputs) w.physical.tree o.rows o.counts)
+    → IfOk r (λ o. (g : Setting) (h : History) → IsStanding g w h → AreWide g.fields o.rows)
+    → IfOk r (λ o. (p : ProgramData) → IsPlanOf p.functions p.ops w.physical.tree → length o.counts ≡ length p.ops)
+    → IfOk r (IsPlanOutcome p inputs physical)
+plan_outcome p inputs physical w h (Ok o) same is are plan stand spread counted widths counts = record {
+  spread = spread (setting p inputs physical) h stand;
+  counted = λ legal. subst
+      (λ (q : PhysicalData). IsPlanOf p.functions p.ops q.tree → LegalShip (facts_of p q.tree) q → IsStanding (setting p inputs q) w h → Counted (plan_ops p inputs) q.tree o.rows o.counts)
+      same (counted p inputs h is are) plan legal stand;
+  widths = widths (setting p inputs physical) h stand;
+  counts = counts p (subst (λ (q : PhysicalData). IsPlanOf p.functions p.ops q.tree) (sym same) plan);
+}
+plan_outcome p inputs physical w h (Err e) same is are plan stand spread counted widths counts = tt

@@ -11,5 +11,5 @@ mod EndsOut
 mod Finished
 mod Sendable
 mod RunsOfWorkers
-mod SlotsInTurn
+mod WorkersInTurn
 mod StartedJobs

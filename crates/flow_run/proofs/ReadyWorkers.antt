@@ -1,9 +1,9 @@
--- What a worker that is ready may try, and what came of it.
+-- The attempts of a worker that is ready, and their results.
 use Rattle.std.proofs.Common.{◌≡◌, ◌≢◌, ◌<◌, ◌≤◌, inl, inr, ◌||◌, ◌&&◌, ℕ, zero, suc, Bool, true, false, Option, Some, None, List, [], ◌∷◌, get_or, length, set, slice_get, refl, ap, sym, ◌∙◌, subst, arith}
 use Rattle.std.specs.List.{AllByRecursion}
-use Rattle.std.specs.Prelude.{nat_lt, not, Result, Ok, Err, IfOk}
-use Rattle.flow_run.specs.declared.outcomes.Tried.{Tried}
-use Rattle.flow_run.specs.declared.outcomes.Tried.TheVariants.{Event, Idle, Spent}
+use Rattle.std.specs.Prelude.{nat_lt, not, Result, Ok, Err, IfOk, OnOk}
+use Rattle.flow_run.specs.declared.attempts.Attempt.{Attempt}
+use Rattle.flow_run.specs.declared.attempts.Attempt.TheVariants.{Progress, Blocked, Exhausted}
 use Rattle.std.proofs.lemmas.Bool.{and_from, and_parts, cases_lt, lt-ltb, ltb-true}
 use Rattle.std.proofs.lemmas.List.{get_or-set_other, get_or-set_same}
 use Rattle.batch_channel.specs.Ends.{APipe}
@@ -27,15 +27,17 @@ use Rattle.flow_instance.proofs.LocalAfterTakes.{IsTaking, taking_by}
 use Rattle.flow_core.specs.Worlds.{no_instance}
 use Rattle.flow_run.specs.Tables.{cell, cell_in}
 use Rattle.flow_run.specs.Ends.{ArePuts, AreTakes, EndTable, IsPipeIf, PipeTables, goes_along, notes_in}
-use Rattle.flow_run.specs.Benches.{Happens, Held, HeldAt, IsReady, IsReadyFor, Rests, StaysReady, TakesAt, Works, bench}
-use Rattle.flow_run.specs.Tries.{HasNotPutTo, HasPutTo, HasStepped, MayTake, WhenTried}
+use Rattle.flow_run.specs.Benches.{AllHeld, Happens, Held, HeldAt, IsReady, IsReadyFor, Rests, StaysReady, TakesAt, Works, bench}
+use Rattle.flow_run.specs.Tries.{HasNotPutTo, HasPutTo, HasStepped, MayTake, AfterAttempt}
+use Rattle.flow_run.specs.Workers.{HasWorked}
+use Rattle.flow_run.specs.declared.workers.Worker.{Worker}
 use Rattle.flow_run.proofs.BenchLaws.{works_kept}
 
 next_fits : (s : Spot) (worker : ℕ) (waiting : List (ℕ × Bag)) → AllByRecursion (IsWaiting s worker) waiting → IsNote s.fields (next_note waiting)
 next_fits s worker [] h = tt
 next_fits s worker (w ∷ waiting) h = (h.0.1, h.0.2)
 
--- a port that isn't there has ended
+-- a port that doesn't exist has ended
 sent_by : (x y : Bool) → (not x || y) ≡ false → x ≡ true
 sent_by true y e = refl
 sent_by false y e = absurd (cc)
@@ -52,10 +54,10 @@ pipe_sender : (b : Bool) (o : Option APipe) (p : APipe) → IsPipeIf b o → o �
 pipe_sender true o p h e = refl
 pipe_sender false o p h e = absurd (let bad : None ≡ Some p = sym h ∙ e in cc)
 
-map_tried : {A B C D : Type 0} (t : Tried) → (A → B) → (C → D) → WhenTried t A C → WhenTried t B D
-map_tried Event f g x = f x
-map_tried Idle f g x = g x
-map_tried Spent f g x = g x
+map_attempt : {A B C D : Type 0} (t : Attempt) → (A → B) → (C → D) → AfterAttempt t A C → AfterAttempt t B D
+map_attempt Progress f g x = f x
+map_attempt Blocked f g x = g x
+map_attempt Exhausted f g x = g x
 
 module _ (g : Setting) (fields worker : ℕ) (pipes : PipeTables) (instances : List Instance) (puts takes : EndTable) (r : IsReadyFor g fields worker pipes instances puts takes) (at : ℕ) (less : at < length instances)
     (i : Instance) (at_is : i ≡ get_or instances at no_instance) where
@@ -111,7 +113,7 @@ module _ (g : Setting) (fields worker : ℕ) (pipes : PipeTables) (instances : L
             subst (λ (n : ℕ). from < n) (sym l.part.workers) (ltb-true from g.physical.workers first.0);
       }
 
-  -- ---- what came of it
+  -- ---- results of attempts
 
   now_at : (j : Instance) → get_or (set instances at j) at no_instance ≡ j
   now_at j = get_or-set_same instances at j no_instance less
@@ -149,7 +151,7 @@ module _ (g : Setting) (fields worker : ℕ) (pipes : PipeTables) (instances : L
         put = λ edge to. refl;
       }))) wanted h
 
-  -- nothing happened to an instance that waits for nothing that it could do
+  -- the instance is the same
   rest_same : (j : Instance) (takes' : EndTable) → j ≡ i → ((a b : ℕ) → notes_in (cell takes' a b) ≡ notes_in (cell takes a b)) → Rests (bench instances puts takes) at (bench (set instances at j) puts takes')
   rest_same j takes' same taken = record {
     receiver = i.receiver;
@@ -181,14 +183,14 @@ module _ (g : Setting) (fields worker : ℕ) (pipes : PipeTables) (instances : L
     subst (λ (w : Want). Held pipes worker (bench (set instances at i) puts takes) at w) (sym (ap want (now_at i) ∙ wanted)) tt,
   )
 
-  pub put_stepped : (to : ℕ) (j : Instance) (puts' : EndTable) (t : Tried) → want i ≡ Put to → WhenTried t (HasPutTo i at to puts j puts') (HasNotPutTo pipes worker i at to puts j puts')
+  pub put_stepped : (to : ℕ) (j : Instance) (puts' : EndTable) (t : Attempt) → want i ≡ Put to → AfterAttempt t (HasPutTo i at to puts j puts') (HasNotPutTo pipes worker i at to puts j puts')
       → HasStepped pipes worker (bench instances puts takes) at (bench (set instances at j) puts' takes) t
-  put_stepped to j puts' t wanted h = map_tried t (put_event to j puts' wanted) (put_rest to j puts' wanted) h
+  put_stepped to j puts' t wanted h = map_attempt t (put_event to j puts' wanted) (put_rest to j puts' wanted) h
 
-  pub take_stepped : {E : Type 0} (port : ℕ) (j : Instance) (takes' : EndTable) (r : Result Tried E) → want i ≡ Take port
-      → IfOk r (λ t. WhenTried t (TakesAt i worker port (λ a b. notes_in (cell takes a b)) j (λ a b. notes_in (cell takes' a b))) ((j ≡ i) × ((a b : ℕ) → notes_in (cell takes' a b) ≡ notes_in (cell takes a b))))
+  pub take_stepped : {E : Type 0} (port : ℕ) (j : Instance) (takes' : EndTable) (r : Result Attempt E) → want i ≡ Take port
+      → IfOk r (λ t. AfterAttempt t (TakesAt i worker port (λ a b. notes_in (cell takes a b)) j (λ a b. notes_in (cell takes' a b))) ((j ≡ i) × ((a b : ℕ) → notes_in (cell takes' a b) ≡ notes_in (cell takes a b))))
       → IfOk r (HasStepped pipes worker (bench instances puts takes) at (bench (set instances at j) puts takes'))
-  take_stepped port j takes' (Ok t) wanted h = map_tried t (take_event port j takes' wanted) (take_rest port j takes' wanted) h
+  take_stepped port j takes' (Ok t) wanted h = map_attempt t (take_event port j takes' wanted) (take_rest port j takes' wanted) h
   take_stepped port j takes' (Err e) wanted h = tt
 
 -- ---- a worker that stays ready
@@ -214,3 +216,19 @@ pub ready_after : (fields worker : ℕ) (pipes : PipeTables) (instances more : L
     → IsReady fields worker pipes more puts' takes'
 ready_after fields worker pipes instances more puts takes puts' takes' h works same put_ends take_ends =
     record { setting = h.setting; ready = (stays_ready fields worker pipes instances more puts takes puts' takes' works same put_ends take_ends).stays h.setting h.ready }
+
+-- ---- a worker after its work
+
+pub has_worked : {L W X E : Type 0} (fields : ℕ) (pipes : PipeTables) (before after : Worker L W) (old new : List Instance) (r : Result X E) → old ≡ before.instances.items → after.instances.items ≡ new → after.number ≡ before.number
+    → length new ≡ length old → OnOk r (IsReady fields before.number pipes new after.puts after.takes) → OnOk r (StaysReady fields before.number pipes old before.puts before.takes new after.puts after.takes)
+    → OnOk r (Works before.number (length old) (bench old before.puts before.takes) (bench new after.puts after.takes)) → OnOk r (AllHeld pipes before.number (length new) (bench new after.puts after.takes))
+    → OnOk r (HasWorked fields pipes before after)
+has_worked fields pipes before after old new (Ok x) old_is new_is number same ready stays works held = record {
+  number = number;
+  count = ap length new_is ∙ same ∙ ap length old_is;
+  ready = subst (λ (l : List Instance). IsReady fields before.number pipes l after.puts after.takes) (sym new_is) ready;
+  stays = subst (λ (x : List Instance × List Instance). StaysReady fields before.number pipes x.0 before.puts before.takes x.1 after.puts after.takes) (λ i. (old_is i, sym new_is i)) stays;
+  works = subst (λ (x : List Instance × List Instance). Works before.number (length x.0) (bench x.0 before.puts before.takes) (bench x.1 after.puts after.takes)) (λ i. (old_is i, sym new_is i)) works;
+  held = subst (λ (l : List Instance). AllHeld pipes before.number (length l) (bench l after.puts after.takes)) (sym new_is) held;
+}
+has_worked fields pipes before after old new (Err e) old_is new_is number same ready stays works held = tt

@@ -1,5 +1,5 @@
--- Workers at their start, and what they have left.
-use Rattle.std.proofs.Common.{◌≡◌, ◌<◌, ◌≤◌, ◌+◌, ◌*◌, inl, inr, ℕ, zero, suc, true, false, List, [], ◌∷◌, ◌++◌, get_or, length, length-append, map, replicate, set, drop, refl, ap, sym, ◌∙◌, subst, arith}
+-- Workers at their start and after their work.
+use Rattle.std.proofs.Common.{◌≡◌, ◌<◌, ◌≤◌, ◌+◌, ◌*◌, ℕ, zero, suc, true, false, List, [], ◌∷◌, ◌++◌, get_or, length, length-append, map, replicate, set, drop, refl, ap, sym, ◌∙◌, subst, arith}
 use Rattle.std.specs.Prelude.{slice_index_or}
 use Rattle.std.specs.List.{All, AllByRecursion}
 use Rattle.std.proofs.lemmas.List.{get_or-set_other, length-map, length-replicate, length-set}
@@ -15,24 +15,21 @@ use Rattle.flow_core.specs.Worlds.{no_instance}
 use Rattle.flow_instance.proofs.LocalAfterPuts.{started_local}
 use Rattle.flow_core.proofs.SharesOfRows.{each_last}
 use Rattle.flow_run.specs.Benches.{AllLocal, IsReady, IsReadyFor, Works, bench}
-use Rattle.flow_run.specs.Dealing.{AreDealt}
 use Rattle.flow_run.specs.Ends.{EndTable, PipeTables}
-use Rattle.flow_run.specs.Remains.{AreLocal, HaveReturned, Remains, remains_at, with_column, with_columns}
-use Rattle.flow_run.specs.Runs.{AreAssembled, AreAtStart, AreReady, AreStill, HasLeft, HaveAllLeft, HaveReturnedFrom, IsAssembled, slot_remains}
-use Rattle.flow_run.specs.Slots.{HasWorkedIn, IsSlotReady}
+use Rattle.flow_run.specs.WorkerData.{AreLocal, HaveReturned, WorkerData, nothing, worker_at, with_column, with_columns}
+use Rattle.flow_run.specs.Runs.{AreAssembled, AreAtStart, AreDealt, AreStill, IsAssembled}
+use Rattle.flow_run.specs.Schedules.{AreJobs, AreWorkersOf, HasWorkedIn, IsJobReady, job_worker}
 use Rattle.flow_run.specs.Wires.{AreWired, EndTables}
-use Rattle.flow_run.specs.Workers.{HasWorked}
-use Rattle.flow_run.specs.declared.slots.Slot.{Slot}
+use Rattle.flow_run.specs.Workers.{HasWorked, HaveAllWorked, IsWorkerReady, all_data, data_of}
+use Rattle.flow_run.specs.declared.schedules.Job.{Job}
+use Rattle.flow_run.specs.declared.workers.Worker.{Worker}
 use Rattle.flow_run.proofs.Arranged.{columns_at, length_column, length_columns, blank}
 use Rattle.flow_run.proofs.BenchLaws.{works_kept}
 use Rattle.flow_run.proofs.Finished.{all_local}
 use Rattle.flow_run.proofs.StartedWorkers.{ready_for, edge_there}
 use Rattle.flow_run.proofs.WiredPipes.{pipes_of}
 
--- ---- lists that are taken apart from the front
-
-pub still_first : {X : Type 0} (old : List (List X)) → AreStill 0 old old
-still_first old k less = refl
+-- ---- lists from which the first rows are taken
 
 pub still_next : {X : Type 0} (from : ℕ) (old mid new : List (List X)) → AreStill from old mid → new ≡ set mid from [] → AreStill (from + 1) old new
 still_next from old mid new h is k more =
@@ -43,7 +40,7 @@ drop_next [] n less = absurd (omega (arith, less))
 drop_next (x ∷ xs) zero less = refl
 drop_next (x ∷ xs) (suc n) less = drop_next xs n (omega (arith, less))
 
--- the instances of one number more
+-- one row more
 pub columns_step : (at workers ops : ℕ) (first old left all new : List (List Instance)) (own : List Instance) (rows : List (List Instance)) → at < ops → own ≡ get_or old at [] → left ≡ set old at [] → new ≡ with_column all own
     → with_columns all (drop at first) ≡ rows → length all ≡ workers → AreStill at first old → length old ≡ ops → length first ≡ ops
     → (with_columns new (drop (at + 1) first) ≡ rows) × (length new ≡ workers) × AreStill (at + 1) first left × (length left ≡ ops)
@@ -57,84 +54,86 @@ columns_step at workers ops first old left all new own rows less own_is left_is 
       ap length left_is ∙ length-set old at [] ∙ old_long,
     )
 
--- ---- slots
+-- ---- jobs
 
-done_last : {X : Type 0} (P : X → Type 0) (xs : List X) (x : X) → AllByRecursion P xs → P x → AllByRecursion P (xs ++ x ∷ [])
-done_last P [] x h p = (p, tt)
-done_last P (y ∷ xs) x h p = (h.0, done_last P xs x h.1 p)
+all_last : {X : Type 0} (P : X → Type 0) (xs : List X) (x : X) → AllByRecursion P xs → P x → AllByRecursion P (xs ++ x ∷ [])
+all_last P [] x h p = (p, tt)
+all_last P (y ∷ xs) x h p = (h.0, all_last P xs x h.1 p)
 
 map_last : {X Y : Type 0} (f : X → Y) (xs : List X) (x : X) → map f (xs ++ x ∷ []) ≡ map f xs ++ f x ∷ []
 map_last f [] x = refl
 map_last f (y ∷ xs) x = ap (λ l. f y ∷ l) (map_last f xs x)
 
--- one worker more has returned
-pub returned_more : {L W R : Type 0} (f : R → Remains) (slots : List (Slot L W)) (s : Slot L W) (left new : List R) (r : R) → HaveReturnedFrom slots (map f left) → s.refused ≡ false → f r ≡ slot_remains s → new ≡ left ++ r ∷ []
-    → HaveReturnedFrom (slots ++ s ∷ []) (map f new)
-returned_more f slots s left new r h done is new_is = record {
-  remains = ap (map f) new_is ∙ map_last f left r ∙ (λ i. h.remains i ++ is i ∷ []) ∙ sym (map_last slot_remains slots s);
-  done = done_last (λ s. s.refused ≡ false) slots s h.done done;
-}
+map_at : {X Y : Type 0} (f : X → Y) (xs : List X) (k : ℕ) (d : X) (e : Y) → k < length xs → get_or (map f xs) k e ≡ f (get_or xs k d)
+map_at f [] k d e less = absurd (omega (arith, less))
+map_at f (x ∷ xs) zero d e less = refl
+map_at f (x ∷ xs) (suc k) d e less = map_at f xs k d e (omega (arith, less))
 
-module _ {L W : Type 0} (pipes : PipeTables) (all : List (List Instance)) (puts takes : EndTables) where
-  pub assembled_none : AreAssembled {L = L} {W = W} pipes all puts takes 0 []
-  assembled_none = record { long = refl; each = λ k d less. absurd (omega (arith, less)) }
+some_item : {X : Type 0} (xs : List X) (k : ℕ) → k < length xs → X
+some_item [] k less = absurd (omega (arith, less))
+some_item (x ∷ xs) k less = x
 
-  pub assembled_more : (n : ℕ) (slots new : List (Slot L W)) (s : Slot L W) → AreAssembled pipes all puts takes n slots → new ≡ slots ++ s ∷ [] → IsAssembled pipes (get_or all n []) (get_or puts n []) (get_or takes n []) n s
-      → AreAssembled pipes all puts takes (n + 1) new
-  assembled_more n slots new s a is last = subst (AreAssembled pipes all puts takes (n + 1)) (sym is) (record {
-    long = length-append slots (s ∷ []) ∙ ap (λ (k : ℕ). k + 1) a.long;
-    each = λ k d less. each_last (λ k (s : Slot L W). IsAssembled pipes (get_or all k []) (get_or puts k []) (get_or takes k []) k s) slots s d n a.long (λ k less. a.each k d less) last k less;
+module _ {L W : Type 0} where
+  pub jobs_more : (pipes : PipeTables) (workers : List (Worker L W)) (w : Worker L W) (jobs new : List (Job L W)) (j : Job L W) → AreJobs pipes workers jobs → new ≡ jobs ++ j ∷ [] → j.worker ≡ w → j.pipes.now ≡ pipes
+      → AreJobs pipes (workers ++ w ∷ []) new
+  jobs_more pipes workers w jobs new j h is same pipes_are = subst (AreJobs pipes (workers ++ w ∷ [])) (sym is) (record {
+    workers_are = map_last job_worker jobs j ∙ (λ i. h.workers_are i ++ same i ∷ []);
+    pipes_are = all_last (λ (j : Job L W). j.pipes.now ≡ pipes) jobs j h.pipes_are pipes_are;
   })
 
-  ready_slot : (fields k : ℕ) (s : Slot L W) → IsAssembled pipes (get_or all k []) (get_or puts k []) (get_or takes k []) k s → IsReady fields k pipes (get_or all k []) (get_or puts k []) (get_or takes k []) → IsSlotReady fields s
-  ready_slot fields k s i r =
-      subst (λ (x : ℕ × PipeTables × List Instance × EndTable × EndTable). IsReady fields x.0 x.1 x.2 x.3 x.4) (λ t. (sym i.number t, sym i.pipes_are t, sym i.instances_are t, sym i.puts_are t, sym i.takes_are t)) r
-
-  pub ready_slots : (fields n : ℕ) (slots : List (Slot L W)) → AreAssembled pipes all puts takes n slots → AreReady fields n pipes all puts takes → All (IsSlotReady fields) slots
-  ready_slots fields n slots a r k d less =
-      let below : k < n = omega (arith, less, a.long) in
-      ready_slot fields k (slice_index_or slots k d) (a.each k d below) (r.each k below)
-
-  left_slot : (fields k : ℕ) (a b : Slot L W) (own : List Instance) (put take : EndTable) → IsAssembled pipes own put take k a → HasWorked fields a.worker b.worker → HasLeft fields k pipes own put take (slot_remains b)
-  left_slot fields k a b own put take i h = record {
-    count = h.count ∙ ap length i.instances_are;
-    ready = subst (λ (x : ℕ × PipeTables). IsReady fields x.0 x.1 b.worker.instances.items b.worker.puts b.worker.takes) (λ t. (i.number t, i.pipes_are t)) h.ready;
-    works = subst (λ (x : ℕ × List Instance × EndTable × EndTable). Works x.0 (length x.1) (bench x.1 x.2 x.3) (bench b.worker.instances.items b.worker.puts b.worker.takes))
-        (λ t. (i.number t, i.instances_are t, i.puts_are t, i.takes_are t)) h.works;
+  pub returned_more : (jobs : List (Job L W)) (j : Job L W) (workers new : List (Worker L W)) → AreWorkersOf jobs workers → j.failed ≡ false → new ≡ workers ++ j.worker ∷ [] → AreWorkersOf (jobs ++ j ∷ []) new
+  returned_more jobs j workers new h done is = record {
+    workers_are = is ∙ ap (λ (l : List (Worker L W)). l ++ j.worker ∷ []) h.workers_are ∙ sym (map_last job_worker jobs j);
+    done = all_last (λ (j : Job L W). j.failed ≡ false) jobs j h.done done;
   }
 
-  remains_of_slot : (slots : List (Slot L W)) (k : ℕ) (d : Slot L W) → k < length slots → remains_at (map slot_remains slots) k ≡ slot_remains (slice_index_or slots k d)
-  remains_of_slot [] k d less = absurd (omega (arith, less))
-  remains_of_slot (s ∷ slots) zero d less = refl
-  remains_of_slot (s ∷ slots) (suc k) d less = remains_of_slot slots k d (omega (arith, less))
+  module _ (fields : ℕ) (pipes : PipeTables) (workers : List (Worker L W)) (jobs : List (Job L W)) (are : AreJobs pipes workers jobs) where
+    as_many : length jobs ≡ length workers
+    as_many = sym (length-map jobs job_worker) ∙ ap length are.workers_are
 
-  some_slot : (slots : List (Slot L W)) (k : ℕ) → k < length slots → Slot L W
-  some_slot [] k less = absurd (omega (arith, less))
-  some_slot (s ∷ slots) k less = s
+    job_is : (k : ℕ) (d : Job L W) (e : Worker L W) → k < length jobs → (get_or jobs k d).worker ≡ get_or workers k e
+    job_is k d e less = sym (map_at job_worker jobs k d e less) ∙ ap (λ (l : List (Worker L W)). get_or l k e) are.workers_are
 
-  pub all_left : (fields n : ℕ) (old new : List (Slot L W)) (ws : List Remains) → AreAssembled pipes all puts takes n old → length new ≡ length old
-      → ((k : ℕ) (d : Slot L W) → k < length old → HasWorkedIn fields (slice_index_or old k d) (slice_index_or new k d)) → HaveReturnedFrom new ws → HaveAllLeft fields n pipes all puts takes ws
-  all_left fields n old new ws a same worked r = record {
-    long = ap length r.remains ∙ length-map new slot_remains ∙ same ∙ a.long;
-    each = λ k below.
-        let less : k < length old = omega (arith, below, a.long) in
-        let less_new : k < length new = omega (arith, less, same) in
-        let d = some_slot old k less in
-        let done = AllByRecursion-get_or (λ (s : Slot L W). s.refused ≡ false) new k d less_new r.done in
-        subst (HasLeft fields k pipes (get_or all k []) (get_or puts k []) (get_or takes k [])) (sym (ap (λ (l : List Remains). remains_at l k) r.remains ∙ remains_of_slot new k d less_new))
-        (left_slot fields k (slice_index_or old k d) (slice_index_or new k d) (get_or all k []) (get_or puts k []) (get_or takes k []) (a.each k d below) ((worked k d less).works done));
-  }
+    job_pipes : (k : ℕ) (d : Job L W) → k < length jobs → (get_or jobs k d).pipes.now ≡ pipes
+    job_pipes k d less = AllByRecursion-get_or (λ (j : Job L W). j.pipes.now ≡ pipes) jobs k d less are.pipes_are
+
+    pub some_jobs : 1 ≤ length workers → 1 ≤ length jobs
+    some_jobs some = omega (arith, some, as_many)
+
+    pub ready_jobs : All (IsWorkerReady fields pipes) workers → All (IsJobReady fields) jobs
+    ready_jobs ready k d less =
+        let e = (get_or jobs k d).worker in
+        subst (λ (x : PipeTables × Worker L W). IsWorkerReady fields x.0 x.1) (λ i. (sym (job_pipes k d less) i, sym (job_is k d e less) i)) (ready k e (omega (arith, less, as_many)))
+
+    -- if no job failed, each worker has worked
+    pub all_worked : (new : List (Job L W)) (after : List (Worker L W)) → length new ≡ length jobs → ((k : ℕ) (d : Job L W) → k < length jobs → HasWorkedIn fields (slice_index_or jobs k d) (slice_index_or new k d))
+        → AreWorkersOf new after → HaveAllWorked fields pipes workers after
+    all_worked new after same worked r = record {
+      long = ap length r.workers_are ∙ length-map new job_worker ∙ same ∙ as_many;
+      each = λ k e below.
+          let less : k < length jobs = omega (arith, below, as_many) in
+          let less_new : k < length new = omega (arith, less, same) in
+          let d = some_item jobs k less in
+          let done = AllByRecursion-get_or (λ (j : Job L W). j.failed ≡ false) new k d less_new r.done in
+          let is : (get_or new k d).worker ≡ get_or after k e = sym (map_at job_worker new k d e less_new) ∙ sym (ap (λ (l : List (Worker L W)). get_or l k e) r.workers_are) in
+          subst (λ (x : PipeTables × Worker L W × Worker L W). HasWorked fields x.0 x.1 x.2) (λ i. (job_pipes k d less i, job_is k d e less i, is i)) ((worked k d less).works done);
+    }
+
+-- ---- workers at their start
+
+module _ {L W : Type 0} (all : List (List Instance)) (puts takes : EndTables) where
+  pub assembled_more : (n : ℕ) (workers new : List (Worker L W)) (w : Worker L W) → AreAssembled all puts takes n workers → new ≡ workers ++ w ∷ [] → IsAssembled (get_or all n []) (get_or puts n []) (get_or takes n []) n w
+      → AreAssembled all puts takes (n + 1) new
+  assembled_more n workers new w a is last = subst (AreAssembled all puts takes (n + 1)) (sym is) (record {
+    long = length-append workers (w ∷ []) ∙ ap (λ (k : ℕ). k + 1) a.long;
+    each = λ k d less. each_last (λ k (w : Worker L W). IsAssembled (get_or all k []) (get_or puts k []) (get_or takes k []) k w) workers w d n a.long (λ k less. a.each k d less) last k less;
+  })
 
 -- ---- instances at their start
 
 all_rows : (n : ℕ) (rows : List (List Instance)) → ((at : ℕ) → at < length rows → length (get_or rows at []) ≡ n) → AllByRecursion (λ (row : List Instance). length row ≡ n) rows
 all_rows n [] h = tt
 all_rows n (row ∷ rows) h = (h 0 (omega arith), all_rows n rows (λ at less. h (suc at) (omega (arith, less))))
-
-map_at : {X Y : Type 0} (f : X → Y) (xs : List X) (k : ℕ) (d : X) (e : Y) → k < length xs → get_or (map f xs) k e ≡ f (get_or xs k d)
-map_at f [] k d e less = absurd (omega (arith, less))
-map_at f (x ∷ xs) zero d e less = refl
-map_at f (x ∷ xs) (suc k) d e less = map_at f xs k d e (omega (arith, less))
 
 module _ (g : Setting) (size ops : ℕ) (list : List (List Instance)) (started : AreAllStarted g size ops list) where
   -- one on each worker
@@ -164,44 +163,84 @@ module _ (g : Setting) (size ops : ℕ) (list : List (List Instance)) (started :
           (started_local s worker (get_or (get_or list at []) worker no_instance) ((started.each at less).each worker below).started);
     }
 
--- ---- from the start to what is left
+-- ---- workers after their work
 
--- numbers of a plan are few
+-- What a worker has after its work: its ends are still those of its pipes, and it did events of its own instances and
+-- nothing else.
+record HasLeft (fields worker : ℕ) (pipes : PipeTables) (own : List Instance) (puts takes : EndTable) (w : WorkerData) : Type 0 where
+  count : length w.instances ≡ length own
+  ready : IsReady fields worker pipes w.instances w.puts w.takes
+  works : Works worker (length own) (bench own puts takes) (bench w.instances w.puts w.takes)
+
+-- a plan has at most 64 sources and operators
 pub few_numbers : (p : PhysicalData) (ops : ℕ) → IsPhysical p → ((at : ℕ) → at < ops → has at p.tree ≡ true) → ops ≤ 64
 few_numbers p zero plan all = omega arith
 few_numbers p (suc n) plan all = let less = below_limit n p.tree plan.plan (all n (omega arith)) in omega (arith, less)
 
 module _ (g : Setting) (ops depth : ℕ) (pipes : PipeTables) (puts takes : EndTables) (all : List (List Instance)) (plan : IsPhysical g.physical) (all_ops : (at : ℕ) → at < ops → has at g.physical.tree ≡ true)
-    (only : (at : ℕ) → has at g.physical.tree ≡ true → at < ops) (deep : depth ≤ 64) (start : AreAtStart g ops all) (wired : AreWired g.physical ops depth (256 * ops) pipes puts takes) where
+    (only : (at : ℕ) → has at g.physical.tree ≡ true → at < ops) (deep : depth ≤ 64) (start : AreAtStart g ops all) (wired : AreWired g.physical ops depth (256 * ops) pipes puts takes)
+    {L W : Type 0} (workers : List (Worker L W)) (assembled : AreAssembled all puts takes g.physical.workers workers) where
   ready_one : (worker : ℕ) → worker < g.physical.workers → IsReadyFor g g.fields worker pipes (get_or all worker []) (get_or puts worker []) (get_or takes worker [])
   ready_one worker below =
       ready_for g worker ops depth pipes puts takes (get_or all worker []) plan below (start.each worker below) (few_numbers g.physical ops plan all_ops) deep all_ops only wired (λ at there. start.local at worker there below)
 
-  are_ready : AreReady g.fields g.physical.workers pipes all puts takes
-  are_ready = record { long = start.long; each = λ worker below. record { setting = g; ready = ready_one worker below } }
+  ready_worker : (k : ℕ) (w : Worker L W) → IsAssembled (get_or all k []) (get_or puts k []) (get_or takes k []) k w → IsReady g.fields k pipes (get_or all k []) (get_or puts k []) (get_or takes k []) → IsWorkerReady g.fields pipes w
+  ready_worker k w i r =
+      subst (λ (x : ℕ × List Instance × EndTable × EndTable). IsReady g.fields x.0 pipes x.1 x.2 x.3) (λ t. (sym i.number_is t, sym i.instances_are t, sym i.puts_are t, sym i.takes_are t)) r
 
-  module _ (ws : List Remains) (left : HaveAllLeft g.fields g.physical.workers pipes all puts takes ws) where
-    each_long : (n : ℕ) (xs : List Remains) → ((k : ℕ) → k < length xs → length (remains_at xs k).instances ≡ n) → AllByRecursion (λ (w : Remains). length w.instances ≡ n) xs
+  are_ready : All (IsWorkerReady g.fields pipes) workers
+  are_ready k d less =
+      let below : k < g.physical.workers = omega (arith, less, assembled.long) in
+      ready_worker k (slice_index_or workers k d) (assembled.each k d below) (record { setting = g; ready = ready_one k below })
+
+  left_worker : (k : ℕ) (own : List Instance) (put take : EndTable) (a b : Worker L W) → IsAssembled own put take k a → HasWorked g.fields pipes a b → HasLeft g.fields k pipes own put take (data_of b)
+  left_worker k own put take a b i h = record {
+    count = h.count ∙ ap length i.instances_are;
+    ready = subst (λ (n : ℕ). IsReady g.fields n pipes b.instances.items b.puts b.takes) i.number_is h.ready;
+    works = subst (λ (x : ℕ × List Instance × EndTable × EndTable). Works x.0 (length x.1) (bench x.1 x.2 x.3) (bench b.instances.items b.puts b.takes))
+        (λ t. (i.number_is t, i.instances_are t, i.puts_are t, i.takes_are t)) h.works;
+  }
+
+  module _ (after : List (Worker L W)) (worked : HaveAllWorked g.fields pipes workers after) where
+    abbrev ws : List WorkerData
+    ws = all_data after
+
+    left_long : length ws ≡ g.physical.workers
+    left_long = length-map after data_of ∙ worked.long ∙ assembled.long
+
+    left : (worker : ℕ) → worker < g.physical.workers → HasLeft g.fields worker pipes (get_or all worker []) (get_or puts worker []) (get_or takes worker []) (worker_at ws worker)
+    left worker below =
+        let less : worker < length workers = omega (arith, below, assembled.long) in
+        let d = some_item workers worker less in
+        subst (HasLeft g.fields worker pipes (get_or all worker []) (get_or puts worker []) (get_or takes worker [])) (sym (map_at data_of after worker d nothing (omega (arith, less, worked.long))))
+        (left_worker worker (get_or all worker []) (get_or puts worker []) (get_or takes worker []) (slice_index_or workers worker d) (slice_index_or after worker d) (assembled.each worker d below) (worked.each worker d less))
+
+    each_long : (n : ℕ) (xs : List WorkerData) → ((k : ℕ) → k < length xs → length (worker_at xs k).instances ≡ n) → AllByRecursion (λ (w : WorkerData). length w.instances ≡ n) xs
     each_long n [] h = tt
     each_long n (x ∷ xs) h = (h 0 (omega arith), each_long n xs (λ k less. h (suc k) (omega (arith, less))))
 
     have_returned : HaveReturned g.physical ops pipes ws
     have_returned = record {
-      workers = left.long;
-      instances = each_long ops ws (λ k less. let below : k < g.physical.workers = omega (arith, less, left.long) in (left.each k below).count ∙ start.each k below);
+      workers = left_long;
+      instances = each_long ops ws (λ k less. let below : k < g.physical.workers = omega (arith, less, left_long) in (left k below).count ∙ start.each k below);
       of_plan = pipes_of g.physical ops depth (256 * ops) pipes puts takes deep plan.few_workers (λ edge from to goes. only edge (edge_there g.physical edge from to goes)) refl wired;
-      puts = λ worker below. (left.each worker below).ready.ready.puts_are;
-      takes = λ worker below. (left.each worker below).ready.ready.takes_are;
+      puts = λ worker below. (left worker below).ready.ready.puts_are;
+      takes = λ worker below. (left worker below).ready.ready.takes_are;
     }
 
-    kept_local : (worker : ℕ) → worker < g.physical.workers → AllLocal g worker (bench (remains_at ws worker).instances (remains_at ws worker).puts (remains_at ws worker).takes)
+    kept_local : (worker : ℕ) → worker < g.physical.workers → AllLocal g worker (bench (worker_at ws worker).instances (worker_at ws worker).puts (worker_at ws worker).takes)
     kept_local worker below =
         let own = get_or all worker [] in
         works_kept g worker plan.plan.different (length own) (λ at less. all_ops at (omega (arith, less, start.each worker below))) (bench own (get_or puts worker []) (get_or takes worker []))
-        (bench (remains_at ws worker).instances (remains_at ws worker).puts (remains_at ws worker).takes) (ready_one worker below).local (left.each worker below).works
+        (bench (worker_at ws worker).instances (worker_at ws worker).puts (worker_at ws worker).takes) (ready_one worker below).local (left worker below).works
 
     are_local : AreLocal g ws
     are_local = all_local g ws (λ worker below at there. kept_local worker below at there)
 
-  pub are_dealt : AreDealt g ops g.fields pipes all puts takes
-  are_dealt = record { ready = are_ready; returned = λ ws left. have_returned ws left; local = λ ws left. are_local ws left }
+  pub are_dealt : AreDealt g ops g.fields pipes workers
+  are_dealt = record {
+    some = omega (arith, plan.some_worker, assembled.long);
+    ready = are_ready;
+    returned = λ after worked. have_returned after worked;
+    local = λ after worked. are_local after worked;
+  }

@@ -1,6 +1,6 @@
--- Workers may go to threads of their own, where the records that their instances keep may. For types that lead back to themselves, as a function's body
--- does, no such proof is made by itself, and so for none that has one. These belong to the crates of their types; they stand here since this crate alone
--- lets instances cross threads.
+-- Workers may go to other threads if the records that their instances keep may. The checker proves this automatically
+-- for most types, but not for recursive ones, such as a function's body, nor for types that contain them. These proofs
+-- belong to the crates of their types; they are here since only this crate moves instances between threads.
 use denote.RattleType.{RattleType}
 use denote.Param.Send.{IsSend, recorded_send, sendable, view_send}
 use denote.Ref.{NamedLft}
@@ -44,7 +44,7 @@ use Rattle.flow_instance.specs.contracts.instances.Instance.TheInside as Inner
 use Rattle.batch_channel.specs.contracts.ends.PutEnd as PutEnd
 use Rattle.batch_channel.specs.contracts.ends.TakeEnd as TakeEnd
 use Rattle.batch_channel.specs.contracts.pipes.Pipe as Pipe
-use Rattle.flow_run.specs.contracts.slots.Slot as Slot
+use Rattle.flow_run.specs.contracts.schedules.Job as Job
 use Rattle.flow_run.specs.contracts.tables.Table as Table
 use Rattle.flow_run.specs.contracts.workers.Worker as Worker
 
@@ -71,7 +71,7 @@ step p s Deep.member-Body = has_of Knot.frame send (Knot.step p) Deep.member-Bod
 pub body_send : IsSend Body.the_row
 body_send = tied_send Knot.frame Knot.step Knot.sizes step Deep.member-Body
 
--- ---- what has one
+-- ---- types that contain bodies
 
 function_send : IsSend Function.the_row
 function_send = search (sendable, crosses, body_send) depth 20
@@ -137,12 +137,11 @@ module _ (L : RattleType) where
 -- ---- workers
 
 module _ (κ : NamedLft) (L W : RattleType) (a : Ghosts L.Denot) (b : Width.Ghosts W.Denot) where
-  worker_fields : IsSend L → FieldsHave IsSend (Worker.the_type κ L W a b).parts
+  worker_fields : IsSend L → FieldsHave IsSend (Worker.the_type L W a b).parts
   worker_fields l =
       let i = instance_send L a l in
       let puts = table_sends (PutEnd.the_row W b) (put_sends W b) in
-      let takes = table_sends (TakeEnd.the_row W b) (take_sends W b) in
-      let pipes = tables_sync (Pipe.the_row W b) (pipe_syncs W b) in (
+      let takes = table_sends (TakeEnd.the_row W b) (take_sends W b) in (
         search (sendable, crosses) depth 20,
         (
           search (sendable, crosses, as_row_send, i) depth 20,
@@ -150,20 +149,31 @@ module _ (κ : NamedLft) (L W : RattleType) (a : Ghosts L.Denot) (b : Width.Ghos
             as_row_send (Table.the_field (PutEnd.the_row W b)) puts,
             (
               as_row_send (Table.the_field (TakeEnd.the_row W b)) takes,
-              (
-                search (sendable, crosses, as_row_send, pipes) depth 20,
-                (
-                  search (sendable, crosses, as_row_send, flags_sync) depth 20,
-                  tt,
-                ),
-              ),
+              tt,
             ),
           ),
         ),
       )
 
-  worker_send : IsSend L → IsSend (Worker.the_row κ L W a b)
-  worker_send l = declared_send (Worker.the_type κ L W a b) (worker_fields l)
+  worker_send : IsSend L → IsSend (Worker.the_row L W a b)
+  worker_send l = declared_send (Worker.the_type L W a b) (worker_fields l)
 
-  pub slot_send : IsSend L → IsSend (Slot.the_row κ L W a b)
-  slot_send l = let s = worker_send l in declared_send (Slot.the_type κ L W a b) (search (sendable, crosses, as_row_send, s) depth 20, (search (sendable, crosses, as_row_send) depth 20, tt))
+  job_fields : IsSend L → FieldsHave IsSend (Job.the_type κ L W a b).parts
+  job_fields l =
+      let w = worker_send l in
+      let pipes = tables_sync (Pipe.the_row W b) (pipe_syncs W b) in (
+        search (sendable, crosses, as_row_send, w) depth 20,
+        (
+          search (sendable, crosses, as_row_send, pipes) depth 20,
+          (
+            search (sendable, crosses, as_row_send, flags_sync) depth 20,
+            (
+              search (sendable, crosses, as_row_send) depth 20,
+              tt,
+            ),
+          ),
+        ),
+      )
+
+  pub job_send : IsSend L → IsSend (Job.the_row κ L W a b)
+  job_send l = declared_send (Job.the_type κ L W a b) (job_fields l)

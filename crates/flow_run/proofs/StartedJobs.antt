@@ -1,5 +1,5 @@
--- Instances that threads have started, from what they start from.
-use Rattle.std.proofs.Common.{◌≡◌, ◌<◌, ◌∷◌, ◌++◌, ℕ, suc, List, [], length, map, ap, arith, refl, subst, sym, ◌∙◌}
+-- Instances that were started on threads.
+use Rattle.std.proofs.Common.{◌≡◌, ◌<◌, ◌∷◌, ◌++◌, ℕ, suc, List, [], length, map, ap, arith, refl}
 use Rattle.std.specs.Prelude.{IfOk, Ok, Result, slice_index_or}
 use Rattle.flow_instance.specs.Instances.{Instance}
 use Rattle.flow_instance.specs.declared.before_start.Unstarted.{Unstarted}
@@ -17,7 +17,7 @@ module _ {E : Type 0} where
   abbrev EachFrom : List Unstarted → List (Result Instance E) → Type 0
   EachFrom row results = (k : ℕ) (u : Unstarted) (r : Result Instance E) → k < length row → u ≡ slice_index_or row k u → IfOk (slice_index_or results k r) (IsStartedFrom u)
 
-  -- if each result is an instance that starts from what is at its place, all of them are
+  -- from single results to all of them
   pub all_from : (row : List Unstarted) (own : List Instance) → length (oks own) ≡ length row → EachFrom row (oks own) → StartFrom row own
   all_from [] [] long each = tt
   all_from (u ∷ row) [] long each = absurd (omega (arith, long))

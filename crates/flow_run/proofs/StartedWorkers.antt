@@ -1,4 +1,4 @@
--- What each worker gets at the start: it is ready.
+-- Each worker is ready with what it gets at the start.
 use Rattle.std.proofs.Common.{◌≡◌, ◌<◌, ◌≤◌, ◌*◌, ◌&&◌, ◌==◌, inl, inr, ℕ, Bool, true, false, Option, Some, None, List, [], get_or, length, slice_get, refl, ap, sym, ◌∙◌, arith}
 use Rattle.std.specs.Prelude.{if◌then◌else◌, nat_lt, not}
 use Rattle.std.proofs.lemmas.Bool.{and_parts, cases_Bool}
@@ -23,7 +23,7 @@ empty_by : (b : Bool) (depth : ℕ) (o : Option APipe) (x y : Option AnEnd) → 
 empty_by false depth o x y h = (ap notes_in h.1, ap notes_in h.2)
 empty_by true depth o x y h = (ap notes_in h.3, ap notes_in h.4)
 
--- records go along edges of the plan alone
+-- records go only along edges of the plan
 pub edge_there : (p : PhysicalData) (edge from to : ℕ) → goes_along p edge from to ≡ true → has edge p.tree ≡ true
 edge_there p edge from to e =
     let out = (and_parts (nat_lt from p.workers && nat_lt to p.workers) (has_out (ship_at p edge) from to) e).1 in
@@ -38,7 +38,7 @@ lists_none : (takes : EndTable) (o : Option Port) (from worker : ℕ) → ((edge
 lists_none takes None from worker h = refl
 lists_none takes (Some q) from worker h = h q.edge
 
--- Instances that follow from empty lists, and the ends of pipes that were just made.
+-- a worker is ready if its instances follow from empty lists, and its ends are of pipes that were just made
 pub ready_for : (g : Setting) (worker count depth : ℕ) (pipes : PipeTables) (puts takes : EndTables) (instances : List Instance) → IsPhysical g.physical → worker < g.physical.workers → length instances ≡ count → count ≤ 64 → depth ≤ 64
     → ((at : ℕ) → at < count → has at g.physical.tree ≡ true) → ((at : ℕ) → has at g.physical.tree ≡ true → at < count) → AreWired g.physical count depth (256 * count) pipes puts takes
     → ((at : ℕ) → has at g.physical.tree ≡ true → IsLocal (spot g (subtree_of at g.physical.tree)) worker (get_or instances at no_instance) (λ port from. []) (λ to. []))

@@ -5,11 +5,11 @@ use Rattle.flow_instance.specs.declared.notes.Note.{Note}
 use Rattle.flow_instance.specs.declared.notes.Want.{Want}
 use Rattle.flow_instance.specs.declared.notes.Want.TheVariants.{Take, Put, End, Done}
 use Rattle.flow_instance.specs.Instances.{Instance, want}
-use Rattle.flow_run.specs.declared.outcomes.Tried.{Tried}
-use Rattle.flow_run.specs.declared.outcomes.Tried.TheVariants.{Event, Idle, Spent}
+use Rattle.flow_run.specs.declared.attempts.Attempt.{Attempt}
+use Rattle.flow_run.specs.declared.attempts.Attempt.TheVariants.{Progress, Blocked, Exhausted}
 use Rattle.flow_run.specs.Ends.{ArePuts, AreTakes, EndTable, PipeTables}
 use Rattle.flow_run.specs.Benches.{AllHeld, Bench, Happens, Held, HeldAt, IsReady, Rests, Works, bench, happened, nothing, rested}
-use Rattle.flow_run.specs.Tries.{HasStepped, WhenTried, and_then, is_event}
+use Rattle.flow_run.specs.Tries.{HasStepped, AfterAttempt, and_then, is_progress}
 use Rattle.flow_run.proofs.ReadyWorkers.{ready_after}
 
 pub join_works : (worker n m : ℕ) (a b c : Bench) → m ≡ n → Works worker n a b → Works worker m b c → Works worker n a c
@@ -33,46 +33,46 @@ module _ (pipes : PipeTables) (worker : ℕ) where
     | inr other ↦ held_same b c k (rests.others k other) (rests.put k) (held k (omega (arith, less, is, other)))
   ]
 
-  -- what is so after a turn's first tries
-  abbrev pub Turned : (fields : ℕ) → List Instance → EndTable → EndTable → List Instance → EndTable → EndTable → Tried → ℕ → Type 0
-  Turned fields i0 p0 t0 i p t tried at =
-      IsReady fields worker pipes i p t × (length i ≡ length i0) × Works worker (length i0) (bench i0 p0 t0) (bench i p t) × WhenTried tried (Unit {0}) (AllHeld pipes worker at (bench i p t))
+  -- what holds after the first attempts of a turn
+  abbrev pub Turned : (fields : ℕ) → List Instance → EndTable → EndTable → List Instance → EndTable → EndTable → Attempt → ℕ → Type 0
+  Turned fields i0 p0 t0 i p t attempt at =
+      IsReady fields worker pipes i p t × (length i ≡ length i0) × Works worker (length i0) (bench i0 p0 t0) (bench i p t) × AfterAttempt attempt (Unit {0}) (AllHeld pipes worker at (bench i p t))
 
   module _ (fields : ℕ) (i0 : List Instance) (p0 t0 : EndTable) (i : List Instance) (p t : EndTable) (i' : List Instance) (p' t' : EndTable) (at n : ℕ) (is : n ≡ suc at) (less : at < length i0)
       (same : length i' ≡ length i) (puts : ArePuts pipes worker p') (takes : AreTakes pipes worker t') where
-    moved : (tried : Tried) → Turned fields i0 p0 t0 i p t tried at → Happens worker (bench i p t) at (bench i' p' t') → Turned fields i0 p0 t0 i' p' t' Event n
-    moved tried h e = (
+    moved : (attempt : Attempt) → Turned fields i0 p0 t0 i p t attempt at → Happens worker (bench i p t) at (bench i' p' t') → Turned fields i0 p0 t0 i' p' t' Progress n
+    moved attempt h e = (
       ready_after fields worker pipes i i' p t p' t' h.0 (happened at nothing (omega (arith, less, h.1)) e) same puts takes,
       same ∙ h.1,
       happened at h.2 less e,
       tt,
     )
 
-    stayed : (tried now : Tried) → Turned fields i0 p0 t0 i p t tried at → Rests (bench i p t) at (bench i' p' t') → WhenTried now (Unit {0}) (AllHeld pipes worker n (bench i' p' t')) → Turned fields i0 p0 t0 i' p' t' now n
-    stayed tried now h e held = (
+    stayed : (attempt now : Attempt) → Turned fields i0 p0 t0 i p t attempt at → Rests (bench i p t) at (bench i' p' t') → AfterAttempt now (Unit {0}) (AllHeld pipes worker n (bench i' p' t')) → Turned fields i0 p0 t0 i' p' t' now n
+    stayed attempt now h e held = (
       ready_after fields worker pipes i i' p t p' t' h.0 (rested at nothing (omega (arith, less, h.1)) e) same puts takes,
       same ∙ h.1,
       rested at h.2 less e,
       held,
     )
 
-    pub turn_more : (tried now : Tried) → Turned fields i0 p0 t0 i p t tried at → HasStepped pipes worker (bench i p t) at (bench i' p' t') now → Turned fields i0 p0 t0 i' p' t' (and_then tried now) n
-    turn_more Event Event h e = moved Event h e
-    turn_more Idle Event h e = moved Idle h e
-    turn_more Spent Event h e = moved Spent h e
-    turn_more Event Idle h e = stayed Event Event h e.0 tt
-    turn_more Event Spent h e = stayed Event Event h e.0 tt
-    turn_more Idle Idle h e = stayed Idle Idle h e.0 (held_more (bench i p t) (bench i' p' t') at n is h.3 e.0 e.1)
-    turn_more Idle Spent h e = stayed Idle Spent h e.0 (held_more (bench i p t) (bench i' p' t') at n is h.3 e.0 e.1)
-    turn_more Spent Idle h e = stayed Spent Spent h e.0 (held_more (bench i p t) (bench i' p' t') at n is h.3 e.0 e.1)
-    turn_more Spent Spent h e = stayed Spent Spent h e.0 (held_more (bench i p t) (bench i' p' t') at n is h.3 e.0 e.1)
+    pub turn_more : (attempt now : Attempt) → Turned fields i0 p0 t0 i p t attempt at → HasStepped pipes worker (bench i p t) at (bench i' p' t') now → Turned fields i0 p0 t0 i' p' t' (and_then attempt now) n
+    turn_more Progress Progress h e = moved Progress h e
+    turn_more Blocked Progress h e = moved Blocked h e
+    turn_more Exhausted Progress h e = moved Exhausted h e
+    turn_more Progress Blocked h e = stayed Progress Progress h e.0 tt
+    turn_more Progress Exhausted h e = stayed Progress Progress h e.0 tt
+    turn_more Blocked Blocked h e = stayed Blocked Blocked h e.0 (held_more (bench i p t) (bench i' p' t') at n is h.3 e.0 e.1)
+    turn_more Blocked Exhausted h e = stayed Blocked Exhausted h e.0 (held_more (bench i p t) (bench i' p' t') at n is h.3 e.0 e.1)
+    turn_more Exhausted Blocked h e = stayed Exhausted Exhausted h e.0 (held_more (bench i p t) (bench i' p' t') at n is h.3 e.0 e.1)
+    turn_more Exhausted Exhausted h e = stayed Exhausted Exhausted h e.0 (held_more (bench i p t) (bench i' p' t') at n is h.3 e.0 e.1)
 
-  pub all_held : (count at : ℕ) (b : Bench) (tried : Tried) → count ≤ at → WhenTried tried (Unit {0}) (AllHeld pipes worker at b) → WhenTried tried (Unit {0}) (AllHeld pipes worker count b)
-  all_held count at b Event whole h = tt
-  all_held count at b Idle whole h = λ k less. h k (omega (arith, less, whole))
-  all_held count at b Spent whole h = λ k less. h k (omega (arith, less, whole))
+  pub all_held : (count at : ℕ) (b : Bench) (attempt : Attempt) → count ≤ at → AfterAttempt attempt (Unit {0}) (AllHeld pipes worker at b) → AfterAttempt attempt (Unit {0}) (AllHeld pipes worker count b)
+  all_held count at b Progress whole h = tt
+  all_held count at b Blocked whole h = λ k less. h k (omega (arith, less, whole))
+  all_held count at b Exhausted whole h = λ k less. h k (omega (arith, less, whole))
 
-pub event_or_held : {A : Type 0} (t : Tried) → is_event t ≡ false → WhenTried t (Unit {0}) A → A
-event_or_held Event e h = absurd (cc)
-event_or_held Idle e h = h
-event_or_held Spent e h = h
+pub progress_or_held : {A : Type 0} (t : Attempt) → is_progress t ≡ false → AfterAttempt t (Unit {0}) A → A
+progress_or_held Progress e h = absurd (cc)
+progress_or_held Blocked e h = h
+progress_or_held Exhausted e h = h

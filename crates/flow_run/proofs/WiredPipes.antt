@@ -30,7 +30,7 @@ module _ (p : PhysicalData) (few : p.workers ≤ 16) (count depth : ℕ) where
     take_places = f;
   }
 
-  -- one more number makes another pipe due at that place alone
+  -- with one number more, only the pipe at its place is new
   due_else : (n edge from to e f t : ℕ) → number_of e f t ≡ n → f < 16 → t < 16 → (edge ≢ e) ⊎ ((from ≢ f) ⊎ (to ≢ t)) → due p n edge from to ≡ due p (n + 1) edge from to
   due_else n edge from to e f t is below_f below_t other = elim (cases_Bool (goes_along p edge from to)) as (λ _. due p n edge from to ≡ due p (n + 1) edge from to) [
     | inr stays ↦ and_left _ _ stays ∙ sym (and_left _ _ stays)
@@ -49,7 +49,7 @@ module _ (p : PhysicalData) (few : p.workers ≤ 16) (count depth : ℕ) where
         ])
   ]
 
-  -- nothing was due
+  -- no pipe should exist at the place
   pub wired_skip : (n e f t : ℕ) (pipes : PipeTables) (puts takes : EndTables) → number_of e f t ≡ n → f < 16 → t < 16 → goes_along p e f t ≡ false → AreWired p count depth n pipes puts takes
       → AreWired p count depth (n + 1) pipes puts takes
   wired_skip n e f t pipes puts takes is below_f below_t none w = record {
@@ -72,7 +72,7 @@ module _ (p : PhysicalData) (few : p.workers ≤ 16) (count depth : ℕ) where
     take_places = w.take_places;
   }
 
-  -- and here a pipe was, which is made
+  -- a pipe should exist at the place, and it was made
   pub wired_more : (n e f t : ℕ) (pipes : PipeTables) (puts takes : EndTables) (pipes' : PipeTables) (puts' takes' : EndTables) → number_of e f t ≡ n → f < 16 → t < 16 → goes_along p e f t ≡ true
       → AreWired p count depth n pipes puts takes → IsMade depth e f t pipes puts takes pipes' puts' takes'
       → IsShaped count p.workers p.workers pipes' → IsShaped p.workers count p.workers puts' → IsShaped p.workers count p.workers takes' → AreWired p count depth (n + 1) pipes' puts' takes'
@@ -122,7 +122,7 @@ pipe_by : (b : Bool) (depth : ℕ) (o : Option APipe) (x y : Option AnEnd) → d
 pipe_by false depth o x y deep h = h.0
 pipe_by true depth o x y deep h = (h.0, h.1, omega (arith, h.2, deep))
 
--- every pipe is there, once all numbers of the plan are over
+-- after all numbers, every pipe of the plan exists
 pub pipes_of : (p : PhysicalData) (count depth upto : ℕ) (pipes : PipeTables) (puts takes : EndTables) → depth ≤ 64 → p.workers ≤ 16 → ((edge from to : ℕ) → goes_along p edge from to ≡ true → edge < count) → upto ≡ 256 * count
     → AreWired p count depth upto pipes puts takes → ArePipes p pipes
 pipes_of p count depth upto pipes puts takes deep few numbers is w = record {

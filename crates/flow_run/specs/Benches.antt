@@ -17,7 +17,8 @@ use Rattle.flow_core.specs.Worlds.{no_instance}
 use Rattle.flow_run.specs.Tables.{cell, cell_in}
 use Rattle.flow_run.specs.Ends.{ArePipes, ArePuts, AreTakes, EndTable, PipeTables, notes_in}
 
--- A worker's instances by the number of their operator, the notes that it put by edge and receiver, and those that it took by edge and sender.
+-- A worker's instances by the number of their source or operator, the notes that it put by edge and receiver, and those
+-- that it took by edge and sender.
 pub record Bench : Type 0 where
   pub instance : ℕ → Instance
   pub put : ℕ → ℕ → List Note
@@ -51,7 +52,7 @@ pub record Puts (b : Bench) (at : ℕ) (c : Bench) : Type 0 where
   pub put : Added b.put at to (next_note (b.instance at).waiting) c.put
   pub taken : TakenStay b c
 
--- an instance takes a note at a port, of a sender there that hasn't ended, and the end of that pipe has it
+-- The instance takes a note at the port from a sender that hasn't ended there. The end of that pipe has taken the note.
 pub record TakesAt (i : Instance) (worker port : ℕ) (taken : ℕ → ℕ → List Note) (j : Instance) (more : ℕ → ℕ → List Note) : Type 0 where
   pub from : ℕ
   pub note : Note
@@ -83,7 +84,8 @@ pub record Ends (b : Bench) (at : ℕ) (c : Bench) : Type 0 where
 abbrev pub Happens : (worker : ℕ) → Bench → (at : ℕ) → Bench → Type 0
 Happens worker b at c = Puts b at c ⊎ (Takes worker b at c ⊎ Ends b at c)
 
--- No event. A note that was offered and taken back leaves another receiver written down, which says nothing while no note is out.
+-- There was no event. If a note was offered and taken back, the instance's receiver may have changed, which has no
+-- meaning while no note is out.
 pub record Rests (b : Bench) (at : ℕ) (c : Bench) : Type 0 where
   pub receiver : ℕ
   pub instance : c.instance at ≡ record (b.instance at) { receiver = receiver }
@@ -91,7 +93,7 @@ pub record Rests (b : Bench) (at : ℕ) (c : Bench) : Type 0 where
   pub put : PutsStay b c
   pub taken : TakenStay b c
 
--- events of own instances, one after the other, and nothing else
+-- events of the worker's own instances, one after the other, and nothing else
 pub data Works (worker count : ℕ) : Bench → Bench → Type 0 where
   nothing : {b : Bench} → Works worker count b b
   rested : {b c d : Bench} (at : ℕ) → Works worker count b c → at < count → Rests c at d → Works worker count b d
@@ -99,7 +101,7 @@ pub data Works (worker count : ℕ) : Bench → Bench → Type 0 where
 
 -- ---- when a worker leaves
 
--- An instance waits for a note, or for room: the pipe was made for so many notes, and the end has put as many at least.
+-- An instance waits for a note, or for room: its end has put at least as many notes as the pipe holds.
 abbrev pub Held : PipeTables → (worker : ℕ) → Bench → (at : ℕ) → Want → Type 0
 Held pipes worker b at (Take port) = Unit {0}
 Held pipes worker b at (Put to) = (p : APipe) × (cell_in pipes at worker to ≡ Some p) × (p.depth ≤ length (b.put at to))
@@ -109,7 +111,7 @@ Held pipes worker b at Done = Unit {0}
 abbrev pub HeldAt : PipeTables → (worker : ℕ) → Bench → (at : ℕ) → Type 0
 HeldAt pipes worker b at = Held pipes worker b at (want (b.instance at))
 
--- each of the first instances waits, or is done
+-- each of the first `count` instances waits, or is done
 abbrev pub AllHeld : PipeTables → (worker count : ℕ) → Bench → Type 0
 AllHeld pipes worker count b = (at : ℕ) → at < count → HeldAt pipes worker b at
 
@@ -123,9 +125,10 @@ LocalAt g worker b at =
 abbrev pub AllLocal : Setting → (worker : ℕ) → Bench → Type 0
 AllLocal g worker b = (at : ℕ) → has at g.physical.tree ≡ true → LocalAt g worker b at
 
--- ---- what `work` asks
+-- ---- what `work` requires
 
--- Its instances are those of a physical plan, and follow from the lists of its ends. These are the ends of that plan's pipes.
+-- Its instances are those of a physical plan, and follow from the lists of its ends, which are ends of that plan's
+-- pipes.
 pub record IsReadyFor (g : Setting) (fields worker : ℕ) (pipes : PipeTables) (instances : List Instance) (puts takes : EndTable) : Type 0 where
   pub physical : IsPhysical g.physical
   pub fields_are : g.fields ≡ fields
@@ -137,11 +140,12 @@ pub record IsReadyFor (g : Setting) (fields worker : ℕ) (pipes : PipeTables) (
   pub puts_are : ArePuts pipes worker puts
   pub takes_are : AreTakes pipes worker takes
 
--- A worker that was ready for a program, physical plan and inputs is ready for them with these instances and ends, whichever they are.
+-- For all programs, physical plans and inputs: if the worker was ready for them before, it is ready for them with the
+-- later instances and ends.
 pub record StaysReady (fields worker : ℕ) (pipes : PipeTables) (instances : List Instance) (puts takes : EndTable) (more : List Instance) (puts' takes' : EndTable) : Type 0 where
   pub stays : (g : Setting) → IsReadyFor g fields worker pipes instances puts takes → IsReadyFor g fields worker pipes more puts' takes'
 
--- It is so for some program, physical plan and inputs.
+-- The worker is ready for some program, physical plan and inputs.
 pub record IsReady (fields worker : ℕ) (pipes : PipeTables) (instances : List Instance) (puts takes : EndTable) : Type 0 where
   pub setting : Setting
   pub ready : IsReadyFor setting fields worker pipes instances puts takes

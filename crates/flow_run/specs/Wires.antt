@@ -12,23 +12,24 @@ EndTables = List EndTable
 abbrev pub new_end : APipe → AnEnd
 new_end p = record { name = p.name; notes = [] }
 
--- a pipe with both ends, where it should be; else nothing
+-- if the pipe should exist, it does, with both ends; otherwise neither it nor an end exists
 abbrev pub IsWiredIf : Bool → (depth : ℕ) → Option APipe → Option AnEnd → Option AnEnd → Type 0
 IsWiredIf false depth pipe put take = (pipe ≡ None) × (put ≡ None) × (take ≡ None)
 IsWiredIf true depth pipe put take = (p : APipe) × (pipe ≡ Some p) × (p.depth ≡ depth) × (put ≡ Some (new_end p)) × (take ≡ Some (new_end p))
 
--- places of pipes in the order in which they are made; there are at most 16 workers
+-- the number of a pipe, in the order in which they are made; there are at most 16 workers
 abbrev pub number_of : (edge from to : ℕ) → ℕ
 number_of edge from to = 256 * edge + (16 * from + to)
 
--- Each pipe that is due stands in its place, with its ends at the workers that have them; and the tables have all places.
+-- Each pipe with a number below `upto` is at its place if it should exist, and its ends are with their workers. The
+-- tables have all places.
 pub record AreWired (p : PhysicalData) (count depth upto : ℕ) (pipes : PipeTables) (puts takes : EndTables) : Type 0 where
   pub each : (edge from to : ℕ) → IsWiredIf (goes_along p edge from to && nat_lt (number_of edge from to) upto) depth (cell_in pipes edge from to) (cell_in puts from edge to) (cell_in takes to edge from)
   pub pipe_places : IsShaped count p.workers p.workers pipes
   pub put_places : IsShaped p.workers count p.workers puts
   pub take_places : IsShaped p.workers count p.workers takes
 
--- a pipe was made at one place
+-- one pipe was made
 pub record IsMade (depth edge from to : ℕ) (pipes : PipeTables) (puts takes : EndTables) (pipes' : PipeTables) (puts' takes' : EndTables) : Type 0 where
   pub pipe : APipe
   pub deep : pipe.depth ≡ depth

@@ -1,23 +1,38 @@
 -- Workers before and after their work.
-use Rattle.std.specs.Prelude.{◌≡◌, ℕ, length}
+use Rattle.std.specs.Prelude.{◌≡◌, ◌<◌, ℕ, List, length, map, slice_index_or}
 use Rattle.flow_run.specs.Benches.{AllHeld, Bench, IsReady, StaysReady, Works, bench}
+use Rattle.flow_run.specs.Ends.{PipeTables}
+use Rattle.flow_run.specs.WorkerData.{WorkerData}
 use Rattle.flow_run.specs.declared.workers.Worker.{Worker}
 
--- a worker as data
-abbrev pub bench_of : {L W : Type 0} → Worker L W → Bench
-bench_of w = bench w.instances.items w.puts w.takes
+module _ {L W : Type 0} where
+  -- a worker as data, without its number
+  abbrev pub data_of : Worker L W → WorkerData
+  data_of w = record { instances = w.instances.items; puts = w.puts; takes = w.takes }
 
--- what `work` asks
-abbrev pub IsWorkerReady : {L W : Type 0} → ℕ → Worker L W → Type 0
-IsWorkerReady fields w = IsReady fields w.number w.pipes.now w.instances.items w.puts w.takes
+  abbrev pub all_data : List (Worker L W) → List WorkerData
+  all_data ws = map data_of ws
 
--- The same worker, after events of its own instances and nothing else. Whatever the program, plan and inputs, where its instances followed from the
--- lists of its ends, they do so still. Each of them that isn't done waits for a note, or for room.
-pub record HasWorked {L W : Type 0} (fields : ℕ) (before after : Worker L W) : Type 0 where
-  pub number : after.number ≡ before.number
-  pub pipes : after.pipes.now ≡ before.pipes.now
-  pub count : length after.instances.items ≡ length before.instances.items
-  pub ready : IsReady fields before.number before.pipes.now after.instances.items after.puts after.takes
-  pub stays : StaysReady fields before.number before.pipes.now before.instances.items before.puts before.takes after.instances.items after.puts after.takes
-  pub works : Works before.number (length before.instances.items) (bench_of before) (bench_of after)
-  pub held : AllHeld before.pipes.now before.number (length after.instances.items) (bench_of after)
+  -- the worker as functions of places
+  abbrev pub bench_of : Worker L W → Bench
+  bench_of w = bench w.instances.items w.puts w.takes
+
+  -- what `work` requires
+  abbrev pub IsWorkerReady : ℕ → PipeTables → Worker L W → Type 0
+  IsWorkerReady fields pipes w = IsReady fields w.number pipes w.instances.items w.puts w.takes
+
+  -- The same worker after events of its own instances and nothing else. For all programs, plans and inputs: if its
+  -- instances followed from the lists of its ends, they still do. Each instance is done, or waits for a note or for
+  -- room.
+  pub record HasWorked (fields : ℕ) (pipes : PipeTables) (before after : Worker L W) : Type 0 where
+    pub number : after.number ≡ before.number
+    pub count : length after.instances.items ≡ length before.instances.items
+    pub ready : IsReady fields before.number pipes after.instances.items after.puts after.takes
+    pub stays : StaysReady fields before.number pipes before.instances.items before.puts before.takes after.instances.items after.puts after.takes
+    pub works : Works before.number (length before.instances.items) (bench_of before) (bench_of after)
+    pub held : AllHeld pipes before.number (length after.instances.items) (bench_of after)
+
+  -- the same workers, each after its work
+  pub record HaveAllWorked (fields : ℕ) (pipes : PipeTables) (before after : List (Worker L W)) : Type 0 where
+    pub long : length after ≡ length before
+    pub each : (k : ℕ) (d : Worker L W) → k < length before → HasWorked fields pipes (slice_index_or before k d) (slice_index_or after k d)

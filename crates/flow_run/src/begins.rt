@@ -1,22 +1,28 @@
 //! Instances that start on threads.
 
-ghost use Rattle.std.specs.Prelude.{◌≡◌, Ok, IfOk, map};
+ghost use Rattle.std.specs.Prelude.{◌≡◌, ◌≤◌, Ok, IfOk, length, map};
 ghost use Rattle.std.specs.List.{AllByRecursion};
-ghost use Rattle.flow_core.specs.Starting.{CanStartRow, StartAllFrom, StartFrom};
+ghost use Rattle.pact_operators.specs.Inputs.{AreInputsOf};
+ghost use Rattle.pact_operators.specs.Programs.{IsPlanOf};
+ghost use Rattle.flow_core.specs.Starting.{AreAllStarted, CanStartRow, StartAllFrom, StartFrom};
+ghost use Rattle.flow_instance.specs.Limits.{batch_limit};
+ghost use Rattle.flow_instance.specs.Spots.{setting};
 ghost use Rattle.flow_instance.specs.Starting.{CanStart, IsStartedFrom};
 
-use flow_core::{InstanceList, Instances, UnstartedRow, start_in_turn};
+use flow_core::{InstanceList, Instances, UnstartedRow, start_in_turn, unstarted_rows};
 use flow_instance::{Instance, Unstarted};
 use local_strategy::Local;
+use pact_bag::Inputs;
+use pact_operators::{Physical, Program};
 use pact_record::OutOfMemory;
 use std::alloc::Global;
 use std::thread;
 use std::thread::Threads;
 
-// If the workers have fewer rows of a source than this, starting threads takes longer than cutting the rows into batches.
+// If no worker has this many rows of a source, starting threads takes longer than cutting the rows into batches.
 const LONG_SHARE: usize = 2048;
 
-// The instances of a row, if each of them could be started.
+// The instances of a row, if all of them were started.
 fn all_started<L: Local>(
     alloc: Global,
     started: Vec<Result<Instance<L>, OutOfMemory>>,
@@ -51,7 +57,7 @@ fn start_side_by_side<L: Local, R: Threads + Sync>(
     all_started(alloc, started)
 }
 
-// The instances of a row. Those of a source with many rows are started on threads, since each cuts its rows into batches.
+// The instances of a row. Those of a source with many rows start on threads, since each cuts its rows into batches.
 fn start_row<L: Local, R: Threads + Sync>(
     rt: &R,
     alloc: Global,
@@ -66,8 +72,8 @@ fn start_row<L: Local, R: Threads + Sync>(
     start_side_by_side(rt, alloc, row)
 }
 
-/// The instances of all rows at their start.
-pub(crate) fn start_on_threads<L: Local, R: Threads + Sync>(
+// The instances of all rows at their start.
+fn start_rows<L: Local, R: Threads + Sync>(
     rt: &R,
     alloc: Global,
     rows: Vec<UnstartedRow>,
@@ -80,4 +86,23 @@ pub(crate) fn start_on_threads<L: Local, R: Threads + Sync>(
         all.push_reserved(start_row(rt, alloc, row)?);
     }
     Ok(InstanceList::from_rows(all))
+}
+
+/// The plan's instances at their start, as `start_instances` of `flow_core` makes them. Those of a long source start on
+/// threads.
+pub(crate) fn start_on_threads<L: Local, R: Threads + Sync>(
+    rt: &R,
+    alloc: Global,
+    program: &Program,
+    physical: &Physical,
+    inputs: Inputs,
+    batch: u32,
+) -> Result<InstanceList<L>, OutOfMemory>
+    requires plan { IsPlanOf program.now.functions program.now.ops physical.now.tree }
+    requires inputs { AreInputsOf program.now inputs }
+    requires batch { (1 ≤ batch) × (batch ≤ batch_limit) }
+    ensures { IfOk result (AreAllStarted (setting program.now inputs physical.now) batch (length program.now.ops)) }
+{
+    let rows = unstarted_rows(alloc, program, physical, inputs, batch)?;
+    start_rows(rt, alloc, rows)
 }

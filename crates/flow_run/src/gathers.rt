@@ -1,14 +1,14 @@
-//! Pipes are closed, and what is left on them is read out.
+//! Pipes are closed, and the notes that are left on them are read out.
 
 ghost use Rattle.std.specs.Prelude.{◌≡◌, ◌++◌, ◌∷◌, [], ℕ, None, Some, IfOk, OnOk};
 ghost use Rattle.flow_run.specs.Ends.{IsEndOf, notes_in};
-ghost use Rattle.flow_run.specs.Remains.{AreEnds, AreGathered, Goes, IsBeyond};
-ghost use Rattle.flow_run.specs.Returns.{all_remains};
+ghost use Rattle.flow_run.specs.WorkerData.{AreEnds, AreGathered, Goes, IsBeyond, IsPutOut, IsTakeOut, put_at, take_at};
+ghost use Rattle.flow_run.specs.Workers.{all_data};
 ghost use Rattle.flow_run.specs.Tables.{cell_in};
 
-use crate::returns::{Returned, put_end, take_end};
 use crate::tables::Tables;
 use crate::wires::pipe_of;
+use crate::workers::Worker;
 use batch_channel::{Left, Pipe, PutEnd, TakeEnd, Width, close};
 use flow_core::NoteLists;
 use flow_instance::{Note, PipeId};
@@ -18,7 +18,7 @@ use std::alloc::Global;
 use std::collections::VecDeque;
 use std::sync::Wait;
 
-// As many pipes as a physical plan can have: edges, senders and receivers.
+// The most pipes that a physical plan can have: edges, senders and receivers.
 const MAX_PIPES: u32 = 64 * 16 * 16;
 
 // The notes that are left in a pipe.
@@ -39,7 +39,7 @@ fn read_out<W: Width, R: Wait>(
     unreachable!()
 }
 
-// Closes a pipe, and reads out what is left.
+// Closes a pipe, and reads out the notes that are left on it.
 fn close_one<W: Width, R: Wait>(
     rt: &R,
     alloc: Global,
@@ -65,17 +65,40 @@ fn list_left(lists: &mut NoteLists, id: PipeId, notes: VecDeque<Note>) -> Result
     Ok(())
 }
 
-// Closes a pipe, where it is there, and lists what is left.
+// Takes the end that puts on a pipe from its sender, if the sender has it.
+fn put_end<L: Local, W: Width>(workers: &mut [Worker<L, W>], id: PipeId) -> Option<PutEnd<W>>
+    ensures end { result ≡ put_at (all_data workers.old) id.edge id.from id.to }
+    ensures out { IsPutOut (all_data workers.old) id.edge id.from id.to (all_data workers.new) }
+{
+    if id.from as usize >= workers.len() {
+        return None;
+    }
+    workers[id.from as usize].puts.take(id.edge, id.to)
+}
+
+// Takes the end that takes from a pipe from its receiver, if the receiver has it.
+fn take_end<L: Local, W: Width>(workers: &mut [Worker<L, W>], id: PipeId) -> Option<TakeEnd<W>>
+    ensures end { result ≡ take_at (all_data workers.old) id.edge id.from id.to }
+    ensures out { IsTakeOut (all_data workers.old) id.edge id.from id.to (all_data workers.new) }
+{
+    if id.to as usize >= workers.len() {
+        return None;
+    }
+    workers[id.to as usize].takes.take(id.edge, id.from)
+}
+
+// Closes a pipe if it exists, and lists the notes that are left on it.
 fn close_at<L: Local, W: Width, R: Wait>(
     rt: &R,
     alloc: Global,
     id: PipeId,
     pipes: &mut Tables<Pipe<W>>,
-    workers: &mut [Returned<L, W>],
+    workers: &mut [Worker<L, W>],
     lists: &mut NoteLists,
 ) -> Result<(), OutOfMemory>
-    requires { AreEnds pipes.old (all_remains workers.old) }
-    ensures goes { OnOk result (Goes pipes.old (all_remains workers.old) lists.old pipes.new (all_remains workers.new) lists.new) }
+    requires { AreEnds pipes.old (all_data workers.old) }
+    ensures goes { OnOk result (Goes pipes.old (all_data workers.old) lists.old pipes.new
+        (all_data workers.new) lists.new) }
     ensures gone { OnOk result (cell_in pipes.new id.edge id.from id.to ≡ None) }
 {
     let Some(pipe) = pipes.take(id.edge, id.from, id.to) else {
@@ -87,16 +110,17 @@ fn close_at<L: Local, W: Width, R: Wait>(
     list_left(lists, id, notes)
 }
 
-/// Closes all pipes, one after the other, and lists the notes that are left on each. After want of memory those that were read out are gone.
+/// Closes all pipes, one after the other, and lists the notes that are left on each. If memory runs out, the notes that
+/// were read out are gone.
 pub(crate) fn gather<L: Local, W: Width, R: Wait>(
     rt: &R,
     alloc: Global,
     pipes: Tables<Pipe<W>>,
-    workers: &mut [Returned<L, W>],
+    workers: &mut [Worker<L, W>],
 ) -> Result<NoteLists, OutOfMemory>
     requires inside { (edge from to : ℕ) → IsBeyond edge from to → cell_in pipes edge from to ≡ None }
-    requires ends { AreEnds pipes (all_remains workers.old) }
-    ensures { IfOk result (λ lists. AreGathered pipes (all_remains workers.old) lists (all_remains workers.new)) }
+    requires ends { AreEnds pipes (all_data workers.old) }
+    ensures { IfOk result (λ lists. AreGathered pipes (all_data workers.old) lists (all_data workers.new)) }
 {
     let mut pipes = pipes;
     let mut lists = NoteLists::new(alloc);

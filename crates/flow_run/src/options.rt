@@ -1,6 +1,6 @@
-//! How a run goes.
+//! The options of a run.
 
-/// On how many workers a plan runs, how many records a batch has at most, and how many notes a pipe holds at most.
+/// The number of workers on which a plan runs, the most records in a batch, and the most notes in a pipe.
 #[derive(Clone, Copy, Debug, PartialEq, Eq)]
 pub struct Options {
     pub workers: u32,

@@ -51,7 +51,7 @@ impl<T> Model for Tables<T> {
 }
 
 impl<T> Table<T> {
-    /// What stands at a place. One that the table doesn't have is empty.
+    /// What is at a place. A place that the table doesn't have is empty.
     pub fn at(&self, a: u32, b: u32) -> Option<&T>
         ensures some { IfSome result (λ x. cell self.now a b ≡ Some x.now) }
         ensures none { IfNone result (cell self.now a b ≡ None) }
@@ -61,7 +61,7 @@ impl<T> Table<T> {
         held.as_ref()
     }
 
-    /// Takes away what stands at a place, which is empty then.
+    /// Removes and returns what is at a place, which is empty afterwards.
     pub fn take(&mut self, a: u32, b: u32) -> Option<T>
         ensures found { result ≡ cell self.old a b }
         ensures changed { IsChanged self.old a b None self.new }
@@ -72,7 +72,7 @@ impl<T> Table<T> {
         held.take()
     }
 
-    /// Puts something at a place, which the table has. What stood there is dropped.
+    /// Puts something at a place, which the table has. What was there is dropped.
     pub fn set(&mut self, a: u32, b: u32, item: T)
     where
         T: Drop,
@@ -85,7 +85,7 @@ impl<T> Table<T> {
 }
 
 impl<T> Tables<T> {
-    /// What stands at a place. One that no table has is empty.
+    /// What is at a place. A place that no table has is empty.
     pub fn at(&self, a: u32, b: u32, c: u32) -> Option<&T>
         ensures some { IfSome result (λ x. cell_in self.now a b c ≡ Some x.now) }
         ensures none { IfNone result (cell_in self.now a b c ≡ None) }
@@ -93,7 +93,7 @@ impl<T> Tables<T> {
         self.all.get(a as usize)?.at(b, c)
     }
 
-    /// Puts something at a place, which one of the tables has. What stood there is dropped.
+    /// Puts something at a place, which one of the tables has. What was there is dropped.
     pub fn set(&mut self, a: u32, b: u32, c: u32, item: T)
     where
         T: Drop,
@@ -104,7 +104,7 @@ impl<T> Tables<T> {
         self.all[a as usize].set(b, c, item);
     }
 
-    /// Takes away what stands at a place, which is empty then.
+    /// Removes and returns what is at a place, which is empty afterwards.
     pub(crate) fn take(&mut self, a: u32, b: u32, c: u32) -> Option<T>
         ensures found { result ≡ cell_in self.old a b c }
         ensures changed { IsTakenOut self.old a b c self.new }
@@ -113,7 +113,7 @@ impl<T> Tables<T> {
         table.take(b, c)
     }
 
-    /// A table leaves the list, and one without places stands there then.
+    /// Removes and returns a table. One without places is there afterwards.
     pub(crate) fn take_table(&mut self, alloc: Global, a: usize) -> Table<T>
         ensures taken { result ≡ get_or self.old a [] }
         ensures left { self.new ≡ set self.old a [] }

@@ -1,4 +1,4 @@
-//! Tries of what an instance wants.
+//! Attempts to put and to take.
 
 ghost use Rattle.std.specs.Prelude.{◌≡◌, ◌≤◌, ◌<◌, ℕ, true, false, Some, length, IfNone, IfOk, IfSome, OnOk};
 ghost use Rattle.batch_channel.specs.Ends.{APipe};
@@ -8,11 +8,11 @@ ghost use Rattle.flow_instance.specs.Steps.{Added, next_note};
 ghost use Rattle.flow_run.specs.Benches.{TakesAt};
 ghost use Rattle.flow_run.specs.Ends.{ArePuts, AreTakes, IsPipeIf, notes_in};
 ghost use Rattle.flow_run.specs.Tables.{cell, cell_in};
-ghost use Rattle.flow_run.specs.Tries.{HasNotPut, HasNotPutTo, HasPut, HasPutTo, MayTake, WhenTried};
+ghost use Rattle.flow_run.specs.Tries.{HasNotPut, HasNotPutTo, HasPut, HasPutTo, MayTake, AfterAttempt};
 
-use crate::outcomes::Tried;
-use crate::seats::Seat;
+use crate::attempts::Attempt;
 use crate::tables::{Table, Tables};
+use crate::worker_contexts::WorkerContext;
 use batch_channel::{Pipe, PutEnd, TakeEnd, Width};
 use flow_instance::{Instance, Note, PipeId, Want};
 use local_strategy::Local;
@@ -20,54 +20,56 @@ use pact_record::OutOfMemory;
 use std::sync::Wait;
 use worker_gate::{Act, Gate};
 
-// An end puts fewer than 2^61 notes.
+// The most notes that an end puts.
 const MOST_PUTS: u64 = (1 << 61) - 1;
 
-// As many workers as a physical plan can have.
+// The most workers that a physical plan can have.
 const MAX_WORKERS: u32 = 16;
 
-// Tries to put the note that the instance wants to put.
+// Attempts to put the note that the instance wants to put.
 fn put_by<L: Local, W: Width, R: Wait, G: Gate>(
-    seat: &Seat<'_, R, G>,
+    context: &WorkerContext<'_, R, G>,
     i: &mut Instance<L>,
     pipe: &Pipe<W>,
     end: &mut PutEnd<W>,
-) -> Tried
+) -> Attempt
     requires wanted { (to : ℕ) × (want i.old ≡ Want.Put to) }
     requires note { IsNote W.fields (next_note i.old.waiting) }
     requires pipe { end.old.name ≡ pipe.now.name }
     requires shallow { pipe.now.depth ≤ 64 }
     ensures name { end.new.name ≡ end.old.name }
-    ensures tried { WhenTried result (HasPut i.old end.old i.new end.new) (HasNotPut pipe.now i.old end.old i.new end.new) }
+    ensures attempt { AfterAttempt result (HasPut i.old end.old i.new end.new)
+        (HasNotPut pipe.now i.old end.old i.new end.new) }
 {
     if end.len() >= MOST_PUTS {
-        return Tried::Spent;
+        return Attempt::Exhausted;
     }
-    seat.before(Act::Put);
+    context.before(Act::Put);
     let note = i.offer();
-    match pipe.put(seat.rt, end, note) {
-        Ok(()) => Tried::Event,
+    match pipe.put(context.rt, end, note) {
+        Ok(()) => Attempt::Progress,
         Err(note) => {
             i.back(note);
-            Tried::Idle
+            Attempt::Blocked
         }
     }
 }
 
-/// Tries to put the note that the instance at the sender's end of the pipe wants to put there.
+/// Attempts to put the note that the instance at the sender's end of the pipe wants to put there.
 pub(crate) fn try_put<L: Local, W: Width, R: Wait, G: Gate>(
-    seat: &Seat<'_, R, G>,
+    context: &WorkerContext<'_, R, G>,
     i: &mut Instance<L>,
     id: PipeId,
     puts: &mut Table<PutEnd<W>>,
     pipes: &Tables<Pipe<W>>,
-) -> Tried
+) -> Attempt
     requires wanted { (to : ℕ) × (want i.old ≡ Want.Put to) }
     requires note { IsNote W.fields (next_note i.old.waiting) }
     requires pipe { IsPipeIf true (cell_in pipes.now id.edge id.from id.to) }
     requires ends { ArePuts pipes.now id.from puts.old }
     ensures ends { ArePuts pipes.now id.from puts.new }
-    ensures tried { WhenTried result (HasPutTo i.old id.edge id.to puts.old i.new puts.new) (HasNotPutTo pipes.now id.from i.old id.edge id.to puts.old i.new puts.new) }
+    ensures attempt { AfterAttempt result (HasPutTo i.old id.edge id.to puts.old i.new puts.new)
+        (HasNotPutTo pipes.now id.from i.old id.edge id.to puts.old i.new puts.new) }
 {
     let Some(pipe) = pipes.at(id.edge, id.from, id.to) else {
         unreachable!()
@@ -75,14 +77,14 @@ pub(crate) fn try_put<L: Local, W: Width, R: Wait, G: Gate>(
     let Some(mut end) = puts.take(id.edge, id.to) else {
         unreachable!()
     };
-    let tried = put_by(seat, i, pipe, &mut end);
+    let attempt = put_by(context, i, pipe, &mut end);
     puts.set(id.edge, id.to, end);
-    tried
+    attempt
 }
 
-// Takes a note from a pipe, where there is a pipe with a note, and its sender hasn't ended.
+// Takes a note from a pipe, if the pipe exists and has a note, and its sender hasn't ended.
 fn take_from<L: Local, W: Width, R: Wait, G: Gate>(
-    seat: &Seat<'_, R, G>,
+    context: &WorkerContext<'_, R, G>,
     i: &Instance<L>,
     port: u32,
     id: PipeId,
@@ -96,7 +98,8 @@ fn take_from<L: Local, W: Width, R: Wait, G: Gate>(
     ensures below { IfSome result (λ note. id.from < i.now.part.workers) }
     ensures sends { IfSome result (λ note. ended_at i.now port id.from ≡ false) }
     ensures note { IfSome result (λ note. IsNote W.fields note) }
-    ensures added { IfSome result (λ note. Added (λ a b. notes_in (cell takes.old a b)) id.edge id.from note (λ a b. notes_in (cell takes.new a b))) }
+    ensures added { IfSome result (λ note. Added (λ a b. notes_in (cell takes.old a b)) id.edge id.from note
+        (λ a b. notes_in (cell takes.new a b))) }
     ensures none { IfNone result ((a b : ℕ) → notes_in (cell takes.new a b) ≡ notes_in (cell takes.old a b)) }
 {
     let pipe = pipes.at(id.edge, id.from, id.to)?;
@@ -106,37 +109,39 @@ fn take_from<L: Local, W: Width, R: Wait, G: Gate>(
     let Some(mut end) = takes.take(id.edge, id.from) else {
         unreachable!()
     };
-    seat.before(Act::Take);
-    let note = pipe.take(seat.rt, &mut end);
+    context.before(Act::Take);
+    let note = pipe.take(context.rt, &mut end);
     takes.set(id.edge, id.from, end);
     note
 }
 
-/// Tries to take a note at the port, of any sender that hasn't ended there.
+/// Attempts to take a note at the port, from any sender that hasn't ended there.
 pub(crate) fn try_take<L: Local, W: Width, R: Wait, G: Gate>(
-    seat: &Seat<'_, R, G>,
+    context: &WorkerContext<'_, R, G>,
     i: &mut Instance<L>,
     port: u32,
     takes: &mut Table<TakeEnd<W>>,
     pipes: &Tables<Pipe<W>>,
-) -> Result<Tried, OutOfMemory>
+) -> Result<Attempt, OutOfMemory>
     requires wanted { want i.old ≡ Want.Take port }
-    requires may { MayTake W.fields seat.now.number pipes.now i.old port }
-    requires ends { AreTakes pipes.now seat.now.number takes.old }
-    ensures ends { OnOk result (AreTakes pipes.now seat.now.number takes.new) }
-    ensures tried { IfOk result (λ tried. WhenTried tried (TakesAt i.old seat.now.number port (λ a b. notes_in (cell takes.old a b)) i.new (λ a b. notes_in (cell takes.new a b))) ((i.new ≡ i.old) × ((a b : ℕ) → notes_in (cell takes.new a b) ≡ notes_in (cell takes.old a b)))) }
+    requires may { MayTake W.fields context.now.number pipes.now i.old port }
+    requires ends { AreTakes pipes.now context.now.number takes.old }
+    ensures ends { OnOk result (AreTakes pipes.now context.now.number takes.new) }
+    ensures attempt { IfOk result (λ attempt. AfterAttempt attempt (TakesAt i.old context.now.number port
+        (λ a b. notes_in (cell takes.old a b)) i.new (λ a b. notes_in (cell takes.new a b))) ((i.new ≡ i.old)
+        × ((a b : ℕ) → notes_in (cell takes.new a b) ≡ notes_in (cell takes.old a b)))) }
 {
     let edge = i.edge(port);
     for from in 0..MAX_WORKERS {
         let id = PipeId {
             edge,
             from,
-            to: seat.number,
+            to: context.number,
         };
-        if let Some(note) = take_from(seat, i, port, id, takes, pipes) {
+        if let Some(note) = take_from(context, i, port, id, takes, pipes) {
             i.took(port, from, note)?;
-            return Ok(Tried::Event);
+            return Ok(Attempt::Progress);
         }
     }
-    Ok(Tried::Idle)
+    Ok(Attempt::Blocked)
 }

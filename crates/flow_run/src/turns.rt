@@ -3,12 +3,12 @@
 ghost use Rattle.std.specs.Prelude.{◌≡◌, ◌<◌, length, IfOk, OnOk};
 ghost use Rattle.flow_run.specs.Benches.{AllHeld, IsReady, Works, bench};
 ghost use Rattle.flow_run.specs.Ends.{ArePuts, AreTakes};
-ghost use Rattle.flow_run.specs.Tries.{HasStepped, WhenTried};
+ghost use Rattle.flow_run.specs.Tries.{HasStepped, AfterAttempt};
 
-use crate::outcomes::Tried;
-use crate::seats::Seat;
+use crate::attempts::Attempt;
 use crate::tables::{Table, Tables};
 use crate::tries::{try_put, try_take};
+use crate::worker_contexts::WorkerContext;
 use batch_channel::{Pipe, PutEnd, TakeEnd, Width};
 use flow_instance::{Instance, PipeId, Want};
 use local_strategy::Local;
@@ -16,61 +16,64 @@ use pact_record::OutOfMemory;
 use std::sync::Wait;
 use worker_gate::{Act, Gate};
 
-// Tries what the instance of an operator wants.
+// Attempts what the instance of a source or operator wants.
 fn step<L: Local, W: Width, R: Wait, G: Gate>(
-    seat: &Seat<'_, R, G>,
+    context: &WorkerContext<'_, R, G>,
     at: u32,
     instances: &mut [Instance<L>],
     puts: &mut Table<PutEnd<W>>,
     takes: &mut Table<TakeEnd<W>>,
     pipes: &Tables<Pipe<W>>,
-) -> Result<Tried, OutOfMemory>
+) -> Result<Attempt, OutOfMemory>
     requires at { at < length instances.old }
-    requires ready { IsReady W.fields seat.now.number pipes.now instances.old puts.old takes.old }
+    requires ready { IsReady W.fields context.now.number pipes.now instances.old puts.old takes.old }
     ensures count { length instances.new ≡ length instances.old }
-    ensures puts { OnOk result (ArePuts pipes.now seat.now.number puts.new) }
-    ensures takes { OnOk result (AreTakes pipes.now seat.now.number takes.new) }
-    ensures stepped { IfOk result (HasStepped pipes.now seat.now.number (bench instances.old puts.old takes.old) at (bench instances.new puts.new takes.new)) }
+    ensures puts { OnOk result (ArePuts pipes.now context.now.number puts.new) }
+    ensures takes { OnOk result (AreTakes pipes.now context.now.number takes.new) }
+    ensures stepped { IfOk result (HasStepped pipes.now context.now.number (bench instances.old puts.old takes.old) at
+        (bench instances.new puts.new takes.new)) }
 {
     let i = &mut instances[at as usize];
     match i.want() {
         Want::Put(to) => {
             let id = PipeId {
                 edge: at,
-                from: seat.number,
+                from: context.number,
                 to,
             };
-            Ok(try_put(seat, i, id, puts, pipes))
+            Ok(try_put(context, i, id, puts, pipes))
         }
-        Want::Take(port) => try_take(seat, i, port, takes, pipes),
+        Want::Take(port) => try_take(context, i, port, takes, pipes),
         Want::End => {
-            seat.before(Act::End);
+            context.before(Act::End);
             i.end();
-            Ok(Tried::Event)
+            Ok(Attempt::Progress)
         }
-        Want::Done => Ok(Tried::Idle),
+        Want::Done => Ok(Attempt::Blocked),
     }
 }
 
-/// Tries what each instance wants, one after the other.
+/// Attempts what each instance wants, one after the other.
 pub(crate) fn turn<L: Local, W: Width, R: Wait, G: Gate>(
-    seat: &Seat<'_, R, G>,
+    context: &WorkerContext<'_, R, G>,
     instances: &mut [Instance<L>],
     puts: &mut Table<PutEnd<W>>,
     takes: &mut Table<TakeEnd<W>>,
     pipes: &Tables<Pipe<W>>,
-) -> Result<Tried, OutOfMemory>
-    requires ready { IsReady W.fields seat.now.number pipes.now instances.old puts.old takes.old }
+) -> Result<Attempt, OutOfMemory>
+    requires ready { IsReady W.fields context.now.number pipes.now instances.old puts.old takes.old }
     ensures count { length instances.new ≡ length instances.old }
-    ensures ready { OnOk result (IsReady W.fields seat.now.number pipes.now instances.new puts.new takes.new) }
-    ensures works { OnOk result (Works seat.now.number (length instances.old) (bench instances.old puts.old takes.old) (bench instances.new puts.new takes.new)) }
-    ensures held { IfOk result (λ tried. WhenTried tried (Unit {0}) (AllHeld pipes.now seat.now.number (length instances.new) (bench instances.new puts.new takes.new))) }
+    ensures ready { OnOk result (IsReady W.fields context.now.number pipes.now instances.new puts.new takes.new) }
+    ensures works { OnOk result (Works context.now.number (length instances.old)
+        (bench instances.old puts.old takes.old) (bench instances.new puts.new takes.new)) }
+    ensures held { IfOk result (λ attempt. AfterAttempt attempt (Unit {0}) (AllHeld pipes.now context.now.number
+        (length instances.new) (bench instances.new puts.new takes.new))) }
 {
     let count = instances.len() as u32;
-    let mut tried = Tried::Idle;
+    let mut attempt = Attempt::Blocked;
     for at in 0..count {
-        let now = step(seat, at, instances, puts, takes, pipes)?;
-        tried = tried.and(now);
+        let now = step(context, at, instances, puts, takes, pipes)?;
+        attempt = attempt.and(now);
     }
-    Ok(tried)
+    Ok(attempt)
 }

@@ -14,7 +14,8 @@ use pact_record::OutOfMemory;
 use std::alloc::Global;
 use std::sync::Wait;
 
-/// Pipes by edge, sender and receiver; the ends that put, by worker, edge and receiver; and the ends that take, by worker, edge and sender.
+/// Pipes by edge, sender and receiver, the ends that put by worker, edge and receiver, and the ends that take by
+/// worker, edge and sender.
 #[derive(Drop)]
 pub(crate) struct Wired<W: Width> {
     pub(crate) pipes: Tables<Pipe<W>>,
@@ -22,7 +23,7 @@ pub(crate) struct Wired<W: Width> {
     pub(crate) takes: Tables<TakeEnd<W>>,
 }
 
-/// The pipe with a number, over all edges, senders and receivers: there are at most 16 workers.
+/// The pipe with a number. Pipes are numbered by edge, sender and receiver; there are at most 16 workers.
 pub(crate) fn pipe_of(number: u32) -> PipeId
     ensures edge { result.edge ≡ number / 256 }
     ensures from { result.from ≡ number / 16 % 16 }
@@ -52,7 +53,7 @@ fn goes_along(physical: &Physical, id: PipeId) -> bool
     }
 }
 
-// Makes a pipe, and gives its ends to its workers.
+// Makes a pipe, and puts its ends into the tables of its workers.
 fn make<W: Width, R: Wait>(
     rt: &R,
     alloc: Global,
@@ -64,7 +65,8 @@ fn make<W: Width, R: Wait>(
     requires pipe_place { HasPlaceIn wired.old.pipes id.edge id.from id.to }
     requires put_place { HasPlaceIn wired.old.puts id.from id.edge id.to }
     requires take_place { HasPlaceIn wired.old.takes id.to id.edge id.from }
-    ensures made { OnOk result (IsMade depth id.edge id.from id.to wired.old.pipes wired.old.puts wired.old.takes wired.new.pipes wired.new.puts wired.new.takes) }
+    ensures made { OnOk result (IsMade depth id.edge id.from id.to wired.old.pipes wired.old.puts wired.old.takes
+        wired.new.pipes wired.new.puts wired.new.takes) }
     ensures pipe_places { OnOk result ((m n o : ℕ) → IsShaped m n o wired.old.pipes → IsShaped m n o wired.new.pipes) }
     ensures put_places { OnOk result ((m n o : ℕ) → IsShaped m n o wired.old.puts → IsShaped m n o wired.new.puts) }
     ensures take_places { OnOk result ((m n o : ℕ) → IsShaped m n o wired.old.takes → IsShaped m n o wired.new.takes) }
@@ -76,7 +78,8 @@ fn make<W: Width, R: Wait>(
     Ok(())
 }
 
-/// The pipes of a physical plan of so many sources and operators, with the ends at the workers that have them. Each pipe holds at most `depth` notes.
+/// The pipes of a physical plan with `count` sources and operators, and their ends. Each pipe holds at most `depth`
+/// notes.
 pub(crate) fn wire<W: Width, R: Wait>(
     rt: &R,
     alloc: Global,

@@ -1,12 +1,18 @@
 -- A program with an operator inserted on an edge of a plan, and one in which an operator calls another function.
 use Rattle.std.specs.List.{AllByRecursion}
-use Rattle.std.specs.Prelude.{◌≡◌, ◌≢◌, ◌<◌, ◌⊎◌, ℕ, zero, suc, List, [], ◌∷◌, ◌++◌, Some, length, slice_get, true}
+use Rattle.std.specs.Prelude.{◌≡◌, ◌≢◌, ◌<◌, ◌≤◌, ◌+◌, ◌⊎◌, ℕ, zero, suc, List, [], ◌∷◌, ◌++◌, Some, decimal, length, slice_get, true}
 use Rattle.plan_trees.specs.Plans.{PlanTree, root_of, subtree_of, has}
 use Rattle.tac_syntax.specs.Bounded.{Names}
 use Rattle.tac_syntax.specs.Valid.{WithFields}
+use Rattle.tac_syntax.specs.declared.declarations.OpKind.{OpKind}
 use Rattle.tac_syntax.specs.declared.declarations.OpKind.TheVariants.{Source, Map, Reduce}
 use Rattle.pact_operators.specs.declared.operators.Op.{Op}
 use Rattle.pact_operators.specs.Programs.{ProgramData, HasAttribute, HasKeyLists, IsKindFor, IsPlanOf, function_limit, is_operator_kind, operator_limit, times_of_kind}
+
+-- A Map or a Reduce to insert: its name is its number, which no program text can declare, and parts that its kind
+-- doesn't have are empty.
+abbrev pub inserted_op : (number function : ℕ) → OpKind → (keys : List ℕ) → Op
+inserted_op number function kind keys = record { name = decimal number; kind = kind; function = function; left_keys = keys; right_keys = []; file = []; columns = [] }
 
 -- the operator of a number calls that function
 abbrev pub calling : (at function : ℕ) → List Op → List Op
@@ -35,6 +41,10 @@ replaced_in p at f = record {
   plan = p.plan;
   sink = p.sink;
 }
+
+-- There is room for one more operator and this many more functions.
+abbrev pub HasRoomFor : ProgramData → ℕ → Type 0
+HasRoomFor p functions = (times_of_kind is_operator_kind p.ops < operator_limit) × (length p.functions + functions ≤ function_limit)
 
 -- The operator may be inserted on the edge from a number of a plan of the program, and may call the function.
 pub record CanInsert (p : ProgramData) (tree : PlanTree) (below : ℕ) (op : Op) (f : WithFields) : Type 0 where

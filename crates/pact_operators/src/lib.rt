@@ -10,7 +10,7 @@ pub mod operators;
 pub mod programs;
 
 pub use attributes::{attributes_of, attrs, context};
-pub use operators::{Op, copied_columns};
+pub use operators::{Op, copied_columns, number_name};
 pub use plan_trees::{MAX_NODES, Parts, Physical, Plan, Shape, Ship};
 pub use programs::{Program, insert, replace};
 pub use tac_syntax::{Decl, Draft, Numbers, OpKind, ValidList, functions_of};

@@ -1,7 +1,9 @@
 //! The sources and operators of a program.
 
-ghost use Rattle.std.specs.Prelude.{◌≡◌, IfOk};
+ghost use Rattle.std.specs.Prelude.{◌≡◌, decimal, IfOk};
+ghost use Rattle.pact_operators.specs.Insertions.{inserted_op};
 
+use itoa::Buffer;
 use pact_record::{Columns, Keys, OutOfMemory, Word};
 use std::alloc::Global;
 use tac_syntax::OpKind;
@@ -21,6 +23,24 @@ pub struct Op {
 }
 
 impl Op {
+    /// A Map or a Reduce to insert into a program. Its name is its number, which no program text can declare, and it calls
+    /// function 0. The only error is out of memory.
+    pub fn inserted(alloc: Global, number: u32, kind: OpKind, keys: Keys) -> Result<Op, OutOfMemory>
+        ensures { IfOk result (λ op. op ≡ inserted_op number 0 kind keys) }
+    {
+        let name = number_name(alloc, number)?;
+        let file = Word::from_bytes(alloc, b"")?;
+        Ok(Op {
+            name,
+            kind,
+            function: 0,
+            left_keys: keys,
+            right_keys: Keys::new(),
+            file,
+            columns: Columns::new(alloc),
+        })
+    }
+
     /// A copy of the operator. Out of memory is the only error.
     pub fn copy(&self, alloc: Global) -> Result<Op, OutOfMemory>
         ensures { IfOk result (λ op. op ≡ self.now) }
@@ -35,6 +55,14 @@ impl Op {
             columns: copied_columns(alloc, &self.columns)?,
         })
     }
+}
+
+/// A number as a name that no program text can declare. The only error is out of memory.
+pub fn number_name(alloc: Global, number: u32) -> Result<Word, OutOfMemory>
+    ensures { IfOk result (λ w. w ≡ decimal number) }
+{
+    let mut buffer = Buffer::new();
+    Word::from_bytes(alloc, buffer.format(number).as_bytes())
 }
 
 /// A copy of the columns. Out of memory is the only error.

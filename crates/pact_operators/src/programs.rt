@@ -1,20 +1,25 @@
 //! Programs whose names are resolved.
 
-ghost use Rattle.std.specs.Prelude.{◌≡◌, ◌<◌, ◌≤◌, Some, IfOk, length, slice_get};
+ghost use Rattle.std.specs.Prelude.{◌≡◌, ◌<◌, ◌≤◌, ◌↔◌, Some, IfOk, IsTrue, length, slice_get};
 ghost use Rattle.pact_record.specs.declared.records.TheConstants.{MAX_FIELDS};
 ghost use Rattle.plan_trees.specs.Inserted.{inserted, inserted_above};
 ghost use Rattle.plan_trees.specs.Plans.{PlanTree};
 ghost use Rattle.tac_syntax.specs.declared.declarations.OpKind.TheVariants.{Source};
-ghost use Rattle.pact_operators.specs.Insertions.{CanInsert, CanReplace, inserted_into, replaced_in};
+ghost use Rattle.pact_operators.specs.Insertions.{CanInsert, CanReplace, HasRoomFor, inserted_into, replaced_in};
 ghost use Rattle.pact_operators.specs.PlanOps.{function_in, kind_at};
-ghost use Rattle.pact_operators.specs.Programs.{IsPlanOf, IsProgram, nulls_match};
+ghost use Rattle.pact_operators.specs.Programs.{IsPlanOf, IsProgram, function_limit, is_operator_kind, nulls_match, times_of_kind};
 
 use crate::operators::Op;
 use pact_record::OutOfMemory;
 use plan_trees::{Physical, Plan};
 use std::alloc::Global;
 use std::marker::Model;
-use tac_syntax::{Valid, ValidList};
+use tac_syntax::{OpKind, Valid, ValidList};
+
+// A program has at most so many operators and functions.
+const MAX_OPERATORS: usize = 16;
+
+const MAX_FUNCTIONS: usize = 64;
 
 /// A program that follows every rule. The number of a function, or of a source or operator, is its place in the list.
 /// Inserted ones come last.
@@ -103,6 +108,16 @@ impl Program {
         &self.ops
     }
 
+    /// Whether one more operator and this many more functions may be inserted. A program has at most 16 operators and 64
+    /// functions.
+    pub fn has_room(&self, functions: usize) -> bool
+        requires { functions ≤ function_limit }
+        ensures { IsTrue result ↔ HasRoomFor self.now functions }
+    {
+        count_operators(self.ops()) < MAX_OPERATORS
+            && self.functions().len() <= MAX_FUNCTIONS - functions
+    }
+
     /// The function that an operator calls.
     pub fn function_at(&self, at: u32) -> &Valid
         requires operator { kind_at self.now.ops at ≡ Source → ⊥ }
@@ -182,6 +197,19 @@ impl Program {
             self.sink,
         ))
     }
+}
+
+// The number of operators, without the sources.
+fn count_operators(ops: &[Op]) -> usize
+    ensures { result ≡ times_of_kind is_operator_kind ops.now }
+{
+    let mut count = 0;
+    for op in ops {
+        if op.kind != OpKind::Source {
+            count += 1;
+        }
+    }
+    count
 }
 
 fn copied_functions(alloc: Global, functions: &[Valid]) -> Result<ValidList, OutOfMemory>

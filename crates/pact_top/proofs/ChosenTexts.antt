@@ -6,14 +6,15 @@ use Rattle.reorder_pair.specs.declared.legality.Condition.{Condition}
 use Rattle.swap_certificate.specs.declared.certificates.Certificate.{Certificate}
 use Rattle.swap_certificate.specs.Checks.{Checks, certificate_of}
 use Rattle.swap_certificate.specs.Shape.{IsCertificateText, certificate_data}
-use Rattle.pact_top.specs.CommandTexts.{AreCounts, AreToldCounts, IsCertificateLine, IsChoice, IsDerived, IsOutcome}
+use Rattle.pact_top.specs.CommandTexts.{AreCounts, IsCertificateLine, IsChoice, IsDerived}
+use Rattle.pact_top.specs.PrivateCalls.{AreReportedCounts, IsLayoutOutcome}
 use Rattle.pact_top.specs.declared.choosing.Choice.{Choice}
 use Rattle.pact_load.specs.declared.loaded.Loaded.{Loaded}
 use Rattle.pact_top.specs.declared.rewriting.RunOutcome.{RunOutcome}
 
 module _ (l : Loaded) (workers plans : ℕ) (choice : Choice) where
-  pub told-AreCounts : (prune combine : Bool) (r : RunOutcome) (is : IsOutcome l workers choice.plan choice.chosen.layout prune combine r) (asked : Bool) (told : Option (List ℕ))
-      → IsChoice l workers plans choice → AreToldCounts l.program choice.plan r.outcome.counts r.kept.items r.combined.items asked told → AreCounts l workers plans prune combine is.bag asked told
+  pub told-AreCounts : (prune combine : Bool) (r : RunOutcome) (is : IsLayoutOutcome l workers choice.plan choice.chosen.layout prune combine r) (asked : Bool) (told : Option (List ℕ))
+      → IsChoice l workers plans choice → AreReportedCounts l.program choice.plan r.outcome.counts r.kept.items r.combined.items asked told → AreCounts l workers plans prune combine is.bag asked told
   told-AreCounts prune combine r is true (Some text) chosen h = record {
     choice = choice;
     is_choice = chosen;

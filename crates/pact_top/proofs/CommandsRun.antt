@@ -6,14 +6,14 @@ use Rattle.pact_outside.specs.declared.files.NamedFile.{NamedFile}
 use Rattle.pact_outside.specs.Outside.{Feeding}
 use Rattle.plan_trees.specs.Plans.{PlanTree}
 use Rattle.swap_certificate.specs.declared.certificates.Certificate.{Certificate}
-use Rattle.pact_top.specs.CommandTexts.{Accepted, AllowsWritten, AreCounts, AreTextsOf, IsAcceptance, IsAnswerOf, IsOutAlone, Ready, to_accept, to_analyse, to_evaluate, to_justify, to_make, to_repeat, to_show, to_sum_up}
+use Rattle.pact_top.specs.CommandTexts.{Accepted, AllowsWritten, AreCounts, AreTextsOf, IsAcceptance, IsAnswerOf, IsOutAlone, Ready, ready_check, ready_sets, ready_run, ready_cert, ready_gen, ready_iterate, ready_plan, ready_drill}
 use Rattle.bag_lines.specs.Lines.{AreLines}
 use Rattle.pact_load.specs.declared.loaded.Loaded.{Loaded}
 use Rattle.pact_load.specs.declared.refusals.Refusal.{Refusal}
 use Rattle.pact_load.specs.declared.refusals.Refusal.TheVariants.{OutOfMemory, Usage, CannotRead, CannotWrite, Decided}
 use Rattle.pact_top.specs.declared.texts.Texts.{Texts}
 use Rattle.pact_load.specs.Answers.{Answers, Comes, ComesTo, Decides}
-use Rattle.pact_top.specs.Refusal.{AnswersWords, AskForMore, refusal_of, IsAnswered, IsRefused, IsTold, IsUsageTold}
+use Rattle.pact_top.specs.Refusal.{AnswersWords, AskForMore, refusal_of, IsAnswered, IsRefused, IsAnswerOrRefusal, IsUsageRefusal}
 use Rattle.pact_load.specs.Stages.{Reading, Stage, and_then, give, gives, stops}
 use Rattle.pact_load.specs.RefusalLines.{usage_line}
 use Rattle.pact_load.specs.Loading.{loaded, program_file}
@@ -72,7 +72,7 @@ module _ {before now : Feeding} (name other : List ℕ) where
   -- a refusal of the command's own stages is a refusal of the command
   to_check_err : (r : Refusal) → Comes (λ f. accepted f name other) before now (Err r) → Comes (λ f. texts_for f (to_check name other)) before now (Err r)
   to_check_err r h =
-      comes_err {A = Ready} {s = λ f. ready_for f (to_check name other)} (λ f y. give (AreTextsOf y)) r (comes_err {A = Accepted} {s = λ f. accepted f name other} (λ f a. give (λ y. y ≡ to_accept a)) r h)
+      comes_err {A = Ready} {s = λ f. ready_for f (to_check name other)} (λ f y. give (AreTextsOf y)) r (comes_err {A = Accepted} {s = λ f. accepted f name other} (λ f a. give (λ y. y ≡ ready_check a)) r h)
 
   pub check_program : (r : Refusal) → Comes (λ f. program_file f name) before now (Err r) → Comes (λ f. texts_for f (to_check name other)) before now (Err r)
   check_program r h = to_check_err r (comes_err (behind_program other) r h)
@@ -92,8 +92,8 @@ module _ {before now : Feeding} (name other : List ℕ) where
           → Comes (λ f. texts_for f (to_check name other)) before now (Ok texts)
       check_told plan texts d acceptance =
           let a : Accepted = record { program = p; certificate = c; plan = plan } in
-          comes_decided {A = Ready} {s = λ f. ready_for f (to_check name other)} (λ y. give (AreTextsOf y)) (to_accept a) (Ok texts)
-          (comes_decided {A = Accepted} {s = λ f. accepted f name other} (λ x. give (λ y. y ≡ to_accept x)) a (Ok (to_accept a))
+          comes_decided {A = Ready} {s = λ f. ready_for f (to_check name other)} (λ y. give (AreTextsOf y)) (ready_check a) (Ok texts)
+          (comes_decided {A = Accepted} {s = λ f. accepted f name other} (λ x. give (λ y. y ≡ ready_check x)) a (Ok (ready_check a))
           (comes_then (behind_program other) p (Ok a) h
           (comes_decided {s = λ f. certificate_file f other} (behind_certificate p) c (Ok a) g
           (decides_then (rechecked p c) (λ reached. give (λ all. all ≡ record { program = p; certificate = c; plan = reached })) plan (Ok a) d (refl, refl))))
@@ -117,7 +117,7 @@ stop_refused : (words : List (List ℕ)) (before now : Feeding) (status : ℕ) (
 stop_refused words before now status line usage h (inl k) = absurd (usage k.0)
 stop_refused words before now status line usage h (inr k) = (k.0, k.1, h)
 
-refused_so : (words : List (List ℕ)) (before now : Feeding) (r : Refusal) → (AreRefused words → IsUsageTold words (Err r)) → Answers (work words before.files) before now (Err r) → IsRefused words before now r
+refused_so : (words : List (List ℕ)) (before now : Feeding) (r : Refusal) → (AreRefused words → IsUsageRefusal words (Err r)) → Answers (work words before.files) before now (Err r) → IsRefused words before now r
 refused_so words before now OutOfMemory usage h = tt
 refused_so words before now Usage usage h = (no_words words 2 usage_line ((work_known words before.files).so 2 usage_line h.readings h.ends) refl, h)
 refused_so words before now (CannotRead name) usage h = (h, (work_fails words before.files).so name h.readings h.ends)
@@ -128,21 +128,21 @@ refused_so words before now (Decided status line) usage h = stop_refused words b
 
 -- what was read is for a command with a text for standard error
 abbrev IsForMore : Ready → Type 0
-IsForMore (to_evaluate l workers plans counts prune combine) = counts ≡ true
-IsForMore (to_repeat r rounds stable) = stable ≡ true
+IsForMore (ready_run l workers plans counts prune combine) = counts ≡ true
+IsForMore (ready_iterate r rounds stable) = stable ≡ true
 IsForMore y = ⊥
 
 told_for : (y : Ready) (texts : Texts) (text : List ℕ) → AreTextsOf y texts → texts.told ≡ Some text → IsForMore y
-told_for (to_evaluate l workers plans true prune combine) texts text are told = refl
-told_for (to_evaluate l workers plans false prune combine) texts text are told = let none : texts.told ≡ None = are.counted in absurd cc
-told_for (to_repeat r rounds true) texts text are told = refl
-told_for (to_repeat r rounds false) texts text are told = let none : texts.told ≡ None = are.told in absurd cc
-told_for (to_show l workers plans) texts text are told = let none = are.1 in absurd cc
-told_for (to_justify l workers plans) texts text are told = let none = are.1 in absurd cc
-told_for (to_analyse p) texts text are told = let none = are.1 in absurd cc
-told_for (to_accept a) texts text are told = let none = are.1 in absurd cc
-told_for (to_make seed rows) texts text are told = let none = are.1 in absurd cc
-told_for (to_sum_up seed rows) texts text are told = let none = are.1 in absurd cc
+told_for (ready_run l workers plans true prune combine) texts text are told = refl
+told_for (ready_run l workers plans false prune combine) texts text are told = let none : texts.told ≡ None = are.counted in absurd cc
+told_for (ready_iterate r rounds true) texts text are told = refl
+told_for (ready_iterate r rounds false) texts text are told = let none : texts.told ≡ None = are.told in absurd cc
+told_for (ready_plan l workers plans) texts text are told = let none = are.1 in absurd cc
+told_for (ready_cert l workers plans) texts text are told = let none = are.1 in absurd cc
+told_for (ready_sets p) texts text are told = let none = are.1 in absurd cc
+told_for (ready_check a) texts text are told = let none = are.1 in absurd cc
+told_for (ready_gen seed rows) texts text are told = let none = are.1 in absurd cc
+told_for (ready_drill seed rows) texts text are told = let none = are.1 in absurd cc
 
 -- a command makes `Ready` from the value that its stages give
 gave_made : {A : Type 0} (s : Stage A) (make : A → Ready) (p : List Reading) (y : Ready) → (and_then s (λ x. give (λ r. r ≡ make x))).Ends p (gives y) → (x : A) × (y ≡ make x)
@@ -150,18 +150,18 @@ gave_made s make p y h = let made = gave_then s (λ x. give (λ r. r ≡ make x)
 
 -- such a command comes only from words that ask for a text on standard error
 asks : (words : List (List ℕ)) (files : Option (List NamedFile)) (c : Asked) (p : List Reading) (y : Ready) → IsAsked words c → (ready_for files c).Ends p (gives y) → IsForMore y → AskForMore words
-asks words files (to_run name o counts) p y asked h more =
-    let e = subst IsForMore (gave_made (loaded files name) (λ x. to_evaluate x o.workers o.plans counts o.prune o.combine) p y h).1 more in
-    inl (name, o, subst (λ (b : Bool). IsAsked words (to_run name o b)) e asked)
+asks words files (to_run name o rewrites counts) p y asked h more =
+    let e = subst IsForMore (gave_made (loaded files name) (λ x. ready_run x o.workers o.plans counts rewrites.prune rewrites.combine) p y h).1 more in
+    inl (name, o, rewrites, subst (λ (b : Bool). IsAsked words (to_run name o rewrites b)) e asked)
 asks words files (to_iterate name source rounds o stable) p y asked h more =
-    let e = subst IsForMore (gave_made (repeated files name source) (λ x. to_repeat x rounds stable) p y h).1 more in
+    let e = subst IsForMore (gave_made (repeated files name source) (λ x. ready_iterate x rounds stable) p y h).1 more in
     inr (name, source, rounds, o, subst (λ (b : Bool). IsAsked words (to_iterate name source rounds o b)) e asked)
-asks words files (to_plan name w n) p y asked h more = absurd (subst IsForMore (gave_made (loaded files name) (λ x. to_show x w n) p y h).1 more)
-asks words files (to_certify name w n) p y asked h more = absurd (subst IsForMore (gave_made (loaded files name) (λ x. to_justify x w n) p y h).1 more)
-asks words files (to_tell_sets name) p y asked h more = absurd (subst IsForMore (gave_made (program_file files name) to_analyse p y h).1 more)
-asks words files (to_check name other) p y asked h more = absurd (subst IsForMore (gave_made (accepted files name other) to_accept p y h).1 more)
+asks words files (to_plan name w n) p y asked h more = absurd (subst IsForMore (gave_made (loaded files name) (λ x. ready_plan x w n) p y h).1 more)
+asks words files (to_certify name w n) p y asked h more = absurd (subst IsForMore (gave_made (loaded files name) (λ x. ready_cert x w n) p y h).1 more)
+asks words files (to_tell_sets name) p y asked h more = absurd (subst IsForMore (gave_made (program_file files name) ready_sets p y h).1 more)
+asks words files (to_check name other) p y asked h more = absurd (subst IsForMore (gave_made (accepted files name other) ready_check p y h).1 more)
 asks words files (to_generate seed rows) p y asked h more = absurd (subst IsForMore h.1 more)
-asks words files (to_drill seed rows o) p y asked h more = absurd (subst IsForMore h.1 more)
+asks words files (to_drill seed rows o rewrites) p y asked h more = absurd (subst IsForMore h.1 more)
 
 told_in : (words : List (List ℕ)) (files : Option (List NamedFile)) (p : List Reading) (texts : Texts) (text : List ℕ) → (work words files).Ends p (gives texts) → texts.told ≡ Some text → AskForMore words
 told_in words files p texts text h told =
@@ -171,12 +171,12 @@ told_in words files p texts text h told =
 
 -- ---- answers
 
-told_so : (words : List (List ℕ)) (before now : Feeding) (x : Result Texts Refusal) → (AreRefused words → IsUsageTold words x) → Answers (work words before.files) before now x → IsTold words before now x
+told_so : (words : List (List ℕ)) (before now : Feeding) (x : Result Texts Refusal) → (AreRefused words → IsUsageRefusal words x) → Answers (work words before.files) before now x → IsAnswerOrRefusal words before now x
 told_so words before now (Ok texts) usage h = record { texts_are = h; told = λ text. told_in words before.files h.readings texts text h.ends }
 told_so words before now (Err r) usage h = refused_so words before now r usage h
 
 -- what the work results in is an answer
-pub answered : {before now : Feeding} {Untouched : Type 0} (words : List (List ℕ)) (x : Result Texts Refusal) → (AreRefused words → IsUsageTold words x) → (AreRefused words → Untouched) → Comes (work words) before now x
+pub answered : {before now : Feeding} {Untouched : Type 0} (words : List (List ℕ)) (x : Result Texts Refusal) → (AreRefused words → IsUsageRefusal words x) → (AreRefused words → Untouched) → Comes (work words) before now x
     → IsAnswered words Untouched before now x
 answered {before} {now} words x usage untouched h = record { told = told_so words before now x usage h.told; usage = usage; untouched = untouched }
 

@@ -64,13 +64,13 @@ repeated_decided files told name source =
     (λ at _. agree_then _ _ (sources_decided files told p) (λ a b _ _. give_agrees _ _)))
 
 ready_for_decided : (files : Option (List NamedFile)) → AreTold files → (asked : Asked) → IsDecided (ready_for files asked)
-ready_for_decided files told (to_run name options counts) = agree_then _ _ (loaded_decided files told name) (λ a b _ _. give_agrees _ _)
+ready_for_decided files told (to_run name options rewrites counts) = agree_then _ _ (loaded_decided files told name) (λ a b _ _. give_agrees _ _)
 ready_for_decided files told (to_plan name workers plans) = agree_then _ _ (loaded_decided files told name) (λ a b _ _. give_agrees _ _)
 ready_for_decided files told (to_certify name workers plans) = agree_then _ _ (loaded_decided files told name) (λ a b _ _. give_agrees _ _)
 ready_for_decided files told (to_tell_sets name) = agree_then _ _ (program_file_decided files told name) (λ a b _ _. give_agrees _ _)
 ready_for_decided files told (to_check name other) = agree_then _ _ (accepted_decided files told name other) (λ a b _ _. give_agrees _ _)
 ready_for_decided files told (to_generate seed rows) = give_agrees _ _
-ready_for_decided files told (to_drill seed rows o) = give_agrees _ _
+ready_for_decided files told (to_drill seed rows o rewrites) = give_agrees _ _
 ready_for_decided files told (to_iterate name source rounds o stable) = agree_then _ _ (repeated_decided files told name source) (λ a b _ _. give_agrees _ _)
 
 pub work_decided : (words : List (List ℕ)) (files : Option (List NamedFile)) → AreTold files → IsDecided (work words files)
@@ -129,7 +129,7 @@ repeated_known words files name source =
     (λ at. stops_then (IsKnown words) _ (sources_known words files p) (λ inputs. stops_give (IsKnown words) _)))
 
 ready_for_known : (words : List (List ℕ)) (files : Option (List NamedFile)) (asked : Asked) → StopsSo (IsKnown words) (ready_for files asked)
-ready_for_known words files (to_run name options counts) = stops_then (IsKnown words) _ (loaded_known words files name) (λ l. stops_give (IsKnown words) _)
+ready_for_known words files (to_run name options rewrites counts) = stops_then (IsKnown words) _ (loaded_known words files name) (λ l. stops_give (IsKnown words) _)
 ready_for_known words files (to_plan name workers plans) = stops_then (IsKnown words) _ (loaded_known words files name) (λ l. stops_give (IsKnown words) _)
 ready_for_known words files (to_certify name workers plans) = stops_then (IsKnown words) _ (loaded_known words files name) (λ l. stops_give (IsKnown words) _)
 ready_for_known words files (to_tell_sets name) = stops_then (IsKnown words) _ (program_file_known words files name) (λ p. stops_give (IsKnown words) _)
@@ -139,7 +139,7 @@ ready_for_known words files (to_check name other) =
     (λ c. stops_then (IsKnown words) _ (rechecked_known words p c) (λ plan. stops_give (IsKnown words) _))))
     (λ a. stops_give (IsKnown words) _)
 ready_for_known words files (to_generate seed rows) = stops_give (IsKnown words) _
-ready_for_known words files (to_drill seed rows o) = stops_give (IsKnown words) _
+ready_for_known words files (to_drill seed rows o rewrites) = stops_give (IsKnown words) _
 ready_for_known words files (to_iterate name source rounds o stable) = stops_then (IsKnown words) _ (repeated_known words files name source) (λ r. stops_give (IsKnown words) _)
 
 pub work_known : (words : List (List ℕ)) (files : Option (List NamedFile)) → StopsSo (IsKnown words) (work words files)

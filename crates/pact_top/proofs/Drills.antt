@@ -16,7 +16,8 @@ use Rattle.drill_program.specs.Drill.{drill_functions, drill_program}
 use Rattle.drill_program.specs.Summary.{summary_text}
 use Rattle.drill_program.proofs.DrillFree.{total_free}
 use Rattle.drill_program.proofs.DrillProgram.{is_a_program}
-use Rattle.pact_top.specs.CommandTexts.{IsDrillText, IsRun, IsSummary, drilled}
+use Rattle.pact_top.specs.CommandTexts.{IsDrillText, IsSummary, drilled}
+use Rattle.pact_top.specs.PrivateCalls.{IsFinishedRun}
 use Rattle.pact_top.specs.OrderFreePrograms.{AreGroupsFree, IsGrouping}
 use Rattle.pact_top.specs.declared.running.FinishedRun.{FinishedRun}
 use Rattle.pact_top.proofs.OnlyBag.{one_text, only_bag}
@@ -59,7 +60,7 @@ summary_beside rows sink bag left text same h =
     let lengths : length left ≡ length bag = sym (length-map left (cut sink)) ∙ ap (λ (cuts : Bag). length cuts) (sym same) ∙ length-map bag (cut sink) in
     record { lines = h.lines; spelled = lines_beside sink bag left h.lines same h.spelled; told = h.told ∙ ap (λ (n : ℕ). summary_text rows n h.lines) lengths }
 
-pub is_drill_text : (seed rows workers plans : ℕ) (prune combine : Bool) (run : FinishedRun) (text : List ℕ) → IsRun (drilled seed rows) workers plans prune combine run
+pub is_drill_text : (seed rows workers plans : ℕ) (prune combine : Bool) (run : FinishedRun) (text : List ℕ) → IsFinishedRun (drilled seed rows) workers plans prune combine run
     → IsSummary rows run.program.sink run.outcome.rows text → IsDrillText seed rows text
 is_drill_text seed rows workers plans prune combine run text is told =
     let bag = is.outcome.bag in

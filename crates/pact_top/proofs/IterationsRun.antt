@@ -17,7 +17,7 @@ use Rattle.pact_record.specs.declared.columns.Column.{Column}
 use Rattle.pact_record.specs.Widths.{AreWide}
 use Rattle.plan_trees.specs.Plans.{node_limit}
 use Rattle.pact_load.specs.declared.refusals.Refusal.{Refusal}
-use Rattle.pact_top.specs.declared.repeating.Repeated.{Repeated}
+use Rattle.pact_top.specs.declared.repeating.IterationInput.{IterationInput}
 use Rattle.pact_top.specs.declared.texts.Texts.{Texts}
 use Rattle.pact_top.specs.Iterations.{HasSource, IsIterationOf, IsIterationText, columns_at, columns_in, told_rounds}
 use Rattle.bag_lines.specs.Lines.{AreLines}
@@ -34,10 +34,10 @@ use Rattle.pact_load.proofs.StageLaws.{gave_then}
 -- ---- what is read
 
 -- the stages after the source's number is known, and those after the program was read
-abbrev behind_source : ProgramData → ℕ → Option (List NamedFile) → Stage Repeated
+abbrev behind_source : ProgramData → ℕ → Option (List NamedFile) → Stage IterationInput
 behind_source p at files = and_then (sources p files) (λ inputs. give (λ all. all ≡ record { loaded = record { program = p; inputs = inputs }; at = at }))
 
-abbrev behind_program : List ℕ → Option (List NamedFile) → ProgramData → Stage Repeated
+abbrev behind_program : List ℕ → Option (List NamedFile) → ProgramData → Stage IterationInput
 behind_program source files p = and_then (source_named p source) (λ at. behind_source p at files)
 
 pub repeat_program : {before now : Feeding} (name source : List ℕ) (r : Refusal) → Comes (λ f. program_file f name) before now (Err r) → Comes (λ f. repeated f name source) before now (Err r)
@@ -56,17 +56,17 @@ module _ {before mid : Feeding} (name source : List ℕ) (p : ProgramData) (h : 
 
     pub repeat_all : (inputs : List Bag) → Comes (sources p) mid now (Ok inputs) → Comes (λ f. repeated f name source) before now (Ok (record { loaded = record { program = p; inputs = inputs }; at = at }))
     repeat_all inputs g =
-        let all : Repeated = record { loaded = record { program = p; inputs = inputs }; at = at } in
+        let all : IterationInput = record { loaded = record { program = p; inputs = inputs }; at = at } in
         comes_then (behind_program source) p (Ok all) h
         (comes_then (λ f n. behind_source p n f) at (Ok all) (comes_alone (source_named p source) mid (Ok at) d)
         (comes_decided {s = sources p} (λ read. give (λ x. x ≡ record { loaded = record { program = p; inputs = read }; at = at })) inputs (Ok all) g (refl, refl)))
 
 -- the rows read are those of the sources, and the number is a source's
-pub record IsRepeated (r : Repeated) : Type 0 where
+pub record IsRepeated (r : IterationInput) : Type 0 where
   pub inputs : AreInputsOf r.loaded.program r.loaded.inputs
   pub source : HasSource r.loaded.program r.at
 
-repeated_is : (files : Option (List NamedFile)) (name source : List ℕ) (all : Repeated) (r : List Reading) → (repeated files name source).Ends r (gives all) → IsRepeated all
+repeated_is : (files : Option (List NamedFile)) (name source : List ℕ) (all : IterationInput) (r : List Reading) → (repeated files name source).Ends r (gives all) → IsRepeated all
 repeated_is files name source all r h =
     let made = gave_then (program_file files name) (behind_program source files) r all h in
     let p = made.value in
@@ -75,7 +75,7 @@ repeated_is files name source all r h =
     let is = named.first.1 in
     subst IsRepeated (sym read.next.1) (record { inputs = are_inputs p files read.value read.front read.first; source = (is.source, is.there, is.kind) })
 
-pub is_repeated : {before now : Feeding} (name source : List ℕ) (all : Repeated) → Comes (λ f. repeated f name source) before now (Ok all) → IsRepeated all
+pub is_repeated : {before now : Feeding} (name source : List ℕ) (all : IterationInput) → Comes (λ f. repeated f name source) before now (Ok all) → IsRepeated all
 is_repeated {before} name source all h = repeated_is before.files name source all h.told.readings h.told.ends
 
 -- ---- its source
@@ -127,7 +127,7 @@ module _ (p : ProgramData) (ops : List Op) (at place : ℕ) (d : Op) (h : HasSou
 
 -- ---- its rounds
 
-pub iterated_wide : (r : Repeated) (rounds : ℕ) (stable : Bool) (bag : Bag) (count : ℕ) → IsProgram r.loaded.program → AreInputsOf r.loaded.program r.loaded.inputs → HasSource r.loaded.program r.at
+pub iterated_wide : (r : IterationInput) (rounds : ℕ) (stable : Bool) (bag : Bag) (count : ℕ) → IsProgram r.loaded.program → AreInputsOf r.loaded.program r.loaded.inputs → HasSource r.loaded.program r.at
     → IsIterationOf r rounds stable bag count → AreWide r.loaded.program.fields bag
 iterated_wide r rounds stable bag count program own source h =
     let p = r.loaded.program in
@@ -138,7 +138,7 @@ one_allowed p program free = λ inputs bag other a b. only_bag p program free in
 
 -- ---- its texts
 
-is_iteration_text : (r : Repeated) (rounds : ℕ) (stable : Bool) (bag : Bag) (count : ℕ) (t : Texts) → IsProgram r.loaded.program → IsIterationOf r rounds stable bag count
+is_iteration_text : (r : IterationInput) (rounds : ℕ) (stable : Bool) (bag : Bag) (count : ℕ) (t : Texts) → IsProgram r.loaded.program → IsIterationOf r rounds stable bag count
     → AreLines r.loaded.program.sink bag t.out → t.told ≡ told_rounds stable count → IsIterationText r rounds stable t
 is_iteration_text r rounds stable bag count t program h lines told =
     let p = r.loaded.program in
@@ -156,7 +156,7 @@ is_iteration_text r rounds stable bag count t program h lines told =
     }
 
 -- what is made from the last round
-pub iteration_made : {E : Type 0} (r : Repeated) (rounds : ℕ) (stable : Bool) (i : Iterated) (result : Result Texts E) → IsProgram r.loaded.program → IsIterationOf r rounds stable i.rows i.rounds
+pub iteration_made : {E : Type 0} (r : IterationInput) (rounds : ℕ) (stable : Bool) (i : Iterated) (result : Result Texts E) → IsProgram r.loaded.program → IsIterationOf r rounds stable i.rows i.rounds
     → IfOk result (λ t. AreLines r.loaded.program.sink i.rows t.out) → IfOk result (λ t. t.told ≡ told_rounds stable i.rounds) → IfOk result (IsIterationText r rounds stable)
 iteration_made r rounds stable i (Ok t) program h lines told = is_iteration_text r rounds stable i.rows i.rounds t program h lines told
 iteration_made r rounds stable i (Err e) program h lines told = tt

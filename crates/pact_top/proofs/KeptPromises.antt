@@ -7,7 +7,7 @@ use Rattle.pact_top.specs.declared.texts.Texts.{Texts}
 use Rattle.pact_top.specs.Headline.{KeepsPromises}
 use Rattle.pact_top.specs.Refusal.{AskForMore, IsAnswered}
 use Rattle.pact_top.specs.Statuses.{WritesAnswer, WritesTexts}
-use Rattle.pact_top.specs.Writing.{Tells}
+use Rattle.pact_top.specs.Writing.{WritesLine}
 use Rattle.pact_top.proofs.StatusesOfRefusals.{at_most_nine, line_is, never_answered, never_cut, not_missing, not_stopped, stopped, told_quietly, unnamed_refused, unread_named, unread_there, usage_refused, usage_told, usage_unnamed, where_missing, where_ready, where_stopped}
 
 -- ---- a call that writes ends with 0 or 4
@@ -72,7 +72,7 @@ module _ (words : List (List ℕ)) {F : Type 0} (feed_old feed_new : F) (before 
   }
 
   refusal_kept : (r : Refusal) (old told_old told_new : Option (List ℕ)) (first told_first told_last : ℕ) → IsAnswered words (feed_new ≡ feed_old) before now (Err r)
-      → Tells told_old told_new told_first told_last (refusal_line r) → KeepsPromises words feed_old feed_new before now old old told_old told_new first first told_first told_last (status_of r)
+      → WritesLine told_old told_new told_first told_last (refusal_line r) → KeepsPromises words feed_old feed_new before now old old told_old told_new first first told_first told_last (status_of r)
   refusal_kept r old told_old told_new first told_first told_last a told = record {
     answered = λ done. absurd (never_answered words before now r a.told done);
     answered_quietly = λ done none. absurd (never_answered words before now r a.told done);
@@ -92,7 +92,7 @@ module _ (words : List (List ℕ)) {F : Type 0} (feed_old feed_new : F) (before 
     refused_always = where_stopped words before now r a.told;
     nothing_written = λ some uncut. refl;
     output_untouched = λ some uncut. refl;
-    told = λ some most. subst (Tells told_old told_new told_first told_last) (line_is words before now r a.told most) told;
+    told = λ some most. subst (WritesLine told_old told_new told_first told_last) (line_is words before now r a.told most) told;
     no_other = at_most_nine words before now r a.told;
   }
 

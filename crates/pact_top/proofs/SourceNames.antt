@@ -97,7 +97,7 @@ repeated_fails asked files name source named =
     (λ at _. fails_then (NamedFor asked) _ (own_sources_fail asked files name p given) (λ inputs _. fails_plain (NamedFor asked) _ _)))
 
 ready_for_fails : (files : Option (List NamedFile)) (asked : Asked) → FailsSo (NamedFor asked) (ready_for files asked)
-ready_for_fails files (to_run name options counts) = fails_then (NamedFor (to_run name options counts)) _ (loaded_fails (to_run name options counts) files name (inl refl)) (λ l _. fails_plain (NamedFor (to_run name options counts)) _ _)
+ready_for_fails files (to_run name options rewrites counts) = fails_then (NamedFor (to_run name options rewrites counts)) _ (loaded_fails (to_run name options rewrites counts) files name (inl refl)) (λ l _. fails_plain (NamedFor (to_run name options rewrites counts)) _ _)
 ready_for_fails files (to_plan name workers plans) = fails_then (NamedFor (to_plan name workers plans)) _ (loaded_fails (to_plan name workers plans) files name (inl refl)) (λ l _. fails_plain (NamedFor (to_plan name workers plans)) _ _)
 ready_for_fails files (to_certify name workers plans) = fails_then (NamedFor (to_certify name workers plans)) _ (loaded_fails (to_certify name workers plans) files name (inl refl)) (λ l _. fails_plain (NamedFor (to_certify name workers plans)) _ _)
 ready_for_fails files (to_tell_sets name) =
@@ -110,7 +110,7 @@ ready_for_fails files (to_check name other) =
     (λ c _. fails_then (NamedFor (to_check name other)) _ (fails_plain (NamedFor (to_check name other)) _ _) (λ plan _. fails_plain (NamedFor (to_check name other)) _ _))))
     (λ a _. fails_plain (NamedFor (to_check name other)) _ _)
 ready_for_fails files (to_generate seed rows) = fails_plain (NamedFor (to_generate seed rows)) _ _
-ready_for_fails files (to_drill seed rows o) = fails_plain (NamedFor (to_drill seed rows o)) _ _
+ready_for_fails files (to_drill seed rows o rewrites) = fails_plain (NamedFor (to_drill seed rows o rewrites)) _ _
 ready_for_fails files (to_iterate name source rounds o stable) =
     let asked = to_iterate name source rounds o stable in
     fails_then (NamedFor asked) _ (repeated_fails asked files name source (inl refl)) (λ r _. fails_plain (NamedFor asked) _ _)

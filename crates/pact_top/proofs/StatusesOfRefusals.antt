@@ -4,7 +4,7 @@ use Rattle.pact_outside.specs.Outside.{Feeding, Rose}
 use Rattle.pact_load.specs.declared.refusals.Refusal.{Refusal}
 use Rattle.pact_load.specs.declared.refusals.Refusal.TheVariants.{OutOfMemory, Usage, CannotRead, CannotWrite, Decided}
 use Rattle.pact_load.specs.Answers.{AreTold, ComesTo, HasFailed, status_of, refusal_line}
-use Rattle.pact_top.specs.Refusal.{IsNamed, IsRefused, IsUsageTold}
+use Rattle.pact_top.specs.Refusal.{IsNamed, IsRefused, IsUsageRefusal}
 use Rattle.pact_load.specs.RefusalLines.{line_of, usage_line}
 use Rattle.pact_load.specs.Stages.{CanEnd, gives, stops, misses}
 use Rattle.pact_top.specs.CommandTexts.{Ready}
@@ -85,14 +85,14 @@ not_stopped words before now texts Goal g told status line s = absurd ((work_dec
 pub unnamed_refused : (words : List (List ℕ)) → AreUnnamed words → AreRefused words
 unnamed_refused words none = subst (λ k. AreRefusedBy k words) (sym none) tt
 
-pub usage_told : (words : List (List ℕ)) (r : Refusal) → IsUsageTold words (Err r) → (status_of r ≡ 1) ⊎ (status_of r ≡ 2)
+pub usage_told : (words : List (List ℕ)) (r : Refusal) → IsUsageRefusal words (Err r) → (status_of r ≡ 1) ⊎ (status_of r ≡ 2)
 usage_told words OutOfMemory h = inl refl
 usage_told words Usage h = inr refl
 usage_told words (CannotRead name) h = absurd h
 usage_told words CannotWrite h = absurd h
 usage_told words (Decided status line) h = absurd h
 
-pub usage_unnamed : (words : List (List ℕ)) (r : Refusal) → AreUnnamed words → IsUsageTold words (Err r) → status_of r ≡ 2
+pub usage_unnamed : (words : List (List ℕ)) (r : Refusal) → AreUnnamed words → IsUsageRefusal words (Err r) → status_of r ≡ 2
 usage_unnamed words OutOfMemory none h = absurd (h none)
 usage_unnamed words Usage none h = refl
 usage_unnamed words (CannotRead name) none h = absurd h

@@ -1,5 +1,5 @@
 -- What each command writes, given what it has read.
-use Rattle.std.specs.Prelude.{◌≡◌, ◌<◌, ◌++◌, ℕ, Bool, true, false, cond, List, [], ◌∷◌, drop, get_or, length, map, Option, Some, None, Ok, codes}
+use Rattle.std.specs.Prelude.{◌≡◌, ◌++◌, ℕ, Bool, true, false, cond, List, [], ◌∷◌, drop, get_or, length, map, Option, Some, None, Ok, codes}
 use Rattle.std.specs.List.Sorted.{IsPermutation}
 use Rattle.serde_json.specs.Written.{compact_text}
 use Rattle.csv_sink.specs.CsvText.{csv_text}
@@ -8,22 +8,19 @@ use Rattle.drill_program.specs.Summary.{summary_text}
 use Rattle.pact_bag.specs.Rows.{cut}
 use Rattle.combine_rule.specs.CombinedPrograms.{Planned, planned}
 use Rattle.pact_gen.specs.Generated.{generated, listed}
-use Rattle.pact_record.specs.Widths.{AreWide}
 use Rattle.pact_operators.specs.declared.operators.Op.{Op}
 use Rattle.pact_operators.specs.Allowed.{Allows, Bag, Counted}
 use Rattle.pact_operators.specs.PlanOps.{is_source_kind, plan_ops}
-use Rattle.pact_operators.specs.Programs.{IsPlanOf, ProgramData}
+use Rattle.pact_operators.specs.Programs.{ProgramData}
 use Rattle.plan_trees.specs.Plans.{PlanTree}
 use Rattle.reorder_pair.specs.declared.legality.Condition.{Condition}
 use Rattle.reorder_pair.specs.Legal.{KeepAnswers}
 use Rattle.reorder_pair.specs.Reach.{Reach}
 use Rattle.reorder_pair.specs.ToldExchanges.{Lead}
 use Rattle.ship_strategy.specs.PlanFacts.{facts_of}
-use Rattle.ship_strategy.specs.Layouts.{layout_count, layout_of}
-use Rattle.ship_strategy.specs.Views.{facts_in}
+use Rattle.ship_strategy.specs.Layouts.{layout_of}
 use Rattle.plan_enumerate.specs.Choices.{IsChosen}
-use Rattle.plan_enumerate.specs.declared.entries.Entry.{Entry}
-use Rattle.plan_enumerate.specs.Listing.{IsAt, IsListed, IsListing, plans_of}
+use Rattle.plan_enumerate.specs.Listing.{IsAt, IsListing, plans_of}
 use Rattle.plan_enumerate.specs.Steps.{AreStepsTo}
 use Rattle.plan_printer.specs.CountsText.{counts_text, keeps_line_at, partials_text}
 use Rattle.plan_printer.specs.PlanText.{plan_text}
@@ -38,13 +35,10 @@ use Rattle.bag_lines.specs.Lines.{AreLines}
 use Rattle.pact_top.specs.OrderFreePrograms.{AreGroupsFree}
 use Rattle.prune_fields.specs.declared.pruning.Kept.{Kept}
 use Rattle.prune_fields.specs.SameAnswers.{HaveSameRows}
-use Rattle.pact_top.specs.Runs.{IsRunWith}
+use Rattle.pact_top.specs.Runs.{IsRunRewrittenAs}
 use Rattle.pact_top.specs.declared.choosing.Choice.{Choice}
-use Rattle.pact_top.specs.declared.choosing.Picked.{Picked}
 use Rattle.pact_load.specs.declared.loaded.Loaded.{Loaded}
-use Rattle.pact_top.specs.declared.repeating.Repeated.{Repeated}
-use Rattle.pact_top.specs.declared.running.FinishedRun.{FinishedRun}
-use Rattle.pact_top.specs.declared.rewriting.RunOutcome.{RunOutcome}
+use Rattle.pact_top.specs.declared.repeating.IterationInput.{IterationInput}
 use Rattle.pact_top.specs.declared.texts.Texts.{Texts}
 
 -- a program, a certificate, and the plan that the certificate leads to
@@ -55,14 +49,14 @@ pub record Accepted : Type 0 where
 
 -- what a command has read, from which its texts are made
 pub data Ready : Type 0 where
-  to_evaluate : (loaded : Loaded) → (workers plans : ℕ) → (counts prune combine : Bool) → Ready
-  to_show : (loaded : Loaded) → (workers plans : ℕ) → Ready
-  to_justify : (loaded : Loaded) → (workers plans : ℕ) → Ready
-  to_analyse : (program : ProgramData) → Ready
-  to_accept : (accepted : Accepted) → Ready
-  to_make : (seed rows : ℕ) → Ready
-  to_sum_up : (seed rows : ℕ) → Ready
-  to_repeat : (repeated : Repeated) → (rounds : ℕ) → (stable : Bool) → Ready
+  ready_run : (loaded : Loaded) → (workers plans : ℕ) → (counts prune combine : Bool) → Ready
+  ready_plan : (loaded : Loaded) → (workers plans : ℕ) → Ready
+  ready_cert : (loaded : Loaded) → (workers plans : ℕ) → Ready
+  ready_sets : (program : ProgramData) → Ready
+  ready_check : (accepted : Accepted) → Ready
+  ready_gen : (seed rows : ℕ) → Ready
+  ready_drill : (seed rows : ℕ) → Ready
+  ready_iterate : (repeated : IterationInput) → (rounds : ℕ) → (stable : Bool) → Ready
 
 -- ---- the choice
 
@@ -71,38 +65,12 @@ abbrev pub row_counts : List Op → List Bag → List ℕ
 row_counts [] inputs = []
 row_counts (op ∷ ops) inputs = cond (is_source_kind op.kind) (length (get_or inputs 0 []) ∷ row_counts ops (drop 1 inputs)) (0 ∷ row_counts ops inputs)
 
--- each listed plan is one of the program's, and allows the same bags as the plan as written
-pub record ArePlansOf (p : ProgramData) (entries : List Entry) : Type 0 where
-  pub plans : (t : PlanTree) → IsListed t entries → IsPlanOf p.functions p.ops t
-  pub answers : (t : PlanTree) → IsListed t entries → KeepAnswers p p.plan t
-
--- One of the listed plans is chosen for these rows: the first of least cost, with one of its layouts for this number of
--- workers.
-pub record IsPicked (p : ProgramData) (inputs : List Bag) (workers : ℕ) (entries : List Entry) (c : Picked) : Type 0 where
-  pub chosen : IsChosen p (plans_of entries) (row_counts p.ops inputs) workers c.chosen
-  pub there : IsAt entries c.chosen.entry c.plan
-  pub plan : IsPlanOf p.functions p.ops c.plan
-  pub answers : KeepAnswers p p.plan c.plan
-  pub known : facts_in c.facts ≡ facts_of p c.plan
-  pub entry : c.chosen.entry < length entries
-  pub layout : c.chosen.layout < layout_count p.ops
-
 -- One plan is chosen from those that legal exchanges lead to, of which at most `plans` are listed. It is the first of
 -- least cost for the sources' numbers of rows, with one of its layouts for `workers` workers.
 pub record IsChoice (l : Loaded) (workers plans : ℕ) (c : Choice) : Type 0 where
   pub listing : IsListing l.program plans c.listed
   pub chosen : IsChosen l.program (plans_of c.listed.entries) (row_counts l.program.ops l.inputs) workers c.chosen
   pub plan : IsAt c.listed.entries c.chosen.entry c.plan
-
--- The choice's plan is one of the program's, and allows the same bags as the plan as written. Its facts are those of
--- the plan, and its numbers are those of an entry and of a layout.
-pub record IsPlanChosen (l : Loaded) (workers plans : ℕ) (c : Choice) : Type 0 where
-  pub choice : IsChoice l workers plans c
-  pub plan : IsPlanOf l.program.functions l.program.ops c.plan
-  pub answers : KeepAnswers l.program l.program.plan c.plan
-  pub known : facts_in c.facts ≡ facts_of l.program c.plan
-  pub entry : c.chosen.entry < length c.listed.entries
-  pub layout : c.chosen.layout < layout_count l.program.ops
 
 -- These are the exchanges by which the chosen plan was listed: legal exchanges, one after another, lead to it from the
 -- plan as written.
@@ -118,26 +86,8 @@ abbrev pub AllowsWritten : Loaded → Bag → Type 0
 AllowsWritten l bag = Allows (plan_ops l.program l.inputs) l.program.plan bag
 
 -- the program with a plan in one of its layouts
-abbrev pub laid : Loaded → (workers : ℕ) → PlanTree → (layout : ℕ) → Planned
-laid l workers plan layout = planned l.program (layout_of (facts_of l.program plan) l.program.ops plan layout workers)
-
--- What a run of a plan in a layout gives, with fields dropped and with partial groups if `prune` and `combine` ask for
--- these. Cut to the sink's fields, the rows are those of a bag that the program as written allows. If no fields are
--- dropped, they are that bag. The counts are those of one evaluation of the plan that gives the bag.
-pub record IsOutcome (l : Loaded) (workers : ℕ) (plan : PlanTree) (layout : ℕ) (prune combine : Bool) (r : RunOutcome) : Type 0 where
-  pub bag : Bag
-  pub rows : HaveSameRows l.program.sink bag r.outcome.rows
-  pub whole : prune ≡ false → bag ≡ r.outcome.rows
-  pub allowed : AllowsWritten l bag
-  pub counted : Counted (plan_ops l.program l.inputs) plan bag r.outcome.counts
-  pub widths : AreWide l.program.fields r.outcome.rows
-  pub run : IsRunWith (laid l workers plan layout) l.inputs prune combine r.outcome r.kept.items r.combined.items
-
--- The chosen plan was run, and gave this.
-pub record IsRun (l : Loaded) (workers plans : ℕ) (prune combine : Bool) (run : FinishedRun) : Type 0 where
-  pub program : run.program ≡ l.program
-  pub chosen : IsPlanChosen l workers plans run.choice
-  pub outcome : IsOutcome l workers run.choice.plan run.choice.chosen.layout prune combine (record { outcome = run.outcome; kept = run.kept; combined = run.combined })
+abbrev pub in_layout : Loaded → (workers : ℕ) → PlanTree → (layout : ℕ) → Planned
+in_layout l workers plan layout = planned l.program (layout_of (facts_of l.program plan) l.program.ops plan layout workers)
 
 -- the `keeps` lines: which fields were kept, for each source and operator that others were dropped of
 abbrev pub keeps_text : ProgramData → List Kept → List ℕ
@@ -148,11 +98,6 @@ keeps_text p (k ∷ kept) = keeps_line_at p k.at k.fields ++ keeps_text p kept
 -- records each operator emitted that was inserted to make partial groups.
 abbrev pub told_text : ProgramData → PlanTree → List ℕ → List Kept → List (ℕ × ℕ) → List ℕ
 told_text p plan counts kept of = (counts_text p plan counts ++ keeps_text p kept) ++ partials_text p counts of
-
--- the text of the counts if it is asked for, and none otherwise
-abbrev pub AreToldCounts : ProgramData → PlanTree → List ℕ → List Kept → List (ℕ × ℕ) → Bool → Option (List ℕ) → Type 0
-AreToldCounts p plan counts kept of true told = told ≡ Some (told_text p plan counts kept of)
-AreToldCounts p plan counts kept of false told = told ≡ None
 
 -- The counts, as text, of an evaluation of the chosen plan that gives the bag. Some run of that plan could leave these
 -- counts; it isn't said that this call made that run.
@@ -169,7 +114,7 @@ pub record IsCountsText (l : Loaded) (workers plans : ℕ) (prune combine : Bool
   pub whole : prune ≡ false → bag ≡ left
   pub kept : List Kept
   pub combined : List (ℕ × ℕ)
-  pub run : IsRunWith (laid l workers choice.plan choice.chosen.layout) l.inputs prune combine (record { rows = left; counts = counts }) kept combined
+  pub run : IsRunRewrittenAs (in_layout l workers choice.plan choice.chosen.layout) l.inputs prune combine (record { rows = left; counts = counts }) kept combined
   pub spelled : text ≡ told_text l.program choice.plan counts kept combined
 
 -- The counts are printed if they are asked for, and they are then those of the very bag that is written.
@@ -266,11 +211,11 @@ abbrev pub IsOutAlone : (List ℕ → Type 0) → Texts → Type 0
 IsOutAlone IsText t = IsText t.out × (t.told ≡ None)
 
 abbrev pub AreTextsOf : Ready → Texts → Type 0
-AreTextsOf (to_evaluate l workers plans counts prune combine) t = IsAnswerOf l workers plans counts prune combine t
-AreTextsOf (to_show l workers plans) t = IsOutAlone (IsPlanText l workers plans) t
-AreTextsOf (to_justify l workers plans) t = IsOutAlone (IsCertificateLine l workers plans) t
-AreTextsOf (to_analyse p) t = IsOutAlone (IsSetsText p) t
-AreTextsOf (to_accept a) t = IsOutAlone (IsAcceptance a) t
-AreTextsOf (to_make seed rows) t = IsOutAlone (IsGeneratedText seed rows) t
-AreTextsOf (to_sum_up seed rows) t = IsOutAlone (IsDrillText seed rows) t
-AreTextsOf (to_repeat r rounds stable) t = IsIterationText r rounds stable t
+AreTextsOf (ready_run l workers plans counts prune combine) t = IsAnswerOf l workers plans counts prune combine t
+AreTextsOf (ready_plan l workers plans) t = IsOutAlone (IsPlanText l workers plans) t
+AreTextsOf (ready_cert l workers plans) t = IsOutAlone (IsCertificateLine l workers plans) t
+AreTextsOf (ready_sets p) t = IsOutAlone (IsSetsText p) t
+AreTextsOf (ready_check a) t = IsOutAlone (IsAcceptance a) t
+AreTextsOf (ready_gen seed rows) t = IsOutAlone (IsGeneratedText seed rows) t
+AreTextsOf (ready_drill seed rows) t = IsOutAlone (IsDrillText seed rows) t
+AreTextsOf (ready_iterate r rounds stable) t = IsIterationText r rounds stable t

@@ -14,7 +14,7 @@ use Rattle.std.specs.Prelude.{◌≡◌, ◌≢◌, ◌≤◌, ◌⊎◌, ℕ, f
 use Rattle.pact_outside.specs.Outside.{Feeding, Rose}
 use Rattle.pact_words.specs.Words.{AreRefused, AreUnnamed}
 use Rattle.pact_top.specs.Refusal.{AskForMore, IsNamed}
-use Rattle.pact_top.specs.Statuses.{AreCut, AreWritten, CannotRead, IsStopped, IsStatusTold, WhereMissing, WhereReady, WhereStopped}
+use Rattle.pact_top.specs.Statuses.{AreCut, AreWritten, CannotRead, IsStopped, IsStatusReported, WhereMissing, WhereReady, WhereStopped}
 
 -- Status 0: the texts in which the work ends were written whole.
 -- For `run` these are the sorted rows of a bag that the program as written allows. It is the only such bag if each
@@ -86,8 +86,8 @@ abbrev pub NothingWritten : Option (List ℕ) → Option (List ℕ) → ℕ → 
 NothingWritten old new status = status ≢ 0 → status ≢ 4 → new ≡ old
 
 -- Statuses 1 to 3 each print their own line, as 4 does.
-abbrev pub Told : Feeding → Option (List ℕ) → Option (List ℕ) → ℕ → ℕ → ℕ → Type 0
-Told now old new first last status = status ≢ 0 → status ≤ 3 → IsStatusTold now old new first last status
+abbrev pub ReportsStatus : Feeding → Option (List ℕ) → Option (List ℕ) → ℕ → ℕ → ℕ → Type 0
+ReportsStatus now old new first last status = status ≢ 0 → status ≤ 3 → IsStatusReported now old new first last status
 
 -- There are no other statuses.
 abbrev pub NoOther : ℕ → Type 0
@@ -117,5 +117,5 @@ pub record KeepsPromises (words : List (List ℕ)) {F : Type 0} (feed_old feed_n
   pub refused_always : RefusedAlways words before status
   pub nothing_written : NothingWritten old new status
   pub output_untouched : status ≢ 0 → status ≢ 4 → last ≡ first
-  pub told : Told now told_old told_new told_first told_last status
+  pub told : ReportsStatus now told_old told_new told_first told_last status
   pub no_other : NoOther status

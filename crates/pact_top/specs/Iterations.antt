@@ -11,7 +11,7 @@ use Rattle.pact_operators.specs.Programs.{ProgramData}
 use Rattle.pact_record.specs.declared.columns.Column.{Column}
 use Rattle.bag_lines.specs.Lines.{AreLines}
 use Rattle.pact_top.specs.OrderFreePrograms.{AreGroupsFree}
-use Rattle.pact_top.specs.declared.repeating.Repeated.{Repeated}
+use Rattle.pact_top.specs.declared.repeating.IterationInput.{IterationInput}
 use Rattle.pact_top.specs.declared.texts.Texts.{Texts}
 
 -- ---- a source by its number
@@ -39,7 +39,7 @@ pub record IsCallOf (p : ProgramData) {A E : Type 0} (Pre : A → Bor (List Bag)
 
 -- The last round gives this bag, and this is the number of rounds. From the second round on the source has the bag of
 -- the round before, cut to its columns.
-abbrev pub IsIterationOf : Repeated → (rounds : ℕ) → (stable : Bool) → Bag → ℕ → Type 0
+abbrev pub IsIterationOf : IterationInput → (rounds : ℕ) → (stable : Bool) → Bag → ℕ → Type 0
 IsIterationOf r rounds stable bag count =
     IsIterated r.loaded.program r.loaded.inputs (source_place r.loaded.program.ops r.at) (columns_at r.loaded.program r.at) rounds stable bag count
 
@@ -55,7 +55,7 @@ told_rounds false count = None
 -- The sorted lines of the last round's bag, and the number of rounds. If each function that a Reduce or a CoGroup calls
 -- passes the order test, each iteration gives this bag, up to order, after this number of rounds, and its lines are
 -- these.
-pub record IsIterationText (r : Repeated) (rounds : ℕ) (stable : Bool) (t : Texts) : Type 0 where
+pub record IsIterationText (r : IterationInput) (rounds : ℕ) (stable : Bool) (t : Texts) : Type 0 where
   pub bag : Bag
   pub count : ℕ
   pub iterated : IsIterationOf r rounds stable bag count

@@ -3,6 +3,7 @@ pub mod Formatters
 pub mod Headline
 pub mod Iterations
 pub mod OrderFreePrograms
+pub mod PrivateCalls
 pub mod Refusal
 pub mod Runs
 pub mod Statuses

@@ -5,6 +5,7 @@ use Rattle.pact_words.specs.declared.commands.Command.{Command}
 use Rattle.pact_words.specs.declared.commands.Options.{Options}
 use Rattle.pact_words.specs.declared.commands.Refused.{Refused}
 use Rattle.pact_words.specs.declared.commands.Refused.TheVariants as refuseds
+use Rattle.pact_words.specs.declared.commands.Rewrites.{Rewrites}
 use Rattle.pact_words.specs.Words.{Answers as AreAnswersTo, Asked, asked, to_run, to_plan, to_certify, to_tell_sets, to_check, to_generate, to_drill, to_iterate, AreRefused, AreUnnamed, IsAsked}
 use Rattle.tac_syntax.specs.Names.{is_file_name}
 use Rattle.pact_operators.specs.Programs.{ProgramData}
@@ -52,18 +53,18 @@ IsRechecked p c (Err refusal) = Decides (rechecked p c) (Err refusal)
 
 -- the command names the file
 abbrev pub Names : Asked → List ℕ → Type 0
-Names (to_run program options counts) name = name ≡ program
+Names (to_run program options rewrites counts) name = name ≡ program
 Names (to_plan program workers plans) name = name ≡ program
 Names (to_certify program workers plans) name = name ≡ program
 Names (to_tell_sets program) name = name ≡ program
 Names (to_check program certificate) name = (name ≡ program) ⊎ (name ≡ certificate)
 Names (to_generate seed rows) name = ⊥
-Names (to_drill seed rows o) name = ⊥
+Names (to_drill seed rows options rewrites) name = ⊥
 Names (to_iterate program source rounds options stable) name = name ≡ program
 
 -- the words ask for counts
 abbrev pub AskForCounts : List (List ℕ) → Type 0
-AskForCounts words = (program : List ℕ) × (options : Options) × IsAsked words (to_run program options true)
+AskForCounts words = (program : List ℕ) × (options : Options) × (rewrites : Rewrites) × IsAsked words (to_run program options rewrites true)
 
 -- the words ask for the number of rounds
 abbrev pub AskForRounds : List (List ℕ) → Type 0
@@ -76,13 +77,13 @@ AskForMore words = AskForCounts words ⊎ AskForRounds words
 -- how many threads a command asks for: one for each worker of a run, a drill or an iteration, and none for other
 -- commands
 abbrev pub threads_for : Asked → ℕ
-threads_for (to_run program options counts) = options.workers
+threads_for (to_run program options rewrites counts) = options.workers
 threads_for (to_plan program workers plans) = 0
 threads_for (to_certify program workers plans) = 0
 threads_for (to_tell_sets program) = 0
 threads_for (to_check program certificate) = 0
 threads_for (to_generate seed rows) = 0
-threads_for (to_drill seed rows options) = options.workers
+threads_for (to_drill seed rows options rewrites) = options.workers
 threads_for (to_iterate program source rounds options stable) = options.workers
 
 -- how many threads the words ask for: none if no command was read
@@ -108,21 +109,21 @@ pub record AreAnswered (words : List (List ℕ)) (before now : Feeding) (texts :
   pub told : (text : List ℕ) → texts.told ≡ Some text → AskForMore words
 
 -- the texts, or the reason why there are none
-abbrev pub IsTold : List (List ℕ) → Feeding → Feeding → Result Texts Refusal → Type 0
-IsTold words before now (Ok texts) = AreAnswered words before now texts
-IsTold words before now (Err refusal) = IsRefused words before now refusal
+abbrev pub IsAnswerOrRefusal : List (List ℕ) → Feeding → Feeding → Result Texts Refusal → Type 0
+IsAnswerOrRefusal words before now (Ok texts) = AreAnswered words before now texts
+IsAnswerOrRefusal words before now (Err refusal) = IsRefused words before now refusal
 
 -- The refusal says that no command is asked for, or that memory ran out as the words were read. Memory never runs out
 -- if the words name no command.
-abbrev pub IsUsageTold : List (List ℕ) → Result Texts Refusal → Type 0
-IsUsageTold words (Err OutOfMemory) = ¬ (AreUnnamed words)
-IsUsageTold words (Err Usage) = Unit {0}
-IsUsageTold words result = ⊥
+abbrev pub IsUsageRefusal : List (List ℕ) → Result Texts Refusal → Type 0
+IsUsageRefusal words (Err OutOfMemory) = ¬ (AreUnnamed words)
+IsUsageRefusal words (Err Usage) = Unit {0}
+IsUsageRefusal words result = ⊥
 
 -- the answer to the words; words that ask for no command leave the feed unchanged
 pub record IsAnswered (words : List (List ℕ)) (Untouched : Type 0) (before now : Feeding) (result : Result Texts Refusal) : Type 0 where
-  pub told : IsTold words before now result
-  pub usage : AreRefused words → IsUsageTold words result
+  pub told : IsAnswerOrRefusal words before now result
+  pub usage : AreRefused words → IsUsageRefusal words result
   pub untouched : AreRefused words → Untouched
 
 -- why there are no texts if no command was read

@@ -35,7 +35,7 @@ pub record CanRun (p : ProgramData) (task : Task) (rows : List Bag) : Type 0 whe
 
 -- A run of the plan left these rows and counts. If the plan ships legally, the rows are a bag that it allows, and the
 -- counts are those of one evaluation that gives this bag.
-pub record HasRun (p : ProgramData) (task : Task) (inputs : List Bag) (o : Outcome) : Type 0 where
+pub record IsTaskOutcome (p : ProgramData) (task : Task) (inputs : List Bag) (o : Outcome) : Type 0 where
   pub spread : Spread (setting p inputs task.physical) o.rows o.counts
   pub counted : LegalShip (facts_of p task.physical.tree) task.physical → Counted (plan_ops p inputs) task.physical.tree o.rows o.counts
   pub widths : AreWide p.fields o.rows
@@ -44,7 +44,7 @@ pub record HasRun (p : ProgramData) (task : Task) (inputs : List Bag) (o : Outco
 pub record IsRunner {E : Type 0} (Pre : Bor ProgramData → Bor Task → List Bag → Type 0) (Post : Bor ProgramData → Bor Task → List Bag → Result Outcome E → Type 0) : Type 0 where
   pub pre : (p : Bor ProgramData) (task : Bor Task) (inputs : List Bag) → CanRun p.now task.now inputs → Pre p task inputs
   pub post : (p : Bor ProgramData) (task : Bor Task) (inputs : List Bag) (result : Result Outcome E) → CanRun p.now task.now inputs → Post p task inputs result
-      → IfOk result (HasRun p.now task.now inputs)
+      → IfOk result (IsTaskOutcome p.now task.now inputs)
 
 -- ---- a task that is rewritten
 
@@ -90,9 +90,9 @@ pub record IsCombinedRun (s : Planned) (inputs : List Bag) (o : Outcome) (of : L
   pub put_once : AllByRecursion (λ pair. PutsOnePerKey end.program inputs end.physical o.rows o.counts run pair.0) of
 
 -- a run of the combined plan if that is asked for, and a run of the plan as it is otherwise
-abbrev pub IsRunOf : Planned → List Bag → Bool → Outcome → List (ℕ × ℕ) → Type 0
-IsRunOf s inputs false o of = IsPlainRun s inputs o of
-IsRunOf s inputs true o of = IsCombinedRun s inputs o of
+abbrev pub IsRunCombinedAs : Planned → List Bag → Bool → Outcome → List (ℕ × ℕ) → Type 0
+IsRunCombinedAs s inputs false o of = IsPlainRun s inputs o of
+IsRunCombinedAs s inputs true o of = IsCombinedRun s inputs o of
 
 -- ---- with fields dropped before records are shipped or without
 
@@ -111,7 +111,7 @@ IsPrunedAs false p task q other kept = IsSameTask p task q other × (kept ≡ []
 
 -- A run of the plan itself left the rows and the counts, and no fields were dropped.
 pub record IsWholeRun (s : Planned) (inputs : List Bag) (combine : Bool) (o : Outcome) (kept : List Kept) (of : List (ℕ × ℕ)) : Type 0 where
-  pub run : IsRunOf s inputs combine o of
+  pub run : IsRunCombinedAs s inputs combine o of
   pub none : kept ≡ []
 
 -- A run of the pruned plan left the rows and the counts. Each source or operator whose records were cut is listed by
@@ -122,19 +122,19 @@ pub record IsPrunedRun (s : Planned) (inputs : List Bag) (combine : Bool) (o : O
   pub pruned : IsPruned s.program s.physical end.program end.physical kept
   pub legal : LegalShip (facts_of end.program end.physical.tree) end.physical
   pub same : AnswersSame s.program s.physical end.program end.physical
-  pub run : IsRunOf end inputs combine o of
+  pub run : IsRunCombinedAs end inputs combine o of
 
 -- A run of the pruned plan if `prune` is set, and of the plan itself otherwise. With `combine` the plan that runs is
 -- combined.
-abbrev pub IsRunWith : Planned → List Bag → (prune combine : Bool) → Outcome → List Kept → List (ℕ × ℕ) → Type 0
-IsRunWith s inputs false combine o kept of = IsWholeRun s inputs combine o kept of
-IsRunWith s inputs true combine o kept of = IsPrunedRun s inputs combine o kept of
+abbrev pub IsRunRewrittenAs : Planned → List Bag → (prune combine : Bool) → Outcome → List Kept → List (ℕ × ℕ) → Type 0
+IsRunRewrittenAs s inputs false combine o kept of = IsWholeRun s inputs combine o kept of
+IsRunRewrittenAs s inputs true combine o kept of = IsPrunedRun s inputs combine o kept of
 
 -- What a run of the task left, with fields dropped and with partial groups if these are asked for. Cut to the sink's
 -- fields, the rows are those of a bag that one evaluation of the task's plan gives, and the counts are those of that
 -- evaluation. If no fields are dropped, the rows are that bag.
-pub record IsRunLeft (p : ProgramData) (task : Task) (inputs : List Bag) (prune combine : Bool) (r : RunOutcome) : Type 0 where
-  pub run : IsRunWith (planned p task.physical) inputs prune combine r.outcome r.kept.items r.combined.items
+pub record IsRunOutcome (p : ProgramData) (task : Task) (inputs : List Bag) (prune combine : Bool) (r : RunOutcome) : Type 0 where
+  pub run : IsRunRewrittenAs (planned p task.physical) inputs prune combine r.outcome r.kept.items r.combined.items
   pub counted : IsCountedBeside p.sink r.outcome.rows r.outcome.counts (plan_ops p inputs) task.physical.tree
   pub whole : prune ≡ false → counted.now ≡ r.outcome.rows
   pub widths : AreWide p.fields r.outcome.rows

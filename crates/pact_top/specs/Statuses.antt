@@ -1,7 +1,8 @@
 -- The full meaning of each exit status. Work.antt defines `work`, the order of work: which end the words and the files
 -- lead to, and which files are read on the way.
--- The work `ComesTo` an end if these files were opened in that order, with one opening for each reading and no other.
--- Nothing was read more than one byte past a file's limit.
+-- The work `ComesTo` an end if it has that end after it reads some files, and the file opened last is the last of these.
+-- If the feed shows a history, these files were opened in their order, with one opening for each reading and no other.
+-- If file contents are modelled, what lies more than one byte beyond the last file's limit is left.
 -- File contents, and the bytes that a sink took, are constrained only if they are modelled.
 use Rattle.std.specs.Prelude.{◌⊎◌, ℕ, List, [], Option, Some, Result, Ok, Err, ◌≡◌}
 use Rattle.pact_outside.specs.Outside.{Feeding, Rose}
@@ -9,7 +10,7 @@ use Rattle.pact_load.specs.Answers.{AreTold, ComesTo, HasFailed, refusal_line, s
 use Rattle.pact_load.specs.declared.refusals.Refusal.{Refusal}
 use Rattle.pact_load.specs.RefusalLines.{line_of}
 use Rattle.pact_load.specs.Stages.{CanEnd, gives, stops, misses}
-use Rattle.pact_top.specs.Writing.{Gains, GainsMore, GainsFront, Tells, TellsBehind}
+use Rattle.pact_top.specs.Writing.{Gains, GainsMore, GainsFront, WritesLine, WritesLineAfter}
 use Rattle.pact_top.specs.CommandTexts.{Ready}
 use Rattle.pact_top.specs.Work.{ready, work}
 use Rattle.pact_top.specs.declared.texts.Texts.{Texts}
@@ -47,7 +48,7 @@ WhereMissing words before Fact = AreTold before.files → (name : List ℕ) → 
 pub record IsTextCut (t : Texts) (old new told_old told_new : Option (List ℕ)) (first last told_first told_last : ℕ) : Type 0 where
   pub rose : Rose first last
   pub front : GainsFront old new t.out
-  pub told : Tells told_old told_new told_first told_last (line_of 4 [])
+  pub told : WritesLine told_old told_new told_first told_last (line_of 4 [])
 
 -- Status 4, second case: the output took the whole text, and standard error failed after a prefix of its text.
 pub record IsMoreCut (t : Texts) (old new told_old told_new : Option (List ℕ)) (told_first told_last : ℕ) : Type 0 where
@@ -55,7 +56,7 @@ pub record IsMoreCut (t : Texts) (old new told_old told_new : Option (List ℕ))
   pub is_told : t.told ≡ Some text
   pub whole : Gains old new t.out
   pub rose : Rose told_first told_last
-  pub told : TellsBehind told_old told_new told_first told_last text (line_of 4 [])
+  pub told : WritesLineAfter told_old told_new told_first told_last text (line_of 4 [])
 
 -- What writing to standard error results in, if there is a text for it: 0, or 4 if the sink failed after a prefix of
 -- it.
@@ -63,7 +64,7 @@ pub record TellsMore (more old new : Option (List ℕ)) (before now : ℕ) (answ
   pub status : (answer ≡ 0) ⊎ (answer ≡ 4)
   pub whole : answer ≡ 0 → GainsMore old new more
   pub rose : answer ≡ 4 → Rose before now
-  pub cut : answer ≡ 4 → (text : List ℕ) × (more ≡ Some text) × TellsBehind old new before now text (line_of 4 [])
+  pub cut : answer ≡ 4 → (text : List ℕ) × (more ≡ Some text) × WritesLineAfter old new before now text (line_of 4 [])
 
 -- what writing the text, and then the text for standard error, results in
 pub record WritesTexts (t : Texts) (old new told_old told_new : Option (List ℕ)) (first last told_first told_last : ℕ) (answer : ℕ) : Type 0 where
@@ -76,7 +77,7 @@ pub record TellsRefusal (r : Refusal) (old new told_old told_new : Option (List 
   pub untouched : new ≡ old
   pub faultless : last ≡ first
   pub status : answer ≡ status_of r
-  pub told : Tells told_old told_new told_first told_last (refusal_line r)
+  pub told : WritesLine told_old told_new told_first told_last (refusal_line r)
 
 -- what the end of a call results in: the texts are written, or the reason for their absence is printed
 abbrev pub WritesAnswer : Result Texts Refusal → (old new told_old told_new : Option (List ℕ)) → (first last told_first told_last : ℕ) → ℕ → Type 0
@@ -91,12 +92,12 @@ AreCut words before now old new told_old told_new first last told_first told_las
 -- Statuses 5 to 9: the order of work stops with this status and line, and the line is printed. RefusalLines.antt has
 -- the lines.
 abbrev pub IsStopped : List (List ℕ) → Feeding → Feeding → Option (List ℕ) → Option (List ℕ) → ℕ → ℕ → ℕ → Type 0
-IsStopped words before now old new first last status = (line : List ℕ) × ComesTo (work words before.files) before now (stops status line) × Tells old new first last line
+IsStopped words before now old new first last status = (line : List ℕ) × ComesTo (work words before.files) before now (stops status line) × WritesLine old new first last line
 
 -- if the files are modelled, and the work can stop, a fact about the status that it stops with
 abbrev pub WhereStopped : List (List ℕ) → Feeding → (ℕ → Type 0) → Type 0
 WhereStopped words before Fact = AreTold before.files → (stop : ℕ) (line : List ℕ) → CanEnd (work words before.files) (stops stop line) → Fact stop
 
 -- The lines of statuses 1 to 3. A sink that fails took a prefix of the line; the status is the same.
-abbrev pub IsStatusTold : Feeding → Option (List ℕ) → Option (List ℕ) → ℕ → ℕ → ℕ → Type 0
-IsStatusTold now old new first last status = Tells old new first last (line_of status now.opened)
+abbrev pub IsStatusReported : Feeding → Option (List ℕ) → Option (List ℕ) → ℕ → ℕ → ℕ → Type 0
+IsStatusReported now old new first last status = WritesLine old new first last (line_of status now.opened)

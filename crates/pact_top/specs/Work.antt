@@ -9,8 +9,8 @@ use Rattle.swap_certificate.specs.declared.certificates.Certificate.{Certificate
 use Rattle.swap_certificate.specs.Checks.{Checks}
 use Rattle.swap_certificate.specs.FaultTexts.{fault_text, not_certificate_text}
 use Rattle.swap_certificate.specs.Shape.{IsCertificateText}
-use Rattle.pact_top.specs.CommandTexts.{Accepted, Ready, to_evaluate, to_show, to_justify, to_analyse, to_accept, to_make, to_sum_up, to_repeat, AreTextsOf}
-use Rattle.pact_top.specs.declared.repeating.Repeated.{Repeated}
+use Rattle.pact_top.specs.CommandTexts.{Accepted, Ready, ready_run, ready_plan, ready_cert, ready_sets, ready_check, ready_gen, ready_drill, ready_iterate, AreTextsOf}
+use Rattle.pact_top.specs.declared.repeating.IterationInput.{IterationInput}
 use Rattle.pact_top.specs.declared.texts.Texts.{Texts}
 use Rattle.pact_load.specs.Loading.{file, loaded, program_file, source_named, sources}
 use Rattle.pact_load.specs.RefusalLines.{usage_line}
@@ -45,7 +45,7 @@ abbrev pub accepted : Option (List NamedFile) → List ℕ → List ℕ → Stag
 accepted files name other =
     and_then (program_file files name) (λ p. and_then (certificate_file files other) (λ c. and_then (rechecked p c) (λ plan. give (λ all. all ≡ record { program = p; certificate = c; plan = plan }))))
 
-abbrev pub repeated : Option (List NamedFile) → List ℕ → List ℕ → Stage Repeated
+abbrev pub repeated : Option (List NamedFile) → List ℕ → List ℕ → Stage IterationInput
 repeated files name source =
     and_then (program_file files name) (λ p. and_then (source_named p source) (λ at.
     and_then (sources p files) (λ inputs. give (λ all. all ≡ record { loaded = record { program = p; inputs = inputs }; at = at }))))
@@ -56,14 +56,14 @@ at_once y = and_then (give (λ r. r ≡ y)) (λ r. give (AreTextsOf r))
 
 -- the order of work of each command; `gen` and `drill` read no file
 abbrev pub ready_for : Option (List NamedFile) → Asked → Stage Ready
-ready_for files (to_run name o counts) = and_then (loaded files name) (λ l. give (λ r. r ≡ to_evaluate l o.workers o.plans counts o.prune o.combine))
-ready_for files (to_plan name workers plans) = and_then (loaded files name) (λ l. give (λ r. r ≡ to_show l workers plans))
-ready_for files (to_certify name workers plans) = and_then (loaded files name) (λ l. give (λ r. r ≡ to_justify l workers plans))
-ready_for files (to_tell_sets name) = and_then (program_file files name) (λ p. give (λ r. r ≡ to_analyse p))
-ready_for files (to_check name other) = and_then (accepted files name other) (λ a. give (λ r. r ≡ to_accept a))
-ready_for files (to_generate seed rows) = give (λ r. r ≡ to_make seed rows)
-ready_for files (to_drill seed rows o) = give (λ r. r ≡ to_sum_up seed rows)
-ready_for files (to_iterate name source rounds o stable) = and_then (repeated files name source) (λ i. give (λ r. r ≡ to_repeat i rounds stable))
+ready_for files (to_run name o rewrites counts) = and_then (loaded files name) (λ l. give (λ r. r ≡ ready_run l o.workers o.plans counts rewrites.prune rewrites.combine))
+ready_for files (to_plan name workers plans) = and_then (loaded files name) (λ l. give (λ r. r ≡ ready_plan l workers plans))
+ready_for files (to_certify name workers plans) = and_then (loaded files name) (λ l. give (λ r. r ≡ ready_cert l workers plans))
+ready_for files (to_tell_sets name) = and_then (program_file files name) (λ p. give (λ r. r ≡ ready_sets p))
+ready_for files (to_check name other) = and_then (accepted files name other) (λ a. give (λ r. r ≡ ready_check a))
+ready_for files (to_generate seed rows) = give (λ r. r ≡ ready_gen seed rows)
+ready_for files (to_drill seed rows o rewrites) = give (λ r. r ≡ ready_drill seed rows)
+ready_for files (to_iterate name source rounds o stable) = and_then (repeated files name source) (λ i. give (λ r. r ≡ ready_iterate i rounds stable))
 
 abbrev pub texts_for : Option (List NamedFile) → Asked → Stage Texts
 texts_for files asked = and_then (ready_for files asked) (λ r. give (AreTextsOf r))

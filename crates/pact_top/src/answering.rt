@@ -4,7 +4,7 @@ ghost use Rattle.std.specs.Prelude.{◌≡◌, ◌≤◌, IfOk};
 ghost use Rattle.pact_gen.specs.Generated.{seed_limit};
 ghost use Rattle.plan_enumerate.specs.Listing.{entry_limit};
 ghost use Rattle.plan_trees.specs.Physicals.{worker_limit};
-ghost use Rattle.pact_top.specs.CommandTexts.{to_make, to_sum_up};
+ghost use Rattle.pact_top.specs.CommandTexts.{ready_gen, ready_drill};
 ghost use Rattle.pact_top.specs.Formatters.{IsFormatter};
 ghost use Rattle.pact_load.specs.Answers.{Comes, Decides};
 ghost use Rattle.pact_load.specs.Readers.{IsReader};
@@ -15,7 +15,7 @@ ghost use Rattle.pact_words.specs.Words.{AreOptionsInRange, IsInRange, asked, to
 use crate::certificates::{CERTIFICATE_LIMIT, certificate_in, rechecked};
 use crate::choosing::{certificate_texts, plan_texts};
 use crate::generating::{drill_text, generated_text};
-use crate::repeating::{Repeated, iteration_texts};
+use crate::repeating::{IterationInput, iteration_texts};
 use crate::runners::Runner;
 use crate::running::run_texts;
 use crate::texts::Texts;
@@ -24,7 +24,7 @@ use pact_bag::Rows;
 use pact_load::{Loaded, Refusal, load, load_program, load_sources, load_text, source_named};
 use pact_outside::Feed;
 use pact_record::{Bytes, Columns, OutOfMemory};
-use pact_words::{Command, Options, Refused};
+use pact_words::{Command, Options, Refused, Rewrites};
 use plan_printer::sets_text;
 use std::alloc::Global;
 use swap_certificate::Certificate;
@@ -40,6 +40,7 @@ fn run_program<
     feed: &mut F,
     name: &[u8],
     options: Options,
+    rewrites: Rewrites,
     counts: bool,
     read: &D,
     run: &T,
@@ -49,10 +50,10 @@ fn run_program<
     requires reads { IsReader (D.pre read.now) (D.post read.now) }
     requires runs { T.ready run.now }
     requires formats { IsFormatter (W.pre format.now) (W.post format.now) }
-    ensures { Comes (λ files. work.texts_for files (to_run name.now options counts)) (F.shows feed.old) (F.shows feed.new) result }
+    ensures { Comes (λ files. work.texts_for files (to_run name.now options rewrites counts)) (F.shows feed.old) (F.shows feed.new) result }
 {
     let loaded = load(alloc, feed, name, read)?;
-    let texts = run_texts(alloc, loaded, options, counts, run, format)?;
+    let texts = run_texts(alloc, loaded, options, rewrites, counts, run, format)?;
     Ok(texts)
 }
 
@@ -132,7 +133,7 @@ fn load_repeated<F: Feed, D: Fn(&[u8], &Columns, u32) -> Result<Rows, BadRow>>(
     name: &[u8],
     source: &[u8],
     read: &D,
-) -> Result<Repeated, Refusal>
+) -> Result<IterationInput, Refusal>
     requires reads { IsReader (D.pre read.now) (D.post read.now) }
     ensures { Comes (λ files. work.repeated files name.now source.now) (F.shows feed.old) (F.shows feed.new) result }
 {
@@ -140,7 +141,7 @@ fn load_repeated<F: Feed, D: Fn(&[u8], &Columns, u32) -> Result<Rows, BadRow>>(
     let at = source_named(alloc, &program, source)?;
     let inputs = load_sources(alloc, feed, &program, read)?;
     let loaded = Loaded { program, inputs };
-    Ok(Repeated { loaded, at })
+    Ok(IterationInput { loaded, at })
 }
 
 // `iterate PROGRAM SOURCE ROUNDS`.
@@ -176,7 +177,7 @@ fn iterate<
 // `gen SEED ROWS`, which reads no file.
 fn generate(alloc: Global, seed: u32, rows: u32) -> Result<Texts, Refusal>
     requires { seed ≤ seed_limit }
-    ensures { Decides (work.at_once (to_make seed rows)) result }
+    ensures { Decides (work.at_once (ready_gen seed rows)) result }
 {
     let text = generated_text(alloc, seed, rows)?;
     Ok(Texts::out_alone(text))
@@ -188,6 +189,7 @@ fn drill<T: Runner, W: Fn(Rows, &[u32]) -> Result<Bytes, OutOfMemory>>(
     seed: u32,
     rows: u32,
     options: Options,
+    rewrites: Rewrites,
     run: &T,
     format: &W,
 ) -> Result<Texts, Refusal>
@@ -195,9 +197,9 @@ fn drill<T: Runner, W: Fn(Rows, &[u32]) -> Result<Bytes, OutOfMemory>>(
     requires options { AreOptionsInRange options }
     requires runs { T.ready run.now }
     requires formats { IsFormatter (W.pre format.now) (W.post format.now) }
-    ensures { Decides (work.at_once (to_sum_up seed rows)) result }
+    ensures { Decides (work.at_once (ready_drill seed rows)) result }
 {
-    let text = drill_text(alloc, seed, rows, options, run, format)?;
+    let text = drill_text(alloc, seed, rows, options, rewrites, run, format)?;
     Ok(Texts::out_alone(text))
 }
 
@@ -225,12 +227,14 @@ fn texts_for<
         Command::Run {
             program,
             options,
+            rewrites,
             counts,
         } => run_program(
             alloc,
             feed,
             program.as_bytes(),
             options,
+            rewrites,
             counts,
             read,
             run,
@@ -256,7 +260,8 @@ fn texts_for<
             seed,
             rows,
             options,
-        } => drill(alloc, seed, rows, options, run, format),
+            rewrites,
+        } => drill(alloc, seed, rows, options, rewrites, run, format),
         Command::Iterate {
             program,
             source,

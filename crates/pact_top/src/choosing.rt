@@ -12,7 +12,8 @@ ghost use Rattle.pact_load.specs.declared.loaded.Loaded.{Loaded as LoadedData};
 ghost use Rattle.ship_strategy.specs.Layouts.{layout_count};
 ghost use Rattle.ship_strategy.specs.PlanFacts.{facts_of};
 ghost use Rattle.ship_strategy.specs.Views.{facts_in};
-ghost use Rattle.pact_top.specs.CommandTexts.{ArePlansOf, IsCertificateLine, IsChoice, IsDerived, IsOutAlone, IsPicked, IsPlanChosen, IsPlanText};
+ghost use Rattle.pact_top.specs.CommandTexts.{IsCertificateLine, IsChoice, IsDerived, IsOutAlone, IsPlanText};
+ghost use Rattle.pact_top.specs.PrivateCalls.{ArePlansOf, IsListedChoice, IsSoundChoice};
 
 use crate::texts::Texts;
 use pact_bag::{Counts, Inputs};
@@ -39,7 +40,7 @@ pub struct Choice {
 /// Which of the listed plans is chosen for some rows and with which layout, the plan itself, and what is known of its
 /// operators.
 #[derive(Drop)]
-pub struct Picked {
+pub struct ListedChoice {
     pub chosen: Chosen,
     pub plan: Plan,
     pub facts: Table,
@@ -92,19 +93,19 @@ pub fn choose_listed(
     listed: &Listed,
     known: &KnownPlans,
     workers: u32,
-) -> Result<Picked, OutOfMemory>
+) -> Result<ListedChoice, OutOfMemory>
     requires inputs { AreInputsOf program.now inputs.now }
     requires workers { (1 ≤ workers) × (workers ≤ worker_limit) }
     requires plans { ArePlansOf program.now listed.now.entries }
     requires known { AreKnownPlans program.now (plans_of listed.now.entries) known.now }
-    ensures { IfOk result (IsPicked program.now inputs.now workers listed.now.entries) }
+    ensures { IfOk result (IsListedChoice program.now inputs.now workers listed.now.entries) }
 {
     let counts = row_counts(alloc, program, inputs)?;
     let chosen = choose_known(program, listed, known, &counts, workers);
     let entry = chosen.entry as usize;
     let plan = listed.entries().at(entry).plan;
     let facts = *known.table(entry);
-    Ok(Picked {
+    Ok(ListedChoice {
         chosen,
         plan,
         facts,
@@ -121,11 +122,11 @@ pub fn choose_plan(
     requires inputs { AreInputsOf loaded.now.program loaded.now.inputs }
     requires workers { (1 ≤ workers) × (workers ≤ worker_limit) }
     requires plans { (1 ≤ plans) × (plans ≤ entry_limit) }
-    ensures { IfOk result (IsPlanChosen loaded.now workers plans) }
+    ensures { IfOk result (IsSoundChoice loaded.now workers plans) }
 {
     let Loaded { program, inputs } = loaded;
     let (listed, known) = enumerate_and_analyse(alloc, program, plans)?;
-    let Picked {
+    let ListedChoice {
         chosen,
         plan,
         facts,

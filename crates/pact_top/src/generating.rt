@@ -16,7 +16,7 @@ use pact_bag::{Inputs, Outcome, Rows};
 use pact_gen::make_input;
 use pact_load::{Loaded, push_rows};
 use pact_record::{Bytes, OutOfMemory};
-use pact_words::Options;
+use pact_words::{Options, Rewrites};
 use std::alloc::Global;
 
 /// The generated rows as CSV text, in their own order.
@@ -68,6 +68,7 @@ pub fn drill_text<T: Runner, W: Fn(Rows, &[u32]) -> Result<Bytes, OutOfMemory>>(
     seed: u32,
     rows: u32,
     options: Options,
+    rewrites: Rewrites,
     run: &T,
     format: &W,
 ) -> Result<Bytes, OutOfMemory>
@@ -78,6 +79,6 @@ pub fn drill_text<T: Runner, W: Fn(Rows, &[u32]) -> Result<Bytes, OutOfMemory>>(
     ensures { IfOk result (IsDrillText seed rows) }
 {
     let loaded = load_drill(alloc, seed, rows)?;
-    let finished = run_chosen(alloc, loaded, options, run)?;
+    let finished = run_chosen(alloc, loaded, options, rewrites, run)?;
     summary(alloc, rows, finished, format)
 }

@@ -3,7 +3,7 @@
 ghost use Rattle.std.specs.Prelude.{◌≤◌};
 ghost use Rattle.pact_load.specs.Answers.{refusal_line};
 ghost use Rattle.pact_load.specs.RefusalLines.{line_of};
-ghost use Rattle.pact_top.specs.Writing.{Tells, Writes};
+ghost use Rattle.pact_top.specs.Writing.{WritesLine, Writes};
 
 use crate::writing::write_all;
 use pact_load::Refusal;
@@ -12,7 +12,7 @@ use pact_outside::{Failed, Sink};
 // A line that can't be written doesn't change the status.
 fn tell_line<E: Sink>(err: &mut E, line: &[u8])
     ensures later { E.faults err.old ≤ E.faults err.new }
-    ensures told { Tells (E.taken err.old) (E.taken err.new) (E.faults err.old) (E.faults err.new) line.now }
+    ensures told { WritesLine (E.taken err.old) (E.taken err.new) (E.faults err.old) (E.faults err.new) line.now }
 {
     match write_all(err, line) {
         Ok(()) | Err(Failed) => {}
@@ -29,7 +29,7 @@ fn write_unreadable<E: Sink>(err: &mut E, name: &[u8]) -> Result<(), Failed>
 
 fn tell_unreadable<E: Sink>(err: &mut E, name: &[u8])
     ensures later { E.faults err.old ≤ E.faults err.new }
-    ensures told { Tells (E.taken err.old) (E.taken err.new) (E.faults err.old) (E.faults err.new) (line_of 3 name.now) }
+    ensures told { WritesLine (E.taken err.old) (E.taken err.new) (E.faults err.old) (E.faults err.new) (line_of 3 name.now) }
 {
     match write_unreadable(err, name) {
         Ok(()) | Err(Failed) => {}
@@ -39,7 +39,7 @@ fn tell_unreadable<E: Sink>(err: &mut E, name: &[u8])
 /// Prints the reason in one line. If a certificate states other sets or another plan, further lines show both.
 pub fn tell<E: Sink>(err: &mut E, refusal: &Refusal)
     ensures later { E.faults err.old ≤ E.faults err.new }
-    ensures told { Tells (E.taken err.old) (E.taken err.new) (E.faults err.old) (E.faults err.new) (refusal_line refusal.now) }
+    ensures told { WritesLine (E.taken err.old) (E.taken err.new) (E.faults err.old) (E.faults err.new) (refusal_line refusal.now) }
 {
     match refusal {
         Refusal::OutOfMemory => tell_line(err, b"out of memory\n"),

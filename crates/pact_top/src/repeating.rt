@@ -9,13 +9,13 @@ ghost use Rattle.pact_operators.specs.PlanOps.{source_place};
 ghost use Rattle.pact_record.specs.Widths.{AreWide};
 ghost use Rattle.plan_trees.specs.Plans.{node_limit};
 ghost use Rattle.pact_words.specs.Words.{AreOptionsInRange};
-ghost use Rattle.pact_top.specs.CommandTexts.{ArePlansOf};
+ghost use Rattle.pact_top.specs.PrivateCalls.{ArePlansOf};
 ghost use Rattle.pact_top.specs.Iterations as specs;
 ghost use Rattle.pact_top.specs.Iterations.{HasSource, IsCallOf, IsIterationText, columns_at};
 ghost use Rattle.bag_lines.specs.Lines.{AreLines};
 ghost use Rattle.pact_top.specs.Formatters.{IsFormatter};
 
-use crate::choosing::{Picked, choose_listed};
+use crate::choosing::{ListedChoice, choose_listed};
 use crate::lines::lines_of;
 use crate::runners::Runner;
 use crate::running::run_plan;
@@ -25,7 +25,7 @@ use pact_bag::{Inputs, Rows};
 use pact_load::{Loaded, is_source};
 use pact_operators::{Op, Program};
 use pact_record::{Bytes, OutOfMemory};
-use pact_words::Options;
+use pact_words::{Options, Rewrites};
 use plan_enumerate::{KnownPlans, Listed, enumerate_and_analyse};
 use plan_printer::push_number;
 use std::alloc::Global;
@@ -33,14 +33,14 @@ use std::alloc::Global;
 /// What an iteration starts from: a program with the rows of its sources, and the number of the source whose rows each
 /// round replaces.
 #[derive(Drop)]
-pub struct Repeated {
+pub struct IterationInput {
     pub loaded: Loaded,
     pub at: usize,
 }
 
 // How long an iteration goes on.
 #[derive(Clone, Copy)]
-struct Extent {
+struct IterationLimits {
     rounds: u32,
     stable: bool,
 }
@@ -63,8 +63,8 @@ impl<'a, C: Fn(Global, &Inputs) -> Result<Rows, OutOfMemory>> Round for CalledRo
     }
 }
 
-// The rows that a run of the plan chosen for these inputs gives. No fields are dropped, because the next round may need
-// them. The inputs are copied, because a run consumes them.
+// The rows that a run of the plan chosen for these inputs gives. The plan isn't rewritten, because the next round may
+// need each field. The inputs are copied, because a run consumes them.
 fn one_round<T: Runner>(
     alloc: Global,
     program: &Program,
@@ -81,18 +81,20 @@ fn one_round<T: Runner>(
     requires runs { T.ready run.now }
     ensures { IfOk result (AllowsOn program.now inputs.now) }
 {
-    let Picked {
+    let ListedChoice {
         chosen,
         plan,
         facts,
     } = choose_listed(alloc, program, inputs, listed, known, options.workers)?;
     let copied = inputs.copy(alloc)?;
-    let whole = Options {
+    let unchanged = Rewrites {
+        combine: false,
         prune: false,
-        ..options
     };
     let number = chosen.layout;
-    let left = run_plan(alloc, program, copied, &plan, &facts, number, whole, run)?;
+    let left = run_plan(
+        alloc, program, copied, &plan, &facts, number, options, unchanged, run,
+    )?;
     Ok(left.outcome.rows)
 }
 
@@ -120,7 +122,7 @@ fn run_rounds<T: Runner>(
     inputs: Inputs,
     at: usize,
     options: Options,
-    extent: Extent,
+    extent: IterationLimits,
     run: &T,
 ) -> Result<Iterated, OutOfMemory>
     requires inputs { AreInputsOf program.now inputs }
@@ -194,7 +196,7 @@ fn texts_of_rounds<W: Fn(Rows, &[u32]) -> Result<Bytes, OutOfMemory>>(
 /// and their operators analysed once. One plan is chosen for the rows of each round.
 pub fn iteration_texts<T: Runner, W: Fn(Rows, &[u32]) -> Result<Bytes, OutOfMemory>>(
     alloc: Global,
-    repeated: Repeated,
+    repeated: IterationInput,
     rounds: u32,
     options: Options,
     stable: bool,
@@ -209,12 +211,12 @@ pub fn iteration_texts<T: Runner, W: Fn(Rows, &[u32]) -> Result<Bytes, OutOfMemo
     requires formats { IsFormatter (W.pre format.now) (W.post format.now) }
     ensures { IfOk result (IsIterationText repeated rounds stable) }
 {
-    let Repeated { loaded, at } = repeated;
+    let IterationInput { loaded, at } = repeated;
     let Loaded { program, inputs } = loaded;
     // `fields` makes it known that `program` keeps the rules of a program.
     let _fields = program.fields();
     let (listed, known) = enumerate_and_analyse(alloc, &program, options.plans)?;
-    let extent = Extent { rounds, stable };
+    let extent = IterationLimits { rounds, stable };
     let iterated = run_rounds(
         alloc, &program, &listed, &known, inputs, at, options, extent, run,
     )?;

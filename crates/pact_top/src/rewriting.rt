@@ -4,7 +4,7 @@ ghost use Rattle.std.specs.Prelude.{IfOk};
 ghost use Rattle.pact_operators.specs.Programs.{IsPlanOf};
 ghost use Rattle.ship_strategy.specs.PlanFacts.{facts_of};
 ghost use Rattle.ship_strategy.specs.Ships.{LegalShip};
-ghost use Rattle.pact_top.specs.Runs.{CanRun, IsCombinedAs, IsCombinedTask, IsPrunedAs, IsPrunedTask, IsRunLeft};
+ghost use Rattle.pact_top.specs.Runs.{CanRun, IsCombinedAs, IsCombinedTask, IsPrunedAs, IsPrunedTask, IsRunOutcome};
 
 use crate::runners::Runner;
 use crate::tasks::Task;
@@ -12,6 +12,7 @@ use combine_rule::{Combined, combine};
 use pact_bag::{Inputs, Outcome};
 use pact_operators::Program;
 use pact_record::OutOfMemory;
+use pact_words::Rewrites;
 use prune_fields::{Kept, Pruned, prune};
 use std::alloc::Global;
 
@@ -114,23 +115,27 @@ fn combine_if(
     }
 }
 
-/// Runs the task, with fields dropped if `prune` is set, and with partial groups if `combine` is set.
+/// Runs the task, with the rewrites that are asked for: first fields are dropped, then partial groups are inserted.
 pub fn run_task_as<T: Runner>(
     alloc: Global,
     program: &Program,
     task: Task,
     inputs: Inputs,
-    prune: bool,
-    combine: bool,
+    rewrites: Rewrites,
     run: &T,
 ) -> Result<RunOutcome, OutOfMemory>
     requires can { CanRun program.now task inputs }
     requires legal { LegalShip (facts_of program.now task.physical.tree) task.physical }
     requires runs { T.ready run.now }
-    ensures { IfOk result (IsRunLeft program.now task inputs prune combine) }
+    ensures { IfOk result (IsRunOutcome program.now task inputs rewrites.prune rewrites.combine) }
 {
-    let (pruned, pruned_task, kept) = prune_if(alloc, program, task, prune)?;
-    let (rewritten, last_task, combined) = combine_if(alloc, &pruned, pruned_task, combine)?;
+    let (pruned, pruned_task, kept) = prune_if(alloc, program, task, rewrites.prune)?;
+    let (rewritten, last_task, combined) = combine_if(
+        alloc,
+        &pruned,
+        pruned_task,
+        rewrites.combine,
+    )?;
     let outcome = run.run(&rewritten, &last_task, inputs)?;
     Ok(RunOutcome {
         outcome,

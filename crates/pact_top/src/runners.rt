@@ -1,7 +1,7 @@
 //! What runs a task.
 
 ghost use Rattle.std.specs.Prelude.{IfOk};
-ghost use Rattle.pact_top.specs.Runs.{CanRun, HasRun, IsRunner};
+ghost use Rattle.pact_top.specs.Runs.{CanRun, IsTaskOutcome, IsRunner};
 
 use crate::tasks::Task;
 use pact_bag::{Inputs, Outcome};
@@ -18,7 +18,7 @@ pub trait Runner {
     fn run(&self, program: &Program, task: &Task, inputs: Inputs) -> Result<Outcome, OutOfMemory>
         requires ready { ready self.now }
         requires can { CanRun program.now task.now inputs }
-        ensures { IfOk result (HasRun program.now task.now inputs) };
+        ensures { IfOk result (IsTaskOutcome program.now task.now inputs) };
 }
 
 /// Runs by a call. What runs on threads is called: the bounds of an `impl` count for the calling thread alone.

@@ -13,8 +13,9 @@ ghost use Rattle.ship_strategy.specs.Layouts.{layout_count, layout_of};
 ghost use Rattle.ship_strategy.specs.PlanFacts.{facts_of};
 ghost use Rattle.ship_strategy.specs.Ships.{LegalShip};
 ghost use Rattle.ship_strategy.specs.Views.{facts_in};
-ghost use Rattle.pact_top.specs.CommandTexts.{AreToldCounts, IsAnswerOf, IsOutcome, IsRun, keeps_text};
+ghost use Rattle.pact_top.specs.CommandTexts.{IsAnswerOf, keeps_text};
 ghost use Rattle.pact_top.specs.Formatters.{IsFormatter};
+ghost use Rattle.pact_top.specs.PrivateCalls.{AreReportedCounts, IsLayoutOutcome, IsFinishedRun};
 
 use crate::choosing::{Choice, choose_plan};
 use crate::lines::lines_of;
@@ -26,7 +27,7 @@ use pact_bag::{Counts, Inputs, Outcome, Rows};
 use pact_load::Loaded;
 use pact_operators::{Plan, Program};
 use pact_record::{Bytes, OutOfMemory};
-use pact_words::Options;
+use pact_words::{Options, Rewrites};
 use plan_printer::{counts_text, push_keeps, push_partials};
 use prune_fields::Kept;
 use ship_strategy::{Table, layout_known};
@@ -89,6 +90,7 @@ pub fn run_plan<T: Runner>(
     facts: &Table,
     number: u32,
     options: Options,
+    rewrites: Rewrites,
     run: &T,
 ) -> Result<RunOutcome, OutOfMemory>
     requires inputs { AreInputsOf program.now inputs }
@@ -98,18 +100,10 @@ pub fn run_plan<T: Runner>(
     requires layout { number < layout_count program.now.ops }
     requires answers { KeepAnswers program.now program.now.plan plan.now }
     requires runs { T.ready run.now }
-    ensures { IfOk result (IsOutcome (record { program = program.now; inputs = inputs }) options.workers plan.now number options.prune options.combine) }
+    ensures { IfOk result (IsLayoutOutcome (record { program = program.now; inputs = inputs }) options.workers plan.now number rewrites.prune rewrites.combine) }
 {
     let task = task_of(program, plan, facts, number, options);
-    run_task_as(
-        alloc,
-        program,
-        task,
-        inputs,
-        options.prune,
-        options.combine,
-        run,
-    )
+    run_task_as(alloc, program, task, inputs, rewrites, run)
 }
 
 // Appends the `keeps` lines to the counts, one for each source or operator whose records lost fields.
@@ -129,7 +123,7 @@ fn push_kept(
 
 // The counts of a run of the chosen plan, if they are asked for, with the fields that were kept and the numbers of
 // partial groups.
-fn told_counts(
+fn reported_counts(
     alloc: Global,
     program: &Program,
     choice: &Choice,
@@ -139,7 +133,7 @@ fn told_counts(
     asked: bool,
 ) -> Result<Option<Bytes>, OutOfMemory>
     requires plan { IsPlanOf program.now.functions program.now.ops choice.now.plan }
-    ensures { IfOk result (AreToldCounts program.now choice.now.plan counts.now kept.now combined.now asked) }
+    ensures { IfOk result (AreReportedCounts program.now choice.now.plan counts.now kept.now combined.now asked) }
 {
     if !asked {
         return Ok(None);
@@ -155,12 +149,13 @@ pub fn run_chosen<T: Runner>(
     alloc: Global,
     loaded: Loaded,
     options: Options,
+    rewrites: Rewrites,
     run: &T,
 ) -> Result<FinishedRun, OutOfMemory>
     requires inputs { AreInputsOf loaded.program loaded.inputs }
     requires options { AreOptionsInRange options }
     requires runs { T.ready run.now }
-    ensures { IfOk result (IsRun loaded options.workers options.plans options.prune options.combine) }
+    ensures { IfOk result (IsFinishedRun loaded options.workers options.plans rewrites.prune rewrites.combine) }
 {
     let choice = choose_plan(alloc, &loaded, options.workers, options.plans)?;
     let Loaded { program, inputs } = loaded;
@@ -177,6 +172,7 @@ pub fn run_chosen<T: Runner>(
         &choice.facts,
         number,
         options,
+        rewrites,
         run,
     )?;
     Ok(FinishedRun {
@@ -199,7 +195,7 @@ fn texts_of_run<W: Fn(Rows, &[u32]) -> Result<Bytes, OutOfMemory>>(
     requires widths { AreWide run.program.fields run.outcome.rows }
     requires formats { IsFormatter (W.pre format.now) (W.post format.now) }
     ensures lines { IfOk result (λ texts. AreLines run.program.sink run.outcome.rows texts.out) }
-    ensures counts { IfOk result (λ texts. AreToldCounts run.program run.choice.plan run.outcome.counts run.kept.items run.combined.items counts texts.told) }
+    ensures counts { IfOk result (λ texts. AreReportedCounts run.program run.choice.plan run.outcome.counts run.kept.items run.combined.items counts texts.told) }
     ensures program { IsProgram run.program }
 {
     let FinishedRun {
@@ -214,7 +210,7 @@ fn texts_of_run<W: Fn(Rows, &[u32]) -> Result<Bytes, OutOfMemory>>(
         counts: given,
     } = outcome;
     let out = lines_of(rows, program.sink(), format)?;
-    let told = told_counts(alloc, &program, &choice, &given, &kept, &combined, counts)?;
+    let told = reported_counts(alloc, &program, &choice, &given, &kept, &combined, counts)?;
     Ok(Texts { out, told })
 }
 
@@ -223,6 +219,7 @@ pub fn run_texts<T: Runner, W: Fn(Rows, &[u32]) -> Result<Bytes, OutOfMemory>>(
     alloc: Global,
     loaded: Loaded,
     options: Options,
+    rewrites: Rewrites,
     counts: bool,
     run: &T,
     format: &W,
@@ -231,8 +228,8 @@ pub fn run_texts<T: Runner, W: Fn(Rows, &[u32]) -> Result<Bytes, OutOfMemory>>(
     requires options { AreOptionsInRange options }
     requires runs { T.ready run.now }
     requires formats { IsFormatter (W.pre format.now) (W.post format.now) }
-    ensures { IfOk result (IsAnswerOf loaded options.workers options.plans counts options.prune options.combine) }
+    ensures { IfOk result (IsAnswerOf loaded options.workers options.plans counts rewrites.prune rewrites.combine) }
 {
-    let finished = run_chosen(alloc, loaded, options, run)?;
+    let finished = run_chosen(alloc, loaded, options, rewrites, run)?;
     texts_of_run(alloc, finished, counts, format)
 }

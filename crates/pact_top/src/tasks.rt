@@ -6,7 +6,7 @@ ghost use Rattle.std.specs.Prelude.{◌≡◌, IfOk};
 ghost use Rattle.flow_core.specs.Worlds.{HasBatchSize, IsStanding, StandsForSome};
 ghost use Rattle.flow_instance.specs.Events.{no_history};
 ghost use Rattle.flow_instance.specs.Spots.{setting};
-ghost use Rattle.pact_top.specs.Runs.{CanRun, HasRun};
+ghost use Rattle.pact_top.specs.Runs.{CanRun, IsTaskOutcome};
 
 use flow_core::{World, run_alone};
 use flow_run::run_owned;
@@ -68,7 +68,7 @@ fn run_with<L: Local>(
     inputs: Inputs,
 ) -> Result<Outcome, OutOfMemory>
     requires { CanRun program.now task.now inputs }
-    ensures { IfOk result (HasRun program.now task.now inputs) }
+    ensures { IfOk result (IsTaskOutcome program.now task.now inputs) }
 {
     // `fields` makes it known that `program` keeps the rules of a program.
     let _fields = program.fields();
@@ -85,7 +85,7 @@ pub fn run_task(
     inputs: Inputs,
 ) -> Result<Outcome, OutOfMemory>
     requires { CanRun program.now task.now inputs }
-    ensures { IfOk result (HasRun program.now task.now inputs) }
+    ensures { IfOk result (IsTaskOutcome program.now task.now inputs) }
 {
     match task.local {
         LocalStrategy::Hash => run_with::<GroupTable>(alloc, program, task, inputs),
@@ -95,6 +95,7 @@ pub fn run_task(
 
 /// The rows of a run with a thread for each worker, and how many records each source and operator gave. It consumes the
 /// rows of the sources.
+#[tactic(auto, using(crate::proofs::RunPlans::plan_has_run))]
 pub fn run_task_on_threads<R: Threads + Wait + Sync, G: Gate>(
     rt: &R,
     alloc: Global,
@@ -104,7 +105,7 @@ pub fn run_task_on_threads<R: Threads + Wait + Sync, G: Gate>(
     gate: &G,
 ) -> Result<Outcome, OutOfMemory>
     requires { CanRun program.now task.now inputs }
-    ensures { IfOk result (HasRun program.now task.now inputs) }
+    ensures { IfOk result (IsTaskOutcome program.now task.now inputs) }
 {
     let Task {
         physical,

@@ -6,9 +6,9 @@ ghost use Rattle.pact_top.specs.Headline.{KeepsPromises};
 ghost use Rattle.pact_load.specs.Readers.{CanRead, IsRead};
 ghost use Rattle.pact_load.specs.Answers.{status_of, refusal_line};
 ghost use Rattle.pact_top.specs.Refusal.{AnswersWords, threads_asked};
-ghost use Rattle.pact_top.specs.Runs.{CanRun, HasRun};
+ghost use Rattle.pact_top.specs.Runs.{CanRun, IsTaskOutcome};
 ghost use Rattle.pact_top.specs.Statuses.{TellsMore, WritesAnswer, WritesTexts};
-ghost use Rattle.pact_top.specs.Writing.{Tells};
+ghost use Rattle.pact_top.specs.Writing.{WritesLine};
 ghost use Rattle.pact_words.specs.Words.{IsInRange, asked, texts_of};
 
 use crate::answering::answer;
@@ -33,7 +33,7 @@ use worker_gate::Gate;
 
 fn refuse<E: Sink>(err: &mut E, refusal: &Refusal) -> u8
     ensures status { result ≡ status_of refusal.now }
-    ensures told { Tells (E.taken err.old) (E.taken err.new) (E.faults err.old) (E.faults err.new) (refusal_line refusal.now) }
+    ensures told { WritesLine (E.taken err.old) (E.taken err.new) (E.faults err.old) (E.faults err.new) (refusal_line refusal.now) }
     ensures later { E.faults err.old ≤ E.faults err.new }
 {
     tell(err, refusal);
@@ -89,7 +89,7 @@ fn answer_alone<F: Feed>(
     let run = CalledRuns {
         call: |program: &Program, task: &Task, inputs: Inputs| -> Result<Outcome, OutOfMemory>
             requires { CanRun program.now task.now inputs }
-            ensures { IfOk result (HasRun program.now task.now inputs) }
+            ensures { IfOk result (IsTaskOutcome program.now task.now inputs) }
         { run_task(alloc, program, task, inputs) },
     };
     let format = |bag: Rows, fields: &[u32]| -> Result<Bytes, OutOfMemory>
@@ -122,7 +122,7 @@ fn answer_on_threads<R: Threads + Wait + Sync, F: Feed, G: Gate>(
     let run = CalledRuns {
         call: |program: &Program, task: &Task, inputs: Inputs| -> Result<Outcome, OutOfMemory>
             requires { CanRun program.now task.now inputs }
-            ensures { IfOk result (HasRun program.now task.now inputs) }
+            ensures { IfOk result (IsTaskOutcome program.now task.now inputs) }
         { run_task_on_threads(rt, alloc, program, task, inputs, gate) },
     };
     let format = |bag: Rows, fields: &[u32]| -> Result<Bytes, OutOfMemory>

@@ -5,8 +5,8 @@ use Rattle.pact_words.specs.declared.commands.Kind.{Kind}
 use Rattle.pact_words.specs.declared.commands.Kind.TheVariants.{Run, Plan, Cert, Check, Sets, Gen, Drill, Iterate}
 use Rattle.pact_words.specs.declared.commands.Options.{Options}
 use Rattle.pact_words.specs.Definitions.{app_for}
-use Rattle.pact_words.specs.FoundValues.{all_five, all_three, flag_of, local_of, number_of}
-use Rattle.pact_words.specs.Words.{AreRefused, AreRefusedBy, Asked, IsAsked, NamesNoStrategy, asked_of, common_options, common_options_of, options_of, to_drill, to_iterate, to_run, with_flags}
+use Rattle.pact_words.specs.FoundValues.{all_five, all_four, flag_of, local_of, number_of}
+use Rattle.pact_words.specs.Words.{AreRefused, AreRefusedBy, Asked, IsAsked, NamesNoStrategy, asked_of, options_from, options_of, rewrites_of, to_drill, to_iterate, to_run}
 
 pub one_of : {A : Type 0} (o : Option A) (a b : A) → o ≡ Some a → o ≡ Some b → a ≡ b
 one_of o a b h g = cc
@@ -20,14 +20,14 @@ one_asked words a b h g =
     one_of (asked_of g.kind (matches_of (app_for g.kind) words)) a b
     (subst (λ (kind : Kind). asked_of kind (matches_of (app_for kind) words) ≡ Some a) kinds h.values) g.values
 
-second_without : {A B C D : Type 0} (f : A → B → C → D) (a : Option A) (c : Option C) → all_three f a None c ≡ None
-second_without f None c = refl
-second_without f (Some x) c = refl
+second_without : {A B C D E : Type 0} (f : A → B → C → D → E) (a : Option A) (c : Option C) (d : Option D) → all_four f a None c d ≡ None
+second_without f None c d = refl
+second_without f (Some x) c d = refl
 
-third_without : {A B C D : Type 0} (f : A → B → C → D) (a : Option A) (b : Option B) → all_three f a b None ≡ None
-third_without f None b = refl
-third_without f (Some x) None = refl
-third_without f (Some x) (Some y) = refl
+third_without : {A B C D E : Type 0} (f : A → B → C → D → E) (a : Option A) (b : Option B) (d : Option D) → all_four f a b None d ≡ None
+third_without f None b d = refl
+third_without f (Some x) None d = refl
+third_without f (Some x) (Some y) d = refl
 
 fourth_without : {A B C D E F : Type 0} (f : A → B → C → D → E → F) (a : Option A) (b : Option B) (c : Option C) (e : Option E)
     → all_five f a b c None e ≡ None
@@ -44,26 +44,21 @@ fifth_without f (Some w) (Some x) None d = refl
 fifth_without f (Some w) (Some x) (Some y) None = refl
 fifth_without f (Some w) (Some x) (Some y) (Some z) = refl
 
-no_common_options : (rows : List Row) → local_of (codes "local") rows ≡ None → common_options_of rows ≡ None
-no_common_options rows h =
+no_options : (rows : List Row) → local_of (codes "local") rows ≡ None → options_of rows ≡ None
+no_options rows h =
     let workers = number_of (codes "workers") rows in
     let plans = number_of (codes "plans") rows in
     let batch = number_of (codes "batch") rows in
     let depth = number_of (codes "depth") rows in
-    ap (all_five common_options workers plans batch depth) h ∙ fifth_without common_options workers plans batch depth
-
-no_options : (rows : List Row) → local_of (codes "local") rows ≡ None → options_of rows ≡ None
-no_options rows h =
-    let combine = flag_of (codes "combine") rows in
-    let prune = flag_of (codes "prune") rows in
-    ap (λ (o : Option Options). all_three with_flags o combine prune) (no_common_options rows h)
+    ap (all_five options_from workers plans batch depth) h ∙ fifth_without options_from workers plans batch depth
 
 -- if `--local` names no strategy, the values give no command
 pub none_asked : (k : Kind) (rows : List Row) → NamesNoStrategy k rows → asked_of k rows ≡ None
 none_asked Run rows h =
     let program = first_of (codes "program") rows in
     let counts = flag_of (codes "counts") rows in
-    ap (λ (o : Option Options). all_three to_run program o counts) (no_options rows h) ∙ second_without to_run program counts
+    ap (λ (o : Option Options). all_four to_run program o (rewrites_of rows) counts) (no_options rows h)
+    ∙ second_without to_run program (rewrites_of rows) counts
 none_asked Plan rows h = absurd h
 none_asked Cert rows h = absurd h
 none_asked Check rows h = absurd h
@@ -72,13 +67,14 @@ none_asked Gen rows h = absurd h
 none_asked Drill rows h =
     let seed = number_of (codes "seed") rows in
     let row_count = number_of (codes "rows") rows in
-    ap (all_three to_drill seed row_count) (no_options rows h) ∙ third_without to_drill seed row_count
+    ap (λ (o : Option Options). all_four to_drill seed row_count o (rewrites_of rows)) (no_options rows h)
+    ∙ third_without to_drill seed row_count (rewrites_of rows)
 none_asked Iterate rows h =
     let program = first_of (codes "program") rows in
     let source = first_of (codes "source") rows in
     let rounds = number_of (codes "rounds") rows in
     let stable = flag_of (codes "stable") rows in
-    ap (λ (o : Option Options). all_five to_iterate program source rounds o stable) (no_common_options rows h)
+    ap (λ (o : Option Options). all_five to_iterate program source rounds o stable) (no_options rows h)
     ∙ fourth_without to_iterate program source rounds stable
 
 pub never_both : (words : List (List ℕ)) (a : Asked) → IsAsked words a → AreRefused words → ⊥

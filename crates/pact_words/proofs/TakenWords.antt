@@ -1,6 +1,6 @@
 -- If clap takes the words and `--local` names a strategy, the words ask for a command, with its numbers in their
 -- ranges.
-use Rattle.std.proofs.Common.{◌≡◌, ◌⊎◌, ◌∙◌, inl, inr, refl, ap, subst, arith, ℕ, Bool, false, List, [], drop, pos, Option, Some, None, option_map, codes, rules}
+use Rattle.std.proofs.Common.{◌≡◌, ◌⊎◌, ◌∙◌, inl, inr, refl, ap, subst, arith, ℕ, Bool, List, [], drop, pos, Option, Some, None, option_map, codes, rules}
 use Rattle.clap.specs.Walk.{Row, Rule, Text, arg_by_id, first_of}
 use Rattle.clap.specs.Simple.{built, matches_of}
 use Rattle.clap.specs.Faults.{fault_of}
@@ -8,10 +8,11 @@ use Rattle.clap.specs.declared.builder.value_parser.ValueParser.TheVariants as v
 use Rattle.pact_words.specs.declared.commands.Kind.{Kind}
 use Rattle.pact_words.specs.declared.commands.Kind.TheVariants.{Run, Plan, Cert, Check, Sets, Gen, Drill, Iterate}
 use Rattle.pact_words.specs.declared.commands.Options.{Options}
+use Rattle.pact_words.specs.declared.commands.Rewrites.{Rewrites}
 use Rattle.pact_words.specs.Definitions.{app_for}
-use Rattle.pact_words.specs.FoundValues.{all_five, all_three, all_two, local_of, number_of}
+use Rattle.pact_words.specs.FoundValues.{all_five, all_four, all_three, all_two, local_of, number_of}
 use Rattle.pact_words.specs.Limits.{round_limit, row_limit, seed_limit}
-use Rattle.pact_words.specs.Words.{AreInRange, AreOperandsInRange, AreOptionsInRange, Asked, IsInRange, NamesNoStrategy, asked_of, common_options, common_options_of, options_of, to_certify, to_check, to_drill, to_generate, to_iterate, to_plan, to_run, to_tell_sets, with_flags}
+use Rattle.pact_words.specs.Words.{AreInRange, AreOperandsInRange, AreOptionsInRange, Asked, IsInRange, NamesNoStrategy, asked_of, options_from, options_of, rewrites_from, rewrites_of, to_certify, to_check, to_drill, to_generate, to_iterate, to_plan, to_run, to_tell_sets}
 use Rattle.pact_words.proofs.FittingRows.{AllKnown}
 use Rattle.pact_words.proofs.GivenValues.{Holds, IsSure, held}
 use Rattle.pact_words.proofs.OneAsked.{none_asked, not_both, one_of}
@@ -49,6 +50,10 @@ two_are f a b x y p q = rw (p, q) refl
 three_are : {A B C D : Type 0} (f : A → B → C → D) (a : Option A) (b : Option B) (c : Option C) (x : A) (y : B) (z : C)
     → a ≡ Some x → b ≡ Some y → c ≡ Some z → all_three f a b c ≡ Some (f x y z)
 three_are f a b c x y z p q r = rw (p, q, r) refl
+
+four_are : {A B C D E : Type 0} (f : A → B → C → D → E) (a : Option A) (b : Option B) (c : Option C) (d : Option D) (w : A) (x : B) (y : C) (z : D)
+    → a ≡ Some w → b ≡ Some x → c ≡ Some y → d ≡ Some z → all_four f a b c d ≡ Some (f w x y z)
+four_are f a b c d w x y z p q r s = rw (p, q, r, s) refl
 
 five_are : {A B C D E F : Type 0} (f : A → B → C → D → E → F) (a : Option A) (b : Option B) (c : Option C) (d : Option D) (e : Option E)
     (v : A) (w : B) (x : C) (y : D) (z : E) → a ≡ Some v → b ≡ Some w → c ≡ Some x → d ≡ Some y → e ≡ Some z
@@ -92,14 +97,15 @@ has_options rows workers plans batch depth w p b d has_workers has_plans has_bat
   depth = has_number (codes "depth") rows depth 1 64 (omega arith) d has_depth;
 }
 
--- the options are in their ranges for any flags
-flagged_in_range : (o : Options) (combine prune : Bool) → AreOptionsInRange o → AreOptionsInRange (with_flags o combine prune)
-flagged_in_range o combine prune h = record {
-  limits = h.limits;
-  least_batch = h.least_batch;
-  most_batch = h.most_batch;
-  least_depth = h.least_depth;
-  most_depth = h.most_depth;
+-- the two flags
+record HasRewrites (rows : List Row) : Type 0 where
+  rewrites : Rewrites
+  is : rewrites_of rows ≡ Some rewrites
+
+has_rewrites : (rows : List Row) → HasFlag (codes "combine") rows → HasFlag (codes "prune") rows → HasRewrites rows
+has_rewrites rows combine prune = record {
+  rewrites = rewrites_from combine.flag prune.flag;
+  is = two_are rewrites_from _ _ combine.flag prune.flag combine.is prune.is;
 }
 
 pub record HasOperands (found : List Row) : Type 0 where
@@ -138,16 +144,16 @@ asks_limited k words to is ranged program limits =
 
 -- a command that runs plans, if `--local` names a strategy
 asks_chosen : (k : Kind) (words : List Text) (to : Options → Asked)
-    → ((o : Options) → common_options_of (matches_of (app_for k) words) ≡ Some o → asked_of k (matches_of (app_for k) words) ≡ Some (to o))
-    → ((o : Options) → AreOptionsInRange o → o.combine ≡ false → o.prune ≡ false → IsInRange (to o)) → HasOptions (matches_of (app_for k) words)
+    → ((o : Options) → options_of (matches_of (app_for k) words) ≡ Some o → asked_of k (matches_of (app_for k) words) ≡ Some (to o))
+    → ((o : Options) → AreOptionsInRange o → IsInRange (to o)) → HasOptions (matches_of (app_for k) words)
     → Asks k words ⊎ (local_of (codes "local") (matches_of (app_for k) words) ≡ None)
 asks_chosen k words to says ranged h =
     let rows = matches_of (app_for k) words in
     some_or_none (Asks k words) (local_of (codes "local") rows) (λ local is.
-    let chosen = common_options h.limits.workers.number h.limits.plans.number h.batch.number h.depth.number local in
+    let chosen = options_from h.limits.workers.number h.limits.plans.number h.batch.number h.depth.number local in
     record {
       command = to chosen;
-      values = says chosen (five_are common_options _ _ _ _ _ h.limits.workers.number h.limits.plans.number h.batch.number h.depth.number local
+      values = says chosen (five_are options_from _ _ _ _ _ h.limits.workers.number h.limits.plans.number h.batch.number h.depth.number local
           h.limits.workers.is h.limits.plans.is h.batch.is h.depth.is is);
       in_range = ranged chosen (record {
         limits = in_range rows h.limits;
@@ -155,19 +161,8 @@ asks_chosen k words to says ranged h =
         most_batch = h.batch.most_of;
         least_depth = h.depth.least_of;
         most_depth = h.depth.most_of;
-      }) refl refl;
+      });
     })
-
--- a command that has the flags, too
-asks_flagged : (k : Kind) (words : List Text) (to : Options → Asked)
-    → ((o : Options) → options_of (matches_of (app_for k) words) ≡ Some o → asked_of k (matches_of (app_for k) words) ≡ Some (to o))
-    → ((o : Options) → AreOptionsInRange o → IsInRange (to o)) → HasOptions (matches_of (app_for k) words)
-    → HasFlag (codes "combine") (matches_of (app_for k) words) → HasFlag (codes "prune") (matches_of (app_for k) words)
-    → Asks k words ⊎ (local_of (codes "local") (matches_of (app_for k) words) ≡ None)
-asks_flagged k words to says ranged h combine prune =
-    asks_chosen k words (λ o. to (with_flags o combine.flag prune.flag))
-    (λ o is. says (with_flags o combine.flag prune.flag) (three_are with_flags _ _ _ o combine.flag prune.flag is combine.is prune.is))
-    (λ o range _ _. ranged (with_flags o combine.flag prune.flag) (flagged_in_range o combine.flag prune.flag range)) h
 
 pub asks : (k : Kind) (words : List Text) → fault_of (app_for k) words ≡ [] → Asks k words ⊎ NamesNoStrategy k (matches_of (app_for k) words)
 asks Run words e =
@@ -179,9 +174,10 @@ asks Run words e =
     (at (codes "batch") _ refl (inr (_, _, refl))) (at (codes "depth") _ refl (inr (_, _, refl))) in
     let combine = has_flag (codes "combine") rows _ refl (at (codes "combine") _ refl (inr (_, _, refl))) in
     let prune = has_flag (codes "prune") rows _ refl (at (codes "prune") _ refl (inr (_, _, refl))) in
+    let flags = has_rewrites rows combine prune in
     let counts = has_flag (codes "counts") rows _ refl (at (codes "counts") _ refl (inr (_, _, refl))) in
-    asks_flagged Run words (λ o. to_run program.text o counts.flag)
-    (λ o is. three_are to_run _ _ _ program.text o counts.flag program.is is counts.is) (λ o h. h) numbers combine prune
+    asks_chosen Run words (λ o. to_run program.text o flags.rewrites counts.flag)
+    (λ o is. four_are to_run _ _ _ _ program.text o flags.rewrites counts.flag program.is is flags.is counts.is) (λ o h. h) numbers
 asks Plan words e =
     let rows = matches_of (app_for Plan) words in
     let at = each_holds Plan words e in
@@ -227,9 +223,10 @@ asks Drill words e =
     (at (codes "batch") _ refl (inr (_, _, refl))) (at (codes "depth") _ refl (inr (_, _, refl))) in
     let combine = has_flag (codes "combine") rows _ refl (at (codes "combine") _ refl (inr (_, _, refl))) in
     let prune = has_flag (codes "prune") rows _ refl (at (codes "prune") _ refl (inr (_, _, refl))) in
-    asks_flagged Drill words (λ o. to_drill operands.seed.number operands.rows.number o)
-    (λ o is. three_are to_drill _ _ _ operands.seed.number operands.rows.number o operands.seed.is operands.rows.is is)
-    (λ o h. (operands_in_range rows operands, h)) numbers combine prune
+    let flags = has_rewrites rows combine prune in
+    asks_chosen Drill words (λ o. to_drill operands.seed.number operands.rows.number o flags.rewrites)
+    (λ o is. four_are to_drill _ _ _ _ operands.seed.number operands.rows.number o flags.rewrites operands.seed.is operands.rows.is is flags.is)
+    (λ o h. (operands_in_range rows operands, h)) numbers
 asks Iterate words e =
     let rows = matches_of (app_for Iterate) words in
     let at = each_holds Iterate words e in
@@ -242,13 +239,7 @@ asks Iterate words e =
     let stable = has_flag (codes "stable") rows _ refl (at (codes "stable") _ refl (inr (_, _, refl))) in
     asks_chosen Iterate words (λ o. to_iterate program.text source.text rounds.number o stable.flag)
     (λ o is. five_are to_iterate _ _ _ _ _ program.text source.text rounds.number o stable.flag program.is source.is rounds.is is stable.is)
-    (λ o h uncombined unpruned. record {
-      least_rounds = rounds.least_of;
-      most_rounds = rounds.most_of;
-      options = h;
-      uncombined = uncombined;
-      unpruned = unpruned;
-    }) numbers
+    (λ o h. record { least_rounds = rounds.least_of; most_rounds = rounds.most_of; options = h }) numbers
 
 -- if the values give no command, `--local` names no strategy
 pub taken_names_none : (k : Kind) (words : List Text) → fault_of (app_for k) words ≡ [] → asked_of k (matches_of (app_for k) words) ≡ None

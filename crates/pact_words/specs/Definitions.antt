@@ -22,12 +22,12 @@ abbrev pub with_pipes : App → App
 with_pipes app = with_rule (with_rule app batch_rule) depth_rule
 
 -- adds the options of each command that runs plans
-abbrev pub with_common_options : App → App
-with_common_options app = with_rule (with_pipes (with_limits app)) local_rule
-
--- adds these options, and whether groups are combined and fields dropped
 abbrev pub with_options : App → App
-with_options app = with_rule (with_rule (with_common_options app) combine_rule) prune_rule
+with_options app = with_rule (with_pipes (with_limits app)) local_rule
+
+-- adds whether groups are combined and fields dropped
+abbrev pub with_rewrites : App → App
+with_rewrites app = with_rule (with_rule app combine_rule) prune_rule
 
 -- adds the source that gets the rows of the round before, and the number of rounds
 abbrev pub with_rounds : App → App
@@ -39,7 +39,7 @@ generating_app name = with_rule (with_rule (new_app name) seed_rule) rows_rule
 
 -- `run PROGRAM`
 abbrev pub run_app : App
-run_app = with_rule (with_options (program_app (codes "run"))) counts_rule
+run_app = with_rule (with_rewrites (with_options (program_app (codes "run")))) counts_rule
 
 -- `check PROGRAM CERT`
 abbrev pub check_app : App
@@ -51,11 +51,11 @@ sets_app = program_app (codes "sets")
 
 -- `drill SEED ROWS`
 abbrev pub drill_app : App
-drill_app = with_options (generating_app (codes "drill"))
+drill_app = with_rewrites (with_options (generating_app (codes "drill")))
 
 -- `iterate PROGRAM SOURCE ROUNDS`
 abbrev pub iterate_app : App
-iterate_app = with_rule (with_common_options (with_rounds (program_app (codes "iterate")))) stable_rule
+iterate_app = with_rule (with_options (with_rounds (program_app (codes "iterate")))) stable_rule
 
 abbrev pub app_for : Kind → App
 app_for Run = run_app

@@ -22,6 +22,11 @@ pub struct Options {
     pub depth: u32,
     /// `--local`: how an instance finds the records of a key.
     pub local: LocalStrategy,
+}
+
+/// How the chosen plan is rewritten before it runs.
+#[derive(Clone, Copy, Debug, PartialEq, Eq)]
+pub struct Rewrites {
     /// `--combine`: whether each worker reduces its own share of a group before it is shipped, if the function of a
     /// Reduce allows it.
     pub combine: bool,
@@ -40,6 +45,7 @@ pub enum Command<'a> {
     Run {
         program: &'a str,
         options: Options,
+        rewrites: Rewrites,
         /// `--counts`: whether to report also how many records each operator takes and emits.
         counts: bool,
     },
@@ -74,10 +80,11 @@ pub enum Command<'a> {
         seed: u32,
         rows: u32,
         options: Options,
+        rewrites: Rewrites,
     },
     /// `iterate PROGRAM SOURCE ROUNDS` runs the program round by round, and writes the rows of the last round. From the
     /// second round on, the source with the name SOURCE has the rows of the round before, cut to its columns, instead
-    /// of its own. SOURCE is any text, and nothing is combined or dropped.
+    /// of its own. SOURCE is any text.
     Iterate {
         program: &'a str,
         source: &'a str,

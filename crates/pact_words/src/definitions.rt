@@ -2,7 +2,7 @@
 
 ghost use Rattle.std.specs.Prelude.{◌≡◌, IfOk};
 ghost use Rattle.clap.specs.Words.{app_of};
-ghost use Rattle.pact_words.specs.Definitions.{app_for, check_app, drill_app, generating_app, iterate_app, planning_app, run_app, sets_app, with_common_options, with_limits, with_options, with_pipes, with_rounds};
+ghost use Rattle.pact_words.specs.Definitions.{app_for, check_app, drill_app, generating_app, iterate_app, planning_app, run_app, sets_app, with_limits, with_options, with_pipes, with_rewrites, with_rounds};
 
 use crate::arguments::{
     batch, certificate, combine, counts, depth, local, plans, program, prune, rounds, rows, seed,
@@ -31,7 +31,8 @@ pub(crate) fn definition<'a>(alloc: Global, kind: Kind) -> Result<Command<'a>, A
 fn run<'a>(alloc: Global) -> Result<Command<'a>, AllocError>
     ensures { IfOk result (λ c. app_of c ≡ run_app) }
 {
-    with_options(alloc, Command::new(alloc, "run").arg(program(alloc))?)?.arg(counts(alloc))
+    let command = Command::new(alloc, "run").arg(program(alloc))?;
+    with_rewrites(alloc, with_options(alloc, command)?)?.arg(counts(alloc))
 }
 
 // A command that chooses a plan.
@@ -65,30 +66,28 @@ fn generating<'a>(alloc: Global, name: &'a str) -> Result<Command<'a>, AllocErro
 fn drill<'a>(alloc: Global) -> Result<Command<'a>, AllocError>
     ensures { IfOk result (λ c. app_of c ≡ drill_app) }
 {
-    with_options(alloc, generating(alloc, "drill")?)
+    with_rewrites(alloc, with_options(alloc, generating(alloc, "drill")?)?)
 }
 
 fn iterate<'a>(alloc: Global) -> Result<Command<'a>, AllocError>
     ensures { IfOk result (λ c. app_of c ≡ iterate_app) }
 {
     let command = Command::new(alloc, "iterate").arg(program(alloc))?;
-    with_common_options(alloc, with_rounds(alloc, command)?)?.arg(stable(alloc))
+    with_options(alloc, with_rounds(alloc, command)?)?.arg(stable(alloc))
 }
 
 // Adds the options of each command that runs plans.
-fn with_common_options<'a>(alloc: Global, command: Command<'a>) -> Result<Command<'a>, AllocError>
-    ensures { IfOk result (λ c. app_of c ≡ with_common_options (app_of command.entry)) }
+fn with_options<'a>(alloc: Global, command: Command<'a>) -> Result<Command<'a>, AllocError>
+    ensures { IfOk result (λ c. app_of c ≡ with_options (app_of command.entry)) }
 {
     with_pipes(alloc, with_limits(alloc, command)?)?.arg(local(alloc))
 }
 
-// Adds these options, and whether groups are combined and fields dropped.
-fn with_options<'a>(alloc: Global, command: Command<'a>) -> Result<Command<'a>, AllocError>
-    ensures { IfOk result (λ c. app_of c ≡ with_options (app_of command.entry)) }
+// Adds whether groups are combined and fields dropped.
+fn with_rewrites<'a>(alloc: Global, command: Command<'a>) -> Result<Command<'a>, AllocError>
+    ensures { IfOk result (λ c. app_of c ≡ with_rewrites (app_of command.entry)) }
 {
-    with_common_options(alloc, command)?
-        .arg(combine(alloc))?
-        .arg(prune(alloc))
+    command.arg(combine(alloc))?.arg(prune(alloc))
 }
 
 fn with_limits<'a>(alloc: Global, command: Command<'a>) -> Result<Command<'a>, AllocError>

@@ -19,5 +19,5 @@ mod parsing;
 mod reading;
 mod values;
 
-pub use commands::{Command, LocalStrategy, Options, Refused};
+pub use commands::{Command, LocalStrategy, Options, Refused, Rewrites};
 pub use reading::read_words;

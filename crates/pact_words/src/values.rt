@@ -3,9 +3,9 @@
 ghost use Rattle.std.specs.Prelude.{◌≡◌, option_map};
 ghost use Rattle.clap.specs.Words.{first_of, found_of, rows_of};
 ghost use Rattle.pact_words.specs.FoundValues.{flag_of, local_of, local_said, number_of};
-ghost use Rattle.pact_words.specs.Words.{asked, asked_of, common_options_of, options_of};
+ghost use Rattle.pact_words.specs.Words.{asked, asked_of, options_of, rewrites_of};
 
-use crate::commands::{Command, Kind, LocalStrategy, Options};
+use crate::commands::{Command, Kind, LocalStrategy, Options, Rewrites};
 use clap::ArgMatches;
 
 /// The command that the values give, if all of them are there.
@@ -29,17 +29,19 @@ fn run<'a>(matches: &ArgMatches<'a>) -> Option<Command<'a>>
 {
     let program = text(matches, "program")?;
     let options = options(matches)?;
+    let rewrites = rewrites(matches)?;
     let counts = flag(matches, "counts")?;
     Some(Command::Run {
         program,
         options,
+        rewrites,
         counts,
     })
 }
 
 // The options of each command that runs plans.
-fn common_options(matches: &ArgMatches<'_>) -> Option<Options>
-    ensures { result ≡ common_options_of (rows_of (found_of matches.now)) }
+fn options(matches: &ArgMatches<'_>) -> Option<Options>
+    ensures { result ≡ options_of (rows_of (found_of matches.now)) }
 {
     let workers = number(matches, "workers")?;
     let plans = number(matches, "plans")?;
@@ -52,23 +54,16 @@ fn common_options(matches: &ArgMatches<'_>) -> Option<Options>
         batch,
         depth,
         local,
-        combine: false,
-        prune: false,
     })
 }
 
-// These options, with whether groups are combined and fields dropped.
-fn options(matches: &ArgMatches<'_>) -> Option<Options>
-    ensures { result ≡ options_of (rows_of (found_of matches.now)) }
+// Whether groups are combined and fields dropped.
+fn rewrites(matches: &ArgMatches<'_>) -> Option<Rewrites>
+    ensures { result ≡ rewrites_of (rows_of (found_of matches.now)) }
 {
-    let common = common_options(matches)?;
     let combine = flag(matches, "combine")?;
     let prune = flag(matches, "prune")?;
-    Some(Options {
-        combine,
-        prune,
-        ..common
-    })
+    Some(Rewrites { combine, prune })
 }
 
 fn plan<'a>(matches: &ArgMatches<'a>) -> Option<Command<'a>>
@@ -129,10 +124,12 @@ fn drill<'a>(matches: &ArgMatches<'a>) -> Option<Command<'a>>
     let seed = number(matches, "seed")?;
     let rows = number(matches, "rows")?;
     let options = options(matches)?;
+    let rewrites = rewrites(matches)?;
     Some(Command::Drill {
         seed,
         rows,
         options,
+        rewrites,
     })
 }
 
@@ -142,7 +139,7 @@ fn iterate<'a>(matches: &ArgMatches<'a>) -> Option<Command<'a>>
     let program = text(matches, "program")?;
     let source = text(matches, "source")?;
     let rounds = number(matches, "rounds")?;
-    let options = common_options(matches)?;
+    let options = options(matches)?;
     let stable = flag(matches, "stable")?;
     Some(Command::Iterate {
         program,

@@ -1,5 +1,5 @@
 -- A program and a physical plan with Maps on some edges, each of which keeps the fields of a set.
-use Rattle.std.specs.Prelude.{◌+◌, ◌==◌, ℕ, if◌then◌else◌, decimal, Option, Some, None, List, [], ◌∷◌, ◌++◌, get_or, length, set}
+use Rattle.std.specs.Prelude.{◌+◌, ◌==◌, ℕ, if◌then◌else◌, Option, Some, None, List, [], ◌∷◌, ◌++◌, get_or, length, set}
 use Rattle.tac_syntax.specs.declared.declarations.OpKind.TheVariants.{Map}
 use Rattle.tac_syntax.specs.Contexts.{FieldSet}
 use Rattle.tac_syntax.specs.Valid.{WithFields}
@@ -9,7 +9,7 @@ use Rattle.plan_trees.specs.Inserted.{inserted}
 use Rattle.plan_trees.specs.Physicals.{PhysicalData}
 use Rattle.plan_trees.specs.Plans.{PlanTree, leaf, over, both, root_of}
 use Rattle.pact_operators.specs.declared.operators.Op.{Op}
-use Rattle.pact_operators.specs.Insertions.{CanInsert, inserted_into}
+use Rattle.pact_operators.specs.Insertions.{CanInsert, inserted_into, inserted_op}
 use Rattle.pact_operators.specs.Programs.{ProgramData}
 use Rattle.prune_fields.specs.KeepFunctions.{keep_function}
 
@@ -37,9 +37,8 @@ cuts_from new (k ∷ ks) n = if n == k then Some new else cuts_from (new + 1) ks
 
 -- ---- programs
 
--- Its name is its number; no program text can declare such a name.
 abbrev pub keep_op : (number function : ℕ) → Op
-keep_op number function = record { name = decimal number; kind = Map; function = function; left_keys = []; right_keys = []; file = []; columns = [] }
+keep_op number function = inserted_op number function Map []
 
 -- one for each of the numbers; they are numbered from `new` on, and their functions from `function` on
 abbrev pub keep_ops : (new function : ℕ) → List ℕ → List Op

@@ -20,15 +20,10 @@ ghost use Rattle.prune_fields.specs.SameAnswers.{AnswersSame, RunsAnswer};
 use crate::keeping::keep_at;
 use crate::need_tables::NeedTable;
 use crate::needs::needs_of_all;
-use pact_operators::{Op, OpKind, Plan, Program, attrs};
+use pact_operators::{Plan, Program, attrs};
 use pact_record::{Fields, OutOfMemory};
 use plan_trees::{Physical, Ship};
 use std::alloc::Global;
-
-// A Map is inserted only while the program has fewer operators and functions than these limits.
-const MAX_OPERATORS: usize = 16;
-
-const MAX_FUNCTIONS: usize = 64;
 
 /// The number of a source or an operator whose records are cut, and the fields that are kept of them.
 #[derive(Clone, Copy, Debug)]
@@ -44,26 +39,6 @@ pub struct Pruned {
     pub program: Program,
     pub physical: Physical,
     pub kept: Vec<Kept>,
-}
-
-// The number of operators, without the sources.
-fn operators(ops: &[Op]) -> usize
-    ensures { result ≡ times_of_kind is_operator_kind ops.now }
-{
-    let mut count = 0;
-    for op in ops {
-        if op.kind != OpKind::Source {
-            count += 1;
-        }
-    }
-    count
-}
-
-// Whether a Map may still be inserted.
-fn has_room(program: &Program) -> bool
-    ensures { IsTrue result ↔ (times_of_kind is_operator_kind program.now.ops < operator_limit) × (length program.now.functions < function_limit) }
-{
-    operators(program.ops()) < MAX_OPERATORS && program.functions().len() < MAX_FUNCTIONS
 }
 
 // Whether the number's records are shipped: it isn't the root, and doesn't ship Forward.
@@ -137,7 +112,7 @@ fn pruned_at(
     if !is_shipped(physical, at) {
         return Ok(so_far);
     }
-    if !has_room(&so_far.program) {
+    if !so_far.program.has_room(1) {
         return Ok(so_far);
     }
     // The first call analyses every operator, so it comes after the two cheaper tests.

@@ -228,6 +228,18 @@ impl Body {
         }
     }
 
+    /// Appends a statement that isn't nested too deeply. The only error is out of memory, and the statement is lost then.
+    pub fn append(&mut self, stmt: Stmt) -> Result<(), OutOfMemory>
+        requires { nesting (only stmt) ≤ nesting_limit }
+        ensures { OnOk result (self.new ≡ joined self.old (only stmt)) }
+    {
+        match self.push(stmt) {
+            Ok(()) => Ok(()),
+            Err(NotPushed::Memory { .. }) => Err(OutOfMemory),
+            Err(NotPushed::Deep { .. }) => unreachable!(),
+        }
+    }
+
     // How many statements there are with this one more, if a number can hold it.
     fn size_with(&self, stmt: &Stmt) -> Option<u32>
         ensures { IfSome result (λ n. n ≡ count_of self.now + count_of (only stmt.now)) }

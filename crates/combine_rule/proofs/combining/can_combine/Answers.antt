@@ -1,4 +1,5 @@
 use Rattle.std.proofs.Common.{◌≡◌, ◌<◌, ◌↔◌, ◌∙◌, IsTrue, ℕ, List, get_or, length, slice_get, Some, sym, ap, rules, subst, true, arith}
+use Rattle.std.proofs.lemmas.Bool.{both_ways}
 use Rattle.std.proofs.lemmas.Option.{same_Some, slice_get-get_or}
 use Rattle.pact_record.specs.FieldSets.{has_field}
 use Rattle.plan_trees.specs.declared.physicals.Ship.TheVariants.{Forward, Partition}
@@ -42,6 +43,11 @@ returns-in_default-ship-2 c =
     let shipped = c.ship.ensures.ship ∙ ap (ship_at q) c.root.ensures.root ∙ ship_there q at input there reads p.functions p.ops c.requires.plan in
     (λ e. absurd cc, λ k. absurd (c.in_default-ship-2.not-Partition k.fields (same_Some c.in-Some.ship (get_or q.ships (root_of input) Forward) (sym c.in-Some.is ∙ shipped) ∙ same_ship q at input there reads p k)))
 
+pub returns-then-not-has_room : goal.returns-then-not-has_room
+returns-then-not-has_room c =
+    let full = c.if-not-has_room.true in
+    (λ e. absurd cc, λ k. absurd (both_ways c.has_room.result full (c.has_room.ensures.1 (k.room, omega (arith, k.function_room)))))
+
 pub function_at-requires : goal.function_at-requires
 function_at-requires c =
     let p = c.args.program.now in
@@ -69,8 +75,9 @@ returns c =
     let set = has_field c.context-attributes.result.left in
     let of_set = subst (λ (t : PlanTree). (j : ℕ) → IsTrue (set j) ↔ HasLeftAttribute p.functions p.ops (subtree_of at t) j) c.plan-2.ensures c.context-attributes.ensures.left in
     let ship : get_or q.ships (root_of input) Forward ≡ Partition c.in-Partition.field-0 = sym (same_Some c.in-Some.ship (get_or q.ships (root_of input) Forward) (sym c.in-Some.is ∙ shipped)) ∙ c.in-Partition.is in
-    let room : times_of_kind is_operator_kind p.ops < 16 = omega (arith, c.if-operators-ge-MAX_OPERATORS.false, c.operators.ensures ∙ ap (times_of_kind is_operator_kind) c.ops-2.ensures.ops) in
-    let function_room : length p.functions < 63 = omega (arith, c.if-functions-ge-MAX_FUNCTIONS.false, ap length c.functions.ensures.functions) in (
+    let fits = c.has_room.ensures.0 c.if-not-has_room.false in
+    let room : times_of_kind is_operator_kind p.ops < 16 = fits.0 in
+    let function_room : length p.functions < 63 = omega (arith, fits.1) in (
       λ t. may_be p q at o input c.in-Partition.field-0 f set of_op kind there reads ship c.function_at.ensures.function c.function_at.ensures.fields of_set (c.combinable.ensures.0 t) room function_room,
       λ k. c.combinable.ensures.1 (asked p q at k f o.left_keys set (found p q at k f o set c.function_at.ensures.function c.function_at.ensures.fields of_op of_set)),
     )

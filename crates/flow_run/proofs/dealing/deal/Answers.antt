@@ -2,11 +2,13 @@ use Rattle.std.proofs.Common.{◌≡◌, ◌≤◌, ◌<◌, ◌*◌, ◌∙◌,
 use Rattle.flow_instance.proofs.PartsOfPlans.{number_below}
 use Rattle.plan_trees.specs.Plans.{has}
 use Rattle.flow_instance.specs.Spots.{setting}
-use Rattle.flow_run.specs.Dealing.{AreDealt}
+use Rattle.flow_run.specs.Runs.{AreAssembled, AreDealt}
 use Rattle.flow_run.specs.Wires.{AreWired}
 use Rattle.std.specs.List.{AllByRecursion}
+use Rattle.std.proofs.lemmas.List.{length-replicate}
 use Rattle.flow_instance.specs.Instances.{Instance}
-use Rattle.flow_run.specs.Remains.{with_columns}
+use Rattle.flow_run.specs.WorkerData.{with_columns}
+use Rattle.flow_run.proofs.Arranged.{length_columns}
 use Rattle.flow_run.proofs.RunsOfWorkers.{are_dealt, at_start, few_numbers, rows_long}
 use Rattle.flow_run.proofs.dealing.deal.Goals as goal
 
@@ -36,6 +38,11 @@ by_worker-requires-clause-rows g c κs within =
     subst (λ (n : ℕ). AllByRecursion (λ (row : List Instance). length row ≡ n) c.args.list) (sym c.workers-workers.ensures.workers)
     (rows_long (setting p first.inputs c.args.physical.now) first.size (length p.ops) c.args.list first.started)
 
+pub assemble-requires-clause-long : goal.assemble-requires-clause-long
+assemble-requires-clause-long g c κs within =
+    let n = c.workers-workers.result in
+    ap length c.in_ok-instances.ensures ∙ length_columns (replicate n []) c.args.list ∙ length-replicate n []
+
 pub returns : goal.returns
 returns g c = λ inputs size started.
     let p = c.args.program.now in
@@ -46,5 +53,7 @@ returns g c = λ inputs size started.
     let only : (at : ℕ) → has at q.tree ≡ true → at < length p.ops = λ at there. number_below p.ops at q.tree there c.requires.plan.arity in
     let wired = subst (λ (n : ℕ). AreWired q n c.args.depth (256 * n) v.pipes v.puts v.takes) (ap length c.ops-ops.ensures.ops) c.in_ok-wired.ensures in
     let start = at_start s size (length p.ops) c.args.list started only all (c.in_ok-instances.ensures ∙ (λ i. with_columns (replicate (c.workers-workers.ensures.workers i) []) c.args.list)) in
-    subst (λ (n : ℕ). AreDealt s (length p.ops) n v.pipes all v.puts v.takes) (sym c.requires.width)
-    (are_dealt s (length p.ops) c.args.depth v.pipes v.puts v.takes all c.workers-workers.ensures.physical c.requires.plan.all only c.requires.depth.1 start wired)
+    let ws = c.in_ok-dealt.dealt.items in
+    let assembled = subst (λ (n : ℕ). AreAssembled all v.puts v.takes n ws) c.workers-workers.ensures.workers c.in_ok-dealt.ensures in
+    subst (λ (n : ℕ). AreDealt s (length p.ops) n v.pipes ws) (sym c.requires.width)
+    (are_dealt s (length p.ops) c.args.depth v.pipes v.puts v.takes all c.workers-workers.ensures.physical c.requires.plan.all only c.requires.depth.1 start wired ws assembled)

@@ -1,8 +1,8 @@
 use Rattle.std.proofs.Common.{◌≡◌, ◌∙◌, [], length, map, replicate, subst, sym}
 use Rattle.std.proofs.lemmas.Result.{IfOk-weaker}
 use Rattle.std.specs.List.{AllByRecursion}
-use Rattle.flow_run.specs.Remains.{AreEnds, AreGathered, Remains, history_of, with_columns}
-use Rattle.flow_run.specs.Returns.{all_remains, remains_of}
+use Rattle.flow_run.specs.WorkerData.{AreEnds, AreGathered, WorkerData, history_of, with_columns}
+use Rattle.flow_run.specs.Workers.{all_data, data_of}
 use Rattle.flow_run.proofs.Arranged.{as_many}
 use Rattle.flow_run.proofs.EndsOut.{same_count, whole_loan}
 use Rattle.flow_run.proofs.Finished.{gathered_for_some, gathered_of_plan, gathered_stand, none_beyond, returned_ends}
@@ -10,48 +10,48 @@ use Rattle.flow_run.proofs.finishing.resume_workers.Goals as goal
 
 pub gather-requires-clause-inside : goal.gather-requires-clause-inside
 gather-requires-clause-inside g c κs within =
-    none_beyond c.args.physical.now (length c.args.program.now.ops) c.args.pipes (all_remains c.args.workers.items) c.requires.returned c.workers-workers.ensures.physical
+    none_beyond c.args.physical.now (length c.args.program.now.ops) c.args.pipes (all_data c.args.workers.items) c.requires.returned c.workers-workers.ensures.physical
 
 pub gather-requires-clause-ends : goal.gather-requires-clause-ends
 gather-requires-clause-ends g c κs within =
-    subst (λ l. AreEnds c.args.pipes (all_remains l)) (sym c.deref_mut.ensures.value) (returned_ends c.args.physical.now (length c.args.program.now.ops) c.args.pipes (all_remains c.args.workers.items) c.requires.returned)
+    subst (λ l. AreEnds c.args.pipes (all_data l)) (sym c.deref_mut.ensures.value) (returned_ends c.args.physical.now (length c.args.program.now.ops) c.args.pipes (all_data c.args.workers.items) c.requires.returned)
 
 pub arrange-requires-after_bounds : goal.arrange-requires-after_bounds
 arrange-requires-after_bounds g c κs within =
-    let ws = all_remains c.args.workers.items in
+    let ws = all_data c.args.workers.items in
     let new = c.gather.new.workers in
-    let gathered = subst (λ l. AreGathered c.args.pipes (all_remains l) c.in_ok-notes.notes (all_remains new)) c.deref_mut.ensures.value c.in_ok-notes.ensures in
-    let loan = whole_loan c.args.workers.len c.args.workers.items new c.args.workers.ok.0 (same_count remains_of new c.args.workers.items gathered.instances) in
-    subst (λ l. AllByRecursion (λ (w : Remains). length w.instances ≡ length c.ops.result.now) (all_remains l)) (sym loan)
-    (subst (λ l. AllByRecursion (λ (w : Remains). length w.instances ≡ length l) (all_remains new)) (sym c.ops.ensures.ops) (as_many (length c.args.program.now.ops) ws (all_remains new) c.requires.returned.instances gathered.instances))
+    let gathered = subst (λ l. AreGathered c.args.pipes (all_data l) c.in_ok-notes.notes (all_data new)) c.deref_mut.ensures.value c.in_ok-notes.ensures in
+    let loan = whole_loan c.args.workers.len c.args.workers.items new c.args.workers.ok.0 (same_count data_of new c.args.workers.items gathered.instances) in
+    subst (λ l. AllByRecursion (λ (w : WorkerData). length w.instances ≡ length c.ops.result.now) (all_data l)) (sym loan)
+    (subst (λ l. AllByRecursion (λ (w : WorkerData). length w.instances ≡ length l) (all_data new)) (sym c.ops.ensures.ops) (as_many (length c.args.program.now.ops) ws (all_data new) c.requires.returned.instances gathered.instances))
 
 pub resume-requires-clause-of_plan : goal.resume-requires-clause-of_plan
 resume-requires-clause-of_plan g c κs within =
     let p = c.args.program.now in
-    let ws = all_remains c.args.workers.items in
+    let ws = all_data c.args.workers.items in
     let new = c.gather.new.workers in
-    let gathered = subst (λ l. AreGathered c.args.pipes (all_remains l) c.in_ok-notes.notes (all_remains new)) c.deref_mut.ensures.value c.in_ok-notes.ensures in
-    let loan = whole_loan c.args.workers.len c.args.workers.items new c.args.workers.ok.0 (same_count remains_of new c.args.workers.items gathered.instances) in
-    let rows = c.in_ok-instances.ensures ∙ (λ i. with_columns (replicate (length (c.ops.ensures.ops i)) []) (map (λ (w : Remains). w.instances) (all_remains (loan i)))) in
-    gathered_of_plan p c.args.physical.now c.requires.plan c.args.pipes ws (all_remains new) c.requires.returned c.in_ok-notes.notes gathered c.in_ok-instances.instances rows
+    let gathered = subst (λ l. AreGathered c.args.pipes (all_data l) c.in_ok-notes.notes (all_data new)) c.deref_mut.ensures.value c.in_ok-notes.ensures in
+    let loan = whole_loan c.args.workers.len c.args.workers.items new c.args.workers.ok.0 (same_count data_of new c.args.workers.items gathered.instances) in
+    let rows = c.in_ok-instances.ensures ∙ (λ i. with_columns (replicate (length (c.ops.ensures.ops i)) []) (map (λ (w : WorkerData). w.instances) (all_data (loan i)))) in
+    gathered_of_plan p c.args.physical.now c.requires.plan c.args.pipes ws (all_data new) c.requires.returned c.in_ok-notes.notes gathered c.in_ok-instances.instances rows
 
 pub resume-requires-clause-stand : goal.resume-requires-clause-stand
 resume-requires-clause-stand g c κs within =
     let p = c.args.program.now in
-    let ws = all_remains c.args.workers.items in
+    let ws = all_data c.args.workers.items in
     let new = c.gather.new.workers in
-    let gathered = subst (λ l. AreGathered c.args.pipes (all_remains l) c.in_ok-notes.notes (all_remains new)) c.deref_mut.ensures.value c.in_ok-notes.ensures in
-    let loan = whole_loan c.args.workers.len c.args.workers.items new c.args.workers.ok.0 (same_count remains_of new c.args.workers.items gathered.instances) in
-    let rows = c.in_ok-instances.ensures ∙ (λ i. with_columns (replicate (length (c.ops.ensures.ops i)) []) (map (λ (w : Remains). w.instances) (all_remains (loan i)))) in
-    gathered_for_some p c.args.physical.now c.requires.plan c.args.pipes ws (all_remains new) c.requires.returned c.in_ok-notes.notes gathered c.in_ok-instances.instances rows c.requires.local
+    let gathered = subst (λ l. AreGathered c.args.pipes (all_data l) c.in_ok-notes.notes (all_data new)) c.deref_mut.ensures.value c.in_ok-notes.ensures in
+    let loan = whole_loan c.args.workers.len c.args.workers.items new c.args.workers.ok.0 (same_count data_of new c.args.workers.items gathered.instances) in
+    let rows = c.in_ok-instances.ensures ∙ (λ i. with_columns (replicate (length (c.ops.ensures.ops i)) []) (map (λ (w : WorkerData). w.instances) (all_data (loan i)))) in
+    gathered_for_some p c.args.physical.now c.requires.plan c.args.pipes ws (all_data new) c.requires.returned c.in_ok-notes.notes gathered c.in_ok-instances.instances rows c.requires.local
 
 pub returns-clause-standing : goal.returns-clause-standing
 returns-clause-standing g c =
     let p = c.args.program.now in
-    let ws = all_remains c.args.workers.items in
+    let ws = all_data c.args.workers.items in
     let new = c.gather.new.workers in
-    let gathered = subst (λ l. AreGathered c.args.pipes (all_remains l) c.in_ok-notes.notes (all_remains new)) c.deref_mut.ensures.value c.in_ok-notes.ensures in
-    let loan = whole_loan c.args.workers.len c.args.workers.items new c.args.workers.ok.0 (same_count remains_of new c.args.workers.items gathered.instances) in
-    let rows = c.in_ok-instances.ensures ∙ (λ i. with_columns (replicate (length (c.ops.ensures.ops i)) []) (map (λ (w : Remains). w.instances) (all_remains (loan i)))) in
+    let gathered = subst (λ l. AreGathered c.args.pipes (all_data l) c.in_ok-notes.notes (all_data new)) c.deref_mut.ensures.value c.in_ok-notes.ensures in
+    let loan = whole_loan c.args.workers.len c.args.workers.items new c.args.workers.ok.0 (same_count data_of new c.args.workers.items gathered.instances) in
+    let rows = c.in_ok-instances.ensures ∙ (λ i. with_columns (replicate (length (c.ops.ensures.ops i)) []) (map (λ (w : WorkerData). w.instances) (all_data (loan i)))) in
     IfOk-weaker c.resume.result _ _ (λ w stands s same local. stands s (history_of ws) same
-    (gathered_stand p c.args.physical.now c.requires.plan c.args.pipes ws (all_remains new) c.requires.returned c.in_ok-notes.notes gathered c.in_ok-instances.instances rows s same local)) c.resume.ensures.standing
+    (gathered_stand p c.args.physical.now c.requires.plan c.args.pipes ws (all_data new) c.requires.returned c.in_ok-notes.notes gathered c.in_ok-instances.instances rows s same local)) c.resume.ensures.standing

@@ -1,5 +1,5 @@
 use Rattle.std.proofs.lemmas.Result.{err_from_is_err_and}
-use Rattle.pact_top.specs.CommandTexts.{to_evaluate}
+use Rattle.pact_top.specs.CommandTexts.{ready_run}
 use Rattle.pact_load.specs.Loading.{loaded}
 use Rattle.pact_load.proofs.ProgramsLoaded.{is_loaded}
 use Rattle.pact_top.proofs.CommandsRun.{made_err, made_texts}
@@ -8,10 +8,10 @@ use Rattle.pact_top.proofs.answering.run_program.Goals as goal
 pub returns-in_err-loaded : goal.returns-in_err-loaded
 returns-in_err-loaded g c =
     let p = err_from_is_err_and c.from_residual.result c.from_residual.ensures.1 in
-    rw (p.1, p.2) (made_err (λ f. loaded f c.args.name.now) (λ x. to_evaluate x c.args.options.workers c.args.options.plans c.args.counts c.args.options.prune c.args.options.combine) c.in_err-loaded.field-0.0 c.in_err-loaded.ensures)
+    rw (p.1, p.2) (made_err (λ f. loaded f c.args.name.now) (λ x. ready_run x c.args.options.workers c.args.options.plans c.args.counts c.args.rewrites.prune c.args.rewrites.combine) c.in_err-loaded.field-0.0 c.in_err-loaded.ensures)
 
 pub run_texts-requires-clause-inputs : goal.run_texts-requires-clause-inputs
 run_texts-requires-clause-inputs g c = (is_loaded c.args.name.now c.in_ok-loaded.loaded c.in_ok-loaded.ensures).inputs
 
 pub returns : goal.returns
-returns g c = made_texts (λ f. loaded f c.args.name.now) (λ x. to_evaluate x c.args.options.workers c.args.options.plans c.args.counts c.args.options.prune c.args.options.combine) c.in_ok-loaded.loaded c.in_ok-texts.texts c.in_ok-loaded.ensures c.in_ok-texts.ensures
+returns g c = made_texts (λ f. loaded f c.args.name.now) (λ x. ready_run x c.args.options.workers c.args.options.plans c.args.counts c.args.rewrites.prune c.args.rewrites.combine) c.in_ok-loaded.loaded c.in_ok-texts.texts c.in_ok-loaded.ensures c.in_ok-texts.ensures

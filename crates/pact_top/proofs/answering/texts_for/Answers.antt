@@ -1,14 +1,14 @@
 use Rattle.std.proofs.Common.{◌≡◌, sym, ap, ◌∙◌}
 use Rattle.pact_words.specs.Words.{asked, to_certify, to_check, to_drill, to_generate, to_iterate, to_plan, to_run, to_tell_sets}
-use Rattle.pact_top.specs.CommandTexts.{to_make, to_sum_up}
+use Rattle.pact_top.specs.CommandTexts.{ready_gen, ready_drill}
 use Rattle.pact_top.specs.Work.{at_once}
 use Rattle.pact_load.proofs.AnswersOfStages.{comes_alone}
 use Rattle.pact_top.proofs.answering.texts_for.Goals as goal
 
 pub returns-in-Run : goal.returns-in-Run
 returns-in-Run g c =
-    let same : to_run c.as_bytes.result.now c.in-Run.options c.in-Run.counts ≡ asked c.args.command =
-    ap (λ name. to_run name c.in-Run.options c.in-Run.counts) c.as_bytes.ensures.value ∙ ap asked (sym c.in-Run.is) in
+    let same : to_run c.as_bytes.result.now c.in-Run.options c.in-Run.rewrites c.in-Run.counts ≡ asked c.args.command =
+    ap (λ name. to_run name c.in-Run.options c.in-Run.rewrites c.in-Run.counts) c.as_bytes.ensures.value ∙ ap asked (sym c.in-Run.is) in
     rw (← same) c.run_program.ensures
 
 pub returns-in-Plan : goal.returns-in-Plan
@@ -37,12 +37,12 @@ returns-in-Check g c =
 pub returns-in-Gen : goal.returns-in-Gen
 returns-in-Gen g c =
     let same : to_generate c.in-Gen.seed c.in-Gen.rows ≡ asked c.args.command = ap asked (sym c.in-Gen.is) in
-    rw (← same) (comes_alone (at_once (to_make c.in-Gen.seed c.in-Gen.rows)) (g.F.Feed.shows c.args.feed.now) c.generate.result c.generate.ensures)
+    rw (← same) (comes_alone (at_once (ready_gen c.in-Gen.seed c.in-Gen.rows)) (g.F.Feed.shows c.args.feed.now) c.generate.result c.generate.ensures)
 
 pub returns-in-Drill : goal.returns-in-Drill
 returns-in-Drill g c =
-    let same : to_drill c.in-Drill.seed c.in-Drill.rows c.in-Drill.options ≡ asked c.args.command = ap asked (sym c.in-Drill.is) in
-    rw (← same) (comes_alone (at_once (to_sum_up c.in-Drill.seed c.in-Drill.rows)) (g.F.Feed.shows c.args.feed.now) c.drill.result c.drill.ensures)
+    let same : to_drill c.in-Drill.seed c.in-Drill.rows c.in-Drill.options c.in-Drill.rewrites ≡ asked c.args.command = ap asked (sym c.in-Drill.is) in
+    rw (← same) (comes_alone (at_once (ready_drill c.in-Drill.seed c.in-Drill.rows)) (g.F.Feed.shows c.args.feed.now) c.drill.result c.drill.ensures)
 
 pub returns-in-Iterate : goal.returns-in-Iterate
 returns-in-Iterate g c =

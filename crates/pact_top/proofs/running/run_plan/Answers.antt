@@ -24,6 +24,7 @@ run_task_as-requires-clause-can g c =
 
 pub returns : goal.returns
 returns g c =
-    let o = c.args.options in
-    is_outcome (record { program = c.args.program.now; inputs = c.args.inputs }) o.workers c.args.plan.now c.args.number o.prune o.combine c.task_of-task.result c.run_task_as.result
+    let options = c.args.options in
+    let rewrites = c.args.rewrites in
+    is_outcome (record { program = c.args.program.now; inputs = c.args.inputs }) options.workers c.args.plan.now c.args.number rewrites.prune rewrites.combine c.task_of-task.result c.run_task_as.result
     c.task_of-task.ensures.physical c.task_of-task.ensures.tree c.requires.inputs c.requires.answers c.run_task_as.ensures

@@ -24,5 +24,5 @@ returns c =
     let past = c.loop-field-test.false in
     let most = c.loop-field.auto.field-end in
     let end : c.loop-field.field ≡ c.args.fields = omega (arith, past, most) in
-    ended s c.args.fields c.loop-field.body c.put-2.new.body
-    (subst (λ (n : ℕ). IsBegun s c.args.fields n c.loop-field.body) end c.loop-field.invariant) c.in_ok-put-2.ensures
+    ended s c.args.fields c.loop-field.body c.append-2.new.self
+    (subst (λ (n : ℕ). IsBegun s c.args.fields n c.loop-field.body) end c.loop-field.invariant) c.in_ok-append-2.ensures

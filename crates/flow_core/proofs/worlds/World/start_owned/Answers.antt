@@ -3,7 +3,7 @@ use Rattle.flow_instance.specs.Spots.{setting}
 use Rattle.flow_core.specs.Worlds.{WorldData}
 use Rattle.flow_core.proofs.WorldLaws.{laws_hold}
 use Rattle.flow_core.proofs.StartStands.{size_start, some_start, standing_start}
-use Rattle.flow_core.proofs.StartedRows.{all_started, can_start_rows, started_stations}
+use Rattle.flow_core.proofs.StartedRows.{started_stations}
 use Rattle.flow_instance.proofs.PartsOfPlans.{number_below}
 use Rattle.flow_core.proofs.worlds.World.start_owned.Goals as goal
 
@@ -13,7 +13,7 @@ returns-clause-standing g c =
     let physical = c.args.physical.now in
     let w : WorldData = record { physical = c.new.result; depth = c.args.depth; stations = c.in_ok-stations.stations.items } in
     let started = started_stations (setting p c.args.inputs physical) c.args.batch (length p.ops) c.workers-workers.result c.in_ok-instances.instances c.in_ok-stations.stations.items c.workers-workers.ensures.workers
-    (all_started p physical c.args.inputs c.args.batch (length p.ops) c.in_ok-rows.rows.items c.in_ok-instances.instances c.in_ok-rows.ensures c.in_ok-instances.ensures) c.in_ok-stations.ensures in
+    c.in_ok-instances.ensures c.in_ok-stations.ensures in
     standing_start (setting p c.args.inputs physical) c.args.batch (length p.ops) c.in_ok-stations.stations.items started w c.new.ensures refl
     (λ at there. number_below p.ops at physical.tree there c.requires.plan.arity) (λ at less. c.requires.plan.all at less)
 
@@ -33,8 +33,5 @@ returns-clause-batch g c =
     let physical = c.args.physical.now in
     let w : WorldData = record { physical = c.new.result; depth = c.args.depth; stations = c.in_ok-stations.stations.items } in
     let started = started_stations (setting p c.args.inputs physical) c.args.batch (length p.ops) c.workers-workers.result c.in_ok-instances.instances c.in_ok-stations.stations.items c.workers-workers.ensures.workers
-    (all_started p physical c.args.inputs c.args.batch (length p.ops) c.in_ok-rows.rows.items c.in_ok-instances.instances c.in_ok-rows.ensures c.in_ok-instances.ensures) c.in_ok-stations.ensures in
+    c.in_ok-instances.ensures c.in_ok-stations.ensures in
     size_start (setting p c.args.inputs physical) c.args.batch (length p.ops) c.in_ok-stations.stations.items started w c.new.ensures refl (λ at there. number_below p.ops at physical.tree there c.requires.plan.arity)
-
-pub start_rows-requires-clause-may : goal.start_rows-requires-clause-may
-start_rows-requires-clause-may g c = λ _ _. can_start_rows c.args.program.now c.args.physical.now c.args.inputs c.args.batch 0 c.in_ok-rows.rows.items c.in_ok-rows.ensures.each

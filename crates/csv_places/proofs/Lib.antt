@@ -1,0 +1,2 @@
+pub mod RowsScanned
+pub mod RowNumbers

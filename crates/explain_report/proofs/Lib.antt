@@ -1,0 +1,2 @@
+mod Foretold
+mod Repeating

@@ -1,0 +1,4 @@
+pub mod TextBounds
+pub mod WordNeighbours
+pub mod WordOrder
+pub mod Trying

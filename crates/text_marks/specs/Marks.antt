@@ -1,0 +1,100 @@
+-- Which part of a text has its first fault, which words may be there instead, and which mend the text. All of it is said
+-- by first faults of texts that are cut after a word, or have another word.
+use Rattle.std.specs.Prelude.{◌≡◌, ◌≢◌, ◌<◌, ◌⊎◌, ◌&&◌, ◌||◌, ◌==◌, ℕ, Bool, true, false, IsTrue, nat_lt, List, ◌++◌, length, codes, decimal, Option, Some, None}
+use Rattle.std.specs.List.{AllByRecursion}
+use Rattle.program_text.specs.ProgramTexts.{IsProgramText}
+use Rattle.program_text.specs.ProgramStates.{TellsFirstFault}
+use Rattle.text_lines.specs.TextLines.{lines_of}
+use Rattle.text_lines.specs.declared.lines.TextFault.TheVariants.{At}
+use Rattle.text_marks.specs.declared.trials.Fault.{Fault}
+use Rattle.text_marks.specs.declared.marks.Mark.{Mark}
+use Rattle.text_marks.specs.declared.expected.Expected.{Expected}
+use Rattle.text_marks.specs.declared.expected.Expected.TheVariants.{Number, LineEnd}
+use Rattle.text_marks.specs.Samples.{sample_of}
+use Rattle.text_marks.specs.TextParts.{IsInside, cut_text, cut_with, line_number, text_with}
+
+-- ---- first faults
+
+-- The text is a program's, or has this first fault.
+abbrev pub HasFirst : List ℕ → Option Fault → Type 0
+HasFirst text None = IsProgramText (lines_of text)
+HasFirst text (Some fault) = TellsFirstFault (At fault.line fault.what) (lines_of text)
+
+-- The text is a program's, or has another first fault.
+abbrev pub HasOther : List ℕ → Fault → Type 0
+HasOther text fault = (other : Option Fault) × HasFirst text other × (other ≢ Some fault)
+
+-- whether the text has this first fault
+abbrev pub TellsFault : List ℕ → Fault → Bool → Type 0
+TellsFault text fault true = HasFirst text (Some fault)
+TellsFault text fault false = HasOther text fault
+
+-- ---- faulty parts
+
+-- The text up to the mark's end has the fault, and the text up to its start doesn't. For fault 12 only the first holds:
+-- `pact` has it too, although it begins the right first lines.
+abbrev pub IsFaultPart : List ℕ → Mark → Fault → Type 0
+IsFaultPart text mark fault =
+    HasFirst (cut_text mark.to text) (Some fault) × (fault.what ≢ 12 → HasOther (cut_text mark.from text) fault)
+
+-- A mark of a fault is a part that has it. Or it is empty: at a place such that the text up to there has the fault, or at
+-- the text's end.
+abbrev pub IsFaultMark : List ℕ → Fault → Mark → Type 0
+IsFaultMark text fault mark =
+    (mark.line ≡ fault.line)
+    × IsInside text mark.from mark.to
+    × (mark.from < mark.to → IsFaultPart text mark fault)
+    × (mark.to < length text → HasFirst (cut_text mark.to text) (Some fault))
+
+-- ---- accepted words
+
+-- The fault isn't one of this line's words: there is none, it is further on, or a word is missing.
+abbrev pub is_beyond : ℕ → Option Fault → Bool
+is_beyond line None = true
+is_beyond line (Some fault) = nat_lt line fault.line || ((line == fault.line) && (fault.what == 4))
+
+-- the first fault with the word, or if that is fault 12 of its line, with the word and the number 1
+abbrev pub HasTried : ℕ → ℕ → List ℕ → List ℕ → Option Fault → Type 0
+HasTried from to word text fault =
+    HasFirst (cut_with from to word text) fault
+    ⊎ (HasFirst (cut_with from to word text) (Some (record { line = line_number from text; what = 12 })) × HasFirst (cut_with from to (word ++ codes " 1") text) fault)
+
+-- what trying a word says
+abbrev pub TellsAccepted : ℕ → ℕ → List ℕ → List ℕ → Bool → Type 0
+TellsAccepted from to word text is_accepted =
+    (fault : Option Fault) × HasTried from to word text fault × (is_accepted ≡ is_beyond (line_number from text) fault)
+
+abbrev pub IsAccepted : ℕ → ℕ → List ℕ → List ℕ → Type 0
+IsAccepted from to word text = TellsAccepted from to word text true
+
+-- ---- what is expected
+
+-- There is no fault, or it is on a later line.
+abbrev pub is_later : ℕ → Option Fault → Bool
+is_later line None = true
+is_later line (Some fault) = nat_lt line fault.line
+
+abbrev pub MayEnd : ℕ → List ℕ → Type 0
+MayEnd from text = (fault : Option Fault) × HasFirst (cut_text from text) fault × IsTrue (is_later (line_number from text) fault)
+
+-- A sample of the item may be at the place; both ends of a range; for the line's end, no word.
+abbrev pub IsExpected : ℕ → ℕ → List ℕ → Expected → Type 0
+IsExpected from to text (Number low high) = IsAccepted from to (decimal low) text × IsAccepted from to (decimal high) text
+IsExpected from to text LineEnd = MayEnd from text
+IsExpected from to text item = IsAccepted from to (sample_of item) text
+
+-- whether one sample stands for the item
+abbrev pub has_one_sample : Expected → Bool
+has_one_sample (Number low high) = false
+has_one_sample LineEnd = false
+has_one_sample item = true
+
+abbrev pub AreExpected : ℕ → ℕ → List ℕ → List Expected → Type 0
+AreExpected from to text items = AllByRecursion (IsExpected from to text) items
+
+-- ---- cures
+
+-- With the word the text is a program's, or its first fault is on a later line.
+abbrev pub IsCure : ℕ → ℕ → List ℕ → List ℕ → Type 0
+IsCure from to text word =
+    (fault : Option Fault) × HasFirst (text_with from to word text) fault × IsTrue (is_later (line_number from text) fault)
