@@ -1,19 +1,19 @@
-/* Edits programs and certificates at random, runs pact on each, and judges what it answers. See README.md, "Edits".
-   edits PROGRAM FOLDER KEPT COUNT PROCESSES FIRST
-   FOLDER has programs NAME.pact, certificates NAME.*.json of them, and the programs' sources. What fails is kept in KEPT, under the edit's number,
-   from which alone it can be made again. */
+/* Edits programs, certificates and rows at random, runs pact and pact_explain on each, and judges what they answer. See README.md, "Edits".
+   edits PROGRAM EXPLAINS FOLDER KEPT COUNT PROCESSES FIRST FILE..
+   FOLDER has programs NAME.pact, certificates NAME.*.json of them, and the programs' sources. The FILEs among them are edited. What fails is kept in
+   KEPT, under the edit's number, from which alone it can be made again. */
 #include "runs.h"
-#include <dirent.h>
 
 #define MOST_FILES 256
 #define MOST_SPANS 4096
 
 /* ---- Texts */
 
+enum content { PROGRAM, CERTIFICATE, ROWS };
 struct file {
-    char name[256];
+    const char *name;
     struct text text;
-    int is_certificate;
+    enum content content;
 };
 static struct file files[MOST_FILES];
 static size_t file_count;
@@ -24,26 +24,20 @@ static int ends_in(const char *name, const char *end)
     size_t length = strlen(name), part = strlen(end);
     return length >= part && strcmp(name + length - part, end) == 0;
 }
-static void read_files(void)
+static void read_files(char **names)
 {
-    DIR *folder = opendir(".");
-    struct dirent *entry;
-    if (folder == NULL)
-        stop("folder");
-    while ((entry = readdir(folder)) != NULL && file_count < MOST_FILES) {
-        int is_certificate = ends_in(entry->d_name, ".json");
-        if (!is_certificate && !ends_in(entry->d_name, ".pact"))
-            continue;
+    for (; *names != NULL; names++) {
+        if (file_count == MOST_FILES)
+            stop("files");
         struct file *file = &files[file_count++];
-        snprintf(file->name, sizeof file->name, "%s", entry->d_name);
-        file->is_certificate = is_certificate;
+        file->name = *names;
+        file->content = ends_in(*names, ".pact") ? PROGRAM : ends_in(*names, ".json") ? CERTIFICATE : ROWS;
         FILE *stream = fopen(file->name, "rb");
         if (stream == NULL || (file->text.bytes = malloc(MOST_BYTES)) == NULL)
             stop(file->name);
         file->text.length = fread(file->text.bytes, 1, MOST_BYTES, stream);
         fclose(stream);
     }
-    closedir(folder);
     qsort(files, file_count, sizeof files[0], by_name);
 }
 
@@ -100,13 +94,13 @@ static struct span spans[MOST_SPANS], others[MOST_SPANS];
 static char moved[MOST_BYTES];
 
 /* One edit of a text; what it adds may come from another file. */
-static void edit(struct text *text, int is_certificate)
+static void edit(struct text *text, enum content content)
 {
-    char end = is_certificate ? ',' : '\n', byte;
+    char end = content == CERTIFICATE ? ',' : '\n', byte;
     size_t count, more, first, second, times;
     struct span span;
     const struct file *other = &files[below(file_count)];
-    if (other->is_certificate != is_certificate)
+    if (other->content != content)
         other = NULL;
     struct text source = other == NULL ? *text : other->text;
     switch (below(16)) {
@@ -209,16 +203,17 @@ static void edit(struct text *text, int is_certificate)
 /* ---- What is judged */
 
 struct counts {
-    unsigned long edits, runs, failures, compared, certified, statuses[6][16];
+    unsigned long edits, runs, failures, compared, certified, explained, marked, statuses[6][16];
 };
 static const char *const command_names[] = {"sets", "plan", "run", "check"};
 enum command { SETS, PLAN, RUN, CHECK };
+static const char *explains;
 static struct counts *counts; /* shared by all processes */
 static struct text edited;
 static const char *edited_name;
 static int has_failed;
 
-static void fails(char *const words[], struct answer answer, const char *why)
+static void fails_in(const char *of, char *const words[], struct answer answer, const char *why)
 {
     char line[4096];
     size_t length = 0;
@@ -226,12 +221,13 @@ static void fails(char *const words[], struct answer answer, const char *why)
     for (int i = 1; words[i] != NULL && length < sizeof line; i++)
         length += (size_t)snprintf(line + length, sizeof line - length, " %s", words[i]);
     __atomic_add_fetch(&counts->failures, 1, __ATOMIC_SEQ_CST);
-    printf("edit %lu of %s: pact%s: status %d: %s\n", number, edited_name, line, answer.status, why);
+    printf("edit %lu of %s: %s%s: status %d: %s\n", number, edited_name, of, line, answer.status, why);
     fflush(stdout);
-    keep(ends_in(edited_name, ".json") ? "json" : "pact", edited);
+    keep(strrchr(edited_name, '.') + 1, edited);
     keep("out", answer.out);
     keep("err", answer.err);
 }
+static void fails(char *const words[], struct answer answer, const char *why) { fails_in("pact", words, answer, why); }
 static size_t lines_of(struct text text)
 {
     size_t lines = 0;
@@ -240,14 +236,15 @@ static size_t lines_of(struct text text)
     return lines;
 }
 static int begins(struct text text, const char *with) { return strncmp(text.bytes, with, strlen(with)) == 0; }
+static int has_repeat(struct text text) { return memmem(text.bytes, text.length, "repeat", 6) != NULL; }
+static int is_large; /* whether the program that is run has a loop with a fixed number of turns */
 /* Why an answer is none that there may be; NULL where it may. */
 static const char *fault_of(enum command command, struct answer answer)
 {
     static const char *const allowed[] = {"056", "03567", "03567", "0569"};
     struct text err = answer.err;
     /* Loops that emit may give more than there is room or time for; nothing else may. */
-    int is_large = command == RUN && memmem(edited.bytes, edited.length, "repeat", 6) != NULL;
-    if (is_large && (answer.status == -1 || answer.status == 1 || answer.status == 4))
+    if (command == RUN && is_large && (answer.status == -1 || answer.status == 1 || answer.status == 4))
         return NULL;
     if (answer.status < 0)
         return "it took too long";
@@ -269,8 +266,8 @@ static const char *fault_of(enum command command, struct answer answer)
         return "no line on standard error";
     size_t lines = lines_of(err);
     if (answer.status == 9) {
-        int is_c3 = strstr(err.bytes, ": C3\n") != NULL, is_c5 = begins(err, "certificate refused: C5\n");
-        if (!begins(err, "certificate refused: ") || lines != (is_c3 ? 5u : is_c5 ? 3u : 1u))
+        int is_c3 = strstr(err.bytes, ": C3\n") != NULL, has_both = begins(err, "certificate refused: C5\n") || begins(err, "certificate refused: C6\n");
+        if (!begins(err, "certificate refused: ") || lines != (is_c3 ? 5u : has_both ? 3u : 1u))
             return "no such refusal of a certificate";
         return NULL;
     }
@@ -295,11 +292,86 @@ static const char *fault_of(enum command command, struct answer answer)
         return count == 5 && behind == '\n' && first >= 1 && third >= 1 && third <= 4 ? NULL : "no such line";
     }
 }
-/* Runs a command over what was edited, and judges the answer. */
+/* The end of the line that begins there, or of the text. */
+static const char *line_end(const char *at)
+{
+    const char *end = strchr(at, '\n');
+    return end == NULL ? at + strlen(at) : end;
+}
+/* Whether an explanation's second to fourth lines are a place, what is there, and marks: of a fault of a text a place on its line, of a broken rule
+   another one of the program, and of a bad row one of a file. */
+static int has_mark(const char *told, struct answer answer)
+{
+    char place[64] = "\nedited.pact:", *after;
+    const char *second = line_end(told), *third, *fourth;
+    unsigned long line;
+    if (answer.status == 5 && sscanf(answer.err.bytes, "edited.pact:%lu:", &line) == 1)
+        snprintf(place, sizeof place, "\nedited.pact:%lu:", line);
+    if (answer.status != 7 && strncmp(second, place, strlen(place)) != 0)
+        return 0;
+    if (*(third = line_end(second + 1)) == '\0' || *(fourth = line_end(third + 1)) == '\0')
+        return 0;
+    /* The line's number and the column are the last two parts of the place. */
+    const char *colon = memrchr(second, ':', (size_t)(third - second));
+    if (colon == NULL || memrchr(second, ':', (size_t)(colon - second)) == NULL)
+        return 0;
+    size_t column = strtoul(colon + 1, &after, 10);
+    if (after != third || column == 0)
+        return 0;
+    size_t blanks = strspn(fourth + 1, " \t"), marks = strspn(fourth + 1 + blanks, "^");
+    const char *behind = fourth + 1 + blanks + marks;
+    /* The line is shown after four blanks; if it is long, it is cut, and marks may be further to the left. A tab is one in both lines. */
+    return strncmp(third + 1, "    ", 4) == 0 && marks > 0 && behind[strspn(behind, "\t^")] == '\n' &&
+           (blanks == column + 3 || column > 40 || memchr(third, '\t', (size_t)(fourth - third)) != NULL || strstr(third, "\\x") != NULL);
+}
+/* Why an explanation is wrong, if pact answers that; NULL where it is right. */
+static const char *fault_of_explanation(struct answer told, struct answer answer)
+{
+    int is_refused = answer.status > 1 && answer.status != 4;
+    if (told.status < 0)
+        return "it took too long";
+    if (told.status > 127)
+        return "a signal ended it";
+    if (told.err.length > 0)
+        return "something is told on standard error";
+    if (told.out.length == 0)
+        return "nothing is told";
+    if (told.out.bytes[told.out.length - 1] != '\n')
+        return "the last line isn't ended";
+    if (told.status != (is_refused ? answer.status : 0))
+        return "another status than pact's";
+    if (!is_refused)
+        return begins(told.out, "no fault found\n") ? NULL : "it has a fault, and pact has none";
+    if (strncmp(told.out.bytes, answer.err.bytes, answer.err.length) != 0)
+        return "it doesn't begin with what pact tells";
+    if ((answer.status == 5 || answer.status == 6 || answer.status == 7) && !has_mark(told.out.bytes, answer))
+        return "no mark";
+    return NULL;
+}
+/* Runs a program, and once more if it took too long: a busy machine can cause that. */
+static struct answer run_again(const char *name, char *const words[])
+{
+    struct answer answer = run_file(name, words);
+    return answer.status < 0 ? run_file(name, words) : answer;
+}
+/* Runs a command over what was edited, explains the answer, and judges both. */
 static struct answer judged(enum command command, char *const words[])
 {
-    struct answer answer = run(words);
+    struct answer told = run_again(explains, words);
+    told.out = copied(told.out);
+    told.err = copied(told.err);
+    struct answer answer = command == RUN && is_large ? run(words) : run_again(program, words);
     const char *why = fault_of(command, answer);
+    const char *why_explained = fault_of_explanation(told, answer);
+    __atomic_add_fetch(&counts->explained, 1, __ATOMIC_RELAXED);
+    if (answer.status >= 5 && answer.status <= 7)
+        __atomic_add_fetch(&counts->marked, 1, __ATOMIC_RELAXED);
+    if (why_explained != NULL) {
+        fails_in("pact_explain", words, told, why_explained);
+        keep("printed", answer.err);
+    }
+    free(told.out.bytes);
+    free(told.err.bytes);
     __atomic_add_fetch(&counts->runs, 1, __ATOMIC_RELAXED);
     __atomic_add_fetch(&counts->statuses[command][answer.status < 0 || answer.status > 14 ? 15 : answer.status], 1, __ATOMIC_RELAXED);
     if (why != NULL)
@@ -342,6 +414,7 @@ static void try_program(void)
     static char *const plan_words[] = {"pact", "plan", "edited.pact", NULL}, *const cert_words[] = {"pact", "cert", "edited.pact", NULL},
                        *const written_words[] = {"pact", "run", "edited.pact", "--workers", "1", "--plans", "1", NULL};
     struct answer answer;
+    is_large = has_repeat(edited);
     write_file("edited.pact", edited);
     switch (below(5)) {
     case 0: judged(SETS, sets_words); return;
@@ -375,11 +448,35 @@ static void try_program(void)
         __atomic_add_fetch(&counts->compared, 1, __ATOMIC_RELAXED);
     }
 }
+/* Whether a program names a file as a word of its own. */
+static int names(struct text program_text, const char *name)
+{
+    size_t length = strlen(name);
+    for (const char *at = program_text.bytes, *end = at + program_text.length; (at = memmem(at, (size_t)(end - at), name, length)) != NULL; at++)
+        if (at > program_text.bytes && at[-1] == ' ' && at + length < end && at[length] == ' ')
+            return 1;
+    return 0;
+}
+/* Edited rows take the place of a file that one of the programs reads. */
+static void try_rows(const struct file *file)
+{
+    const struct file *reader = NULL;
+    size_t readers = 0;
+    for (size_t at = 0; at < file_count; at++)
+        if (files[at].content == PROGRAM && names(files[at].text, file->name) && below(++readers) == 0)
+            reader = &files[at];
+    if (reader == NULL)
+        return;
+    is_large = has_repeat(reader->text);
+    write_file("edited.pact", reader->text);
+    write_file(file->name, edited);
+    judged(RUN, options_drawn());
+    write_file(file->name, file->text);
+}
 static void try_certificate(const struct file *file)
 {
-    char name[sizeof file->name + sizeof ".pact"];
-    strcpy(name, file->name);
-    strcpy(strchr(name, '.'), ".pact");
+    char name[300];
+    snprintf(name, sizeof name, "%.*s.pact", (int)strcspn(file->name, "."), file->name);
     char *const words[] = {"pact", "check", name, "edited.json", NULL};
     write_file("edited.json", edited);
     judged(CHECK, words);
@@ -392,11 +489,12 @@ static void try_edit(void)
     memcpy(edited.bytes, file->text.bytes, file->text.length);
     edited.length = file->text.length;
     for (size_t times = below(2) == 0 ? 1 : 1 + below(4); times > 0; times--)
-        edit(&edited, file->is_certificate);
-    if (file->is_certificate)
-        try_certificate(file);
-    else
-        try_program();
+        edit(&edited, file->content);
+    switch (file->content) {
+    case PROGRAM: try_program(); break;
+    case CERTIFICATE: try_certificate(file); break;
+    default: try_rows(file);
+    }
     __atomic_add_fetch(&counts->edits, 1, __ATOMIC_RELAXED);
 }
 
@@ -413,18 +511,17 @@ static void enter(const char *folder, unsigned long process)
 
 int main(int words, char **word)
 {
-    if (words != 7)
+    if (words < 9)
         return 2;
     program = word[1];
-    kept = word[3];
-    unsigned long count = strtoul(word[4], NULL, 10), processes = strtoul(word[5], NULL, 10), first = strtoul(word[6], NULL, 10);
+    explains = word[2];
+    kept = word[4];
+    unsigned long count = strtoul(word[5], NULL, 10), processes = strtoul(word[6], NULL, 10), first = strtoul(word[7], NULL, 10);
     counts = mmap(NULL, sizeof *counts, PROT_READ | PROT_WRITE, MAP_SHARED | MAP_ANONYMOUS, -1, 0);
     edited.bytes = malloc(MOST_BYTES);
-    if (counts == MAP_FAILED || edited.bytes == NULL || chdir(word[2]) != 0)
+    if (counts == MAP_FAILED || edited.bytes == NULL || chdir(word[3]) != 0)
         stop("start");
-    read_files();
-    if (file_count == 0)
-        stop("no file");
+    read_files(word + 8);
     limit_runs();
     for (unsigned long process = 0; process < processes; process++) {
         pid_t child = fork();
@@ -432,7 +529,7 @@ int main(int words, char **word)
             stop("fork");
         if (child > 0)
             continue;
-        enter(word[2], process);
+        enter(word[3], process);
         for (unsigned long of = first + process; of < first + count; of += processes) {
             begin_trial(of);
             try_edit();
@@ -442,8 +539,8 @@ int main(int words, char **word)
     int status, all_ended = 1;
     while (wait(&status) > 0)
         all_ended = all_ended && status == 0;
-    printf("%lu edits, %lu runs, %lu certificates checked again, %lu answers compared, %lu failures\n", counts->edits, counts->runs,
-        counts->certified, counts->compared, counts->failures);
+    printf("%lu edits, %lu runs, %lu explained, %lu with marks, %lu certificates checked again, %lu answers compared, %lu failures\n",
+        counts->edits, counts->runs, counts->explained, counts->marked, counts->certified, counts->compared, counts->failures);
     printf("%-6s %9s %9s %9s %9s %9s %9s %9s %9s\n", "status", "0", "1", "3", "5", "6", "7", "9", "other");
     for (int command = 0; command < 4; command++) {
         unsigned long *of = counts->statuses[command];

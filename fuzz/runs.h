@@ -95,8 +95,8 @@ static void empty(int file)
     if (ftruncate(file, 0) != 0 || lseek(file, 0, SEEK_SET) != 0)
         stop("truncate");
 }
-/* Runs the program with these words. It has ten seconds by the clock, and one of the processor, which is asked behind it. */
-static struct answer run(char *const words[])
+/* Runs a program with these words. It has ten seconds by the clock, and one of the processor, which is asked behind it. */
+static struct answer run_file(const char *name, char *const words[])
 {
     static char *none[] = {NULL};
     struct timespec patience = {10, 0};
@@ -111,7 +111,7 @@ static struct answer run(char *const words[])
     if (child == 0) {
         dup2(out_file, 1);
         dup2(err_file, 2);
-        execve(program, words, none);
+        execve(name, words, none);
         _exit(127);
     }
     if (child < 0)
@@ -130,6 +130,7 @@ static struct answer run(char *const words[])
     status = late ? -1 : WIFSIGNALED(status) ? 128 + WTERMSIG(status) : WEXITSTATUS(status);
     return (struct answer){status, taken(out_file, out_bytes), taken(err_file, err_bytes)};
 }
+static struct answer run(char *const words[]) { return run_file(program, words); }
 /* In a process that runs the program: where its answers go, and how it waits for them. */
 static void open_answers(void)
 {

@@ -1,5 +1,6 @@
-# Each case of docs/faults.md: what is told of it, and that what the document says to write instead isn't refused so.
+# Each case of docs/faults.md: what `pact` prints, that `explain` explains it, and that what the page says to write instead isn't refused so.
 
+explains=${PACT_EXPLAIN:-$PWD/../release/pact_explain}
 faults=$scratch/faults
 mkdir -p "$faults/sub"
 
@@ -90,9 +91,10 @@ make_case() {
     esac
 }
 
-# Runs a case at its place, and says its status; what it writes on its streams is kept.
+# Runs a case at its place by a program, and ends with its status; what it writes on its streams is kept: the program, the place and the words.
 run_case() {
-    local words=sets
+    local started=$1 words=sets
+    shift
     case $1 in
     'As rows') words=run ;;
     'As a command' | "In \`examples/\`")
@@ -101,20 +103,35 @@ run_case() {
         (
             [ "$1" != 'As a command' ] || cd "$faults" || exit 1
             # shellcheck disable=SC2317
-            pact() { "$pact" "$@"; }
+            pact() { "$started" "$@"; }
             eval "$words"
         ) >"$scratch/out" 2>"$scratch/err"
         return
         ;;
     esac
-    (cd "$faults" && "$pact" "$words" m.pact >"$scratch/out" 2>"$scratch/err")
+    (cd "$faults" && "$started" "$words" m.pact >"$scratch/out" 2>"$scratch/err")
 }
 
 # Whether a case is refused with this line, which a certificate's refusal may have more lines behind.
 is_told() {
-    make_case "$1" "$3" && ! run_case "$1" "$3" || return 1
+    make_case "$1" "$3" && ! run_case "$pact" "$1" "$3" || return 1
     [ ! -s "$scratch/out" ] && [ "$(head -n 1 "$scratch/err")" = "$2" ] || return 1
     [[ $2 == *'C3' || $2 == *'C5' || $2 == *'C6' ]] || [ "$(wc -l <"$scratch/err")" -eq 1 ]
+}
+
+# Whether the program that explains has the status of `pact` for a case, and begins with all that `pact` prints. For a fault of a text, the place, the line
+# and marks follow.
+is_explained() {
+    local status place
+    make_case "$1" "$3" || return 1
+    run_case "$pact" "$1" "$3"
+    status=$?
+    mv "$scratch/err" "$scratch/printed"
+    run_case "$explains" "$1" "$3"
+    [ $? = "$status" ] && [ ! -s "$scratch/err" ] && cmp -s "$scratch/printed" <(head -c "$(wc -c <"$scratch/printed")" "$scratch/out") || return 1
+    [[ $2 == *': text fault '* ]] || return 0
+    { read -r && read -r place && read -r && IFS= read -r; } <"$scratch/out" || return 1
+    [[ $place =~ ^"${2%%: *}":[0-9]+$ && $REPLY =~ ^\ {4}[[:blank:]]*\^+$ ]]
 }
 
 # Whether what stands instead isn't refused so: a text may yet break a rule, since it is a part of a program.
@@ -125,7 +142,7 @@ is_mended() {
         instead=${3/"$5"/$4}
     fi
     make_case "$1" "$instead" || return 1
-    run_case "$1" "$instead"
+    run_case "$pact" "$1" "$instead"
     status=$?
     if [[ $2 == *': text fault '* ]]; then
         [ "$status" = 0 ] || [ "$status" = 6 ]
@@ -136,6 +153,8 @@ is_mended() {
 
 while IFS='|' read -r where told written instead replaced; do
     count is_told "$where" "$told" "$written"
+    # Nothing is run, so `explain` can't know that standard output is full.
+    [ "$told" = 'cannot write' ] || count is_explained "$where" "$told" "$written"
     [ -z "$instead" ] || count is_mended "$where" "$told" "$written" "$instead" "$replaced"
 done < <(tr '\t' '|' <"$scratch/fault_cases")
 

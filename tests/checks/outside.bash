@@ -640,13 +640,24 @@ done <<'END'
 12 13|0|1,12\n2,-3\n|
 END
 
-# ---- What a C compiler is wanted for
+# ---- Short runs of the fuzzers
 
-# Each request for memory of some commands is refused in turn; programs and certificates are edited at random, always in the same way: the files that
-# are edited are listed, so that another example changes nothing in that; and what is found of functions is held against what calls of them give.
-fuzz_passes() { # a script of ../fuzz, and its words
-    PROGRAM=$program KEPT=$scratch/kept bash "../fuzz/$1" "${@:2}" >"$scratch/told" 2>&1 || { cat "$scratch/told"; return 1; }
+# Whether a script of ../fuzz with these words finds no fault; what it prints is kept.
+fuzz_passes() {
+    PROGRAM=$program EXPLAINS=${PACT_EXPLAIN:-$PWD/../release/pact_explain} KEPT=$scratch/kept bash "../fuzz/$1" "${@:2}" >"$scratch/told" 2>&1 ||
+        { cat "$scratch/told"; return 1; }
 }
+
+# Each word of these programs is replaced by three others. These programs have each of the faults for which `explain` marks another word than the new
+# one. A change of one of them changes the numbers.
+count fuzz_passes words zz 0 v0 \
+    {bad_row,cogroup,count_all,cross,faulty,greet,join,missing,no_sink,notes,push,too_wide,union,uniq,wrong_key}.pact
+echo '2631 edits, 92 without a fault, 2228 with a mark under the new word, elsewhere: own 83, missing 39, next 75, literal 9, name 102, key 1, shared 2; 0 failed' \
+    >"$scratch/words_marked"
+count cmp "$scratch/words_marked" "$scratch/told"
+
+# With a C compiler, each request for memory of some commands is refused in turn. Programs, certificates and rows are edited at random, but each time in
+# the same way: the files are listed here, so a new example changes nothing. What the analysis finds is compared with what calls of functions give.
 certificates=(push.{good,c1,c2,c3,c5,shape}.json)
 if have cc 'requests for memory that are refused, and edits and functions that are made at random'; then
     count fuzz_passes memory --alone 'run sum.pact' 'sets sum.pact' 'cert push.pact --workers 2' 'run shop.pact' 'plan shop.pact' \
@@ -656,9 +667,10 @@ if have cc 'requests for memory that are refused, and edits and functions that a
         {anti_join,average,bad_row,cogroup,cond,count,count_all,counted,cross,decimals,distinct,drill,faulty,filter,first,five,flag,full_join}.pact
         {greet,join,join3,minimum,missing,no_sink,notes,null,odd,outer_join,pivot,push,revenue,running_total,self_join,semi_join,shop,sum}.pact
         {swap,too_wide,top,total,twice,union,wrong_key}.pact
-        certificates/{{cond,push,shop}.good,{count,five,shop}.c4,push.c{1,2,3,5},push.{shape,spread}}.json
+        certificates/{{cond,push,shop}.good,{count,five,shop}.c4,push.c{1,2,3,5,6},push.{shape,spread}}.json
+        {bad,colors,customers,d,drill,guests,h,members,names,orders,prices,s,sales,scores,sizes,sold,staff,t,t3,u,visits}.csv
     )
-    count fuzz_passes edits 300 1 0 "${edited[@]}"
+    count fuzz_passes edits 3000 2 0 "${edited[@]}"
     # Functions are made at random; where less than was found is taken to be true, that is told.
     count fuzz_passes agree 300 2
     FORGOTTEN='reads writes control order number' count fuzz_passes agree 150 2

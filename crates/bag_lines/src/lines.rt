@@ -25,8 +25,8 @@ fn end_of_parts(len: usize, count: u32, parts: u32) -> usize
         .min(len)
 }
 
-// It halves the records and makes both texts at the same time, each in half of the parts. A part's records are freed by
-// the thread that made its text.
+// It divides the records in two, makes both texts at the same time, and divides each side again if it has more than one
+// part. A part's records are freed by the thread that made its text.
 fn text_in_parts<R: Threads + Sync>(
     rt: &R,
     alloc: Global,
@@ -88,8 +88,8 @@ pub fn sorted_lines_on_threads<R: Threads + Sync>(
     text_in_parts(rt, alloc, rows.into_records(), fields, parts)
 }
 
-// A thread takes time to start and to join: 25,000 short rows took as long in two parts as in one with two threads, and a
-// thirtieth less with four.
+// A thread takes time to start and to join: 25,000 short rows took as long in two parts as in one with two threads, and
+// a thirtieth less with four.
 const PART_ROWS: usize = 12_500;
 
 /// In how many parts to make the text of that number of rows: one for each full `PART_ROWS`, at most `threads` and at

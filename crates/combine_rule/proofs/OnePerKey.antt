@@ -26,7 +26,7 @@ use Rattle.ship_strategy.proofs.Arrivals.{target_below}
 use Rattle.flow_instance.specs.declared.notes.Note.{Note}
 use Rattle.flow_instance.specs.declared.notes.Want.TheVariants.{Done}
 use Rattle.flow_instance.specs.Instances.{Instance, all_ended, port_ended, want}
-use Rattle.flow_instance.specs.Local.{Gave, IsGiven, IsLocal, rows_for, taken_rows, works_at_once}
+use Rattle.flow_instance.specs.Local.{Gave, IsGiven, IsLocal, rows_for, taken_rows, is_pipelined}
 use Rattle.flow_instance.specs.Notes.{rows_of}
 use Rattle.flow_instance.specs.Spots.{Setting, Spot, ports_of, sent, setting, spot}
 use Rattle.flow_instance.specs.Spread.{Spread, sum_below}
@@ -86,7 +86,7 @@ module _ (s : Spot) (worker : ℕ) (i : Instance) (taken : ℕ → ℕ → List 
   given_for_all =
       let fin = finished_by i.waiting i.marks (port_ended i 0) (port_ended i 1) i.finished done in
       let ended : all_ended i ≡ true = and_from (port_ended i 0) (port_ended i 1) fin.first fin.second in
-      let now : (works_at_once s.kind || all_ended i) ≡ true = or_right (works_at_once s.kind) (all_ended i) ended in
+      let now : (is_pipelined s.kind || all_ended i) ≡ true = or_right (is_pipelined s.kind) (all_ended i) ended in
       subst (λ (b : Bool). Gave b (IsGiven s s.kind s.ports worker (taken_rows s.workers taken)) l.given) now l.gave
 
   -- all records that it gave were put

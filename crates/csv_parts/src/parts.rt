@@ -55,7 +55,7 @@ fn end_of_parts(len: usize, count: u32, parts: u32) -> usize
         .min(len)
 }
 
-// It cuts the text near its middle and reads both parts at the same time, each in half of the parts.
+// It cuts the text in two, reads both sides at the same time, and cuts each side again if it has more than one part.
 fn rows_in_parts<R: Threads + Sync>(
     rt: &R,
     alloc: Global,
@@ -118,9 +118,9 @@ pub fn read_source_on_threads<R: Threads + Sync>(
     rows_in_parts(rt, alloc, text, columns, fields, parts)
 }
 
-// A thread takes time to start and to join: reading a short text in two parts took 0.3 ms longer than in one. A part of this
-// length takes 1.2 ms to read. On a machine with three times as many busy threads as processors, texts of 180 KB and more
-// were read faster in parts, and those below 90 KB slower.
+// A thread takes time to start and to join: reading a short text in two parts took 0.3 ms longer than in one. A part of
+// this length takes 1.2 ms to read. On a machine with three times as many busy threads as processors, texts of 180 KB
+// and more were read faster in parts, and those below 90 KB slower.
 const PART_BYTES: usize = 64 * 1024;
 
 /// In how many parts to read a text of `len` bytes: one for each full `PART_BYTES`, at most `threads` and at least one.

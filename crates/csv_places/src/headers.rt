@@ -3,15 +3,19 @@
 ghost use Rattle.std.specs.Prelude.{◌≤◌, length};
 
 use crate::numbers::is_number;
-use crate::shapes::{is_date, is_decimal, is_word, without_sign};
+use crate::shapes::{
+    has_thousands, is_column_name, is_date, is_decimal, is_scientific, is_truth_word,
+    is_unknown_word, without_sign,
+};
 use crate::spots::{Spot, first_spot, next_spot, value_at};
 use pact_record::{Column, Fields, MAX_FIELDS};
 
-/// The line of the first row, if it looks like the names of the columns: each of its fields is a word, and some column
-/// is of numbers, or holds nothing but numbers and dates in at least two rows below.
+/// The line of the first row, if it looks like the names of the columns: each of its fields is a name that isn't a value
+/// such as `NULL`, and some column is of numbers, or holds nothing but numbers and dates below. A column with empty cells
+/// needs two numbers or dates, any other one.
 pub(crate) fn header_line(text: &[u8], columns: &[Column]) -> Option<u64> {
     let first = first_spot(text)?;
-    let looks = is_row_of_words(text) && (has_number_column(columns) || has_numbers_below(text));
+    let looks = is_row_of_names(text) && (has_number_column(columns) || has_numbers_below(text));
     looks.then_some(first.line)
 }
 
@@ -24,14 +28,22 @@ fn has_number_column(columns: &[Column]) -> bool {
     false
 }
 
-fn is_word_at(text: &[u8], spot: &Spot) -> bool
+fn is_name_at(text: &[u8], spot: &Spot) -> bool
     requires order { spot.now.from ≤ spot.now.to }
     requires inside { spot.now.to ≤ length text.now }
 {
-    value_at(text, spot).is_some_and(is_word)
+    match value_at(text, spot) {
+        Some(value) => is_name(value.trim_ascii()),
+        None => false,
+    }
 }
 
-fn is_row_of_words(text: &[u8]) -> bool {
+/// Whether the value may be the name of a column.
+pub fn is_name(value: &[u8]) -> bool {
+    is_column_name(value) && !is_unknown_word(value) && !is_truth_word(value)
+}
+
+fn is_row_of_names(text: &[u8]) -> bool {
     let mut next = first_spot(text);
     for _ in 0..text.len() {
         let Some(spot) = next else {
@@ -40,7 +52,7 @@ fn is_row_of_words(text: &[u8]) -> bool {
         if spot.row > 1 {
             return true;
         }
-        if !is_word_at(text, &spot) {
+        if !is_name_at(text, &spot) {
             return false;
         }
         next = next_spot(text, &spot);
@@ -48,36 +60,56 @@ fn is_row_of_words(text: &[u8]) -> bool {
     true
 }
 
-// Whether some column has nothing but numbers and dates below the first row, in at least two rows.
+// Whether some column has nothing but numbers and dates below the first row: at least one, or two beside empty cells.
 fn has_numbers_below(text: &[u8]) -> bool {
     let mut next = first_spot(text);
-    let mut seen = Fields::empty();
+    let mut once = Fields::empty();
+    let mut twice = Fields::empty();
+    let mut empties = Fields::empty();
     let mut others = Fields::empty();
-    let mut rows = 0;
     for _ in 0..text.len() {
         let Some(spot) = next else {
             break;
         };
-        rows = spot.row;
         if spot.row > 1 && spot.column <= MAX_FIELDS {
             let column = spot.column.saturating_sub(1);
-            if has_number(text, &spot) {
-                seen = seen.with(column);
-            } else {
-                others = others.with(column);
+            match holds_number(text, &spot) {
+                Some(true) if once.has(column) => twice = twice.with(column),
+                Some(true) => once = once.with(column),
+                Some(false) => others = others.with(column),
+                None => empties = empties.with(column),
             }
         }
         next = next_spot(text, &spot);
     }
-    rows > 2 && seen.minus(others).least().is_some()
+    once.minus(empties)
+        .union(twice)
+        .minus(others)
+        .least()
+        .is_some()
 }
 
-fn has_number(text: &[u8], spot: &Spot) -> bool
+// Whether the field is a number or a date, if it isn't empty.
+fn holds_number(text: &[u8], spot: &Spot) -> Option<bool>
     requires order { spot.now.from ≤ spot.now.to }
     requires inside { spot.now.to ≤ length text.now }
 {
     match value_at(text, spot) {
-        Some(value) => is_number(value) || is_decimal(without_sign(value)) || is_date(value),
-        None => false,
+        Some(value) => value_holds_number(value.trim_ascii()),
+        None => Some(false),
     }
+}
+
+fn value_holds_number(value: &[u8]) -> Option<bool> {
+    if value.is_empty() {
+        return None;
+    }
+    let digits = without_sign(value);
+    Some(
+        is_number(value)
+            || is_decimal(digits)
+            || has_thousands(digits)
+            || is_scientific(digits)
+            || is_date(value),
+    )
 }

@@ -13,6 +13,7 @@ mod scanning;
 mod shapes;
 mod spots;
 
+pub use headers::is_name;
 pub use hints::file_hints;
 pub use lists::{FileHint, FileHintList};
 pub use numbers::{NumberFault, number_fault};

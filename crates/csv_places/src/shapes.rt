@@ -175,10 +175,14 @@ fn is_short(digits: usize) -> bool {
 pub(crate) fn is_unknown_word(text: &[u8]) -> bool {
     matches!(text, [b'-'] | [b'?'] | [b'\\', b'N'])
         || text.eq_ignore_ascii_case(b"null")
+        || text.eq_ignore_ascii_case(b"nil")
         || text.eq_ignore_ascii_case(b"n/a")
+        || text.eq_ignore_ascii_case(b"#n/a")
+        || text.eq_ignore_ascii_case(b"n.a.")
         || text.eq_ignore_ascii_case(b"na")
         || text.eq_ignore_ascii_case(b"nan")
         || text.eq_ignore_ascii_case(b"none")
+        || text.eq_ignore_ascii_case(b"unknown")
 }
 
 pub(crate) fn is_truth_word(text: &[u8]) -> bool {
@@ -188,23 +192,52 @@ pub(crate) fn is_truth_word(text: &[u8]) -> bool {
         || text.eq_ignore_ascii_case(b"no")
 }
 
-/// Whether the text may be the name of a column: a letter or `_` first, and no sign that numbers or sentences have.
+/// Whether the text may be a word or a few: a letter or `_` first, and no sign that numbers or sentences have.
 pub(crate) fn is_word(text: &[u8]) -> bool {
     match text.first() {
-        Some(first) => (first.is_ascii_alphabetic() || *first == b'_') && are_word_bytes(text),
+        Some(first) => (begins_letter(*first) || *first == b'_') && are_word_bytes(text),
         None => false,
     }
 }
 
-fn are_word_bytes(text: &[u8]) -> bool {
+/// Whether the text may be the name of a column, which may also have a unit, as `price ($)` or `Total [net]`.
+pub(crate) fn is_column_name(text: &[u8]) -> bool {
+    match text.first() {
+        Some(first) => (begins_letter(*first) || *first == b'_') && are_name_bytes(text),
+        None => false,
+    }
+}
+
+fn are_name_bytes(text: &[u8]) -> bool {
     for byte in text {
-        if !(byte.is_ascii_alphanumeric()
-            || matches!(*byte, b'_' | b' ' | b'-' | b'#' | b'(' | b')'))
-        {
+        if !(is_word_byte(*byte) || matches!(*byte, b'$' | b'[' | b']')) {
             return false;
         }
     }
     true
+}
+
+// Letters beyond ASCII begin with these bytes in UTF-8, and signs of currencies with 0xC2 or 0xE2.
+fn begins_letter(byte: u8) -> bool {
+    byte.is_ascii_alphabetic() || matches!(byte, 0xC3..=0xDF | 0xE0 | 0xE1 | 0xE3..=0xED)
+}
+
+fn are_word_bytes(text: &[u8]) -> bool {
+    for byte in text {
+        if !is_word_byte(*byte) {
+            return false;
+        }
+    }
+    true
+}
+
+fn is_word_byte(byte: u8) -> bool {
+    byte.is_ascii_alphanumeric()
+        || matches!(
+            byte,
+            b'_' | b' ' | b'-' | b'#' | b'(' | b')' | b'.' | b'/' | b'%'
+        )
+        || byte >= 0x80
 }
 
 /// A number and a sign beside it, as `$5`, `5%` or `5 kg`: at most one byte that is no digit before, and at most four

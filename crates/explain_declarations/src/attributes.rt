@@ -69,7 +69,7 @@ fn push_inputs<'a>(declared: &Declared<'a>, names: &mut Vec<&'a [u8]>) -> Result
     Ok(())
 }
 
-/// The names of the sources and operators from which a way leads to that one, and its own.
+/// The names of the sources and operators from which a path leads to that one, and its own.
 pub fn names_below<'a>(
     alloc: Global,
     declared: &Declared<'a>,

@@ -40,7 +40,7 @@ fn is_declaration(kind: &[u8]) -> bool {
     is_input(kind) || kind == b"function".as_slice() || kind == b"sink".as_slice()
 }
 
-/// The number that the digits are, or nothing if they are none.
+/// The number that the digits spell, or nothing if other bytes are among them.
 pub fn number(digits: &[u8]) -> Option<u64> {
     let mut value = 0u64;
     for digit in digits {
@@ -95,7 +95,7 @@ impl<'a> Declared<'a> {
         }
     }
 
-    /// The place of the left input among the words, and of the right one; 0 stands for none.
+    /// The place of the left input among the words, and of the right one; 0 if there is none.
     pub fn input_places(&self, line: &TextLine) -> (usize, usize) {
         let kind = self.kind(line);
         if kind == b"sink".as_slice() {
@@ -109,7 +109,7 @@ impl<'a> Declared<'a> {
         }
     }
 
-    /// The names of the inputs; no bytes stand for none.
+    /// The names of the inputs; no bytes for one that the declaration doesn't have.
     pub fn inputs(&self, line: &TextLine) -> (&'a [u8], &'a [u8]) {
         let (left, right) = self.input_places(line);
         (self.word_at(line, left), self.word_at(line, right))
@@ -207,7 +207,7 @@ impl<'a> Declared<'a> {
         None
     }
 
-    /// Appends what fields records have.
+    /// Appends a field's number and which fields records have.
     pub fn put_width(&self, page: &mut Page, field: u64) -> Result<(), OutOfMemory> {
         page.line(&[
             Say("field "),
@@ -224,9 +224,23 @@ impl<'a> Declared<'a> {
             Number(self.fields.saturating_sub(1)),
         ])
     }
+
+    /// The line of the header of the function that has this name and comes after `nth` others of that name.
+    pub fn header(&self, name: &[u8], nth: usize) -> Option<&TextLine> {
+        let mut left = nth;
+        for line in &self.lines {
+            if self.kind(line) == b"function".as_slice() && self.name(line) == name {
+                if left == 0 {
+                    return Some(line);
+                }
+                left = left.saturating_sub(1);
+            }
+        }
+        None
+    }
 }
 
-/// Appends names after a blank each.
+/// Appends names, each after a blank.
 pub fn put_names(page: &mut Page, names: &[&[u8]]) -> Result<(), OutOfMemory> {
     if names.is_empty() {
         page.put(b" none")?;

@@ -9,7 +9,7 @@ use explain_words::{Page, Part, TextLine};
 use pact_record::{Bytes, OutOfMemory};
 use std::alloc::Global;
 
-/// The word at fault, why it is, and what could be there instead; whether that helps has to be tried.
+/// The word at fault, why it is wrong, and what may be there instead. Nothing has tried yet whether that helps.
 #[derive(Drop)]
 pub struct Finding {
     pub there: Part,
@@ -27,7 +27,7 @@ impl Finding {
         }
     }
 
-    /// Adds words that could be there instead, those first that are spelled nearly like `word`.
+    /// Adds words that may be there instead: first the one spelled most like `word`, then all.
     pub fn offer(
         &mut self,
         alloc: Global,

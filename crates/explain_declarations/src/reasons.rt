@@ -2,16 +2,8 @@
 
 use explain_words::Page;
 use explain_words::pages::Piece::{Quote, Say};
+use explain_words::pages::text_of;
 use pact_record::OutOfMemory;
-use std::str;
-
-/// The bytes as text, or no text if they aren't UTF-8.
-pub fn text_of(bytes: &[u8]) -> &str {
-    match str::from_utf8(bytes) {
-        Ok(text) => text,
-        Err(_) => "",
-    }
-}
 
 // Whether the digits are a number above the limit.
 fn is_above(digits: &str, limit: u64) -> bool {
@@ -36,10 +28,10 @@ pub fn is_too_high(word: &[u8]) -> bool {
 
 fn kind_has(kind: &str) -> &'static str {
     match kind {
-        "map" => "the record in, and no list",
+        "map" => "the record in and no list",
         "match" | "cross" => "the records left, right and join, and no list",
         "reduce" => "the record first and the list group",
-        "cogroup" => "no record but those of its loops, and the lists left and right",
+        "cogroup" => "the lists left and right, and no record except those of its loops",
         _ => "none",
     }
 }
@@ -63,13 +55,13 @@ pub fn put_kind<'x>(page: &mut Page, word: &'x [u8], kind: &'x str) -> Result<()
         return page.line(&[
             Say("key: a function of kind "),
             Quote(kind.as_bytes()),
-            Say(" has no key; reduce and cogroup have"),
+            Say(" has no key; only reduce and cogroup have one"),
         ]);
     }
     if text_of(word).starts_with("x") {
         return page.line(&[
             Quote(word),
-            Say(": no each of that name is around this line"),
+            Say(": this line isn't inside an each of that name"),
         ]);
     }
     page.line(&[
@@ -95,4 +87,9 @@ pub fn put_keys<'x>(page: &mut Page, word: &'x [u8], keys: &'x [u8]) -> Result<(
         }),
         Say("; positions count from 0"),
     ])
+}
+
+/// The number that the word spells, or 0.
+pub fn number_in(word: &[u8]) -> u64 {
+    text_of(word).parse::<u64>().unwrap_or(0)
 }

@@ -1,4 +1,4 @@
-//! The rules of programs, each with what it finds wrong.
+//! For each rule of programs, what is wrong with a declaration that breaks it.
 
 use crate::attributes::{attributes, column_field, draft_of, names_below, rising};
 use crate::declared::{Declared, has_two_inputs, is_operator, number, put_names};
@@ -88,9 +88,9 @@ pub fn declared_twice(
             found.why.line(&[
                 Say("line "),
                 Number(other.number),
-                Say(" has the name "),
+                Say(" also declares the name "),
                 Quote(declared.name(line)),
-                Say(" too; give one of them another name"),
+                Say("; rename one of the two"),
             ])?;
             return Ok(Some(found));
         }
@@ -151,9 +151,9 @@ pub fn other_kind(
         Quote(declared.function(line)),
         Say(" (line "),
         Number(function.number),
-        Say(") is a "),
+        Say(") has the kind "),
         Quote(kind),
-        Say("'s, and this is a "),
+        Say(", and this operator is a "),
         Quote(declared.kind(line)),
         Say("; functions of that kind:"),
     ])?;
@@ -205,7 +205,7 @@ fn match_keys(
     found.why.line(&[
         Say(", and the right one "),
         Number(right_count as u64),
-        Say("; each key of the left side needs one of the right side"),
+        Say("; each key on the left needs one on the right"),
     ])?;
     Ok(Some(found))
 }
@@ -218,9 +218,9 @@ fn grouping_keys(
     let Some(function) = declared.function_named(declared.function(line)) else {
         return Ok(None);
     };
-    let wanted = number(function.word(declared.text, 3)).unwrap_or(0);
+    let expected = number(function.word(declared.text, 3)).unwrap_or(0);
     let (by, equals, right) = key_places(declared, line);
-    let is_left = equals.saturating_sub(by) as u64 != wanted;
+    let is_left = equals.saturating_sub(by) as u64 != expected;
     let (from, to) = if is_left {
         (by, equals)
     } else {
@@ -228,7 +228,7 @@ fn grouping_keys(
     };
     let given = to.saturating_sub(from) as u64;
     let has_side = is_left || declared.kind(line) == b"cogroup".as_slice();
-    if !has_side || given == wanted {
+    if !has_side || given == expected {
         return Ok(None);
     }
     let mut found = Finding::at(alloc, span(line, from, to));
@@ -239,12 +239,12 @@ fn grouping_keys(
         Number(function.number),
         Say(") is written for "),
     ])?;
-    counted(&mut found.why, wanted, "key")?;
+    counted(&mut found.why, expected, "key")?;
     found.why.line(&[
         Say(if is_left {
-            ", and by has "
+            ", and the list after by has "
         } else {
-            ", and behind = stand "
+            ", and the list after = has "
         }),
         Number(given),
     ])?;
@@ -301,9 +301,9 @@ fn missing_key(
             found.why.add(&[
                 Say("field "),
                 Number(key),
-                Say(" is no attribute of its input "),
+                Say(" isn't an attribute of the input "),
                 Quote(input),
-                Say("; these are:"),
+                Say("; its attributes are:"),
             ])?;
             put_fields(alloc, &mut found.why, set)?;
             for field in &own {
@@ -327,7 +327,7 @@ pub fn attribute_missing(
     let Some(draft) = draft_of(alloc, declared.text) else {
         return Ok(None);
     };
-    let (by, equals, behind) = key_places(declared, line);
+    let (by, equals, after) = key_places(declared, line);
     let (left, right) = declared.inputs(line);
     let set = attributes(alloc, declared, &draft, left)?;
     if let Some(found) = missing_key(alloc, declared, line, by, equals, left, set)? {
@@ -337,7 +337,7 @@ pub fn attribute_missing(
         return Ok(None);
     }
     let set = attributes(alloc, declared, &draft, right)?;
-    missing_key(alloc, declared, line, behind, line.words.len(), right, set)
+    missing_key(alloc, declared, line, after, line.words.len(), right, set)
 }
 
 /// P6.
@@ -358,22 +358,22 @@ pub fn attributes_shared(
     }
     let mut found = Finding::at(alloc, span(line, 3, 5));
     found.why.add(&[
-        Say("its inputs "),
+        Say("the inputs "),
         Quote(left),
         Say(" and "),
         Quote(right),
-        Say(" have in common:"),
+        Say(" have these fields in common:"),
     ])?;
     put_fields(alloc, &mut found.why, shared)?;
     found.why.line(&[Say(
-        "let a function below one side set a field of its own, or set it above this operator",
+        "let the function below one input set another field, or set the field above this operator",
     )])?;
     Ok(Some(found))
 }
 
 // ---- the tree
 
-// The lines that use a name as an input, and how often it is used.
+// The lines that use a name as an input, one for each use.
 fn uses(alloc: Global, declared: &Declared, name: &[u8]) -> Result<Vec<u64>, OutOfMemory> {
     let mut lines = Vec::new(alloc);
     for line in &declared.lines {
@@ -394,7 +394,7 @@ fn put_lines(page: &mut Page, lines: &[u64]) -> Result<(), OutOfMemory> {
     page.put(b"\n")
 }
 
-// Whether a way leads from the name to the sink.
+// Whether a path leads from the name to the sink.
 fn is_reached(alloc: Global, declared: &Declared, name: &[u8]) -> Result<bool, OutOfMemory> {
     for line in &declared.lines {
         if declared.kind(line) == b"sink".as_slice() {
@@ -418,7 +418,10 @@ pub fn not_in_tree(
     let lines = uses(alloc, declared, name)?;
     let mut found = Finding::at(alloc, line.part(1));
     if lines.is_empty() {
-        found.why.line(&[Quote(name), Say(" is no operator's input, nor the sink's")])?;
+        found.why.line(&[
+            Quote(name),
+            Say(" isn't an input of an operator or of the sink"),
+        ])?;
         return Ok(Some(found));
     }
     if lines.len() > 1 {
@@ -426,16 +429,16 @@ pub fn not_in_tree(
             Quote(name),
             Say(" is an input "),
             Number(lines.len() as u64),
-            Say(" times, in the lines "),
+            Say(" times, on lines "),
         ])?;
         put_lines(&mut found.why, &lines)?;
         found.why.line(&[Say(
-            "declare a source twice to read it twice, with fields of its own; an operator's result can be used once",
+            "to read a source twice, declare it twice, each time with other fields; an operator's result can be used only once",
         )])?;
         return Ok(Some(found));
     }
     if !is_reached(alloc, declared, name)? {
-        found.why.line(&[Say("no way leads from "), Quote(name), Say(" to the sink")])?;
+        found.why.line(&[Say("no path leads from "), Quote(name), Say(" to the sink")])?;
         return Ok(Some(found));
     }
     Ok(None)
@@ -483,12 +486,13 @@ pub fn too_many(
     }
     let mut found = Finding::at(alloc, line.part(1));
     found.why.line(&[
-        Say("it is "),
+        Say("this is "),
         Say(what),
         Say(" number "),
         Number(count),
-        Say(": the most is "),
+        Say(", and at most "),
         Number(most),
+        Say(" are allowed"),
     ])?;
     Ok(Some(found))
 }
@@ -516,7 +520,7 @@ pub fn sinks(alloc: Global, declared: &Declared) -> Result<Finding, OutOfMemory>
     let mut found = Finding::at(alloc, there);
     if lines.is_empty() {
         found.why.line(&[
-            Say("no line is a sink; one is missing, such as: sink "),
+            Say("the program has no sink; add one, such as: sink "),
             Quote(last),
             Say(" 0"),
         ])?;
@@ -524,7 +528,7 @@ pub fn sinks(alloc: Global, declared: &Declared) -> Result<Finding, OutOfMemory>
         found.why.add(&[
             Say("the program has "),
             Number(lines.len() as u64),
-            Say(" sinks, in the lines "),
+            Say(" sinks, on lines "),
         ])?;
         put_lines(&mut found.why, &lines)?;
     }
@@ -533,7 +537,7 @@ pub fn sinks(alloc: Global, declared: &Declared) -> Result<Finding, OutOfMemory>
 
 // ---- fields
 
-// Another column of the same field: the line of its source, or 0.
+// The line of another column with the same field, or 0.
 fn other_column(declared: &Declared, line: &TextLine, at: usize, field: u64) -> u64 {
     for other in &declared.lines {
         for (place, there) in other.words.iter().enumerate() {
@@ -572,7 +576,7 @@ fn wrong_column(
     found.why.line(&[
         Say("field "),
         Number(field),
-        Say(" is a column's too in line "),
+        Say(" also belongs to a column on line "),
         Number(other),
         Say("; give each column a field of its own"),
     ])?;

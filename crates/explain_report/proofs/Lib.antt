@@ -1,2 +1,3 @@
+mod Following
 mod Foretold
-mod Repeating
+mod TextStages

@@ -3,14 +3,15 @@
 use crate::declarations::put_program_fault;
 use crate::files::{TEXT_LIMIT, bytes_in, put_long, put_unread, source_bytes};
 use crate::functions::{Broken, put_function_fault};
-use crate::texts::put_text_fault;
+use crate::texts::{put_text_fault, spot_of};
 use explain_declarations::Declared;
-use explain_declarations::reasons::text_of;
 use explain_rows::{BadPlace, put_bad_row, put_certificate_fault};
+use explain_words::pages::text_of;
 use explain_words::{Page, Printed, read_line};
 use pact_outside::Feed;
 use pact_record::OutOfMemory;
 use std::alloc::Global;
+use text_marks::Fault;
 
 /// Appends which row of a source is bad, if the program has the source.
 pub fn put_row_case<F: Feed>(
@@ -59,7 +60,8 @@ fn put_text_case<'x, F: Feed>(
     let text = bytes.bytes();
     match said {
         Printed::Text { line, what, .. } => {
-            put_text_fault(alloc, page, program, text, line, what)
+            let spot = spot_of(alloc, text, Fault { line, what })?;
+            put_text_fault(alloc, page, program, text, what, &spot)
         }
         Printed::Function { name, code, at } => {
             let broken = Broken {

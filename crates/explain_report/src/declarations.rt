@@ -9,7 +9,7 @@ use explain_words::places::put_place;
 use pact_record::OutOfMemory;
 use std::alloc::Global;
 
-/// Appends which declaration breaks a rule, and what there is instead.
+/// Appends which declaration breaks a rule, and what may be there instead.
 pub fn put_program_fault(
     alloc: Global,
     page: &mut Page,

@@ -1,18 +1,18 @@
 //! The call that the program makes.
 
-ghost use Rattle.std.specs.Prelude.{◌≡◌, ◌⊎◌, IfOk};
-ghost use Rattle.pact_words.specs.Words.{AreUnnamed, asked, texts_of};
+ghost use Rattle.std.specs.Prelude.{◌≡◌, IfOk};
+ghost use Rattle.pact_words.specs.Words.{asked, texts_of};
 ghost use Rattle.pact_load.specs.declared.refusals.Refusal.TheVariants as refusals;
-ghost use Rattle.explain_report.specs.Explaining.{Explains, ForetellsCommand, Tells};
+ghost use Rattle.explain_report.specs.Explaining.{Explains, ExplainsAny, ExplainsCommand, IsTextOfAny, Tells};
 
 use crate::explanations::{Explanation, of_refusal, without_fault};
 use crate::lines::put_line;
-use crate::loading::{explain_check, explain_loaded, explain_program, explain_repeated};
+use crate::loading::{Work, explain_file};
 use explain_usage::{put_faults, put_help, put_refused_words};
 use explain_words::Page;
 use pact_load::Refusal;
 use pact_outside::Feed;
-use pact_record::OutOfMemory;
+use pact_record::{Bytes, OutOfMemory};
 use pact_words::{Command, Refused, read_words};
 use std::alloc::Global;
 
@@ -62,24 +62,34 @@ fn explain_known<F: Feed>(
     command: Command,
     feed: &mut F,
 ) -> Result<Explanation, OutOfMemory>
-    ensures { IfOk result (ForetellsCommand (F.shows feed.old).files (asked command.entry)) }
+    ensures { IfOk result (ExplainsCommand (F.shows feed.old).files (asked command.entry)) }
 {
     match command {
-        Command::Run { program, .. } => explain_loaded(alloc, feed, program.as_bytes()),
-        Command::Plan { program, .. } => explain_loaded(alloc, feed, program.as_bytes()),
-        Command::Cert { program, .. } => explain_loaded(alloc, feed, program.as_bytes()),
-        Command::Sets { program } => explain_program(alloc, feed, program.as_bytes()),
+        Command::Run { program, .. } => explain_file(alloc, feed, program.as_bytes(), Work::Run),
+        Command::Plan { program, .. } => explain_file(alloc, feed, program.as_bytes(), Work::Run),
+        Command::Cert { program, .. } => explain_file(alloc, feed, program.as_bytes(), Work::Run),
+        Command::Sets { program } => explain_file(alloc, feed, program.as_bytes(), Work::Sets),
         Command::Check {
             program,
             certificate,
-        } => explain_check(alloc, feed, program.as_bytes(), certificate.as_bytes()),
+        } => explain_file(
+            alloc,
+            feed,
+            program.as_bytes(),
+            Work::Check(certificate.as_bytes()),
+        ),
         Command::Gen { .. } => no_fault(alloc),
         Command::Drill { .. } => no_fault(alloc),
         Command::Iterate {
             program,
             source,
             ..
-        } => explain_repeated(alloc, feed, program.as_bytes(), source.as_bytes()),
+        } => explain_file(
+            alloc,
+            feed,
+            program.as_bytes(),
+            Work::Repeat(source.as_bytes()),
+        ),
     }
 }
 
@@ -117,7 +127,7 @@ pub fn explain<F: Feed>(
     words: &[&str],
     feed: &mut F,
 ) -> Result<Explanation, OutOfMemory>
-    ensures { IfOk result (λ e. AreUnnamed (texts_of words.now) ⊎ Explains (texts_of words.now) (F.shows feed.old).files e) }
+    ensures { IfOk result (ExplainsAny (texts_of words.now) (F.shows feed.old).files) }
 {
     let Some(first) = words.first() else {
         return help(alloc);
@@ -128,4 +138,16 @@ pub fn explain<F: Feed>(
         "--line" => explain_line(alloc, words, feed),
         _ => explain_command(alloc, words, feed),
     }
+}
+
+/// Like `explain`, but only the exit status and the text to print, for callers that need no mark.
+pub fn explain_in_text<F: Feed>(
+    alloc: Global,
+    words: &[&str],
+    feed: &mut F,
+) -> Result<(u8, Bytes), OutOfMemory>
+    ensures { IfOk result (IsTextOfAny (texts_of words.now) (F.shows feed.old).files) }
+{
+    let explained = explain(alloc, words, feed)?;
+    Ok((explained.status, explained.text))
 }

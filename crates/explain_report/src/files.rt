@@ -3,10 +3,10 @@
 ghost use Rattle.std.specs.Prelude.{◌<◌, ◌^◌};
 
 use explain_declarations::Declared;
-use explain_declarations::reasons::text_of;
 use explain_words::Page;
 use explain_words::faults::status_fault;
 use explain_words::pages::Piece::{Number, Quote, Say};
+use explain_words::pages::text_of;
 use explain_words::places::put_place;
 use explain_words::spelling::{around, folder_of, last_name};
 use pact_load::{Refusal, load_text};
@@ -66,7 +66,7 @@ fn put_if_there<F: Feed>(
     other: &[u8],
 ) -> Result<(), OutOfMemory> {
     if name != other && is_there(alloc, feed, other)? {
-        page.line(&[Say("there is "), Quote(other)])?;
+        page.line(&[Say("there is a file "), Quote(other)])?;
     }
     Ok(())
 }
@@ -114,14 +114,14 @@ fn put_who_reads<F: Feed>(
     let beside = around(alloc, folder, name, b"")?;
     if !folder.is_empty() && is_there(alloc, feed, beside.bytes())? {
         page.put(beside.bytes())?;
-        page.put(b" is there: run pact in the folder ")?;
+        page.put(b" exists: run pact in the folder ")?;
         page.put(folder)?;
-        page.put(b" or write the longer name\n")?;
+        page.put(b", or write that name in the program\n")?;
     }
     Ok(())
 }
 
-/// Appends why a file can't be read, as far as that can be told.
+/// Appends that a file can't be read, the files that have nearly its name, and where it is named.
 pub fn put_unread<F: Feed>(
     alloc: Global,
     page: &mut Page,
@@ -133,14 +133,14 @@ pub fn put_unread<F: Feed>(
     page.line(&[
         Say("there is no file "),
         Quote(name),
-        Say(
-            ", or it isn't one that may be read; names of files begin in the folder in which pact runs",
-        ),
+        Say(" that pact can read; file names begin at the folder in which pact runs"),
     ])?;
     put_near(alloc, page, feed, name)?;
     put_who_reads(alloc, page, feed, program, name)?;
     if text_of(name) == "-" {
-        page.line(&[Say("pact reads no program from standard input: write its file's name")])?;
+        page.line(&[Say(
+            "pact can't read a program from standard input: give the name of its file",
+        )])?;
     }
     page.line(&[Say("docs/faults.md, \"Status 3\"")])
 }
@@ -156,10 +156,10 @@ pub fn put_long<F: Feed>(
 ) -> Result<(), OutOfMemory> {
     page.line(&[Say(status_fault(8))])?;
     page.line(&[
-        Say("the most is "),
+        Say("at most "),
         Number(limit),
         Say(
-            " bytes: leave out comments of a program, or columns and rows of a source, or cut the source's file into parts",
+            " bytes are allowed: delete comments of a program, or columns and rows of a source, or split a source's file",
         ),
     ])?;
     put_who_reads(alloc, page, feed, program, name)?;

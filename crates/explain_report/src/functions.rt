@@ -2,9 +2,10 @@
 
 use crate::trials::{heals, part_of, put_mended};
 use explain_declarations::Declared;
-use explain_declarations::reasons::{is_too_high, put_keys, put_kind, put_registers, text_of};
+use explain_declarations::reasons::{is_too_high, number_in, put_keys, put_kind, put_registers};
 use explain_words::faults::function_rule;
 use explain_words::pages::Piece::{Number, Quote, Say};
+use explain_words::pages::text_of;
 use explain_words::places::{bytes_of, put_place};
 use explain_words::{Page, Part, TextLine};
 use pact_record::{Bytes, MAX_FIELDS, OutOfMemory};
@@ -45,20 +46,6 @@ fn place_among(alloc: Global, text: &[u8], broken: &Broken) -> Result<usize, Out
     Ok(0)
 }
 
-// The line of the function's header.
-fn header<'b>(declared: &'b Declared, name: &[u8], nth: usize) -> Option<&'b TextLine> {
-    let mut left = nth;
-    for line in &declared.lines {
-        if declared.kind(line) == b"function".as_slice() && declared.name(line) == name {
-            if left == 0 {
-                return Some(line);
-            }
-            left = left.saturating_sub(1);
-        }
-    }
-    None
-}
-
 // ---- the word at fault
 
 fn word_at<'a>(text: &'a [u8], words: &[Mark], at: usize) -> &'a [u8] {
@@ -94,22 +81,52 @@ fn faulty_place(text: &[u8], words: &[Mark], code: u32) -> usize {
     }
 }
 
-// ---- what there is instead
+// ---- what may be there instead
 
 fn put_around(alloc: Global, page: &mut Page, text: &[u8], line: u64) -> Result<(), OutOfMemory> {
-    page.put(b"around it are:")?;
+    page.put(b"it is nested in:")?;
     for (at, open) in open_blocks(alloc, text, line)?.iter().enumerate() {
         if at > 0 {
             let words = words_of_line(alloc, text, *open)?;
             page.add(&[
                 Say(if at == 1 { " " } else { ", " }),
                 Quote(word_at(text, &words, 0)),
-                Say(" in line "),
+                Say(" on line "),
                 Number(*open),
             ])?;
         }
     }
     page.put(b"\n")
+}
+
+// The most turns of a statement in all loops around it.
+const TURN_LIMIT: u64 = 100_000;
+
+// How often the loops with a fixed number of turns around a line run it.
+fn turns_around(alloc: Global, text: &[u8], line: u64) -> Result<u64, OutOfMemory> {
+    let mut turns = 1u64;
+    for open in &open_blocks(alloc, text, line)? {
+        let words = words_of_line(alloc, text, *open)?;
+        if word_at(text, &words, 0) == b"repeat".as_slice() {
+            turns = turns.saturating_mul(number_in(word_at(text, &words, 1)));
+        }
+    }
+    Ok(turns)
+}
+
+fn put_turns(alloc: Global, page: &mut Page, text: &[u8], there: &Part) -> Result<(), OutOfMemory> {
+    put_around(alloc, page, text, there.line)?;
+    let around = turns_around(alloc, text, there.line)?;
+    let own = number_in(bytes_of(text, there));
+    page.line(&[
+        Number(around),
+        Say(" turns around it, times "),
+        Number(own),
+        Say(", come to "),
+        Number(around.saturating_mul(own)),
+        Say(": the most is "),
+        Number(TURN_LIMIT),
+    ])
 }
 
 // What the rule is about, at this word.
@@ -126,13 +143,14 @@ fn put_reason(
     match broken.code {
         1 => put_registers(page, word),
         2 => put_kind(page, word, kind),
-        3 => declared.put_width(page, text_of(word).parse::<u64>().unwrap_or(0)),
+        3 => declared.put_width(page, number_in(word)),
         4 => put_keys(page, word, header.word(declared.text, 3)),
         7 => page.line(&[
-            Say("it is statement number "),
+            Say("this is statement number "),
             Number(u64::from(broken.at).saturating_add(1)),
-            Say(", counted from 1: the most is 1000"),
+            Say(", counted from 1, and at most 1000 are allowed"),
         ]),
+        8 => put_turns(alloc, page, declared.text, there),
         _ => put_around(alloc, page, declared.text, there.line),
     }
 }
@@ -140,7 +158,7 @@ fn put_reason(
 // ---- cures
 
 const RECORDS: &[&str] = &[
-    "in", "left", "right", "join", "first", "group", "x1", "x2", "x3", "r0",
+    "in", "left", "right", "join", "first", "group", "x1", "x2", "x3",
 ];
 
 // Words that may be meant instead.
@@ -166,6 +184,13 @@ fn instead(
             words.push(Bytes::from_slice(alloc, digits.as_bytes())?)?;
         }
         4 => words.push(Bytes::from_slice(alloc, b"0")?)?,
+        8 => {
+            let around = turns_around(alloc, declared.text, there.line)?;
+            if around > 0 {
+                let digits = (TURN_LIMIT / around).to_string(alloc)?;
+                words.push(Bytes::from_slice(alloc, digits.as_bytes())?)?;
+            }
+        }
         _ => {}
     }
     Ok(words)
@@ -204,7 +229,7 @@ fn put_more_fields(
     there: &Part,
     broken: &Broken,
 ) -> Result<(), OutOfMemory> {
-    let field = text_of(bytes_of(text, there)).parse::<u64>().unwrap_or(0);
+    let field = number_in(bytes_of(text, there));
     let count = field.saturating_add(1).to_string(alloc)?;
     for line in &explain_words::places::lines_of(alloc, text)? {
         if line.word(text, 0) == b"fields".as_slice()
@@ -237,11 +262,10 @@ fn put_at(
     page.put(b"in function ")?;
     page.put(broken.name.as_bytes())?;
     page.line(&[
-        Say(" of line "),
-        Number(header.number),
         Say(" ("),
         Quote(header.word(declared.text, 2)),
-        Say(")"),
+        Say("), declared on line "),
+        Number(header.number),
     ])?;
     page.line(&[Say(function_rule(broken.code))])?;
     put_reason(alloc, page, declared, header, &there, broken)?;
@@ -252,7 +276,7 @@ fn put_at(
     Ok(())
 }
 
-/// Appends where a function breaks a rule, and what there is instead.
+/// Appends where a function breaks a rule, and what may be there instead.
 pub fn put_function_fault(
     alloc: Global,
     page: &mut Page,
@@ -264,7 +288,7 @@ pub fn put_function_fault(
     let nth = place_among(alloc, text, broken)?;
     let name = broken.name.as_bytes();
     if let (Some(header), Some(line)) = (
-        header(&declared, name, nth),
+        declared.header(name, nth),
         statement_line(text, name, nth, broken.at),
     ) {
         put_at(alloc, page, file, &declared, header, line, broken)?;

@@ -5,7 +5,7 @@
 //! `specs/Explaining` says that this line is the one that the stages of `pact_load` decide. What follows that line is
 //! found by asking the readers again, with other words at the faulty place.
 //!
-//! - `loading` reads the files of a command, and `explaining` chooses by the words.
+//! - `loading` reads the files of a command, `certificates` checks a certificate, and `explaining` chooses by the words.
 //! - `texts` explains text faults, `functions` rules of functions, `declarations` rules of programs, and `files` files
 //!   that can't be read.
 //! - `warnings` lists what is legal but seldom meant.
@@ -13,6 +13,7 @@
 #![tactic(auto)]
 
 mod cases;
+mod certificates;
 mod declarations;
 mod explaining;
 pub mod explanations;
@@ -24,5 +25,5 @@ mod texts;
 mod trials;
 mod warnings;
 
-pub use explaining::{explain, explain_command};
+pub use explaining::{explain, explain_command, explain_in_text};
 pub use explanations::Explanation;

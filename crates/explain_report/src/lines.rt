@@ -4,21 +4,22 @@ use crate::cases::{put_case, put_row_case};
 use crate::explanations::refusal_line;
 use crate::files::{TEXT_LIMIT, bytes_in, put_long, put_unread};
 use crate::loading::run_refusal;
-use crate::texts::put_text_fault;
-use explain_declarations::reasons::text_of;
+use crate::texts::{put_text_fault, spot_of};
 use explain_rows::{BadPlace, put_certificate_fault};
 use explain_usage::{is_of_program, put_building, put_rule, put_status, put_usage_line};
 use explain_words::faults::{function_rule, program_rule, row_fault, text_fault};
 use explain_words::pages::Piece::{Quote, Say};
+use explain_words::pages::text_of;
 use explain_words::spelling::last_name;
 use explain_words::{Page, Printed, read_line};
 use pact_outside::Feed;
 use pact_record::OutOfMemory;
 use std::alloc::Global;
+use text_marks::{Fault, first_fault};
 
 // ---- in general words
 
-// What the line says wherever it was printed.
+// Explains the line without a program that it is about.
 fn put_general<F: Feed>(
     alloc: Global,
     page: &mut Page,
@@ -82,11 +83,12 @@ fn put_other_path<F: Feed>(
     let Some(bytes) = bytes_in(alloc, feed, program.as_bytes(), TEXT_LIMIT)? else {
         return Ok(false);
     };
-    let fault = text_marks::first_fault(alloc, bytes.bytes())?;
-    if fault != Some(text_marks::Fault { line, what }) {
+    let fault = Fault { line, what };
+    if first_fault(alloc, bytes.bytes())? != Some(fault) {
         return Ok(false);
     }
-    put_text_fault(alloc, page, program.as_bytes(), bytes.bytes(), line, what)?;
+    let spot = spot_of(alloc, bytes.bytes(), fault)?;
+    put_text_fault(alloc, page, program.as_bytes(), bytes.bytes(), what, &spot)?;
     Ok(true)
 }
 
@@ -167,8 +169,8 @@ fn explains_unnamed<F: Feed>(
     Ok(true)
 }
 
-/// Appends what a line says that `pact` printed, with its place if one of the programs has this fault. It appends
-/// nothing if `pact` prints no such line. The line may be followed by those that `pact` prints below it.
+/// Appends what a line that `pact` printed means, with its place if one of the programs has this fault. It appends
+/// nothing if `pact` prints no such line. The lines that `pact` prints below it may follow it.
 pub fn put_line<F: Feed>(
     alloc: Global,
     page: &mut Page,
@@ -201,7 +203,7 @@ pub fn put_line<F: Feed>(
         put_general(alloc, page, feed, said, more)?;
     }
     if !is_found && is_of_program(said) && !programs.is_empty() {
-        page.line(&[Say("no program that was named here has this fault now:")])?;
+        page.line(&[Say("none of these programs has this fault now:")])?;
         for program in programs {
             page.line(&[Say("  "), Quote(program.as_bytes())])?;
         }

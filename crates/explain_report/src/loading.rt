@@ -1,16 +1,18 @@
 //! The files of a command, read in the order in which `pact` reads them, and what is said of them.
 
-ghost use Rattle.std.specs.Prelude.{◌≡◌, ◌≢◌, IfOk};
+ghost use Rattle.std.specs.Prelude.{◌≡◌, ◌≢◌, IfOk, None};
 ghost use Rattle.pact_load.specs.Answers.{Comes};
-ghost use Rattle.pact_operators.specs.Programs.{NamesDiffer};
 ghost use Rattle.pact_load.specs.Loading as work;
 ghost use Rattle.pact_load.specs.Readers.{CanRead, IsRead};
 ghost use Rattle.pact_load.specs.declared.refusals.Refusal.TheVariants as refusals;
-ghost use Rattle.explain_report.specs.Explaining.{Foretells, Tells, repeated};
+ghost use Rattle.explain_report.specs.Explaining.{ExplainsFile, ExplainsText, Foretells, ForetellsText, IsFaultExplained, Tells, reads_of};
+ghost use Rattle.explain_report.specs.TextStages.{checked_of, loaded_of, repeated_of};
 
 use crate::cases::put_case;
+use crate::certificates::followed;
 use crate::explanations::{Explanation, of_refusal, refusal_line, without_fault};
 use crate::files::{SOURCE_LIMIT, TEXT_LIMIT, bytes_in};
+use crate::texts::{put_text_fault, spot_of};
 use crate::warnings::put_hint;
 use csv_source::{BadRow, read_source};
 use explain_declarations::Declared;
@@ -19,17 +21,16 @@ use explain_words::Page;
 use explain_words::pages::Piece::Say;
 use pact_bag::{Inputs, Rows};
 use pact_load::{
-    Loaded, Refusal, is_source, load, load_program, load_sources, load_text, source_named,
+    Loaded, Refusal, is_source, load, load_sources, load_text, program_of, source_named,
+    text_refused,
 };
-use pact_operators::Program;
+use pact_operators::{Plan, Program};
 use pact_outside::Feed;
-use pact_record::{Bytes, Columns, OutOfMemory};
+use pact_record::{Columns, OutOfMemory};
 use program_hints::{program_hints, size_hints};
 use std::alloc::Global;
-use swap_certificate::{
-    CertFault, Certificate, NotCertificate, fault_text, not_certificate_text, read_certificate,
-    recheck,
-};
+use text_lines::TextFault;
+use text_marks::{Fault, first_fault};
 
 // ---- refusals
 
@@ -42,6 +43,7 @@ fn refused<F: Feed>(
 ) -> Result<Explanation, OutOfMemory>
     ensures told { IfOk result (Tells refusal.now) }
     ensures cause { IfOk result (λ _. refusal.now ≢ refusals.OutOfMemory) }
+    ensures spot { IfOk result (λ e. e.spot ≡ None) }
 {
     if let Refusal::OutOfMemory = refusal {
         return Err(OutOfMemory);
@@ -50,6 +52,26 @@ fn refused<F: Feed>(
     let mut page = Page::new(alloc);
     put_case(alloc, &mut page, feed, program, line.bytes())?;
     of_refusal(alloc, refusal, page.bytes())
+}
+
+// The explanation of this fault of a program's text.
+fn faulty(alloc: Global, name: &[u8], text: &[u8], fault: Fault) -> Result<Explanation, OutOfMemory>
+    ensures { IfOk result (IsFaultExplained name.now text.now fault) }
+{
+    let Fault { line, what } = fault;
+    let refusal = text_refused(alloc, name, TextFault::At { line, what });
+    if let Refusal::OutOfMemory = refusal {
+        return Err(OutOfMemory);
+    }
+    let spot = spot_of(alloc, text, fault)?;
+    let mut page = Page::new(alloc);
+    put_text_fault(alloc, &mut page, name, text, what, &spot)?;
+    let told = of_refusal(alloc, &refusal, page.bytes())?;
+    Ok(Explanation {
+        status: told.status,
+        text: told.text,
+        spot: Some(spot),
+    })
 }
 
 // ---- without a fault
@@ -110,7 +132,8 @@ fn accepted<F: Feed>(
     program: &Program,
     inputs: Option<&Inputs>,
 ) -> Result<Explanation, OutOfMemory>
-    ensures { IfOk result (λ e. e.status ≡ 0) }
+    ensures status { IfOk result (λ e. e.status ≡ 0) }
+    ensures spot { IfOk result (λ e. e.spot ≡ None) }
 {
     let mut page = Page::new(alloc);
     page.line(&[Say("no fault found")])?;
@@ -125,25 +148,188 @@ fn accepted<F: Feed>(
     without_fault(alloc, page.bytes())
 }
 
-// ---- commands
+// ---- what is done with the text of a program
 
-/// Explains `run`, `plan` or `cert` of the program in that file.
-pub fn explain_loaded<F: Feed>(
+// What `run` reads: the program, and the rows of its sources.
+fn load_of<F: Feed>(
     alloc: Global,
     feed: &mut F,
     name: &[u8],
-) -> Result<Explanation, OutOfMemory>
-    ensures { IfOk result (Foretells (work.loaded (F.shows feed.old).files name.now)) }
+    text: &[u8],
+) -> Result<Loaded, Refusal>
+    ensures { Comes (λ files. loaded_of files name.now text.now) (F.shows feed.old) (F.shows feed.new) result }
 {
     let read = |bytes: &[u8], columns: &Columns, fields: u32| -> Result<Rows, BadRow>
         requires { CanRead fields columns.now }
         ensures { IsRead fields columns.now bytes.now result }
     { read_source(alloc, bytes, columns, fields) };
-    match load(alloc, feed, name, &read) {
+    let program = program_of(alloc, name, text)?;
+    let inputs = load_sources(alloc, feed, &program, &read)?;
+    Ok(Loaded { program, inputs })
+}
+
+// What `iterate` reads: the program, and the rows of its sources if one of them has that name.
+fn repeat_of<F: Feed>(
+    alloc: Global,
+    feed: &mut F,
+    name: &[u8],
+    text: &[u8],
+    source: &[u8],
+) -> Result<Loaded, Refusal>
+    ensures { Comes (λ files. repeated_of files name.now source.now text.now) (F.shows feed.old) (F.shows feed.new) result }
+{
+    let read = |bytes: &[u8], columns: &Columns, fields: u32| -> Result<Rows, BadRow>
+        requires { CanRead fields columns.now }
+        ensures { IsRead fields columns.now bytes.now result }
+    { read_source(alloc, bytes, columns, fields) };
+    let program = program_of(alloc, name, text)?;
+    let _at = source_named(alloc, &program, source)?;
+    let inputs = load_sources(alloc, feed, &program, &read)?;
+    Ok(Loaded { program, inputs })
+}
+
+// The plan that the certificate in the file `other` leads to.
+fn check_of<F: Feed>(
+    alloc: Global,
+    feed: &mut F,
+    name: &[u8],
+    text: &[u8],
+    other: &[u8],
+) -> Result<Plan, Refusal>
+    ensures { Comes (λ files. checked_of files name.now other.now text.now) (F.shows feed.old) (F.shows feed.new) result }
+{
+    let program = program_of(alloc, name, text)?;
+    let certificate = load_text(alloc, feed, other, TEXT_LIMIT)?;
+    followed(alloc, &program, certificate.bytes())
+}
+
+// ---- explanations of that
+
+fn explain_sets<F: Feed>(
+    alloc: Global,
+    feed: &mut F,
+    name: &[u8],
+    text: &[u8],
+) -> Result<Explanation, OutOfMemory>
+    ensures told { IfOk result (Foretells (work.program_of name.now text.now)) }
+    ensures spot { IfOk result (λ e. e.spot ≡ None) }
+{
+    match program_of(alloc, name, text) {
+        Ok(program) => accepted(alloc, feed, name, &program, None),
+        Err(refusal) => refused(alloc, feed, name, &refusal),
+    }
+}
+
+fn explain_run<F: Feed>(
+    alloc: Global,
+    feed: &mut F,
+    name: &[u8],
+    text: &[u8],
+) -> Result<Explanation, OutOfMemory>
+    ensures told { IfOk result (Foretells (loaded_of (F.shows feed.old).files name.now text.now)) }
+    ensures spot { IfOk result (λ e. e.spot ≡ None) }
+{
+    match load_of(alloc, feed, name, text) {
         Ok(loaded) => accepted(alloc, feed, name, &loaded.program, Some(&loaded.inputs)),
         Err(refusal) => refused(alloc, feed, name, &refusal),
     }
 }
+
+fn explain_repeat<F: Feed>(
+    alloc: Global,
+    feed: &mut F,
+    name: &[u8],
+    text: &[u8],
+    source: &[u8],
+) -> Result<Explanation, OutOfMemory>
+    ensures told { IfOk result (Foretells (repeated_of (F.shows feed.old).files name.now source.now text.now)) }
+    ensures spot { IfOk result (λ e. e.spot ≡ None) }
+{
+    match repeat_of(alloc, feed, name, text, source) {
+        Ok(loaded) => accepted(alloc, feed, name, &loaded.program, Some(&loaded.inputs)),
+        Err(refusal) => refused(alloc, feed, name, &refusal),
+    }
+}
+
+fn explain_check<F: Feed>(
+    alloc: Global,
+    feed: &mut F,
+    name: &[u8],
+    text: &[u8],
+    other: &[u8],
+) -> Result<Explanation, OutOfMemory>
+    ensures told { IfOk result (Foretells (checked_of (F.shows feed.old).files name.now other.now text.now)) }
+    ensures spot { IfOk result (λ e. e.spot ≡ None) }
+{
+    match check_of(alloc, feed, name, text, other) {
+        Ok(_plan) => without_fault(alloc, b"no fault found\n"),
+        Err(refusal) => refused(alloc, feed, name, &refusal),
+    }
+}
+
+/// What a command does with its program's file.
+#[derive(Clone, Copy)]
+pub enum Work<'a> {
+    /// `sets` reads nothing else.
+    Sets,
+    /// `run`, `plan` and `cert` read the sources.
+    Run,
+    /// `iterate` reads the sources if one of them has this name.
+    Repeat(&'a [u8]),
+    /// `check` reads the certificate in this file.
+    Check(&'a [u8]),
+}
+
+fn explain_text<F: Feed>(
+    alloc: Global,
+    feed: &mut F,
+    name: &[u8],
+    text: &[u8],
+    work: Work,
+) -> Result<Explanation, OutOfMemory>
+    ensures told { IfOk result (ForetellsText (F.shows feed.old).files name.now text.now (reads_of work.entry)) }
+    ensures spot { IfOk result (λ e. e.spot ≡ None) }
+{
+    match work {
+        Work::Sets => explain_sets(alloc, feed, name, text),
+        Work::Run => explain_run(alloc, feed, name, text),
+        Work::Repeat(source) => explain_repeat(alloc, feed, name, text, source),
+        Work::Check(other) => explain_check(alloc, feed, name, text, other),
+    }
+}
+
+fn explain_read<F: Feed>(
+    alloc: Global,
+    feed: &mut F,
+    name: &[u8],
+    text: &[u8],
+    work: Work,
+) -> Result<Explanation, OutOfMemory>
+    ensures { IfOk result (ExplainsText (F.shows feed.old).files name.now text.now (reads_of work.entry)) }
+{
+    let first = first_fault(alloc, text)?;
+    match first {
+        Some(fault) => faulty(alloc, name, text, fault),
+        None => explain_text(alloc, feed, name, text, work),
+    }
+}
+
+/// Explains what a command does with the program in that file.
+pub fn explain_file<F: Feed>(
+    alloc: Global,
+    feed: &mut F,
+    name: &[u8],
+    work: Work,
+) -> Result<Explanation, OutOfMemory>
+    ensures { IfOk result (ExplainsFile (F.shows feed.old).files name.now (reads_of work.entry)) }
+{
+    match load_text(alloc, feed, name, TEXT_LIMIT) {
+        Ok(text) => explain_read(alloc, feed, name, text.bytes(), work),
+        Err(refusal) => refused(alloc, feed, name, &refusal),
+    }
+}
+
+// ---- lines that were printed
 
 /// Why `run` refuses the program in that file, if it does.
 pub fn run_refusal<F: Feed>(
@@ -159,115 +345,5 @@ pub fn run_refusal<F: Feed>(
         Ok(_) => Ok(None),
         Err(Refusal::OutOfMemory) => Err(OutOfMemory),
         Err(refusal) => Ok(Some(refusal)),
-    }
-}
-
-/// Explains `sets` of the program in that file.
-pub fn explain_program<F: Feed>(
-    alloc: Global,
-    feed: &mut F,
-    name: &[u8],
-) -> Result<Explanation, OutOfMemory>
-    ensures { IfOk result (Foretells (work.program_file (F.shows feed.old).files name.now)) }
-{
-    match load_program(alloc, feed, name) {
-        Ok(program) => accepted(alloc, feed, name, &program, None),
-        Err(refusal) => refused(alloc, feed, name, &refusal),
-    }
-}
-
-// The program and the rows of its sources, if one of them has that name.
-fn load_repeated<F: Feed>(
-    alloc: Global,
-    feed: &mut F,
-    name: &[u8],
-    source: &[u8],
-) -> Result<Loaded, Refusal>
-    ensures { Comes (λ files. repeated files name.now source.now) (F.shows feed.old) (F.shows feed.new) result }
-{
-    let read = |bytes: &[u8], columns: &Columns, fields: u32| -> Result<Rows, BadRow>
-        requires { CanRead fields columns.now }
-        ensures { IsRead fields columns.now bytes.now result }
-    { read_source(alloc, bytes, columns, fields) };
-    let program = load_program(alloc, feed, name)?;
-    let _at = source_named(alloc, &program, source)?;
-    let inputs = load_sources(alloc, feed, &program, &read)?;
-    Ok(Loaded { program, inputs })
-}
-
-/// Explains `iterate` of the program in that file over the source of that name.
-pub fn explain_repeated<F: Feed>(
-    alloc: Global,
-    feed: &mut F,
-    name: &[u8],
-    source: &[u8],
-) -> Result<Explanation, OutOfMemory>
-    ensures { IfOk result (Foretells (repeated (F.shows feed.old).files name.now source.now)) }
-{
-    match load_repeated(alloc, feed, name, source) {
-        Ok(loaded) => accepted(alloc, feed, name, &loaded.program, Some(&loaded.inputs)),
-        Err(refusal) => refused(alloc, feed, name, &refusal),
-    }
-}
-
-// ---- certificates
-
-fn decided(alloc: Global, line: &[u8]) -> Result<Refusal, OutOfMemory> {
-    Ok(Refusal::Decided {
-        status: 9,
-        line: Bytes::from_slice(alloc, line)?,
-    })
-}
-
-// Why the certificate is refused, if it is.
-fn certificate_refusal(
-    alloc: Global,
-    program: &Program,
-    certificate: &Certificate,
-) -> Result<Option<Refusal>, OutOfMemory>
-    requires names { NamesDiffer program.now.ops }
-{
-    match recheck(alloc, program, certificate) {
-        Ok(_) => Ok(None),
-        Err(CertFault::Memory) => Err(OutOfMemory),
-        Err(fault) => {
-            let text = fault_text(alloc, certificate, &fault)?;
-            Ok(Some(decided(alloc, text.bytes())?))
-        }
-    }
-}
-
-fn text_refusal(
-    alloc: Global,
-    program: &Program,
-    text: &[u8],
-) -> Result<Option<Refusal>, OutOfMemory>
-    requires names { NamesDiffer program.now.ops }
-{
-    match read_certificate(alloc, text) {
-        Ok(certificate) => certificate_refusal(alloc, program, &certificate),
-        Err(NotCertificate::Shape) => Ok(Some(decided(alloc, not_certificate_text())?)),
-        Err(NotCertificate::Memory) => Err(OutOfMemory),
-    }
-}
-
-/// Explains `check` of the program in the file `name` and the certificate in the file `other`.
-pub fn explain_check<F: Feed>(
-    alloc: Global,
-    feed: &mut F,
-    name: &[u8],
-    other: &[u8],
-) -> Result<Explanation, OutOfMemory> {
-    let program = match load_program(alloc, feed, name) {
-        Ok(program) => program,
-        Err(refusal) => return refused(alloc, feed, name, &refusal),
-    };
-    let text = match load_text(alloc, feed, other, TEXT_LIMIT) {
-        Ok(text) => text,
-        Err(refusal) => return refused(alloc, feed, name, &refusal),
-    };
-    match text_refusal(alloc, &program, text.bytes())? {
-        None => without_fault(alloc, b"no fault found\n"),
-        Some(refusal) => refused(alloc, feed, name, &refusal),
     }
 }

@@ -1,60 +1,50 @@
 //! Faults of a program's text.
 
+ghost use Rattle.std.specs.Prelude.{IfOk};
+ghost use Rattle.text_marks.specs.Marks.{AreExpected};
+ghost use Rattle.text_marks.specs.TextParts.{IsInside};
+ghost use Rattle.explain_report.specs.Explaining.{IsSpot};
+
+use crate::explanations::Spot;
 use crate::trials::{mark_of, mended, mends, part_of, put_mended};
-use explain_declarations::reasons::text_of;
 use explain_words::faults::text_fault;
 use explain_words::pages::Piece::{Number, Quote, Say};
+use explain_words::pages::text_of;
 use explain_words::places::{bytes_of, lines_of, put_place};
 use explain_words::spelling::meant_words;
+use explain_words::text_faults::{
+    blanks_before, field_count, put_range, put_text_page, put_word, shown_part, usual_hint,
+};
 use explain_words::{Page, Part, TextLine, hints};
 use pact_record::{Bytes, OutOfMemory};
 use std::alloc::Global;
 use text_marks::{
-    Expected, cures, expected_at, fault_mark, first_fault, is_accepted, open_blocks, words_of_line,
+    Expected, ExpectedList, Fault, Mark, cures, expected_at, fault_mark, open_blocks, words_of_line,
 };
 
 // ---- what may be there
 
-/// The number of fields that the text gives its records, or 0.
-fn field_count(alloc: Global, text: &[u8]) -> Result<u64, OutOfMemory> {
-    for line in &lines_of(alloc, text)? {
-        if line.word(text, 0) == b"fields".as_slice() {
-            return Ok(text_of(line.word(text, 1)).parse::<u64>().unwrap_or(0));
-        }
-    }
-    Ok(0)
-}
-
-fn put_number(page: &mut Page, low: u64, high: u64, fields: u64) -> Result<(), OutOfMemory> {
-    if low == 0 && high == 255 && fields > 0 {
-        page.add(&[
-            Say("a field (0 to "),
-            Number(fields.saturating_sub(1)),
-            Say(")"),
-        ])
-    } else if low == 1 && high == 64 {
-        page.put(b"a number of fields (1 to 64, after `pact 2` 1 to 128)")
-    } else {
-        page.add(&[Say("a number, "), Number(low), Say(" to "), Number(high)])
-    }
-}
-
-fn put_item(page: &mut Page, item: &Expected, fields: u64) -> Result<(), OutOfMemory> {
+fn put_item(
+    page: &mut Page,
+    item: &Expected,
+    fields: u64,
+    is_key: bool,
+) -> Result<(), OutOfMemory> {
     match item {
         Expected::Word(word) => page.put(word),
         Expected::ValueRegister => page.put(b"a value register (v0 to v31)"),
         Expected::RecordRegister => page.put(b"a record register (r0 to r7)"),
         Expected::Loop(number) => page.add(&[Say("x"), Number(u64::from(*number))]),
-        Expected::Number { low, high } => put_number(page, *low, *high, fields),
+        Expected::Number { low, high } => put_range(page, *low, *high, fields, is_key),
         Expected::Signed => {
             page.put(b"a whole number (-9223372036854775808 to 9223372036854775807)")
         }
         Expected::Literal => page.put(b"a literal between \" and \""),
         Expected::Name => {
-            page.put(b"a name (small letters, digits and _, at most 32, a letter first)")
+            page.put(b"a name (small letters, digits and _, a letter first, at most 32 in all)")
         }
         Expected::FileName => {
-            page.put(b"a file's name (letters, digits and . _ - /, at most 200)")
+            page.put(b"a file name (letters, digits and . _ - /, at most 200 in all)")
         }
         Expected::Column => page.put(b"a column (int:N or text:N with a field N)"),
         Expected::FieldRegister => page.put(b"a value register right after the @ (@v0 to @v31)"),
@@ -66,13 +56,11 @@ fn put_expected(
     alloc: Global,
     page: &mut Page,
     text: &[u8],
-    there: &Part,
+    line: u64,
+    list: &ExpectedList,
 ) -> Result<(), OutOfMemory> {
-    if there.to < there.from || text.len() < there.to {
-        return Ok(());
-    }
-    let list = expected_at(alloc, text, &mark_of(there))?;
     let fields = field_count(alloc, text)?;
+    let is_key = word_in(alloc, text, line, 2)? == "key";
     let count = list.items().len();
     if count == 0 {
         return Ok(());
@@ -86,61 +74,22 @@ fn put_expected(
                 b", "
             })?;
         }
-        put_item(page, item, fields)?;
+        put_item(page, item, fields, is_key)?;
     }
     page.put(b"\n")
 }
 
-// ---- the word
-
-fn put_word(page: &mut Page, text: &[u8], there: &Part, what: u32) -> Result<(), OutOfMemory> {
-    let word = bytes_of(text, there);
-    if text.is_empty() {
-        return page.line(&[Say("the file is empty")]);
-    }
-    if word.is_empty() {
-        return page.line(&[Say(if what == 4 {
-            "the word that is missing comes here"
-        } else {
-            "the text ends here"
-        })]);
-    }
-    if text.starts_with(b"\xEF\xBB\xBF") && there.from == 0 {
-        return page.line(&[Say(
-            "the file begins with a byte-order mark, which a program doesn't have",
-        )]);
-    }
-    page.line(&[Say("the word at fault is "), Quote(word)])
-}
-
-fn first_word<'a>(alloc: Global, text: &'a [u8], line: u64) -> Result<&'a str, OutOfMemory> {
+// The word of a line at that place, counted from 0, or none.
+fn word_in<'a>(
+    alloc: Global,
+    text: &'a [u8],
+    line: u64,
+    at: usize,
+) -> Result<&'a str, OutOfMemory> {
     let words = words_of_line(alloc, text, line)?;
-    match words.first() {
+    match words.get(at) {
         Some(mark) => Ok(text_of(bytes_of(text, &part_of(mark)))),
         None => Ok(""),
-    }
-}
-
-fn third_word<'a>(alloc: Global, text: &'a [u8], line: u64) -> Result<&'a str, OutOfMemory> {
-    let words = words_of_line(alloc, text, line)?;
-    match words.get(2) {
-        Some(mark) => Ok(text_of(bytes_of(text, &part_of(mark)))),
-        None => Ok(""),
-    }
-}
-
-// What is usually meant by the word, in a line with that first word.
-fn hint(what: u32, first: &str, word: &str) -> Option<&'static str> {
-    match what {
-        1 => hints::byte(word),
-        2 => hints::literal(word),
-        3 => hints::first_word(word),
-        5 => hints::left_over(first, word),
-        6 => hints::name(word),
-        7 | 8 => hints::operand(first, word),
-        9 => hints::operation(word),
-        12 => Some("the lines `pact 1` or `pact 2`, and then `fields F`, come before all others"),
-        _ => None,
     }
 }
 
@@ -151,8 +100,8 @@ fn put_hint(
     there: &Part,
     what: u32,
 ) -> Result<(), OutOfMemory> {
-    let first = first_word(alloc, text, there.line)?;
-    match hint(what, first, text_of(bytes_of(text, there))) {
+    let first = word_in(alloc, text, there.line, 0)?;
+    match usual_hint(what, first, text_of(bytes_of(text, there))) {
         Some(words) => page.line(&[Say(words)]),
         None => Ok(()),
     }
@@ -165,16 +114,16 @@ fn put_form(
     there: &Part,
     what: u32,
 ) -> Result<(), OutOfMemory> {
-    let first = first_word(alloc, text, there.line)?;
+    let first = word_in(alloc, text, there.line, 0)?;
     let is_assignment = first.starts_with("v") || first.starts_with("r");
     if what < 4 || what == 10 || what == 12 {
         return Ok(());
     }
     match hints::form(first) {
-        Some(form) => page.line(&[Say("such a line reads: "), Say(form)]),
+        Some(form) => page.line(&[Say("such a line is written: "), Say(form)]),
         None if is_assignment => page.line(&[
-            Say("such a line reads: "),
-            Say(hints::assignment(third_word(alloc, text, there.line)?)),
+            Say("such a line is written: "),
+            Say(hints::assignment(word_in(alloc, text, there.line, 2)?)),
         ]),
         None => Ok(()),
     }
@@ -256,12 +205,12 @@ fn put_cures(
         put_mended(alloc, page, text, there, b"")?;
     }
     if found.deletes && what == 10 {
-        page.line(&[Say("cure: leave the line out")])?;
+        page.line(&[Say("cure: delete the line")])?;
     }
     if found.words.is_empty() {
         put_meant(alloc, page, text, there)?;
     }
-    if first_word(alloc, text, there.line)? == "set" && (what == 7 || what == 8) {
+    if word_in(alloc, text, there.line, 0)? == "set" && (what == 7 || what == 8) {
         put_in_order(alloc, page, text, there.line)?;
     }
     Ok(())
@@ -269,12 +218,7 @@ fn put_cures(
 
 // ---- blocks
 
-fn blanks_before(text: &[u8], there: &Part) -> usize {
-    let (start, _) = explain_words::places::line_around(text, there.from);
-    there.from.saturating_sub(start)
-}
-
-// Appends which line an `end` closes, and whether it is under it.
+// Appends which line an `end` closes, and whether both have the same indentation.
 fn put_end(
     alloc: Global,
     page: &mut Page,
@@ -290,13 +234,17 @@ fn put_end(
         if line.number == *last {
             let slants = blanks_before(text, &line.part(0)) != blanks_before(text, &end.part(0));
             page.line(&[
-                Say("the end in line "),
+                Say("the end on line "),
                 Number(end.number),
                 Say(" closes the "),
                 Quote(line.word(text, 0)),
-                Say(" in line "),
+                Say(" on line "),
                 Number(*last),
-                Say(if slants { ", and isn't under it" } else { "" }),
+                Say(if slants {
+                    ", but isn't indented like it"
+                } else {
+                    ""
+                }),
             ])?;
         }
     }
@@ -307,8 +255,10 @@ fn put_end(
 fn put_blocks(alloc: Global, page: &mut Page, text: &[u8], line: u64) -> Result<(), OutOfMemory> {
     let lines = lines_of(alloc, text)?;
     let open = open_blocks(alloc, text, line)?;
+    // only the innermost blocks: a text may have 64 of them
+    let shown_from = open.len().saturating_sub(8);
     for there in &lines {
-        if open.contains(&there.number) {
+        if open[shown_from..].contains(&there.number) {
             page.line(&[
                 Say("still open here: line "),
                 Number(there.number),
@@ -348,7 +298,7 @@ fn put_side(alloc: Global, page: &mut Page, text: &[u8], there: &Part) -> Result
             "a function is still open here: an end is missing above",
         )]),
         Some(_) => page.line(&[Say(
-            "statements are between a function's line and its end: there may be an end too many above, or too early",
+            "a statement belongs between a function's line and its end: above there may be an end too many, or one too early",
         )]),
         None => Ok(()),
     }
@@ -356,26 +306,33 @@ fn put_side(alloc: Global, page: &mut Page, text: &[u8], there: &Part) -> Result
 
 // ---- all of it
 
-// The part to show: at the end of a text that ends with a line end, the end of its last line.
-fn shown_part(text: &[u8], there: &Part) -> Part {
-    let is_last = there.from == there.to && there.to == text.len();
-    if !is_last || text.is_empty() {
-        return *there;
-    }
-    let cut = text.trim_ascii_end().len();
-    Part {
-        line: there.line,
-        from: cut,
-        to: cut,
+// Whether words are listed that may be there instead.
+fn lists_words(what: u32, mark: &Mark) -> bool {
+    match what {
+        1 | 2 | 10 => false,
+        12 => mark.from < mark.to,
+        _ => true,
     }
 }
 
-fn what_word(page: &mut Page, what: u32) -> Result<(), OutOfMemory> {
-    page.line(&[
-        Say("docs/faults.md, \"Text fault "),
-        Number(u64::from(what)),
-        Say("\""),
-    ])
+fn items_at(alloc: Global, text: &[u8], what: u32, mark: &Mark) -> Result<ExpectedList, OutOfMemory>
+    requires { IsInside text.now mark.now.from mark.now.to }
+    ensures { IfOk result (λ items. AreExpected mark.now.from mark.now.to text.now items) }
+{
+    if lists_words(what, mark) {
+        expected_at(alloc, text, mark)
+    } else {
+        Ok(ExpectedList::new(alloc))
+    }
+}
+
+/// The part of the text that has this fault, and what may be there instead.
+pub fn spot_of(alloc: Global, text: &[u8], fault: Fault) -> Result<Spot, OutOfMemory>
+    ensures { IfOk result (IsSpot text.now fault) }
+{
+    let mark = fault_mark(alloc, text, fault.line, fault.what)?;
+    let expected = items_at(alloc, text, fault.what, &mark)?;
+    Ok(Spot { mark, expected })
 }
 
 /// Appends where a text is faulty, and what may be there instead.
@@ -384,19 +341,18 @@ pub fn put_text_fault(
     page: &mut Page,
     file: &[u8],
     text: &[u8],
-    line: u64,
     what: u32,
+    spot: &Spot,
 ) -> Result<(), OutOfMemory> {
-    let there = part_of(&fault_mark(alloc, text, line, what)?);
+    let there = part_of(&spot.mark);
     put_place(page, file, text, &shown_part(text, &there))?;
     page.line(&[Say(text_fault(what))])?;
     put_word(page, text, &there, what)?;
-    if what != 1 && what != 2 && what != 10 && (what != 12 || there.from < there.to) {
-        put_expected(alloc, page, text, &there)?;
-    }
+    put_expected(alloc, page, text, there.line, &spot.expected)?;
     put_hint(alloc, page, text, &there, what)?;
     if what == 3 || what == 10 || what == 11 {
         let is_end = there.from == there.to;
+        let line = there.line;
         put_blocks(
             alloc,
             page,
@@ -409,5 +365,5 @@ pub fn put_text_fault(
     }
     put_form(alloc, page, text, &there, what)?;
     put_cures(alloc, page, text, &there, what)?;
-    what_word(page, what)
+    put_text_page(page, what)
 }

@@ -31,7 +31,7 @@ pub fn mark_of(there: &Part) -> Mark
     }
 }
 
-/// The text with a word in place of a part.
+/// The text with a word instead of a part.
 pub fn mended(alloc: Global, text: &[u8], there: &Part, word: &[u8]) -> Result<Bytes, OutOfMemory> {
     if there.from <= there.to && there.to <= text.len() {
         with_word(alloc, text, &mark_of(there), word)
@@ -49,7 +49,7 @@ pub fn mends(alloc: Global, text: &[u8], there: &Part, word: &[u8]) -> Result<bo
     }
 }
 
-/// Whether the program with the word is refused no more, or for another rule than the one that `line` reports.
+/// Whether the program with the word is accepted, or breaks another rule than the one that `line` reports.
 pub fn heals(
     alloc: Global,
     text: &[u8],
@@ -86,11 +86,7 @@ pub fn makes_program(
     }
 }
 
-fn trimmed(bytes: &[u8]) -> &[u8] {
-    bytes.trim_ascii()
-}
-
-/// Appends a line as it is with the word in place of a part.
+/// Appends the part's line with the word instead of the part.
 pub fn put_mended(
     alloc: Global,
     page: &mut Page,
@@ -104,6 +100,6 @@ pub fn put_mended(
     line.put(word)?;
     line.put(part(text, there.to, stop))?;
     page.put(b"cure: ")?;
-    page.put_shown(trimmed(line.bytes()), 160)?;
+    page.put_shown(line.bytes().trim_ascii(), 160)?;
     page.put(b"\n")
 }

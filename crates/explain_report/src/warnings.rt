@@ -2,6 +2,7 @@
 
 use crate::trials::part_of;
 use explain_declarations::Declared;
+use explain_rows::hint_places::{function_of, operator_of};
 use explain_rows::put_hint_words;
 use explain_words::places::put_place;
 use explain_words::{Page, Part, TextLine};
@@ -51,10 +52,6 @@ fn put_statement(
     }
 }
 
-fn operator_line<'b>(declared: &'b Declared, op: u32) -> Option<&'b TextLine> {
-    declared.numbered(op as usize, false)
-}
-
 fn put_declaration(
     alloc: Global,
     page: &mut Page,
@@ -62,7 +59,7 @@ fn put_declaration(
     declared: &Declared,
     op: u32,
 ) -> Result<(), OutOfMemory> {
-    match operator_line(declared, op) {
+    match declared.numbered(op as usize, false) {
         Some(line) => put_at_line(alloc, page, file, declared, line.number),
         None => Ok(()),
     }
@@ -77,7 +74,7 @@ fn put_of_operator(
     op: u32,
     statement: Option<u32>,
 ) -> Result<(), OutOfMemory> {
-    match (operator_line(declared, op), statement) {
+    match (declared.numbered(op as usize, false), statement) {
         (Some(line), Some(_)) => {
             let name = declared.function(line);
             put_statement(alloc, page, file, declared, name, statement)
@@ -117,51 +114,9 @@ fn put_sink(
 // ---- hints
 
 fn operator_name<'a>(declared: &Declared<'a>, op: u32) -> &'a [u8] {
-    match operator_line(declared, op) {
+    match declared.numbered(op as usize, false) {
         Some(line) => declared.name(line),
         None => b"",
-    }
-}
-
-// The operator that a hint is about, and the statement of its function.
-fn operator_of(hint: &Hint) -> Option<(u32, Option<u32>)> {
-    match hint {
-        Hint::NeverSet { op, statement, .. } => Some((*op, *statement)),
-        Hint::OtherSide { op, statement, .. } => Some((*op, *statement)),
-        Hint::ColumnUnread { op, .. } => Some((*op, None)),
-        Hint::TextArithmetic { op, statement, .. } => Some((*op, Some(*statement))),
-        Hint::TextWithNumber { op, statement, .. } => Some((*op, Some(*statement))),
-        Hint::CatOfNumber { op, statement, .. } => Some((*op, Some(*statement))),
-        Hint::OrderDependent { op, statement } => Some((*op, *statement)),
-        Hint::LargerLeft { op } => Some((*op, None)),
-        Hint::LargeCross { op } => Some((*op, None)),
-        _ => None,
-    }
-}
-
-// The function that a hint is about, and its statement.
-fn function_of(hint: &Hint) -> Option<(u32, Option<u32>)> {
-    match hint {
-        Hint::ReadBeforeSet {
-            function,
-            statement,
-            ..
-        } => Some((*function, Some(*statement))),
-        Hint::NeverRead {
-            function,
-            statement,
-            ..
-        } => Some((*function, Some(*statement))),
-        Hint::UnusedFunction { function } => Some((*function, None)),
-        Hint::NothingEmitted {
-            function,
-            statement,
-        } => Some((*function, Some(*statement))),
-        Hint::SquareLoop {
-            function,
-            statement,
-        } => Some((*function, Some(*statement))),
-        _ => None,
     }
 }
 

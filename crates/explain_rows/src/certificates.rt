@@ -16,16 +16,17 @@ fn put_section(page: &mut Page, number: u32) -> Result<(), OutOfMemory> {
     ])
 }
 
-// What the field's part is in a conflict.
+// Why the field makes an exchange illegal.
 fn conflict(words: &str) -> &'static str {
     match words {
         "conflict read-write" => "the upper operator reads it, and the lower one writes it",
         "conflict write-read" => "the upper operator writes it, and the lower one reads it",
         "conflict write-write" => "both operators write it",
         "side" => {
-            "an attribute of the input that is passed, and touched by the operator that would pass it"
+            "the operator that would move touches it, and the input that it would move past has it"
         }
-        _ => "a key of the match on the side of the move, by which the reduce does not group",
+        _ =>
+            "it is a key of the match on the side that the reduce would move to or from, and the reduce doesn't group by it",
     }
 }
 
@@ -40,13 +41,13 @@ fn put_why(page: &mut Page, why: &str) -> Result<(), OutOfMemory> {
     }
     let words = match why {
         "not-anchored" => {
-            "the cogroup may emit records that did not begin as one of the side to which the map would go"
+            "the cogroup may emit a record that didn't begin as a copy of one from the side that the map would move to or from"
         }
         "not-unique" => {
-            "the other side of the match may hold two records with the same key: it is no reduce by its keys of the match that emits at most one record for each group and writes no key, and no maps over one that emit at most one record and write no such key"
+            "the other side of the match may hold two records with the same key. That side must be a reduce by the match's keys, or maps over such a reduce. Each of these must emit at most one record a call and write no key."
         }
         "key-group" => {
-            "the map would tear a group apart: it decides by more than the keys of the grouping, or emits several records; or the match that a reduce passes does not emit one record for each pair"
+            "groups may change: a map must emit exactly one record a call. It may emit none only if the group's keys alone decide that. A match that a reduce moves past must emit exactly one record for each pair."
         }
         _ => return Ok(()),
     };
@@ -55,10 +56,10 @@ fn put_why(page: &mut Page, why: &str) -> Result<(), OutOfMemory> {
 
 // ---- what is stated and what is found
 
-// The lines that begin with these words, without them.
-fn line_with<'a>(more: &'a str, front: &str) -> &'a str {
+// The rest of the first line that begins with these words, or no text.
+fn line_with<'a>(more: &'a str, prefix: &str) -> &'a str {
     for line in more.split('\n') {
-        if let Some(rest) = line.strip_prefix(front) {
+        if let Some(rest) = line.strip_prefix(prefix) {
             return rest;
         }
     }
@@ -94,7 +95,7 @@ fn put_different<'x>(
                 Say(set),
                 Say(": the certificate states "),
                 Quote(one.as_bytes()),
-                Say(", and found is "),
+                Say(", and `pact` finds "),
                 Quote(other.as_bytes()),
             ])?;
         }
@@ -127,17 +128,25 @@ fn put_more(page: &mut Page, number: u32, more: &str) -> Result<(), OutOfMemory>
             put_different(page, "lower", lower.0, lower.1)
         }
         5 => {
-            put_between(page, "the steps lead to ", line_with(more, "found "))?;
+            put_between(
+                page,
+                "the steps lead to the plan ",
+                line_with(more, "found "),
+            )?;
             put_between(
                 page,
                 ", and the certificate states ",
                 line_with(more, "stated "),
             )?;
-            page.put(b" as its plan\n")
+            page.put(b"\n")
         }
         6 => {
             let stated = line_with(more, "stated ");
-            put_between(page, "it is of a program that begins with pact ", stated)?;
+            put_between(
+                page,
+                "the certificate is for a program that begins with pact ",
+                stated,
+            )?;
             let found = line_with(more, "found ");
             put_between(page, ", and this one begins with pact ", found)?;
             page.put(b"\n")
@@ -157,7 +166,7 @@ pub fn put_certificate_fault(
     page.line(&[Say(certificate_fault(number))])?;
     if step > 0 {
         page.line(&[
-            Say("it is step "),
+            Say("the fault is in step "),
             Number(step),
             Say(" of the certificate, counted from 1"),
         ])?;

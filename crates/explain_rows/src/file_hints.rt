@@ -1,6 +1,6 @@
 //! What in a source's file is legal but seldom meant.
 
-use crate::rows::number_words;
+use crate::rows::put_number_count;
 use csv_places::{FileHint, file_hints};
 use explain_words::Page;
 use explain_words::pages::Piece::{Number, Quote, Say};
@@ -28,11 +28,10 @@ fn put_file_hint(page: &mut Page, file: &[u8], hint: &FileHint) -> Result<(), Ou
             page.line(&[
                 Say("a quoted field of row "),
                 Number(*row),
-                Say(" goes over "),
+                Say(" spans "),
                 Number(*lines),
-                Say(" lines; there are "),
+                Say(" lines; fields over more than one line: "),
                 Number(*count),
-                Say(" such fields"),
             ])?;
             cure(
                 page,
@@ -44,16 +43,17 @@ fn put_file_hint(page: &mut Page, file: &[u8], hint: &FileHint) -> Result<(), Ou
             page.line(&[
                 Say("a quote in row "),
                 Number(*row),
-                Say(" is never closed: all that follows is one field"),
+                Say(" is never closed, so the rest of the file is one field"),
             ])?;
-            cure(page, "close it, or leave it out")
+            cure(page, "close the quote, or delete it")
         }
         FileHint::HeaderLike { line } => {
             put_file_place(page, file, *line)?;
-            page.line(&[Say(
-                "the first row looks like the names of the columns, and is read as a row",
-            )])?;
-            cure(page, "delete it: a source's file has no header")
+            page.line(&[Say("the first row may be a header, and it is read as a row of values")])?;
+            cure(
+                page,
+                "if it is a header, delete the line: a source's file has none",
+            )
         }
         FileHint::NotNumbers {
             column,
@@ -63,14 +63,7 @@ fn put_file_hint(page: &mut Page, file: &[u8], hint: &FileHint) -> Result<(), Ou
             ..
         } => {
             put_file_place(page, file, *line)?;
-            page.line(&[
-                Say("column "),
-                Number(u64::from(*column)),
-                Say(" has "),
-                Number(*count),
-                Say(" values that are no numbers: "),
-                Say(number_words(*fault)),
-            ])
+            put_number_count(page, *column, *fault, *line, *count)
         }
     }
 }

@@ -38,42 +38,54 @@ fn put_sentence(page: &mut Page, hint: &Hint, operator: &[u8]) -> Result<(), Out
         Hint::NeverSet { field, .. } => put_field(
             page,
             *field,
-            " is Null always: no source or operator below sets it",
+            " is always Null: no source or operator below sets it",
         ),
         Hint::OtherSide { field, .. } => put_field(
             page,
             *field,
-            " is Null always in the records of this input; the other input has it",
+            " is always Null in the records of this input; the other input has it",
         ),
         Hint::SinkNeverSet { field } => {
             put_field(page, *field, " is Null in every row: nothing sets it")
         }
-        Hint::ColumnUnread { field, .. } => {
-            put_field(page, *field, " is read from the file, and used nowhere")
-        }
-        Hint::ReadBeforeSet { register, .. } => put_register(
+        Hint::SinkDropped { field } => put_field(
             page,
-            *register,
-            " is read here, and no assignment comes before",
+            *field,
+            " is Null in every row: a function below the sink leaves it out of the records that it emits",
         ),
+        Hint::ColumnUnread { field, .. } => {
+            put_field(page, *field, " is read from the file, but never used")
+        }
+        Hint::ReadBeforeSet { register, .. } => put_register(page, *register, unset(*register)),
         Hint::NeverRead { register, .. } => {
-            put_register(page, *register, " is assigned, and never read")
+            put_register(page, *register, " is assigned, but never read")
         }
         Hint::TextArithmetic { field, .. } => {
-            put_some_field(page, *field, "arithmetic on a text")
+            put_some_field(page, *field, "an operand of this arithmetic is a text")
         }
         Hint::TextWithNumber { field, .. } => put_some_field(
             page,
             *field,
-            "a text is compared with a number, and they are never equal",
+            "a text is compared with a number, and each number comes before each text",
         ),
-        Hint::CatOfNumber { field, .. } => put_some_field(page, *field, "cat of a number"),
+        Hint::CatOfNumber { field, .. } => put_some_field(
+            page,
+            *field,
+            "this operation takes texts only, and an operand is a number",
+        ),
         Hint::OrderDependent { .. } => page.line(&[
             Say("the answer may differ from run to run: operator "),
             Quote(operator),
-            Say(" depends on the order of its group, which nothing fixes"),
+            Say(" fails the order test. Some functions fail it that don't depend on the order."),
         ]),
         other => page.line(&[Say(plain_sentence(other))]),
+    }
+}
+
+fn unset(register: Register) -> &'static str {
+    match register {
+        Register::Value(_) => " is always Null here: no earlier statement gives it another value",
+        Register::Record(_) => " is read here, but no earlier statement assigns it",
     }
 }
 
@@ -81,14 +93,15 @@ fn plain_sentence(hint: &Hint) -> &'static str {
     match hint {
         Hint::UnusedFunction { .. } => "no operator calls the function",
         Hint::NothingEmitted { .. } => {
-            "nothing is emitted after this statement, so it changes nothing"
+            "nothing is emitted after this statement, so it has no effect"
         }
         Hint::LargerLeft { .. } => {
-            "the first input is the larger one: the match keeps its records in memory"
+            "the left input is the larger one, and the match keeps the left input in memory"
         }
-        Hint::LargeCross { .. } => "the cross makes a pair of each two rows: very many here",
+        Hint::LargeCross { .. } =>
+            "the cross pairs each record on the left with each one on the right: very many pairs here",
         Hint::SquareLoop { .. } => {
-            "a loop over a group inside another one takes the square of the group's size"
+            "this loop over a group is inside a loop over the same group: the time grows with the square of the group's size"
         }
         _ => "",
     }
@@ -100,27 +113,32 @@ fn cure_of(hint: &Hint) -> &'static str {
         Hint::OtherSide { .. } => {
             "read it from the other input: left instead of right, or right instead of left"
         }
-        Hint::SinkNeverSet { .. } => "let the sink keep a field that a column or a function sets",
+        Hint::SinkNeverSet { .. } => "give the sink a field that a column or a function sets",
+        Hint::SinkDropped { .. } =>
+            "copy the record that has the field, or set the field in the record that the function emits",
         Hint::ColumnUnread { .. } => {
-            "read the field that was meant, or leave the column out of the file"
+            "use the field, or remove the column from the file and the source"
         }
-        Hint::ReadBeforeSet { .. } => "assign it first, or read the register that was meant",
-        Hint::NeverRead { .. } => "leave the statement out, or read the register",
-        Hint::UnusedFunction { .. } => "leave it out, or let an operator call it",
-        Hint::NothingEmitted { .. } => "leave it out, or emit a record after it",
+        Hint::ReadBeforeSet { .. } => "give it a value first, or read another register",
+        Hint::NeverRead { .. } => "delete the statement, or read the register",
+        Hint::UnusedFunction { .. } => "delete the function, or call it in an operator",
+        Hint::NothingEmitted { .. } => "delete the statement, or emit a record after it",
         Hint::TextArithmetic { .. } => {
             "read the column as int:N, if its values are whole numbers"
         }
-        Hint::TextWithNumber { .. } => "compare with a text, as in: vD = text \"1\"",
-        Hint::CatOfNumber { .. } => "read the column as text:N",
-        Hint::OrderDependent { .. } => "docs/order.md says which functions don't depend on it",
-        Hint::LargerLeft { .. } => "exchange the inputs, with left and right in the function",
-        Hint::LargeCross { .. } => "use a match if some fields have to be equal",
-        Hint::SquareLoop { .. } => "find what the inner loop looks for in one loop before",
+        Hint::TextWithNumber { .. } =>
+            "compare with a text, as in vD = text \"1\", or read the column as int:N",
+        Hint::CatOfNumber { .. } => "read the column as text:N, or write the constant as a text",
+        Hint::OrderDependent { .. } =>
+            "write a function that doesn't depend on the order of a group: docs/order.md says which ones pass the test",
+        Hint::LargerLeft { .. } => "swap the two inputs, and left and right in the function",
+        Hint::LargeCross { .. } => "if some fields have to be equal, use a match",
+        Hint::SquareLoop { .. } =>
+            "compute what the inner loop finds in a loop of its own, before the outer one",
     }
 }
 
-/// Appends what a hint says, and its cure. `operator` is the name of the operator that it is about, if it is.
+/// Appends what a hint says, and its cure. `operator` is the name of the operator that it is about, or no bytes.
 pub fn put_hint_words(page: &mut Page, hint: &Hint, operator: &[u8]) -> Result<(), OutOfMemory> {
     put_sentence(page, hint, operator)?;
     page.line(&[Say("cure: "), Say(cure_of(hint))])

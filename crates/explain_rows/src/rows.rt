@@ -1,12 +1,15 @@
 //! Bad rows of sources.
 
-use csv_places::{FileHint, NumberFault, Place, file_hints, number_fault, place_of, plain_value};
+use csv_places::{
+    FileHint, FileHintList, NumberFault, Place, file_hints, is_name, number_fault, place_of,
+    plain_value,
+};
 use explain_words::faults::row_fault;
 use explain_words::pages::Piece::{Number, Quote, Say};
 use explain_words::pages::{character_at, part};
 use explain_words::places::put_place;
 use explain_words::{Page, Part, TextLine};
-use pact_record::{Columns, OutOfMemory};
+use pact_record::{Column, Columns, OutOfMemory};
 use std::alloc::Global;
 
 /// A bad row, as `pact` reports it.
@@ -20,24 +23,27 @@ pub struct BadPlace {
 /// Why a value isn't a number, in words, and what to do.
 pub fn number_words(fault: NumberFault) -> &'static str {
     match fault {
-        NumberFault::Blank => "it is nothing but blanks, and an empty cell has no byte",
-        NumberFault::BlankAround => "there is a blank around it; leave it out",
-        NumberFault::TooLarge => { "it lies beyond -9223372036854775808 to 9223372036854775807" }
+        NumberFault::Blank => "it has only blanks; leave it empty if there is no value",
+        NumberFault::BlankAround => "it has a blank before or after it; delete the blank",
+        NumberFault::TooLarge => { "it is outside -9223372036854775808 to 9223372036854775807" }
         NumberFault::Decimals => {
-            "it has a point; write whole numbers, or read the column as text:N"
+            "it has a decimal point; write it in cents, such as 1999 for 19.99"
         }
-        NumberFault::Thousands => "write its digits with nothing between",
-        NumberFault::Exponent => "write its digits out, with no e",
+        NumberFault::Thousands => "write its digits without separators",
+        NumberFault::Exponent => "write it without an exponent",
         NumberFault::Hexadecimal => "write it in decimal digits",
-        NumberFault::Date => { "a date can be read as text:N, or written as one number, 20240105" }
-        NumberFault::Unknown => "what isn't known is an empty cell",
+        NumberFault::Date => {
+            "it looks like a date; read the column as text:N, or write the date as one number, such as 20240105"
+        }
+        NumberFault::Unknown => "leave it empty if the value isn't known",
         NumberFault::Truth => "write 1 or 0",
         NumberFault::ByteOrderMark => {
-            "it begins with a byte-order mark, of which the file has a second one"
+            "it begins with a second byte-order mark; a file may have one only, at its start"
         }
-        NumberFault::Unit => "a number is alone, with no sign of a unit",
+        NumberFault::Unit =>
+            "it has a unit or other characters beside the number; write only the number",
         NumberFault::Word => "it is a word; read the column as text:N if it holds words",
-        NumberFault::Other => "it has signs other than digits",
+        NumberFault::Other => "it has characters other than digits",
     }
 }
 
@@ -49,7 +55,7 @@ fn part_of(place: &Place) -> Part {
     }
 }
 
-// The value without its quotes, if that can be told.
+// The value without its quotes, or the whole field if its quotes are faulty.
 fn value_of<'a>(field: &'a [u8]) -> &'a [u8] {
     match plain_value(field) {
         Some(value) => value,
@@ -76,7 +82,7 @@ fn is_as_next(text: &[u8], bad: BadPlace, fields: u32) -> bool {
     }
 }
 
-// Whether the row is one field that other signs cut.
+// Whether the row is one field with other separators.
 fn is_separated(row: &[u8], fields: u32) -> bool {
     fields == 1 && (row.contains(&b';') || row.contains(&b'\t'))
 }
@@ -87,11 +93,9 @@ fn width_hint(row: &[u8], fields: u32, columns: u64) -> Option<&'static str> {
     } else if fields == 1 && row.contains(&b'\t') {
         Some("fields are separated by commas only, not by tabs")
     } else if row.contains(&b'\n') {
-        Some(
-            "the row goes over several lines: a quote before its last line is closed too late or never",
-        )
+        Some("the row spans several lines: one of its quotes is closed too late or never")
     } else if columns < u64::from(fields) && row.last() == Some(&b',') {
-        Some("the comma at its end begins one more field; leave it out")
+        Some("the comma at the row's end begins one more field; delete it")
     } else if columns < u64::from(fields) {
         Some("a comma inside a field needs double quotes around the field")
     } else {
@@ -117,12 +121,12 @@ fn put_width(
     if !is_separated(part(text, place.from, place.to), place.fields)
         && is_as_next(text, bad, place.fields)
     {
-        page.put(b"or give the source ")?;
+        page.put(b"cure: give the source ")?;
         put_count(page, u64::from(place.fields), "column")?;
         page.line(&[
             Say(" (int:N or text:N), since row "),
             Number(bad.row.saturating_add(1)),
-            Say(" has as many fields too"),
+            Say(" has that many fields too"),
         ])?;
     }
     Ok(())
@@ -136,7 +140,7 @@ fn put_column(page: &mut Page, bad: BadPlace, column: &[u8]) -> Result<(), OutOf
         Number(u64::from(bad.column)),
         Say(" is "),
         Quote(column),
-        Say(", and this "),
+        Say(", and this value "),
     ])
 }
 
@@ -147,13 +151,13 @@ fn put_not_number(
     value: &[u8],
 ) -> Result<(), OutOfMemory> {
     put_column(page, bad, column)?;
-    page.add(&[Say("is no number: ")])?;
+    page.add(&[Say("isn't a number: ")])?;
     match number_fault(value) {
         Some(fault) => page.line(&[Say(number_words(fault))])?,
         None => page.line(&[Say("it isn't written as one")])?,
     }
     page.line(&[Say(
-        "expected: digits with at most one sign, from -9223372036854775808 to 9223372036854775807, or nothing",
+        "expected: digits with at most one sign, from -9223372036854775808 to 9223372036854775807, or nothing at all",
     )])
 }
 
@@ -177,9 +181,9 @@ fn put_not_text(page: &mut Page, value: &[u8]) -> Result<(), OutOfMemory> {
     page.line(&[
         Say("byte "),
         Number(at as u64),
-        Say(" of it, "),
+        Say(" of the field, "),
         Quote(part(value, at.saturating_sub(1), at)),
-        Say(", is no character of UTF-8: save the file as UTF-8"),
+        Say(", isn't valid UTF-8: save the file as UTF-8"),
     ])
 }
 
@@ -196,20 +200,19 @@ fn put_value(
             Say("it has "),
             Number(value.len() as u64),
             Say(
-                " bytes, and 4096 is the most; a quote that is never closed makes such a text, too",
+                " bytes, and at most 4096 are allowed; a quote that is never closed also makes such a text",
             ),
         ]),
     }
 }
 
-// Whether each field of the row is a word.
+// Whether the row is the first one, and each of its fields may be the name of a column.
 fn is_header(text: &[u8], bad: BadPlace, fields: u32) -> bool {
     for column in 1..fields.saturating_add(1).min(200) {
         match place_of(text, bad.row, column) {
             Some(place) => {
                 let value = value_of(part(text, place.from, place.to));
-                let is_word = number_fault(value) == Some(NumberFault::Word);
-                if !is_word {
+                if !is_name(value.trim_ascii()) {
                     return false;
                 }
             }
@@ -219,18 +222,89 @@ fn is_header(text: &[u8], bad: BadPlace, fields: u32) -> bool {
     bad.row == 1
 }
 
-// Appends that a quote is never closed, if the bad row has it.
-fn put_open_quote(
+// The columns of a source, of which only the kinds count here.
+fn columns_of(
     alloc: Global,
+    program_text: &[u8],
+    source: &TextLine,
+) -> Result<Columns, OutOfMemory> {
+    let mut columns = Columns::new(alloc);
+    for n in 3..source.words.len() {
+        columns.push(Column {
+            field: 0,
+            text: source.word(program_text, n).starts_with(b"text"),
+        })?;
+    }
+    Ok(columns)
+}
+
+/// Appends how many values of a column aren't numbers, and why.
+pub fn put_number_count(
     page: &mut Page,
-    text: &[u8],
-    bad: BadPlace,
+    column: u32,
+    fault: NumberFault,
+    line: u64,
+    count: u64,
 ) -> Result<(), OutOfMemory> {
-    for hint in file_hints(alloc, text, &Columns::new(alloc))?.items() {
+    page.line(&[
+        Say("in column "),
+        Number(u64::from(column)),
+        Say(", "),
+        Number(count),
+        Say(if count == 1 {
+            " value isn't a number"
+        } else {
+            " values aren't numbers"
+        }),
+        Say(if count == 1 {
+            " (line "
+        } else {
+            " (first on line "
+        }),
+        Number(line),
+        Say("): "),
+        Say(number_words(fault)),
+    ])
+}
+
+fn non_numbers(hint: &FileHint) -> u64 {
+    match hint {
+        FileHint::NotNumbers { count, .. } => *count,
+        _ => 0,
+    }
+}
+
+// Appends how many values of all columns aren't numbers, if there are more than one.
+fn put_number_counts(page: &mut Page, hints: &FileHintList) -> Result<(), OutOfMemory> {
+    let mut total = 0u64;
+    for hint in hints.items() {
+        total = total.saturating_add(non_numbers(hint));
+    }
+    if total < 2 {
+        return Ok(());
+    }
+    for hint in hints.items() {
+        if let FileHint::NotNumbers {
+            column,
+            fault,
+            line,
+            count,
+            ..
+        } = hint
+        {
+            put_number_count(page, *column, *fault, *line, *count)?;
+        }
+    }
+    Ok(())
+}
+
+// Appends that a quote of the bad row is never closed, if there is one.
+fn put_open_quote(page: &mut Page, hints: &FileHintList, bad: BadPlace) -> Result<(), OutOfMemory> {
+    for hint in hints.items() {
         match hint {
             FileHint::NeverClosed { row, line, .. } if *row == bad.row => {
                 page.line(&[
-                    Say("the quote in line "),
+                    Say("the quote on line "),
                     Number(*line),
                     Say(" is never closed"),
                 ])?;
@@ -257,19 +331,20 @@ fn put_row(
             Quote(file),
             Say(" has no row "),
             Number(bad.row),
-            Say(": it has changed, or is another file"),
+            Say(": the file has changed, or it is another one"),
         ]);
     };
     put_place(page, file, text, &part_of(&place))?;
     page.line(&[
         Say("row "),
         Number(bad.row),
-        Say(" begins in line "),
+        Say(" begins on line "),
         Number(place.row_line),
     ])?;
     page.line(&[Say(row_fault(bad.why))])?;
     let columns = source.words.len().saturating_sub(3) as u64;
-    put_open_quote(alloc, page, text, bad)?;
+    let hints = file_hints(alloc, text, &columns_of(alloc, program_text, source)?)?;
+    put_open_quote(page, &hints, bad)?;
     if bad.column == 0 {
         put_width(page, text, bad, &place, columns)?;
     } else {
@@ -283,8 +358,11 @@ fn put_row(
     }
     if bad.why == 2 && is_header(text, bad, place.fields) {
         page.line(&[Say(
-            "it looks like a header row: a source's file has none, so delete the line",
+            "this looks like a header row: a source's file has none, so delete the line",
         )])?;
+    }
+    if bad.why == 2 {
+        put_number_counts(page, &hints)?;
     }
     Ok(())
 }
@@ -304,7 +382,7 @@ pub fn put_bad_row(
         Some(text) => put_row(alloc, page, program_text, source, file, text, bad)?,
         None => page.line(&[Quote(file), Say(" can't be read now")])?,
     }
-    page.line(&[Say("it is read by:")])?;
+    page.line(&[Say("the source that reads it:")])?;
     put_place(page, program, program_text, &source.part(2))?;
     page.line(&[
         Say("docs/faults.md, \"Row fault "),

@@ -6,7 +6,7 @@ use explain_words::{Page, Printed, read_line};
 use pact_record::OutOfMemory;
 use std::alloc::Global;
 
-// The command with its operands, each a sample but the one at `place`, and behind them `more`.
+// The words of a command: `word` as the operand at `place`, samples as the other operands, and then `more`.
 fn line_of(
     alloc: Global,
     row: CommandRow,
@@ -108,74 +108,52 @@ fn operands_have_their_ranges(rt: HostRuntime) -> Result<(), OutOfMemory> {
     Ok(())
 }
 
+// Whether an option takes the numbers of its range and no others, or none if the command doesn't have it.
+fn has_range(
+    alloc: Global,
+    row: CommandRow,
+    option: Opt,
+    low: u64,
+    high: u64,
+) -> Result<bool, OutOfMemory> {
+    let is_own = row.has(option);
+    Ok(
+        takes_number(alloc, row, option, low)? == is_own
+            && takes_number(alloc, row, option, high)? == is_own
+            && !takes_number(alloc, row, option, high.saturating_add(1))?
+            && !takes_number(alloc, row, option, low.saturating_sub(1))?,
+    )
+}
+
+// Whether an option takes `hash` and `sort` and not another word, or none if the command doesn't have it.
+fn has_ways(alloc: Global, row: CommandRow, option: Opt) -> Result<bool, OutOfMemory> {
+    let is_own = row.has(option);
+    Ok(
+        takes_option(alloc, row, option, "hash")? == is_own
+            && takes_option(alloc, row, option, "sort")? == is_own
+            && !takes_option(alloc, row, option, "tree")?,
+    )
+}
+
+// Whether a command that has the option takes it without a value only, and another command not at all.
+fn is_flag(alloc: Global, row: CommandRow, option: Opt) -> Result<bool, OutOfMemory> {
+    Ok(
+        takes_flag(alloc, row, option)? == row.has(option)
+            && !takes_option(alloc, row, option, "1")?,
+    )
+}
+
 #[test]
-fn options_have_their_ranges(rt: HostRuntime) -> Result<(), OutOfMemory> {
+fn options_have_their_values(rt: HostRuntime) -> Result<(), OutOfMemory> {
     let alloc = rt.alloc();
     for row in &COMMANDS {
         for option in &OPTIONS {
-            let is_own = row.has(*option);
-            match option.takes() {
-                Takes::Range(low, high) => {
-                    assert!(&rt;
-                        takes_number(alloc, *row, *option, low)? == is_own,
-                        "{} {}",
-                        row.name,
-                        option.word()
-                    );
-                    assert!(&rt;
-                        takes_number(alloc, *row, *option, high)? == is_own,
-                        "{} {}",
-                        row.name,
-                        option.word()
-                    );
-                    assert!(&rt;
-                        !takes_number(alloc, *row, *option, high.saturating_add(1))?,
-                        "{} {}",
-                        row.name,
-                        option.word()
-                    );
-                    assert!(&rt;
-                        !takes_number(alloc, *row, *option, low.saturating_sub(1))?,
-                        "{} {}",
-                        row.name,
-                        option.word()
-                    );
-                }
-                Takes::Way | Takes::Anything => {
-                    assert!(&rt;
-                        takes_option(alloc, *row, *option, "hash")? == is_own,
-                        "{} {}",
-                        row.name,
-                        option.word()
-                    );
-                    assert!(&rt;
-                        takes_option(alloc, *row, *option, "sort")? == is_own,
-                        "{} {}",
-                        row.name,
-                        option.word()
-                    );
-                    assert!(&rt;
-                        !takes_option(alloc, *row, *option, "tree")?,
-                        "{} {}",
-                        row.name,
-                        option.word()
-                    );
-                }
-                Takes::Nothing => {
-                    assert!(&rt;
-                        takes_flag(alloc, *row, *option)? == is_own,
-                        "{} {}",
-                        row.name,
-                        option.word()
-                    );
-                    assert!(&rt;
-                        !takes_option(alloc, *row, *option, "1")?,
-                        "{} {}",
-                        row.name,
-                        option.word()
-                    );
-                }
-            }
+            let is_right = match option.takes() {
+                Takes::Range(low, high) => has_range(alloc, *row, *option, low, high)?,
+                Takes::Way | Takes::Anything => has_ways(alloc, *row, *option)?,
+                Takes::Nothing => is_flag(alloc, *row, *option)?,
+            };
+            assert!(&rt; is_right, "{} {}", row.name, option.word());
         }
     }
     Ok(())
@@ -217,12 +195,18 @@ fn the_wrong_word_is_marked(rt: HostRuntime) -> Result<(), OutOfMemory> {
             b"cure: pact run m.pact --counts"
         )?
     );
-    assert!(&rt; has_line(alloc, &["gen", "1", "1,000"], b"expected: 0 to 1000000")?);
+    assert!(&rt;
+        has_line(
+            alloc,
+            &["gen", "1", "1,000"],
+            b"expected: a whole number without commas, 0 to 1000000"
+        )?
+    );
     Ok(())
 }
 
 #[test]
-fn lines_are_read(rt: HostRuntime) -> Result<(), OutOfMemory> {
+fn lines_about_programs_are_read(rt: HostRuntime) -> Result<(), OutOfMemory> {
     assert!(&rt;
         read_line("function f: V3 at statement 2")
             == Some(Printed::Function {
@@ -240,15 +224,6 @@ fn lines_are_read(rt: HostRuntime) -> Result<(), OutOfMemory> {
             })
     );
     assert!(&rt;
-        read_line("source s: row 1 column 0: why 1")
-            == Some(Printed::Row {
-                source: "s",
-                row: 1,
-                column: 0,
-                why: 1
-            })
-    );
-    assert!(&rt;
         read_line("program: P9")
             == Some(Printed::Program {
                 name: "program",
@@ -262,6 +237,20 @@ fn lines_are_read(rt: HostRuntime) -> Result<(), OutOfMemory> {
                 code: 11
             })
     );
+    Ok(())
+}
+
+#[test]
+fn lines_about_other_files_are_read(rt: HostRuntime) -> Result<(), OutOfMemory> {
+    assert!(&rt;
+        read_line("source s: row 1 column 0: why 1")
+            == Some(Printed::Row {
+                source: "s",
+                row: 1,
+                column: 0,
+                why: 1
+            })
+    );
     assert!(&rt;
         read_line("certificate refused: step 2: C4 side 2")
             == Some(Printed::Certificate {
@@ -270,6 +259,11 @@ fn lines_are_read(rt: HostRuntime) -> Result<(), OutOfMemory> {
                 why: "side 2"
             })
     );
+    Ok(())
+}
+
+#[test]
+fn lines_that_pact_does_not_print_are_left_alone(rt: HostRuntime) -> Result<(), OutOfMemory> {
     for line in [
         "",
         "1,5",

@@ -1,4 +1,4 @@
-//! What is said in general: of the program, of each fault, and of a line without its program.
+//! Explanations that need no file: of the program itself, of each fault, and of a line without its program.
 
 use crate::usage::put_all_usage;
 use explain_words::faults::{
@@ -8,21 +8,19 @@ use explain_words::pages::Piece::{Number, Say};
 use explain_words::{Page, Printed};
 use pact_record::OutOfMemory;
 
-/// Appends what the program takes.
+/// Appends the help text.
 pub fn put_help(page: &mut Page) -> Result<(), OutOfMemory> {
-    page.line(&[Say(
-        "Explains what `pact` answers to these words, and writes the explanation to standard output:",
-    )])?;
+    page.line(&[Say("Explains why `pact` refuses a command or its files, on standard output:")])?;
     page.line(&[Say(
         "  pact_explain WORDS ..             the words of a `pact` command, such as: run sum.pact",
     )])?;
     page.line(&[Say(
-        "  pact_explain --line LINE [FILE ..]  a line that `pact` printed, and programs that may have its fault",
+        "  pact_explain --line LINE [FILE ..]  a line that `pact` printed, and programs that may have caused it",
     )])?;
     page.line(&[Say("  pact_explain --faults             what each fault is")])?;
     page.line(&[Say("  pact_explain --help               this text")])?;
     page.line(&[Say(
-        "It runs no program. Its exit status is the one that `pact` has for these words and files, and 0 if there is no fault.",
+        "It runs no program. Its exit status is that of `pact` for the same words and files, or 0 if there is no fault.",
     )])?;
     put_all_usage(page)
 }
@@ -30,14 +28,14 @@ pub fn put_help(page: &mut Page) -> Result<(), OutOfMemory> {
 // One fault of a table.
 fn put_fault(
     page: &mut Page,
-    front: &'static str,
+    prefix: &'static str,
     number: u32,
     words: &'static str,
 ) -> Result<(), OutOfMemory> {
     if words.is_empty() {
         return Ok(());
     }
-    page.line(&[Say(front), Number(u64::from(number))])?;
+    page.line(&[Say(prefix), Number(u64::from(number))])?;
     page.line(&[Say(words)])
 }
 
@@ -99,20 +97,20 @@ pub fn put_rule(
 /// Appends what the launcher does while it builds.
 pub fn put_building(page: &mut Page) -> Result<(), OutOfMemory> {
     page.line(&[Say(
-        "No fault: a source has changed, or the released program can't be started here.",
+        "No fault: a source file of `pact` has changed, or the released program can't be started here.",
     )])?;
     page.line(&[Say("docs/faults.md, \"While pact is built\"")])
 }
 
-/// Appends the words of all commands, for a line that says that words are refused.
+/// Appends the words of all commands, for the line that refuses a command.
 pub fn put_usage_line(page: &mut Page) -> Result<(), OutOfMemory> {
     page.line(&[Say(status_fault(2))])?;
     put_all_usage(page)?;
-    page.line(&[Say("`explain WORDS ..` with the same words says which one is wrong")])?;
+    page.line(&[Say("run `explain` with the words of your command to see which one is wrong")])?;
     page.line(&[Say("docs/faults.md, \"Status 2\"")])
 }
 
-/// Whether a program may have the fault of a line.
+/// Whether a program may have caused the line.
 pub fn is_of_program(said: Printed) -> bool {
     matches!(
         said,

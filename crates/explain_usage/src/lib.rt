@@ -1,7 +1,7 @@
 //! Which word of a command line is wrong, what it takes, and how the words of each command are written.
 //!
 //! `tables` has the commands with their operands and options, and `usage` finds the wrong word by trying others.
-//! `general` has what is said of a fault without its program.
+//! `general` has the help text, and explains a fault without its program.
 #![tactic(auto)]
 
 pub mod general;

@@ -173,9 +173,9 @@ impl Operand {
             Operand::Program => "the name of the program's file",
             Operand::Certificate => "the name of the certificate's file",
             Operand::Source => "the name of a source of the program",
-            Operand::Seed => "0 to 2147483646",
-            Operand::Rows => "0 to 1000000",
-            Operand::Rounds => "1 to 1000",
+            Operand::Seed => "a whole number without commas, 0 to 2147483646",
+            Operand::Rows => "a whole number without commas, 0 to 1000000",
+            Operand::Rounds => "a whole number without commas, 1 to 1000",
         }
     }
 
@@ -224,7 +224,7 @@ impl Opt {
         }
     }
 
-    /// The option with what it takes, in words.
+    /// The option and its values, as the help shows them.
     pub fn line(self) -> &'static str {
         match self {
             Opt::Workers => "--workers N: 1 to 16, by default 4",

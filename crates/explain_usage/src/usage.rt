@@ -21,7 +21,7 @@ pub fn are_taken(alloc: Global, words: &[&str]) -> Result<bool, OutOfMemory> {
 
 // ---- changed words
 
-// The words with others in place of `count` of them at `at`.
+// The words with others instead of `count` of them at `at`.
 fn changed<'a>(
     alloc: Global,
     words: &[&'a str],
@@ -55,7 +55,7 @@ fn put_words(page: &mut Page, words: &[&str]) -> Result<(), OutOfMemory> {
     Ok(())
 }
 
-// The words, with a mark under the one at `at`, or behind the last one.
+// The words, with a mark under the one at `at`, or after the last one.
 fn put_marked(
     alloc: Global,
     page: &mut Page,
@@ -105,7 +105,7 @@ fn put_cure(alloc: Global, page: &mut Page, words: &[&str]) -> Result<bool, OutO
 // ---- the first word
 
 fn put_no_command(page: &mut Page) -> Result<(), OutOfMemory> {
-    page.line(&[Say("no command is given: the first word has to be one")])?;
+    page.line(&[Say("no command is given: the first word must be one")])?;
     put_commands(page)
 }
 
@@ -153,7 +153,7 @@ fn put_command_cures(
     first: &str,
 ) -> Result<(), OutOfMemory> {
     if let Some(near) = command_near(alloc, first)? {
-        page.line(&[Say("the nearest command is "), Say(near)])?;
+        page.line(&[Say("the most similar command is "), Say(near)])?;
         put_cure(alloc, page, &changed(alloc, words, 0, 1, &[near])?)?;
     }
     for (at, word) in words.iter().enumerate() {
@@ -161,7 +161,7 @@ fn put_command_cures(
             page.line(&[
                 Say("the command "),
                 Quote(word.as_bytes()),
-                Say(" comes first, and its options after it"),
+                Say(" must come first, and its options after it"),
             ])?;
             put_cure(alloc, page, &with_command_first(alloc, words, at)?)?;
             return Ok(());
@@ -192,7 +192,7 @@ fn put_other_command(
 
 // ---- the other words
 
-// The option before this word, if it takes the word as its value.
+// The option before this word, if it takes a value.
 fn option_of_value(words: &[&str], at: usize) -> Option<Opt> {
     if at < 2 {
         return None;
@@ -237,12 +237,29 @@ fn put_takes(page: &mut Page, takes: Takes) -> Result<(), OutOfMemory> {
     }
 }
 
-// The value nearest to the given one that is in the range.
+// The number that has these digits, perhaps with commas and blanks between them. A number that is too large is the
+// greatest one.
+fn number_of(given: &str) -> Option<u64> {
+    let mut number = 0u64;
+    let mut has_digit = false;
+    for byte in given.as_bytes() {
+        if byte.is_ascii_digit() {
+            let digit = u64::from(byte.saturating_sub(b'0'));
+            number = number.saturating_mul(10).saturating_add(digit);
+            has_digit = true;
+        } else if *byte != b',' && *byte != b' ' {
+            return None;
+        }
+    }
+    if has_digit { Some(number) } else { None }
+}
+
+// The value nearest to the given one that is allowed, or no text.
 fn value_near(alloc: Global, takes: Takes, given: &str) -> Result<String, OutOfMemory> {
     match takes {
-        Takes::Range(low, high) => match given.parse::<u64>() {
-            Ok(number) => number.max(low).min(high).to_string(alloc),
-            Err(_) => high.to_string(alloc),
+        Takes::Range(low, high) => match number_of(given) {
+            Some(number) => number.max(low).min(high).to_string(alloc),
+            None => String::from_str(alloc, ""),
         },
         Takes::Way if given.starts_with("s") => String::from_str(alloc, "sort"),
         Takes::Way => String::from_str(alloc, "hash"),
@@ -261,11 +278,9 @@ fn put_bad_value(
 ) -> Result<(), OutOfMemory> {
     put_marked(alloc, page, words, at)?;
     page.line(&[
-        Say("the value "),
-        Quote(given.as_bytes()),
-        Say(" of "),
         Say(option.word()),
-        Say(" isn't one that it takes"),
+        Say(" doesn't take the value "),
+        Quote(given.as_bytes()),
     ])?;
     put_takes(page, option.takes())?;
     page.line(&[Say("  "), Say(option.line())])?;
@@ -293,11 +308,9 @@ fn put_bad_operand(
 ) -> Result<(), OutOfMemory> {
     put_marked(alloc, page, words, at)?;
     page.line(&[
-        Say("the word "),
-        Quote(given.as_bytes()),
-        Say(" stands for "),
         Say(operand.name()),
-        Say(", and isn't one that it takes"),
+        Say(" can't be "),
+        Quote(given.as_bytes()),
     ])?;
     page.line(&[Say("expected: "), Say(operand.meaning())])?;
     let near = value_near(alloc, operand.takes(), given)?;
@@ -309,7 +322,7 @@ fn put_bad_operand(
     Ok(())
 }
 
-// Whether a good value in place of `OPTION=VALUE` makes the words a command.
+// Whether another value in `OPTION=VALUE` makes the words a command.
 fn explains_joined_value(
     alloc: Global,
     page: &mut Page,
@@ -334,7 +347,7 @@ fn explains_joined_value(
     Ok(true)
 }
 
-// Whether another value or operand in place of the word makes the words a command.
+// Whether another value or operand instead of the word makes the words a command.
 fn explains_value(
     alloc: Global,
     page: &mut Page,
@@ -393,7 +406,7 @@ fn explains_missing_value(
     Ok(true)
 }
 
-// Whether operands behind the last word make the words a command.
+// Whether operands after the last word make the words a command.
 fn explains_missing(
     alloc: Global,
     page: &mut Page,
@@ -425,7 +438,7 @@ fn explains_missing(
 fn put_options(page: &mut Page, row: CommandRow) -> Result<(), OutOfMemory> {
     if row.options.is_empty() {
         return page.line(&[
-            Say("expected: no option: "),
+            Say("expected: no option; "),
             Say(row.name),
             Say(" has none"),
         ]);
@@ -506,7 +519,7 @@ fn put_other_option(
             page.line(&[
                 Say("the option "),
                 Say(option.word()),
-                Say(" comes twice: each may come once"),
+                Say(" is given twice: each may be given once"),
             ])?;
         }
         Some(option) => {
@@ -515,13 +528,13 @@ fn put_other_option(
                 Say(row.name),
                 Say(" has no option "),
                 Say(option.word()),
-                Say("; others have"),
+                Say("; other commands have it"),
             ])?;
             put_options(page, row)?;
         }
         None if name == "--help" || name == "-h" => {
             page.line(&[Say(
-                "help is in docs/commands.md and the page docs/pact.1, which `man ./docs/pact.1` shows",
+                "for help, read docs/commands.md, or run `man ./docs/pact.1` in a clone",
             )])?;
         }
         None => {
@@ -549,7 +562,7 @@ fn put_left_over(
         page.line(&[
             Say("the word "),
             Quote(word.as_bytes()),
-            Say(" is left over"),
+            Say(" is one too many"),
         ])?;
     }
     put_cure(alloc, page, &changed(alloc, words, at, count, &[])?)?;

@@ -1,23 +1,23 @@
 //! What people usually mean by a word that the language doesn't have.
 
-/// What is meant by the first word of a line that begins no line.
+/// What is meant by a first word that no line begins with.
 pub fn first_word(word: &str) -> Option<&'static str> {
     match word {
-        "return" | "yield" | "print" | "output" | "write" => Some(
-            "a record is written by: emit r0",
-        ),
+        "return" | "yield" | "print" | "output" | "write" => Some("to write a record: emit r0"),
         "for" | "while" | "loop" | "foreach" | "do" => {
-            Some("a loop is: repeat N, or in a reduce or cogroup: each x1 of LIST")
+            Some("to loop: repeat N, or in a reduce or cogroup: each x1 of LIST")
         }
-        "elif" | "elsif" | "elseif" => Some("an if inside the other is: else, if vA, end, end"),
-        "endif" | "endfor" | "endwhile" | "done" | "fi" | "}" => Some("a block is closed by: end"),
+        "elif" | "elsif" | "elseif" => Some(
+            "for an else-if, write an if inside the else: else, if vA, end, end",
+        ),
+        "endif" | "endfor" | "endwhile" | "done" | "fi" | "}" => Some("a block ends with: end"),
         "filter" | "select" | "where" => {
-            Some("rows are kept or dropped by a map whose function emits them or not")
+            Some("to filter rows, use a map whose function emits only those to keep")
         }
         "join" | "group" | "groupby" | "aggregate" | "union" => {
-            Some("there are the operators map, reduce, match, cross and cogroup")
+            Some("the operators are map, reduce, match, cross and cogroup")
         }
-        "let" | "var" | "const" => Some("a value is named by its register alone: v0 = int 1"),
+        "let" | "var" | "const" => Some("an assignment begins with a register: v0 = int 1"),
         _ => comment(word),
     }
 }
@@ -36,18 +36,21 @@ pub fn comment(word: &str) -> Option<&'static str> {
     }
 }
 
-/// What is meant by a word after a target's `=` that is no form or operation.
+/// What is meant by a word after `=` that isn't a form or an operation.
 pub fn operation(word: &str) -> Option<&'static str> {
     match word {
-        "gt" | "greater" | ">" => Some("greater is lt with its operands exchanged"),
-        "ge" | "gte" | ">=" => Some("at least is le with its operands exchanged"),
-        "ne" | "neq" | "!=" | "<>" => Some("unlike is eq, and then not"),
-        "plus" | "sum" | "+" => Some("a sum is add, or addw, which is never Null"),
-        "minus" | "subtract" | "-" => Some("a difference is sub"),
-        "times" | "mult" | "multiply" | "*" => Some("a product is mul"),
-        "mod" | "modulo" | "%" => Some("a remainder is rem"),
-        "concat" | "append" => Some("texts are put together by cat"),
-        "length" | "size" | "strlen" => Some("the bytes of a text are counted by len"),
+        "gt" | "greater" | ">" => Some("for greater than, use lt with the operands swapped"),
+        "ge" | "gte" | ">=" => Some("for at least, use le with the operands swapped"),
+        "ne" | "neq" | "!=" | "<>" => Some("for not equal, use eq and then not"),
+        "plus" | "sum" | "+" => Some("for a sum, use add, or addw, which is never Null"),
+        "minus" | "subtract" | "-" => Some("for a difference, use sub"),
+        "times" | "mult" | "multiply" | "*" => Some("for a product, use mul"),
+        "mod" | "modulo" | "%" => Some("for a remainder, use rem"),
+        "concat" | "append" => Some("to join two texts, use cat"),
+        "length" | "size" | "strlen" => Some("for a text's length in bytes, use len"),
+        "in" | "left" | "right" | "first" | "x1" => {
+            Some("to read a field of a record, use get: vD = get REC N")
+        }
         "filter" => Some("a function that filters is a map"),
         "join" => Some("a function that joins is a match"),
         _ => None,
@@ -58,15 +61,15 @@ pub fn operation(word: &str) -> Option<&'static str> {
 pub fn name(word: &str) -> Option<&'static str> {
     let bytes = word.as_bytes();
     if word.starts_with("\"") {
-        Some("names and files stand without quotes")
+        Some("names and file names are written without quotes")
     } else if word.contains("\\") {
         Some("folders are separated by /")
     } else if has_capital(bytes) {
-        Some("letters of names are small: a to z")
+        Some("names have no capital letters, though file names may")
     } else if begins_otherwise(bytes) {
         Some("a name begins with a letter")
     } else if word.contains("-") {
-        Some("a name has no -, and _ is one of its signs")
+        Some("a name can't have -; use _ instead")
     } else {
         None
     }
@@ -75,7 +78,7 @@ pub fn name(word: &str) -> Option<&'static str> {
 /// What is wrong with a byte that isn't UTF-8, or with a carriage return.
 pub fn byte(word: &str) -> Option<&'static str> {
     if word == "\r" {
-        Some("a carriage return comes only right before a line's end")
+        Some("a carriage return is allowed only at the end of a line")
     } else {
         Some("save the file as UTF-8")
     }
@@ -89,31 +92,31 @@ pub fn literal(word: &str) -> Option<&'static str> {
         let is_last = bytes.len() <= at.saturating_add(1);
         if is_pair && !matches!(byte, b'\\' | b'"' | b'n' | b'r' | b't') {
             return Some(
-                "the pair of a backslash and this sign means nothing: there are \\\\ \\\" \\n \\r \\t, and a backslash is written \\\\",
+                "unknown escape after a backslash: the escapes are \\\\ \\\" \\n \\r \\t, and a backslash is written \\\\",
             );
         }
         if at > 0 && !is_pair && *byte == b'"' && !is_last {
             return Some(
-                "after the literal's last \" comes a blank, # or the line's end; a \" inside is written \\\"",
+                "a blank, # or the line's end must follow the closing \"; a \" inside a literal is written \\\"",
             );
         }
         if at > 0 && !is_pair && *byte == b'"' {
-            return Some("the literal stands for more than 4,096 bytes");
+            return Some("the literal's text is longer than 4,096 bytes");
         }
         is_pair = !is_pair && *byte == b'\\';
     }
-    Some("the literal isn't closed: its last \" is missing")
+    Some("the literal isn't closed: its closing \" is missing")
 }
 
 /// What is wrong with a word that is left over.
 pub fn left_over(first: &str, word: &str) -> Option<&'static str> {
     match first {
         "if" => Some(
-            "an if takes one register; a comparison comes before it, such as: v2 = lt v0 v1",
+            "an if takes one register; compare on a line before it, such as: v2 = lt v0 v1",
         ),
-        "else" => Some("an if inside the else is on a line below it, and has an end of its own"),
-        "source" => Some("a source has at most 64 columns, after `pact 2` 128"),
-        "sink" => Some("a sink has at most 64 fields, after `pact 2` 128"),
+        "else" => Some("write the if on a line of its own inside the else, with its own end"),
+        "source" => Some("a source has at most 64 columns, or 128 with `pact 2`"),
+        "sink" => Some("a sink has at most 64 fields, or 128 with `pact 2`"),
         _ => comment(word),
     }
 }
@@ -126,22 +129,26 @@ fn is_copied(word: &str) -> bool {
 /// What is wrong with a word that should be a number or a register, in a line with that first word.
 pub fn operand(first: &str, word: &str) -> Option<&'static str> {
     match word {
-        ":=" | "==" | "<-" => return Some("an assignment has ="),
-        "@" => return Some("no blank stands behind the @"),
+        ":=" | "==" | "<-" => return Some("an assignment is written with ="),
+        "@" => return Some("no blank may follow the @"),
         _ => {}
     }
     if is_copied(word) && (first == "emit" || first == "set") {
-        return Some("a copy of the record can be changed and emitted: r0 = copy REC");
+        return Some("this record can't be changed or emitted, but a copy of it can: r0 = copy REC");
     }
     if word.starts_with("'") {
-        Some("a literal stands between \" and \"")
+        Some("a literal is written between \" and \"")
+    } else if word.ends_with(",") || word.ends_with(";") {
+        Some("words are separated by blanks, not by commas or semicolons")
+    } else if is_for_register(first) && is_of_digits(word) {
+        Some("if a constant is meant, put it in a register on a line before: v5 = int 10")
     } else if is_of(word, b",;") {
-        Some("numbers stand between blanks, and have no comma")
+        Some("separate numbers by blanks, and write them without commas")
     } else if is_of(word, b".") {
-        Some("numbers are whole")
+        Some("only whole numbers are allowed")
     } else if word.starts_with("@") {
         Some(
-            "an @ comes right before a value register, where a field is wanted, after `pact 2` only",
+            "an @ is allowed only right before a value register, where a field is expected, and only with `pact 2`",
         )
     } else {
         comment(word)
@@ -165,6 +172,25 @@ fn begins_otherwise(bytes: &[u8]) -> bool {
     }
 }
 
+// Whether lines that begin with this word have registers of values as operands.
+fn is_for_register(first: &str) -> bool {
+    first.starts_with("v") || first == "set" || first == "if"
+}
+
+// Whether the word is a number of at most 9 digits, which is out of range nowhere.
+fn is_of_digits(word: &str) -> bool {
+    let digits = match word.strip_prefix("-") {
+        Some(rest) => rest,
+        None => word,
+    };
+    for byte in digits.as_bytes() {
+        if !byte.is_ascii_digit() {
+            return false;
+        }
+    }
+    !digits.is_empty() && digits.len() <= 9
+}
+
 // Whether the word has a digit and one of these signs, and nothing but digits, these signs, a minus or a plus.
 fn is_of(word: &str, signs: &[u8]) -> bool {
     let mut has_digit = false;
@@ -181,7 +207,7 @@ fn is_of(word: &str, signs: &[u8]) -> bool {
     has_digit && has_sign
 }
 
-/// How a line reads that begins with this word.
+/// The form of a line that begins with this word.
 pub fn form(first: &str) -> Option<&'static str> {
     match first {
         "pact" => Some("pact 1, or pact 2"),
@@ -195,7 +221,7 @@ pub fn form(first: &str) -> Option<&'static str> {
         "cogroup" => Some("cogroup NAME FUNCTION LEFT RIGHT by N .. = N .."),
         "sink" => Some("sink INPUT N .."),
         "emit" => Some("emit rD"),
-        "set" => Some("set rD N vA, or after `pact 2` set rD @vA vB"),
+        "set" => Some("set rD N vA, or with `pact 2` set rD @vA vB"),
         "if" => Some("if vA"),
         "repeat" => Some("repeat N"),
         "each" => Some("each xK of LIST"),
@@ -205,13 +231,13 @@ pub fn form(first: &str) -> Option<&'static str> {
     }
 }
 
-/// How an assignment reads that has this form or operation.
+/// The form of an assignment with this form or operation.
 pub fn assignment(form: &str) -> &'static str {
     match form {
         "int" => "vD = int N",
         "text" => "vD = text \"T\"",
         "null" => "vD = null",
-        "get" => "vD = get REC N, or after `pact 2` vD = get REC @vA",
+        "get" => "vD = get REC N, or with `pact 2` vD = get REC @vA",
         "key" => "vD = key N",
         "new" => "rD = new",
         "copy" => "rD = copy REC",
@@ -231,6 +257,6 @@ pub fn assignment(form: &str) -> &'static str {
         | "or"
         | "cat" => "vD = OP vA vB",
         _ =>
-            "vD = FORM .. or rD = FORM .., with a form of the table \"Statements\" in docs/language.md",
+            "vD = FORM .. or rD = FORM ..; the table \"Statements\" in docs/language.md has the forms",
     }
 }

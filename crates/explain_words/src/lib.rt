@@ -5,6 +5,7 @@
 //! - `hints` has what people usually mean by a word that the language doesn't have.
 //! - `printed` reads the lines that `pact` prints.
 //! - `places` has parts of texts, and shows them with marks.
+//! - `text_faults` says of the word of a text fault what doesn't depend on what may be there instead.
 //! - `spelling` finds the nearest word of a list.
 #![tactic(auto)]
 
@@ -14,6 +15,7 @@ pub mod pages;
 pub mod places;
 pub mod printed;
 pub mod spelling;
+pub mod text_faults;
 
 pub use pages::{Page, Piece};
 pub use places::{Part, TextLine};

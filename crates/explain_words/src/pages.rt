@@ -16,7 +16,7 @@ pub enum Piece<'a> {
     /// Words as they are.
     Say(&'a str),
     Number(u64),
-    /// Bytes from outside: the first ones, with escapes for bytes that have no sign.
+    /// Bytes from outside: the first ones, with escapes for those that can't be printed.
     Quote(&'a [u8]),
 }
 
@@ -33,6 +33,14 @@ pub fn part(bytes: &[u8], from: usize, to: usize) -> &[u8] {
         &bytes[from..to]
     } else {
         b""
+    }
+}
+
+/// The bytes as text, or no text if they aren't UTF-8.
+pub fn text_of(bytes: &[u8]) -> &str {
+    match str::from_utf8(bytes) {
+        Ok(text) => text,
+        Err(_) => "",
     }
 }
 
@@ -97,7 +105,7 @@ impl Page {
         self.put(&[b'\\', b'x', hexadecimal(byte / 16), hexadecimal(byte % 16)])
     }
 
-    // Appends what stands for the byte, and returns how many signs wide that is.
+    // Appends the character that begins there, or an escape for the byte, and returns its width.
     fn put_sign(&mut self, bytes: &[u8], at: usize) -> Result<u32, OutOfMemory> {
         let size = character_at(bytes, at);
         let sign = part(bytes, at, at.saturating_add(size));
@@ -126,7 +134,7 @@ impl Page {
         }
     }
 
-    /// Appends the first bytes of a text from outside, with escapes for bytes that have no sign.
+    /// Appends the first bytes of a text from outside, with escapes for those that can't be printed.
     pub fn put_shown(&mut self, bytes: &[u8], most: usize) -> Result<(), OutOfMemory> {
         for at in 0..bytes.len() {
             if at >= most {
@@ -174,7 +182,7 @@ impl Page {
     }
 
     /// Appends a line of a text, and below it a line with marks under the bytes from `from` up to `to`, or one mark at
-    /// `from` if these are none. Of a long line the part around the marks is shown.
+    /// `from` if there are none. A long line is cut on both sides of the marks.
     pub fn excerpt(&mut self, line: &[u8], from: usize, to: usize) -> Result<(), OutOfMemory> {
         let first = from.saturating_sub(MOST_OF_LINE / 2);
         let last = first.saturating_add(MOST_OF_LINE).min(line.len());

@@ -53,7 +53,7 @@ pub fn line_around(text: &[u8], at: usize) -> (usize, usize) {
     (line_start(text, at), line_stop(text, at))
 }
 
-/// The number of characters, of bytes that may be cut anywhere.
+/// The number of characters. The bytes may begin or end inside one.
 pub fn count_signs(bytes: &[u8]) -> u64 {
     let mut count = 0u64;
     for byte in bytes {

@@ -15,7 +15,7 @@ use Rattle.flow_instance.specs.Spots.{Port, Setting, is_edge, ports_of, setting}
 use Rattle.flow_instance.specs.Worlds.{can_take, does_want, enabled, lists_at, reader_of}
 use Rattle.flow_instance.proofs.Events.{wants_take}
 use Rattle.flow_instance.proofs.StandsAfterEvents.{can_be_taken}
-use Rattle.flow_core.specs.Stations.{IsReadyFor}
+use Rattle.flow_core.specs.QueuedInstances.{IsReadyFor}
 use Rattle.flow_core.specs.Worlds.{StandsForSome, WorldData, instance_in, queue_in, seen}
 
 pub record IsAt (w : WorldData) (at worker : ℕ) : Type 0 where
@@ -30,18 +30,18 @@ one_note fields (Batch rows) h = (h.0, h.1, tt)
 one_note fields EndNote h = refl
 
 pub record CanTakeAt (w : WorldData) (p : PipeId) (at port : ℕ) : Type 0 where
-  pub some : 0 < length (queue_in w.stations p.edge p.from p.to)
+  pub some : 0 < length (queue_in w.queued_instances p.edge p.from p.to)
   pub sender : IsAt w p.edge p.from
   pub receiver : IsAt w at p.to
-  pub ready : IsReadyFor (instance_in w.stations at p.to) p.to port p.from (first_note (queue_in w.stations p.edge p.from p.to))
+  pub ready : IsReadyFor (instance_in w.queued_instances at p.to) p.to port p.from (first_note (queue_in w.queued_instances p.edge p.from p.to))
 
 not_ended_from : (o : Option Port) (from worker : ℕ) (notes : List Note) → is_edge o from worker ≡ true → has_end notes ≡ false → sender_ended o from worker notes ≡ false
 not_ended_from o from worker notes e h = rw (e, h) refl
 
 can_take_by : (w : WorldData) (p : PipeId) (o : Option (ℕ × ℕ)) (at port : ℕ) → o ≡ Some (at, port) → can_take (seen w) p o ≡ true
-    → (does_want (want (instance_in w.stations at p.to)) (Take port) ≡ true) × (nat_lt 0 (length (queue_in w.stations p.edge p.from p.to)) ≡ true)
+    → (does_want (want (instance_in w.queued_instances at p.to)) (Take port) ≡ true) × (nat_lt 0 (length (queue_in w.queued_instances p.edge p.from p.to)) ≡ true)
 can_take_by w p o at port e can =
-    and_parts (does_want (want (instance_in w.stations at p.to)) (Take port)) (nat_lt 0 (length (queue_in w.stations p.edge p.from p.to)))
+    and_parts (does_want (want (instance_in w.queued_instances at p.to)) (Take port)) (nat_lt 0 (length (queue_in w.queued_instances p.edge p.from p.to)))
     (subst (λ (x : Option (ℕ × ℕ)). can_take (seen w) p x ≡ true) e can)
 
 pub can_take_at : (w : WorldData) (p : PipeId) (at port : ℕ) → StandsForSome w → enabled w.physical w.depth (seen w) (events.Take p) ≡ true → reader_of p.edge w.physical.tree ≡ Some (at, port) → CanTakeAt w p at port
@@ -52,10 +52,10 @@ can_take_at w p at port s e reader =
     let from = ltb-true p.from w.physical.workers below.0 in
     let to = ltb-true p.to w.physical.workers below.1 in
     let can = can_take_by w p (reader_of p.edge w.physical.tree) at port reader parts.1 in
-    let some = ltb-true 0 (length (queue_in w.stations p.edge p.from p.to)) can.1 in
+    let some = ltb-true 0 (length (queue_in w.queued_instances p.edge p.from p.to)) can.1 in
     let t = can_be_taken g (seen w) s.history p at port s.is_physical.plan.different s.standing.stands reader from to some in
     let l = s.standing.stands.instances at p.to t.found.has_reader to in
-    let i = instance_in w.stations at p.to in
+    let i = instance_in w.queued_instances at p.to in
     record {
       some = some;
       sender = record { there = t.found.has_edge; below = from };
@@ -67,7 +67,7 @@ can_take_at w p at port s e reader =
         below = subst (λ (n : ℕ). p.from < n) (sym l.part.workers) from;
         not_ended = l.ended port p.from from
             ∙ not_ended_from (slice_get (ports_of w.physical (subtree_of at w.physical.tree)) port) p.from p.to (lists_at s.history.taken (slice_get (ports_of w.physical (subtree_of at w.physical.tree)) port) p.from p.to) t.edge t.unended;
-        fits = subst (λ (n : ℕ). AreNotes n (first_note (queue_in w.stations p.edge p.from p.to) ∷ [])) (sym l.part.fields) (one_note g.fields (first_note (queue_in w.stations p.edge p.from p.to)) t.note);
+        fits = subst (λ (n : ℕ). AreNotes n (first_note (queue_in w.queued_instances p.edge p.from p.to) ∷ [])) (sym l.part.fields) (one_note g.fields (first_note (queue_in w.queued_instances p.edge p.from p.to)) t.note);
       };
     }
 

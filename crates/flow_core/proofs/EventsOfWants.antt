@@ -20,7 +20,7 @@ use Rattle.flow_instance.proofs.Readers.{IsFound, found}
 use Rattle.plan_trees.proofs.EverySubtree.{all_below-at}
 use Rattle.flow_instance.proofs.Trees.{Reads, read}
 use Rattle.flow_core.specs.Idle.{IsIdle, IsOf}
-use Rattle.flow_core.specs.Wired.{input_in}
+use Rattle.flow_core.specs.PlanTables.{input_in}
 use Rattle.plan_trees.proofs.Ships.{below_limit}
 
 -- ---- readers and what they read

@@ -21,22 +21,22 @@ use Rattle.flow_instance.proofs.Bags.{is_same}
 use Rattle.flow_instance.proofs.AllPutIsTaken.{spread}
 use Rattle.flow_instance.proofs.Stuck.{stuck_is_done}
 use Rattle.flow_core.specs.Outcomes.{IsOutcome}
-use Rattle.flow_core.specs.Stations.{given_by, placed_by, total_given}
-use Rattle.flow_core.specs.Worlds.{IsStanding, IsWhole, StandsForSome, StationData, WorldData, seen}
+use Rattle.flow_core.specs.QueuedInstances.{given_by, placed_by, total_given}
+use Rattle.flow_core.specs.Worlds.{IsStanding, IsWhole, StandsForSome, QueuedInstanceData, WorldData, seen}
 use Rattle.flow_instance.proofs.PartsOfPlans.{number_below}
 
--- the stations of the root
-abbrev pub root_row : WorldData → List StationData
-root_row w = get_or w.stations (root_of w.physical.tree) []
+-- the queued instances of the root
+abbrev pub root_row : WorldData → List QueuedInstanceData
+root_row w = get_or w.queued_instances (root_of w.physical.tree) []
 
-pub root_below : (w : WorldData) → StandsForSome w → root_of w.physical.tree < length w.stations
+pub root_below : (w : WorldData) → StandsForSome w → root_of w.physical.tree < length w.queued_instances
 root_below w s = s.standing.whole.each (root_of w.physical.tree) (has-root w.physical.tree)
 
 -- what is taken out at the root's number
-pub taken_row : (w held : WorldData) (root : ℕ) (row : List StationData) → held ≡ w → root ≡ root_of held.physical.tree → row ≡ get_or held.stations root row → StandsForSome w → row ≡ root_row w
+pub taken_row : (w held : WorldData) (root : ℕ) (row : List QueuedInstanceData) → held ≡ w → root ≡ root_of held.physical.tree → row ≡ get_or held.queued_instances root row → StandsForSome w → row ≡ root_row w
 taken_row w held root row same at is stands =
     let here : root ≡ root_of w.physical.tree = at ∙ ap (λ (x : WorldData). root_of x.physical.tree) same in
-    is ∙ (λ i. get_or (same i).stations (here i) row) ∙ get_or_default w.stations (root_of w.physical.tree) row [] (root_below w stands)
+    is ∙ (λ i. get_or (same i).queued_instances (here i) row) ∙ get_or_default w.queued_instances (root_of w.physical.tree) row [] (root_below w stands)
 
 -- ---- widths
 
@@ -57,26 +57,26 @@ one_width w s =
 -- ---- the spread
 
 pub spread_of : (g : Setting) (w : WorldData) (h : History) (rows : Bag) (counts : List ℕ) → IsPhysical w.physical → IsStanding g w h → AreDone g.physical (seen w)
-    → rows ≡ all_of (length (root_row w)) (placed_by (root_row w)) → counts ≡ map total_given w.stations → Spread g rows counts
+    → rows ≡ all_of (length (root_row w)) (placed_by (root_row w)) → counts ≡ map total_given w.queued_instances → Spread g rows counts
 spread_of g w h rows counts physical s done rows_are counts_are =
     let trees : w.physical ≡ g.physical = s.physical in
     let at_root = s.whole.each (root_of w.physical.tree) (has-root w.physical.tree) in
     let long : length (root_row w) ≡ g.physical.workers = s.whole.workers (root_of w.physical.tree) at_root ∙ ap (λ (q : PhysicalData). q.workers) trees in
-    let placed : rows ≡ placed_in g (seen w) = rows_are ∙ (λ i. all_of (long i) (placed_by (get_or w.stations (root_of (trees i).tree) []))) in
+    let placed : rows ≡ placed_in g (seen w) = rows_are ∙ (λ i. all_of (long i) (placed_by (get_or w.queued_instances (root_of (trees i).tree) []))) in
     spread g (seen w) h rows counts (subst IsPhysical trees physical).plan.different s.stands done (is_same placed) (λ at there.
-    let below : at < length w.stations = s.whole.each at (subst (λ (q : PhysicalData). has at q.tree ≡ true) (sym trees) there) in
-    let row = get_or w.stations at [] in
+    let below : at < length w.queued_instances = s.whole.each at (subst (λ (q : PhysicalData). has at q.tree ≡ true) (sym trees) there) in
+    let row = get_or w.queued_instances at [] in
     let many : length row ≡ g.physical.workers = s.whole.workers at below ∙ ap (λ (q : PhysicalData). q.workers) trees in
-    let found : slice_get (map total_given w.stations) at ≡ Some (total_given row) =
-    slice_get-map total_given w.stations at ∙ ap (option_map total_given) (slice_get-get_or w.stations at [] below) in
+    let found : slice_get (map total_given w.queued_instances) at ≡ Some (total_given row) =
+    slice_get-map total_given w.queued_instances at ∙ ap (option_map total_given) (slice_get-get_or w.queued_instances at [] below) in
     ap (λ (l : List ℕ). slice_get l at) counts_are ∙ found ∙ ap (λ (n : ℕ). Some (count_of (sum_below n (given_by row)))) many)
 
 -- from what was taken out
-pub leaves : (w : WorldData) (rows : Bag) (counts : List ℕ) → StandsForSome w → rows ≡ all_of (length (root_row w)) (placed_by (root_row w)) → counts ≡ map total_given w.stations → IsOutcome w rows counts
+pub leaves : (w : WorldData) (rows : Bag) (counts : List ℕ) → StandsForSome w → rows ≡ all_of (length (root_row w)) (placed_by (root_row w)) → counts ≡ map total_given w.queued_instances → IsOutcome w rows counts
 leaves w rows counts s rows_are counts_are = record {
   spread = λ g h standing done. spread_of g w h rows counts s.is_physical standing done rows_are counts_are;
   wide = λ g h standing. subst (AreWide g.fields) (sym rows_are) (placed_widths g w h standing);
-  long = ap length counts_are ∙ length-map w.stations total_given;
+  long = ap length counts_are ∙ length-map w.queued_instances total_given;
 }
 
 -- ---- nothing can happen
@@ -96,6 +96,6 @@ same_length zero (suc n) h k = absurd (omega (arith, k 0 (omega arith)))
 same_length (suc m) zero h k = absurd (omega (arith, h 0 (omega arith)))
 same_length (suc m) (suc n) h k = omega (arith, h m (omega arith), k n (omega arith))
 
-pub length-stations : (w : WorldData) (p : ProgramData) → IsWhole w.physical w.stations → IsPlanOf p.functions p.ops w.physical.tree → length w.stations ≡ length p.ops
-length-stations w p whole plan = same_length (length w.stations) (length p.ops)
+pub length-queued_instances : (w : WorldData) (p : ProgramData) → IsWhole w.physical w.queued_instances → IsPlanOf p.functions p.ops w.physical.tree → length w.queued_instances ≡ length p.ops
+length-queued_instances w p whole plan = same_length (length w.queued_instances) (length p.ops)
     (λ k less. number_below p.ops k w.physical.tree (whole.only k less) plan.arity) (λ k less. whole.each k (plan.all k less))

@@ -13,16 +13,16 @@ use Rattle.flow_instance.specs.Spots.{Setting, setting}
 use Rattle.flow_instance.specs.Worlds.{History, Stands, World}
 use Rattle.flow_instance.proofs.StandsAfterEvents.{other_edge, other_from, other_to}
 use Rattle.flow_core.specs.Left.{AreAllEmptied, AreEmptied, AreFilled, AreOfPlan, IsEmptied, IsPipeOf, LeftOn, StandForSome, instance_of, left_on, left_world, refilled}
-use Rattle.flow_core.specs.Worlds.{IsStanding, IsWhole, StandsForSome, StationData, WorldData, instance_in, no_instance, no_station, queue_in, seen, station_in}
-use Rattle.flow_core.proofs.ChangedStations.{list_changed, same_instances, whole_after}
+use Rattle.flow_core.specs.Worlds.{IsStanding, IsWhole, StandsForSome, QueuedInstanceData, WorldData, instance_in, no_instance, no_queued_instance, queue_in, seen, queued_instance_in}
+use Rattle.flow_core.proofs.ChangedQueuedInstances.{list_changed, same_instances, whole_after}
 use Rattle.flow_core.proofs.SharesOfRows.{each_last}
 use Rattle.flow_core.proofs.StartStands.{all_empty}
-use Rattle.flow_core.proofs.StationsAtPlaces.{IsFoundAt}
+use Rattle.flow_core.proofs.QueuedInstancesAtPlaces.{IsFoundAt}
 
 -- ---- instances with empty pipes
 
-module _ (p : PhysicalData) (rows : List (List Instance)) (lists : List LeftOn) (stations : List (List StationData)) (o : AreOfPlan p rows lists) (e : AreAllEmptied p.workers (length rows) rows stations) where
-  pub whole_emptied : IsWhole p stations
+module _ (p : PhysicalData) (rows : List (List Instance)) (lists : List LeftOn) (queued_instances : List (List QueuedInstanceData)) (o : AreOfPlan p rows lists) (e : AreAllEmptied p.workers (length rows) rows queued_instances) where
+  pub whole_emptied : IsWhole p queued_instances
   whole_emptied = record {
     each = λ at there. omega (arith, o.each at there, e.long);
     only = λ at less. o.only at (omega (arith, less, e.long));
@@ -32,54 +32,54 @@ module _ (p : PhysicalData) (rows : List (List Instance)) (lists : List LeftOn) 
         ((e.each at below).each worker (omega (arith, within, o.workers at below))).long;
   }
 
-  no_row : (at worker : ℕ) → length rows ≤ at → station_in stations at worker ≡ no_station
+  no_row : (at worker : ℕ) → length rows ≤ at → queued_instance_in queued_instances at worker ≡ no_queued_instance
   no_row at worker more =
-      ap (λ (r : List StationData). get_or r worker no_station) (get_or_past stations at [] (omega (arith, more, e.long))) ∙ get_or_past [] worker no_station (omega arith)
+      ap (λ (r : List QueuedInstanceData). get_or r worker no_queued_instance) (get_or_past queued_instances at [] (omega (arith, more, e.long))) ∙ get_or_past [] worker no_queued_instance (omega arith)
 
-  none_there : (at worker : ℕ) → at < length rows → length (get_or rows at []) ≤ worker → station_in stations at worker ≡ no_station
-  none_there at worker less more = get_or_past (get_or stations at []) worker no_station (omega (arith, more, (e.each at less).long))
+  none_there : (at worker : ℕ) → at < length rows → length (get_or rows at []) ≤ worker → queued_instance_in queued_instances at worker ≡ no_queued_instance
+  none_there at worker less more = get_or_past (get_or queued_instances at []) worker no_queued_instance (omega (arith, more, (e.each at less).long))
 
-  pub same_emptied : (at worker : ℕ) → instance_in stations at worker ≡ instance_of rows at worker
-  same_emptied at worker = elim (cases_lt at (length rows)) as (λ _. instance_in stations at worker ≡ instance_of rows at worker) [
+  pub same_emptied : (at worker : ℕ) → instance_in queued_instances at worker ≡ instance_of rows at worker
+  same_emptied at worker = elim (cases_lt at (length rows)) as (λ _. instance_in queued_instances at worker ≡ instance_of rows at worker) [
     | inr more ↦
-        ap (λ (x : StationData). x.instance) (no_row at worker more)
+        ap (λ (x : QueuedInstanceData). x.instance) (no_row at worker more)
         ∙ sym (ap (λ (r : List Instance). get_or r worker no_instance) (get_or_past rows at [] more) ∙ get_or_past [] worker no_instance (omega arith))
-    | inl less ↦ elim (cases_lt worker (length (get_or rows at []))) as (λ _. instance_in stations at worker ≡ instance_of rows at worker) [
-      | inr more ↦ ap (λ (x : StationData). x.instance) (none_there at worker less more) ∙ sym (get_or_past (get_or rows at []) worker no_instance more)
+    | inl less ↦ elim (cases_lt worker (length (get_or rows at []))) as (λ _. instance_in queued_instances at worker ≡ instance_of rows at worker) [
+      | inr more ↦ ap (λ (x : QueuedInstanceData). x.instance) (none_there at worker less more) ∙ sym (get_or_past (get_or rows at []) worker no_instance more)
       | inl below ↦ ((e.each at less).each worker below).instance
     ]
   ]
 
-  pub none_emptied : (edge from to : ℕ) → queue_in stations edge from to ≡ []
-  none_emptied edge from to = elim (cases_lt edge (length rows)) as (λ _. queue_in stations edge from to ≡ []) [
-    | inr more ↦ ap (λ (x : StationData). get_or x.queues to []) (no_row edge from more) ∙ get_or_past [] to [] (omega arith)
-    | inl less ↦ elim (cases_lt from (length (get_or rows edge []))) as (λ _. queue_in stations edge from to ≡ []) [
-      | inr more ↦ ap (λ (x : StationData). get_or x.queues to []) (none_there edge from less more) ∙ get_or_past [] to [] (omega arith)
-      | inl below ↦ all_empty (station_in stations edge from).queues to ((e.each edge less).each from below).empty
+  pub none_emptied : (edge from to : ℕ) → queue_in queued_instances edge from to ≡ []
+  none_emptied edge from to = elim (cases_lt edge (length rows)) as (λ _. queue_in queued_instances edge from to ≡ []) [
+    | inr more ↦ ap (λ (x : QueuedInstanceData). get_or x.queues to []) (no_row edge from more) ∙ get_or_past [] to [] (omega arith)
+    | inl less ↦ elim (cases_lt from (length (get_or rows edge []))) as (λ _. queue_in queued_instances edge from to ≡ []) [
+      | inr more ↦ ap (λ (x : QueuedInstanceData). get_or x.queues to []) (none_there edge from less more) ∙ get_or_past [] to [] (omega arith)
+      | inl below ↦ all_empty (queued_instance_in queued_instances edge from).queues to ((e.each edge less).each from below).empty
     ]
   ]
 
-pub emptied_none : (workers : ℕ) (own : List Instance) (row : List StationData) → row ≡ [] → AreEmptied workers 0 own row
+pub emptied_none : (workers : ℕ) (own : List Instance) (row : List QueuedInstanceData) → row ≡ [] → AreEmptied workers 0 own row
 emptied_none workers own row none = record { long = ap length none; each = λ k less. absurd (omega (arith, less)) }
 
 -- one instance more
-pub emptied_more : (workers n count : ℕ) (own found : List Instance) (i : Instance) (old new : List StationData) (s : StationData) → found ≡ own → n < length found → i ≡ get_or found n i → count ≡ n + 1
+pub emptied_more : (workers n count : ℕ) (own found : List Instance) (i : Instance) (old new : List QueuedInstanceData) (s : QueuedInstanceData) → found ≡ own → n < length found → i ≡ get_or found n i → count ≡ n + 1
     → new ≡ old ++ s ∷ [] → AreEmptied workers n own old → s.instance ≡ i → length s.queues ≡ workers → AllByRecursion (λ (q : List Note). q ≡ []) s.queues → AreEmptied workers count own new
 emptied_more workers n count own found i old new s same less is count_is new_is first instance long empty =
     let here : i ≡ get_or own n no_instance = is ∙ get_or_default found n i no_instance less ∙ ap (λ (l : List Instance). get_or l n no_instance) same in
     subst (λ (k : ℕ). AreEmptied workers k own new) (sym count_is) (subst (AreEmptied workers (n + 1) own) (sym new_is) (record {
       long = length-append old (s ∷ []) ∙ ap (λ (k : ℕ). k + 1) first.long;
-      each = each_last (λ k (x : StationData). IsEmptied workers (get_or own k no_instance) x) old s no_station n first.long first.each (record { instance = instance ∙ here; long = long; empty = empty });
+      each = each_last (λ k (x : QueuedInstanceData). IsEmptied workers (get_or own k no_instance) x) old s no_queued_instance n first.long first.each (record { instance = instance ∙ here; long = long; empty = empty });
     }))
 
 -- one source or operator more
-pub rows_more : (workers n count : ℕ) (rows found : List (List Instance)) (own : List Instance) (old new : List (List StationData)) (row : List StationData) → found ≡ rows → n < length found → own ≡ get_or found n own → count ≡ n + 1
+pub rows_more : (workers n count : ℕ) (rows found : List (List Instance)) (own : List Instance) (old new : List (List QueuedInstanceData)) (row : List QueuedInstanceData) → found ≡ rows → n < length found → own ≡ get_or found n own → count ≡ n + 1
     → new ≡ old ++ row ∷ [] → AreAllEmptied workers n rows old → AreEmptied workers (length own) own row → AreAllEmptied workers count rows new
 rows_more workers n count rows found own old new row same less is count_is new_is first last =
     let own_is : own ≡ get_or rows n [] = is ∙ get_or_default found n own [] less ∙ ap (λ (l : List (List Instance)). get_or l n []) same in
     subst (λ (k : ℕ). AreAllEmptied workers k rows new) (sym count_is) (subst (AreAllEmptied workers (n + 1) rows) (sym new_is) (record {
       long = length-append old (row ∷ []) ∙ ap (λ (k : ℕ). k + 1) first.long;
-      each = each_last (λ k (r : List StationData). AreEmptied workers (length (get_or rows k [])) (get_or rows k []) r) old row [] n first.long first.each
+      each = each_last (λ k (r : List QueuedInstanceData). AreEmptied workers (length (get_or rows k [])) (get_or rows k []) r) old row [] n first.long first.each
           (subst (λ (l : List Instance). AreEmptied workers (length l) l row) own_is last);
     }))
 
@@ -120,27 +120,27 @@ filled_from l old new changed = each_pipe (λ a b c. new a b c ≡ old a b c ++ 
     (changed.here ∙ ap (λ (n : List Note). old l.pipe.edge l.pipe.from l.pipe.to ++ n) (sym (left_here l)))
     (λ a b c other. changed.elsewhere a b c other ∙ sym (append-nil (old a b c)) ∙ ap (λ (n : List Note). old a b c ++ n) (sym (left_elsewhere l a b c other)))
 
--- the notes of one entry came back to a station that was found
-pub filled_one : (p q : PhysicalData) (old items : List (List StationData)) (row : List StationData) (x s : StationData) (l : LeftOn) → IsWhole p old → IsPipeOf p l.pipe → q ≡ p → items ≡ old
+-- the notes of one entry came back to a queued instance that was found
+pub filled_one : (p q : PhysicalData) (old items : List (List QueuedInstanceData)) (row : List QueuedInstanceData) (x s : QueuedInstanceData) (l : LeftOn) → IsWhole p old → IsPipeOf p l.pipe → q ≡ p → items ≡ old
     → IsFoundAt p old items row l.pipe.edge l.pipe.from x → s ≡ refilled x l.pipe.to l.notes → AreFilled q old (l ∷ []) (set items l.pipe.edge (set row l.pipe.from s))
 filled_one p q old items row x s l whole of same items_are f is =
     let edge = l.pipe.edge in
     let from = l.pipe.from in
     let to = l.pipe.to in
     let new = set items edge (set row from s) in
-    let here : s ≡ refilled (station_in old edge from) to l.notes = is ∙ ap (λ (y : StationData). refilled y to l.notes) f.is in
-    let below : to < length (station_in old edge from).queues = subst (λ (n : ℕ). to < n) (sym (whole.pipes edge from f.below of.from)) of.to in
+    let here : s ≡ refilled (queued_instance_in old edge from) to l.notes = is ∙ ap (λ (y : QueuedInstanceData). refilled y to l.notes) f.is in
+    let below : to < length (queued_instance_in old edge from).queues = subst (λ (n : ℕ). to < n) (sym (whole.pipes edge from f.below of.from)) of.to in
     record {
-      whole = whole_after p q old items row edge from x s whole same items_are f (ap (λ (y : StationData). length y.queues) is ∙ length-set x.queues to (get_or x.queues to [] ++ l.notes) ∙ f.pipes);
-      instances = same_instances old new edge from s (f.changed s) (ap (λ (y : StationData). y.instance) here);
-      queues = filled_from l (queue_in old) (queue_in new) (list_changed old new l.pipe (queue_in old edge from to ++ l.notes) s (f.changed s) (ap (λ (y : StationData). y.queues) here) below);
+      whole = whole_after p q old items row edge from x s whole same items_are f (ap (λ (y : QueuedInstanceData). length y.queues) is ∙ length-set x.queues to (get_or x.queues to [] ++ l.notes) ∙ f.pipes);
+      instances = same_instances old new edge from s (f.changed s) (ap (λ (y : QueuedInstanceData). y.instance) here);
+      queues = filled_from l (queue_in old) (queue_in new) (list_changed old new l.pipe (queue_in old edge from to ++ l.notes) s (f.changed s) (ap (λ (y : QueuedInstanceData). y.queues) here) below);
     }
 
 -- nothing came back so far
-pub filled_none : (p : PhysicalData) (old : List (List StationData)) → IsWhole p old → AreFilled p old [] old
+pub filled_none : (p : PhysicalData) (old : List (List QueuedInstanceData)) → IsWhole p old → AreFilled p old [] old
 filled_none p old whole = record { whole = whole; instances = λ at worker. refl; queues = λ edge from to. sym (append-nil (queue_in old edge from to)) }
 
-pub filled_more : (p q : PhysicalData) (old mid new : List (List StationData)) (lists : List LeftOn) (l : LeftOn) → AreFilled p old lists mid → AreFilled q mid (l ∷ []) new → AreFilled q old (lists ++ l ∷ []) new
+pub filled_more : (p q : PhysicalData) (old mid new : List (List QueuedInstanceData)) (lists : List LeftOn) (l : LeftOn) → AreFilled p old lists mid → AreFilled q mid (l ∷ []) new → AreFilled q old (lists ++ l ∷ []) new
 filled_more p q old mid new lists l first more = record {
   whole = more.whole;
   instances = λ at worker. more.instances at worker ∙ first.instances at worker;
@@ -152,8 +152,8 @@ filled_more p q old mid new lists l first more = record {
 
 -- ---- the whole world
 
-module _ (p : PhysicalData) (rows : List (List Instance)) (lists : List LeftOn) (first : List (List StationData)) (o : AreOfPlan p rows lists) (e : AreAllEmptied p.workers (length rows) rows first) (w : WorldData)
-    (f : AreFilled p first lists w.stations) where
+module _ (p : PhysicalData) (rows : List (List Instance)) (lists : List LeftOn) (first : List (List QueuedInstanceData)) (o : AreOfPlan p rows lists) (e : AreAllEmptied p.workers (length rows) rows first) (w : WorldData)
+    (f : AreFilled p first lists w.queued_instances) where
   pub left_seen : seen w ≡ left_world rows lists
   left_seen = λ i. record {
     instance = λ at worker. (f.instances at worker ∙ same_emptied p rows lists first o e at worker) i;
@@ -163,7 +163,7 @@ module _ (p : PhysicalData) (rows : List (List Instance)) (lists : List LeftOn) 
   pub left_standing : (g : Setting) (h : History) → w.physical ≡ p → g.physical ≡ p → Stands g (left_world rows lists) h → IsStanding g w h
   left_standing g h same of stand = record {
     physical = same ∙ sym of;
-    whole = subst (λ (q : PhysicalData). IsWhole q w.stations) (sym same) f.whole;
+    whole = subst (λ (q : PhysicalData). IsWhole q w.queued_instances) (sym same) f.whole;
     stands = subst (λ (v : World). Stands g v h) (sym left_seen) stand;
   }
 

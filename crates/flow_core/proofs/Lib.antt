@@ -1,5 +1,5 @@
 mod TablesByNumber
-mod StationsAtPlaces
+mod QueuedInstancesAtPlaces
 mod EnabledEvents
 mod WorldsAfterEvents
 pub mod SharesOfRows
@@ -13,7 +13,7 @@ mod FinishedWorlds
 mod RunAlone
 mod WorldLaws
 mod ReadersOfEdges
-mod ChangedStations
+mod ChangedQueuedInstances
 pub mod LeftWorlds
 mod KeptMarks
 mod PickedEvents

@@ -4,6 +4,7 @@ use Rattle.std.specs.List.{AllByRecursion}
 use Rattle.std.proofs.lemmas.Bool.{and_parts, cases_eq, false_from_ne_true}
 use Rattle.std.proofs.lemmas.Nat.{mod_below}
 use Rattle.std.proofs.lemmas.Option.{none-some, slice_get-get_or, slice_get_past}
+use Rattle.pact_bag.specs.declared.outcomes.Outcome.{Outcome}
 use Rattle.pact_operators.specs.Allowed.{Bag, Counted}
 use Rattle.pact_operators.specs.Inputs.{AreInputsOf}
 use Rattle.pact_operators.specs.PlanOps.{plan_ops}
@@ -22,9 +23,10 @@ use Rattle.flow_instance.specs.declared.notes.Want.TheVariants as wants
 use Rattle.flow_instance.specs.Spots.{Setting, setting}
 use Rattle.flow_instance.specs.Spread.{Spread}
 use Rattle.flow_instance.specs.Worlds.{History, IsStuck, World, can_take, enabled, reader_of}
+use Rattle.flow_core.specs.Outcomes.{IsWorldOutcome}
 use Rattle.flow_core.specs.Picks.{GoesByPick, IsLed, enabled_events, events_by, events_of, if_enabled, joined_below, picked_from, takes_from}
 use Rattle.flow_core.specs.Replays.{IsReached}
-use Rattle.flow_core.specs.Wired.{input_in}
+use Rattle.flow_core.specs.PlanTables.{input_in}
 use Rattle.flow_core.specs.Worlds.{IsStanding, StandsForSome, WorldData}
 use Rattle.flow_core.proofs.EventsOfWants.{is_found, place_end, place_put, reads_input, told_end, told_put, told_take}
 use Rattle.flow_core.proofs.RunAlone.{reached_more, reached_none}
@@ -168,3 +170,12 @@ led_counted w v rows counts l f p inputs h is are =
     subst (λ (q : PhysicalData). IsPlanOf p.functions p.ops q.tree → LegalShip (facts_of p q.tree) q → IsStanding (setting p inputs q) w h → Counted (plan_ops p inputs) q.tree rows counts) l.reached.physical (λ plan legal s.
     let m = l.reached.each (setting p inputs v.physical) h s in
     f p inputs m.0 is are plan legal m.1)
+
+-- what a run leaves after the picked events is what a run from before them leaves
+pub led_outcome : (w v : WorldData) (o : Outcome) → IsLed w v → IsWorldOutcome v o → IsWorldOutcome w o
+led_outcome w v o l f = record {
+  spread = led_spread w v o.rows o.counts l f.spread;
+  counted = led_counted w v o.rows o.counts l f.counted;
+  widths = λ g h s. let m = l.reached.each g h s in f.widths g m.0 m.1;
+  counts = λ p plan. f.counts p (subst (λ (q : PhysicalData). IsPlanOf p.functions p.ops q.tree) (sym l.reached.physical) plan);
+}

@@ -1,5 +1,6 @@
 -- What a run on one thread leaves.
 use Rattle.std.proofs.Common.{◌≡◌, ◌≤◌, ◌+◌, ℕ, true, List, length, refl, subst, sym, ◌∙◌, arith}
+use Rattle.pact_bag.specs.declared.outcomes.Outcome.{Outcome}
 use Rattle.pact_operators.specs.Allowed.{Bag, Counted}
 use Rattle.pact_operators.specs.Inputs.{AreInputsOf}
 use Rattle.pact_operators.specs.PlanOps.{plan_ops}
@@ -19,10 +20,10 @@ use Rattle.flow_instance.proofs.EventsWithinMost.{bound}
 use Rattle.flow_instance.proofs.CallTurns.{bounded_program}
 use Rattle.flow_instance.proofs.Counting.{step_counted}
 use Rattle.flow_instance.proofs.DividedRuns.{divided}
-use Rattle.flow_core.specs.Outcomes.{IsEnded, IsOutcome}
+use Rattle.flow_core.specs.Outcomes.{IsEnded, IsOutcome, IsWorldOutcome}
 use Rattle.flow_core.specs.Replays.{IsReached}
 use Rattle.flow_core.specs.Worlds.{IsStanding, StandsForSome, WorldData, seen}
-use Rattle.flow_core.proofs.FinishedWorlds.{done_if_stuck, length-stations}
+use Rattle.flow_core.proofs.FinishedWorlds.{done_if_stuck, length-queued_instances}
 
 -- if no event can happen, every instance is done
 pub ended_here : (w : WorldData) → StandsForSome w → IsStuck w.physical w.depth (seen w) → IsEnded w w
@@ -49,7 +50,16 @@ pub spread_counted : (physical : PhysicalData) (rows : Bag) (counts : List ℕ) 
 spread_counted physical rows counts p inputs k is are plan legal run = divided_counted p is inputs are physical k plan legal rows counts (divided p inputs physical rows counts k plan run)
 
 pub ended_numbers : (w v : WorldData) (rows : Bag) (counts : List ℕ) → IsEnded w v → IsOutcome v rows counts → (p : ProgramData) → IsPlanOf p.functions p.ops w.physical.tree → length counts ≡ length p.ops
-ended_numbers w v rows counts r l p plan = l.long ∙ length-stations v p r.stands.standing.whole (subst (λ (q : PhysicalData). IsPlanOf p.functions p.ops q.tree) (sym r.physical) plan)
+ended_numbers w v rows counts r l p plan = l.long ∙ length-queued_instances v p r.stands.standing.whole (subst (λ (q : PhysicalData). IsPlanOf p.functions p.ops q.tree) (sym r.physical) plan)
+
+-- what the world after the run leaves is what a run of the world before it leaves
+pub ended_outcome : (w v : WorldData) (o : Outcome) → IsPhysical w.physical → IsEnded w v → IsOutcome v o.rows o.counts → IsWorldOutcome w o
+ended_outcome w v o k e l = record {
+  spread = ended_spread w v o.rows o.counts e l;
+  counted = λ p inputs h is are plan legal st. spread_counted w.physical o.rows o.counts p inputs k is are plan legal (ended_spread w v o.rows o.counts e l (setting p inputs w.physical) h st);
+  widths = ended_widths w v o.rows o.counts e l;
+  counts = ended_numbers w v o.rows o.counts e l;
+}
 
 -- ---- the events so far
 

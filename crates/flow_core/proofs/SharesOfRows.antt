@@ -1,4 +1,4 @@
--- Shares of rows, and rows of stations, item by item.
+-- Shares of rows, and rows of queued instances, item by item.
 use Rattle.std.proofs.Common.{◌≡◌, ◌<◌, ◌+◌, ◌%◌, ◌==◌, inl, inr, ℕ, zero, suc, replicate, Bool, true, false, cond, List, [], ◌∷◌, ◌++◌, drop, get_or, length, set, take, refl, ap, subst, sym, ◌∙◌, append-nil, arith, length-append, length-drop}
 use Rattle.std.specs.List.{AllByRecursion}
 use Rattle.std.proofs.lemmas.Bool.{cases_eq, eq-eqb, ne_eqb}

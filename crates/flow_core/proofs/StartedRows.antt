@@ -14,7 +14,7 @@ use Rattle.flow_instance.specs.Starting.{CanStart, IsStartedFrom}
 use Rattle.flow_core.specs.Left.{AreAllEmptied}
 use Rattle.flow_core.specs.declared.starting.UnstartedRow.{UnstartedRow}
 use Rattle.flow_core.specs.Starting.{AreAllStarted, AreAllUnstarted, AreOwn, AreRowsFrom, AreStarted, AreStartedOn, AreUnstarted, AreUnstartedFrom, CanStartRow, IsRowUnstarted, IsStartedOn, IsUnstartedOn, StartAllFrom, StartFrom}
-use Rattle.flow_core.specs.Worlds.{StationData, no_instance}
+use Rattle.flow_core.specs.Worlds.{QueuedInstanceData, no_instance}
 
 zero_plus : (n : ℕ) → n ≡ 0 + n
 zero_plus n = omega arith
@@ -116,11 +116,11 @@ start_all_more (x ∷ rows) row (y ∷ all) own h last = (h.0, start_all_more ro
 start_all_more [] row (y ∷ all) own h last = absurd h
 start_all_more (x ∷ rows) row [] own h last = absurd h
 
--- ---- as stations
+-- ---- as queued instances
 
-pub started_stations : (g : Setting) (size count workers : ℕ) (all : List (List Instance)) (stations : List (List StationData)) → workers ≡ g.physical.workers → AreAllStarted g size count all → AreAllEmptied workers (length all) all stations
-    → AreStarted g size count stations
-started_stations g size count workers all stations same a e = record {
+pub started_queued_instances : (g : Setting) (size count workers : ℕ) (all : List (List Instance)) (queued_instances : List (List QueuedInstanceData)) → workers ≡ g.physical.workers → AreAllStarted g size count all → AreAllEmptied workers (length all) all queued_instances
+    → AreStarted g size count queued_instances
+started_queued_instances g size count workers all queued_instances same a e = record {
   long = e.long ∙ a.long;
   each = λ at less.
       let row = e.each at (omega (arith, less, a.long)) in

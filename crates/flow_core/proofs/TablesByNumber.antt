@@ -6,7 +6,7 @@ use Rattle.plan_trees.specs.Plans.{IsPlan, PlanTree, has, node_limit}
 use Rattle.plan_trees.proofs.Ships.{below_limit}
 use Rattle.flow_instance.specs.Worlds.{reader_of}
 use Rattle.flow_instance.proofs.Trees.{no_reader}
-use Rattle.flow_core.specs.Wired.{input_in}
+use Rattle.flow_core.specs.PlanTables.{input_in}
 
 -- the first entries are those of a function, and so is the next one
 pub set_next : {X : Type 0} (d : X) (f : ℕ → X) (xs : List X) (n : ℕ) (y : X) → n < length xs → ((k : ℕ) → k < n → get_or xs k d ≡ f k) → y ≡ f n

@@ -20,12 +20,12 @@ use Rattle.flow_core.specs.Worlds.{IsStanding, IsWhole, StandsForSome, WorldData
 -- a note was taken, where u is the world after the note left its pipe
 pub take_steps : (g : Setting) (w u v : WorldData) (h : History) (p : PipeId) (at port : ℕ) (note : Note) → IsStanding g w h
     → reader_of p.edge w.physical.tree ≡ Some (at, port) → has at w.physical.tree ≡ true → p.to < w.physical.workers
-    → ((a b : ℕ) → instance_in u.stations a b ≡ instance_in w.stations a b)
-    → ListChanged (queue_in w.stations) p (later (queue_in w.stations p.edge p.from p.to)) (queue_in u.stations)
-    → note ≡ first_note (queue_in w.stations p.edge p.from p.to)
-    → ((s : Spot) (taken : ℕ → ℕ → List Note) (put : ℕ → List Note) → IsLocal s p.to (instance_in u.stations at p.to) taken put → Took s p.to (instance_in u.stations at p.to) port p.from note (instance_in v.stations at p.to))
+    → ((a b : ℕ) → instance_in u.queued_instances a b ≡ instance_in w.queued_instances a b)
+    → ListChanged (queue_in w.queued_instances) p (later (queue_in w.queued_instances p.edge p.from p.to)) (queue_in u.queued_instances)
+    → note ≡ first_note (queue_in w.queued_instances p.edge p.from p.to)
+    → ((s : Spot) (taken : ℕ → ℕ → List Note) (put : ℕ → List Note) → IsLocal s p.to (instance_in u.queued_instances at p.to) taken put → Took s p.to (instance_in u.queued_instances at p.to) port p.from note (instance_in v.queued_instances at p.to))
     → OthersSame (seen u) at p.to (seen v)
-    → ((edge a b : ℕ) → queue_in v.stations edge a b ≡ queue_in u.stations edge a b)
+    → ((edge a b : ℕ) → queue_in v.queued_instances edge a b ≡ queue_in u.queued_instances edge a b)
     → Steps g (seen w) (events.Take p) (seen v)
 take_steps g w u v h p at port note s reader there below same queue note_is took others kept =
     let reader_too : reader_of p.edge g.physical.tree ≡ Some (at, port) = ap (λ (q : PhysicalData). reader_of p.edge q.tree) (sym s.physical) ∙ reader in
@@ -35,8 +35,8 @@ take_steps g w u v h p at port note s reader there below same queue note_is took
     let taken : ℕ → ℕ → List Note = λ q from. lists_at h.taken (slice_get (ports_of g.physical t) q) from p.to in
     let put : ℕ → List Note = λ to. h.put at p.to to in
     let l = s.stands.instances at p.to there_too below_too in
-    let i = instance_in w.stations at p.to in
-    let j = instance_in v.stations at p.to in
+    let i = instance_in w.queued_instances at p.to in
+    let j = instance_in v.queued_instances at p.to in
     let took_it = took (spot g t) taken put (subst (λ (x : Instance). IsLocal (spot g t) p.to x taken put) (sym (same at p.to)) l) in
     let step : Takes g (seen w) p at port (seen v) = record {
       instance = subst (λ (n : Note). Took (spot g t) p.to i port p.from n j) note_is (subst (λ (x : Instance). Took (spot g t) p.to x port p.from note j) (same at p.to) took_it);
@@ -72,7 +72,7 @@ parts_kept g w v (events.End at worker) h = parts_by w v at worker (ap (λ (i : 
 -- ---- the histories that the world represents
 
 pub standing_after : (g : Setting) (w v : WorldData) (h : History) (e : Event) → IsPhysical w.physical → enabled w.physical w.depth (seen w) e ≡ true → IsStanding g w h → Steps g (seen w) e (seen v)
-    → v.physical ≡ w.physical → IsWhole v.physical v.stations → IsStanding g v (noted (seen w) e h)
+    → v.physical ≡ w.physical → IsWhole v.physical v.queued_instances → IsStanding g v (noted (seen w) e h)
 standing_after g w v h e physical can s step same whole = record {
   physical = same ∙ s.physical;
   whole = whole;
@@ -80,7 +80,7 @@ standing_after g w v h e physical can s step same whole = record {
 }
 
 pub some_after : (w v : WorldData) (e : Event) → enabled w.physical w.depth (seen w) e ≡ true → StandsForSome w → ((g : Setting) (h : History) → IsStanding g w h → Steps g (seen w) e (seen v))
-    → v.physical ≡ w.physical → v.depth ≡ w.depth → IsWhole v.physical v.stations → StandsForSome v
+    → v.physical ≡ w.physical → v.depth ≡ w.depth → IsWhole v.physical v.queued_instances → StandsForSome v
 some_after w v e can s steps same deep whole =
     let back : w.physical ≡ v.physical = sym same in
     record {

@@ -22,7 +22,7 @@ use Rattle.flow_core.specs.Worlds.{IsStanding, WorldData, instance_in, seen}
 -- the bound `most`. If every instance is done, everything that was put was taken. If shipping is legal too, what the
 -- root's instances placed is a bag that the plan allows, and what all instances emitted are its counts.
 pub record ObeysLaws (w : WorldData) : Type 0 where
-  pub goes_on : (g : Setting) (h : History) → IsStanding g w h → (at worker : ℕ) → has at w.physical.tree ≡ true → worker < w.physical.workers → want (instance_in w.stations at worker) ≢ Done
+  pub goes_on : (g : Setting) (h : History) → IsStanding g w h → (at worker : ℕ) → has at w.physical.tree ≡ true → worker < w.physical.workers → want (instance_in w.queued_instances at worker) ≢ Done
       → (e : Event) × (enabled w.physical w.depth (seen w) e ≡ true)
   pub bounded : (p : ProgramData) (inputs : List Bag) (h : History) → IsStanding (setting p inputs w.physical) w h → events (setting p inputs w.physical) (seen w) h ≤ most (setting p inputs w.physical) (program_turns p)
   pub all_taken : (g : Setting) (h : History) → IsStanding g w h → AreDone g.physical (seen w) → (edge from to : ℕ) → has edge w.physical.tree ≡ true → h.put edge from to ≡ h.taken edge from to

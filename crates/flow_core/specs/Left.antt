@@ -12,7 +12,7 @@ use Rattle.flow_instance.specs.Events.{is_pipe}
 use Rattle.flow_instance.specs.Instances.{Instance}
 use Rattle.flow_instance.specs.Spots.{setting}
 use Rattle.flow_instance.specs.Worlds.{History, Stands, World}
-use Rattle.flow_core.specs.Worlds.{IsWhole, StationData, instance_in, no_instance, no_station, queue_in}
+use Rattle.flow_core.specs.Worlds.{IsWhole, QueuedInstanceData, instance_in, no_instance, no_queued_instance, queue_in}
 
 -- The notes that are left on a pipe, the next one first.
 pub record LeftOn : Type 0 where
@@ -56,30 +56,30 @@ pub record StandForSome (p : ProgramData) (physical : PhysicalData) (rows : List
   pub are_inputs : AreInputsOf p inputs
   pub stand : Stands (setting p inputs physical) (left_world rows lists) history
 
--- ---- as stations
+-- ---- as queued instances
 
 -- the instance, with an empty pipe to each worker
-pub record IsEmptied (workers : ℕ) (i : Instance) (s : StationData) : Type 0 where
+pub record IsEmptied (workers : ℕ) (i : Instance) (s : QueuedInstanceData) : Type 0 where
   pub instance : s.instance ≡ i
   pub long : length s.queues ≡ workers
   pub empty : AllByRecursion (λ queue. queue ≡ []) s.queues
 
 -- `count` emptied instances of one source or operator
-pub record AreEmptied (workers count : ℕ) (own : List Instance) (row : List StationData) : Type 0 where
+pub record AreEmptied (workers count : ℕ) (own : List Instance) (row : List QueuedInstanceData) : Type 0 where
   pub long : length row ≡ count
-  pub each : (k : ℕ) → k < count → IsEmptied workers (get_or own k no_instance) (get_or row k no_station)
+  pub each : (k : ℕ) → k < count → IsEmptied workers (get_or own k no_instance) (get_or row k no_queued_instance)
 
 -- the emptied instances of `count` sources and operators
-pub record AreAllEmptied (workers count : ℕ) (rows : List (List Instance)) (stations : List (List StationData)) : Type 0 where
-  pub long : length stations ≡ count
-  pub each : (at : ℕ) → at < count → AreEmptied workers (length (get_or rows at [])) (get_or rows at []) (get_or stations at [])
+pub record AreAllEmptied (workers count : ℕ) (rows : List (List Instance)) (queued_instances : List (List QueuedInstanceData)) : Type 0 where
+  pub long : length queued_instances ≡ count
+  pub each : (at : ℕ) → at < count → AreEmptied workers (length (get_or rows at [])) (get_or rows at []) (get_or queued_instances at [])
 
 -- These notes were appended to those on the pipes, and nothing more has changed.
-pub record AreFilled (p : PhysicalData) (old : List (List StationData)) (lists : List LeftOn) (new : List (List StationData)) : Type 0 where
+pub record AreFilled (p : PhysicalData) (old : List (List QueuedInstanceData)) (lists : List LeftOn) (new : List (List QueuedInstanceData)) : Type 0 where
   pub whole : IsWhole p new
   pub instances : (at worker : ℕ) → instance_in new at worker ≡ instance_in old at worker
   pub queues : (edge from to : ℕ) → queue_in new edge from to ≡ queue_in old edge from to ++ left_on lists edge from to
 
 -- with notes appended to those of one pipe
-abbrev pub refilled : StationData → (to : ℕ) → List Note → StationData
+abbrev pub refilled : QueuedInstanceData → (to : ℕ) → List Note → QueuedInstanceData
 refilled s to notes = record { instance = s.instance; queues = set s.queues to (get_or s.queues to [] ++ notes) }

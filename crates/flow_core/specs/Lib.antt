@@ -1,8 +1,8 @@
 pub mod Worlds
 pub mod WorldCode
-pub mod Stations
+pub mod QueuedInstances
 pub mod Starting
-pub mod Wired
+pub mod PlanTables
 pub mod Replays
 pub mod Idle
 pub mod Laws

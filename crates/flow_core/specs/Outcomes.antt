@@ -1,8 +1,13 @@
 -- The results of a run on one thread.
 use Rattle.std.specs.Prelude.{◌≡◌, ◌≤◌, ◌-◌, ◌^◌, ℕ, Bool, true, false, List, length}
-use Rattle.pact_operators.specs.Allowed.{Bag}
-use Rattle.pact_operators.specs.Programs.{ProgramData}
+use Rattle.pact_bag.specs.declared.outcomes.Outcome.{Outcome}
+use Rattle.pact_operators.specs.Allowed.{Bag, Counted}
+use Rattle.pact_operators.specs.Inputs.{AreInputsOf}
+use Rattle.pact_operators.specs.PlanOps.{plan_ops}
+use Rattle.pact_operators.specs.Programs.{IsPlanOf, IsProgram, ProgramData}
 use Rattle.pact_record.specs.Widths.{AreWide}
+use Rattle.ship_strategy.specs.PlanFacts.{facts_of}
+use Rattle.ship_strategy.specs.Ships.{LegalShip}
 use Rattle.flow_instance.specs.Most.{most, program_turns}
 use Rattle.flow_instance.specs.Spots.{Setting, setting}
 use Rattle.flow_instance.specs.Spread.{Spread}
@@ -31,4 +36,14 @@ IsRun w false v = (p : ProgramData) (inputs : List Bag) (h : History) → IsStan
 pub record IsOutcome (w : WorldData) (rows : Bag) (counts : List ℕ) : Type 0 where
   pub spread : (g : Setting) (h : History) → IsStanding g w h → AreDone g.physical (seen w) → Spread g rows counts
   pub wide : (g : Setting) (h : History) → IsStanding g w h → AreWide g.fields rows
-  pub long : length counts ≡ length w.stations
+  pub long : length counts ≡ length w.queued_instances
+
+-- What a run of the world leaves. For each history that the world represents, the rows and counts are those of a run of
+-- its plan, and the rows have the program's fields. If the plan ships legally, they are also those of one evaluation of
+-- its tree. Each source and operator has a count.
+pub record IsWorldOutcome (w : WorldData) (o : Outcome) : Type 0 where
+  pub spread : (g : Setting) (h : History) → IsStanding g w h → Spread g o.rows o.counts
+  pub counted : (p : ProgramData) (inputs : List Bag) (h : History) → IsProgram p → AreInputsOf p inputs → IsPlanOf p.functions p.ops w.physical.tree → LegalShip (facts_of p w.physical.tree) w.physical
+      → IsStanding (setting p inputs w.physical) w h → Counted (plan_ops p inputs) w.physical.tree o.rows o.counts
+  pub widths : (g : Setting) (h : History) → IsStanding g w h → AreWide g.fields o.rows
+  pub counts : (p : ProgramData) → IsPlanOf p.functions p.ops w.physical.tree → length o.counts ≡ length p.ops

@@ -11,7 +11,7 @@ use Rattle.flow_instance.specs.Events.{Steps, noted}
 use Rattle.flow_instance.specs.Spots.{Setting}
 use Rattle.flow_instance.specs.Worlds.{History, IsStuck, World, enabled}
 use Rattle.flow_core.specs.Replays.{IsReached}
-use Rattle.flow_core.specs.Wired.{input_in}
+use Rattle.flow_core.specs.PlanTables.{input_in}
 use Rattle.flow_core.specs.Worlds.{IsStanding, WorldData, seen}
 
 -- the lists of the numbers below n, one after the other

@@ -1,4 +1,4 @@
--- Instances at their start, and stations of them.
+-- Instances at their start, and queued instances of them.
 use Rattle.std.specs.Prelude.{◌≡◌, ◌≤◌, ◌<◌, ◌+◌, ℕ, Bool, true, false, List, [], ◌∷◌, get_or, length}
 use Rattle.std.specs.List.{AllByRecursion}
 use Rattle.pact_operators.specs.Allowed.{Bag}
@@ -14,7 +14,7 @@ use Rattle.flow_instance.specs.Instances.{Instance}
 use Rattle.flow_instance.specs.declared.before_start.Unstarted.{Unstarted}
 use Rattle.flow_instance.specs.Starting.{CanStart, IsStartedFrom, IsUnstarted}
 use Rattle.flow_core.specs.declared.starting.UnstartedRow.{UnstartedRow}
-use Rattle.flow_core.specs.Worlds.{StationData, no_instance, no_station}
+use Rattle.flow_core.specs.Worlds.{QueuedInstanceData, no_instance, no_queued_instance}
 
 -- a source takes the first bag of those that are left, and an operator takes none
 abbrev pub TakesOwn : Bool → (old : List Bag) → (own : Bag) → (new : List Bag) → Type 0
@@ -114,25 +114,25 @@ pub record AreStartedForSome (p : ProgramData) (physical : PhysicalData) (all : 
   pub size : ℕ
   pub started : AreAllStarted (setting p inputs physical) size (length p.ops) all
 
--- ---- as stations
+-- ---- as queued instances
 
 -- an instance at its start, with empty pipes, and batches of at most `size` records
-pub record IsStarted (g : Setting) (size at worker : ℕ) (s : StationData) : Type 0 where
+pub record IsStarted (g : Setting) (size at worker : ℕ) (s : QueuedInstanceData) : Type 0 where
   pub started : Started (spot g (subtree_of at g.physical.tree)) worker s.instance
   pub batch : s.instance.part.batch ≡ size
   pub long : length s.queues ≡ g.physical.workers
   pub empty : AllByRecursion (λ queue. queue ≡ []) s.queues
 
 -- one on each of the first `count` workers
-abbrev pub AreBelow : Setting → (size at count : ℕ) → List StationData → Type 0
-AreBelow g size at count row = (worker : ℕ) → worker < count → IsStarted g size at worker (get_or row worker no_station)
+abbrev pub AreBelow : Setting → (size at count : ℕ) → List QueuedInstanceData → Type 0
+AreBelow g size at count row = (worker : ℕ) → worker < count → IsStarted g size at worker (get_or row worker no_queued_instance)
 
 -- one on each worker
-pub record AreStartedAt (g : Setting) (size at : ℕ) (row : List StationData) : Type 0 where
+pub record AreStartedAt (g : Setting) (size at : ℕ) (row : List QueuedInstanceData) : Type 0 where
   pub long : length row ≡ g.physical.workers
   pub each : AreBelow g size at g.physical.workers row
 
 -- those of the first `count` numbers
-pub record AreStarted (g : Setting) (size count : ℕ) (stations : List (List StationData)) : Type 0 where
-  pub long : length stations ≡ count
-  pub each : (at : ℕ) → at < count → AreStartedAt g size at (get_or stations at [])
+pub record AreStarted (g : Setting) (size count : ℕ) (queued_instances : List (List QueuedInstanceData)) : Type 0 where
+  pub long : length queued_instances ≡ count
+  pub each : (at : ℕ) → at < count → AreStartedAt g size at (get_or queued_instances at [])

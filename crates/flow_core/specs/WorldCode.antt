@@ -7,20 +7,20 @@ use Rattle.flow_instance.specs.InstanceCode.{coded_instance}
 use Rattle.flow_instance.specs.Instances.{Instance}
 use Rattle.flow_instance.specs.contracts.notes.Note.{the_row as note_row}
 use Rattle.flow_instance.specs.declared.notes.Note.{Note}
-use Rattle.flow_core.specs.Worlds.{StationData, WorldData}
+use Rattle.flow_core.specs.Worlds.{QueuedInstanceData, WorldData}
 
 -- an instance and its pipes
-abbrev pub coded_station : Coded StationData
-coded_station =
+abbrev pub coded_queued_instance : Coded QueuedInstanceData
+coded_queued_instance =
     code_by (Instance × List (List Note)) (coded× coded_instance (coded_list (coded_list note_row.coded))) (λ s. (s.instance, s.queues))
     (λ q. record { instance = q.0; queues = q.1 }) (λ _. refl)
 
--- the stations of one source or operator
-abbrev pub coded_row : Coded (List StationData)
-coded_row = coded_list coded_station
+-- the queued instances of one source or operator
+abbrev pub coded_row : Coded (List QueuedInstanceData)
+coded_row = coded_list coded_queued_instance
 
--- all stations, with the physical plan and the depth
+-- all queued instances, with the physical plan and the depth
 abbrev pub coded_world : Coded WorldData
 coded_world =
-    code_by (PhysicalData × (ℕ × List (List StationData))) (coded× coded_physical (coded× coded_ℕ (coded_list coded_row)))
-    (λ w. (w.physical, (w.depth, w.stations))) (λ q. record { physical = q.0; depth = q.1.0; stations = q.1.1 }) (λ _. refl)
+    code_by (PhysicalData × (ℕ × List (List QueuedInstanceData))) (coded× coded_physical (coded× coded_ℕ (coded_list coded_row)))
+    (λ w. (w.physical, (w.depth, w.queued_instances))) (λ q. record { physical = q.0; depth = q.1.0; queued_instances = q.1.1 }) (λ _. refl)

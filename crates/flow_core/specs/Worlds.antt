@@ -17,15 +17,15 @@ abbrev pub depth_limit : ℕ
 depth_limit = 64
 
 -- An instance with the notes on the pipes that leave it, by receiver.
-pub record StationData : Type 0 where
+pub record QueuedInstanceData : Type 0 where
   pub instance : Instance
   pub queues : List (List Note)
 
--- The stations are listed by the number of their source or operator, and then by worker.
+-- The queued instances are listed by the number of their source or operator, and then by worker.
 pub record WorldData : Type 0 where
   pub physical : PhysicalData
   pub depth : ℕ
-  pub stations : List (List StationData)
+  pub queued_instances : List (List QueuedInstanceData)
 
 -- ---- a world as functions of places
 
@@ -46,42 +46,42 @@ no_instance = record {
 }
 
 -- an instance that is done, with no pipe
-abbrev pub no_station : StationData
-no_station = record { instance = no_instance; queues = [] }
+abbrev pub no_queued_instance : QueuedInstanceData
+no_queued_instance = record { instance = no_instance; queues = [] }
 
 -- the instance of a source or operator on a worker, with the pipes that leave it
-abbrev pub station_in : List (List StationData) → (at worker : ℕ) → StationData
-station_in stations at worker = get_or (get_or stations at []) worker no_station
+abbrev pub queued_instance_in : List (List QueuedInstanceData) → (at worker : ℕ) → QueuedInstanceData
+queued_instance_in queued_instances at worker = get_or (get_or queued_instances at []) worker no_queued_instance
 
 -- the instance without its pipes
-abbrev pub instance_in : List (List StationData) → (at worker : ℕ) → Instance
-instance_in stations at worker = (station_in stations at worker).instance
+abbrev pub instance_in : List (List QueuedInstanceData) → (at worker : ℕ) → Instance
+instance_in queued_instances at worker = (queued_instance_in queued_instances at worker).instance
 
 -- the notes on the pipe of an edge from one worker to another
-abbrev pub queue_in : List (List StationData) → (edge from to : ℕ) → List Note
-queue_in stations edge from to = get_or (station_in stations edge from).queues to []
+abbrev pub queue_in : List (List QueuedInstanceData) → (edge from to : ℕ) → List Note
+queue_in queued_instances edge from to = get_or (queued_instance_in queued_instances edge from).queues to []
 
--- the world that these stations represent
+-- the world that these queued instances represent
 abbrev pub seen : WorldData → World
-seen w = record { instance = λ at worker. instance_in w.stations at worker; queue = λ edge from to. queue_in w.stations edge from to }
+seen w = record { instance = λ at worker. instance_in w.queued_instances at worker; queue = λ edge from to. queue_in w.queued_instances edge from to }
 
 -- each instance has this batch size
 abbrev pub HasBatchSize : WorldData → ℕ → Type 0
-HasBatchSize w size = (at worker : ℕ) → has at w.physical.tree ≡ true → worker < w.physical.workers → (instance_in w.stations at worker).part.batch ≡ size
+HasBatchSize w size = (at worker : ℕ) → has at w.physical.tree ≡ true → worker < w.physical.workers → (instance_in w.queued_instances at worker).part.batch ≡ size
 
 -- ---- worlds that represent a history
 
--- The stations are those of the plan's numbers, one on each worker, with a pipe to each.
-pub record IsWhole (p : PhysicalData) (stations : List (List StationData)) : Type 0 where
-  pub each : (at : ℕ) → has at p.tree ≡ true → at < length stations
-  pub only : (at : ℕ) → at < length stations → has at p.tree ≡ true
-  pub workers : (at : ℕ) → at < length stations → length (get_or stations at []) ≡ p.workers
-  pub pipes : (at worker : ℕ) → at < length stations → worker < p.workers → length (station_in stations at worker).queues ≡ p.workers
+-- The queued instances are those of the plan's numbers, one on each worker, with a pipe to each.
+pub record IsWhole (p : PhysicalData) (queued_instances : List (List QueuedInstanceData)) : Type 0 where
+  pub each : (at : ℕ) → has at p.tree ≡ true → at < length queued_instances
+  pub only : (at : ℕ) → at < length queued_instances → has at p.tree ≡ true
+  pub workers : (at : ℕ) → at < length queued_instances → length (get_or queued_instances at []) ≡ p.workers
+  pub pipes : (at worker : ℕ) → at < length queued_instances → worker < p.workers → length (queued_instance_in queued_instances at worker).queues ≡ p.workers
 
 -- The world represents the history in a run of the setting's sources and operators.
 pub record IsStanding (g : Setting) (w : WorldData) (h : History) : Type 0 where
   pub physical : w.physical ≡ g.physical
-  pub whole : IsWhole w.physical w.stations
+  pub whole : IsWhole w.physical w.queued_instances
   pub stands : Stands g (seen w) h
 
 -- It represents some history of a run of some program.

@@ -1,19 +1,10 @@
 //! A run on one thread.
 
-ghost use Rattle.std.specs.Prelude.{◌≡◌, List, length, IfNone, IfOk, IfSome, true};
-ghost use Rattle.pact_operators.specs.Allowed.{Bag, Counted};
-ghost use Rattle.pact_operators.specs.Inputs.{AreInputsOf};
-ghost use Rattle.pact_operators.specs.PlanOps.{plan_ops};
-ghost use Rattle.pact_operators.specs.Programs.{IsPlanOf, IsProgram, ProgramData};
-ghost use Rattle.pact_record.specs.Widths.{AreWide};
+ghost use Rattle.std.specs.Prelude.{◌≡◌, IfNone, IfOk, IfSome, true};
 ghost use Rattle.plan_trees.specs.Physicals.{IsPhysical};
-ghost use Rattle.ship_strategy.specs.PlanFacts.{facts_of};
-ghost use Rattle.ship_strategy.specs.Ships.{LegalShip};
-ghost use Rattle.flow_instance.specs.Spots.{Setting, setting};
-ghost use Rattle.flow_instance.specs.Spread.{Spread};
-ghost use Rattle.flow_instance.specs.Worlds.{History, IsStuck, enabled};
-ghost use Rattle.flow_core.specs.Outcomes.{GoesOn, IsRun};
-ghost use Rattle.flow_core.specs.Worlds.{IsStanding, StandsForSome, seen};
+ghost use Rattle.flow_instance.specs.Worlds.{IsStuck, enabled};
+ghost use Rattle.flow_core.specs.Outcomes.{GoesOn, IsRun, IsWorldOutcome};
+ghost use Rattle.flow_core.specs.Worlds.{StandsForSome, seen};
 
 use crate::ready::Ready;
 use crate::worlds::World;
@@ -46,7 +37,7 @@ fn list_around<L: Local>(
         return Ok(());
     };
     ready.push(pipe.edge, pipe.from)?;
-    match world.wiring.reader(pipe.edge) {
+    match world.tables.reader(pipe.edge) {
         Some((at, _)) => ready.push(at, pipe.to),
         None => Ok(()),
     }
@@ -84,10 +75,7 @@ fn run_to_end<L: Local>(world: &mut World<L>) -> Result<bool, OutOfMemory>
 /// Out of memory is the only error. A run also reports it after 2^64 - 1 events, more than any machine gets through.
 pub fn run_alone<L: Local>(world: World<L>) -> Result<Outcome, OutOfMemory>
     requires { StandsForSome world }
-    ensures spread { IfOk result (λ o. (g : Setting) (h : History) → IsStanding g world h → Spread g o.rows o.counts) }
-    ensures counted { IfOk result (λ o. (p : ProgramData) (inputs : List Bag) (h : History) → IsProgram p → AreInputsOf p inputs → IsPlanOf p.functions p.ops world.physical.tree → LegalShip (facts_of p world.physical.tree) world.physical → IsStanding (setting p inputs world.physical) world h → Counted (plan_ops p inputs) world.physical.tree o.rows o.counts) }
-    ensures widths { IfOk result (λ o. (g : Setting) (h : History) → IsStanding g world h → AreWide g.fields o.rows) }
-    ensures counts { IfOk result (λ o. (p : ProgramData) → IsPlanOf p.functions p.ops world.physical.tree → length o.counts ≡ length p.ops) }
+    ensures { IfOk result (IsWorldOutcome world) }
 {
     let mut world = world;
     if !run_to_end(&mut world)? {

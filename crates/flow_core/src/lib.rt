@@ -2,8 +2,8 @@
 //!
 //! A `World` has an instance of each source and operator on each worker, each with the notes on the pipes that leave
 //! it. `enabled` says whether an event can happen, and `step` lets it happen. `replay` goes through a list of events,
-//! `run_alone` picks its own until every instance is done, and `run_picked` has them picked by numbers. The promises of
-//! all five speak of histories: a world represents the notes that were put and taken so far.
+//! `run_alone` picks its own until every instance is done, and `run_picked` has them picked by numbers. What they
+//! promise speaks of histories: a world represents the notes that were put and taken so far.
 //!
 //! A caller that lets the events happen itself begins with `start_instances`, or with `unstarted_rows`, which has what
 //! the instances start from, so that they may start on threads. `World::resume` makes a world of instances and notes
@@ -13,14 +13,14 @@
 pub mod alone;
 pub mod lefts;
 pub mod picks;
+mod plan_tables;
+mod queued_instances;
 mod ready;
 pub mod replays;
 mod resuming;
 mod searching;
 pub mod starting;
-mod stations;
 pub mod stops;
-mod wirings;
 pub mod worlds;
 
 pub use alone::run_alone;

@@ -1,20 +1,12 @@
 //! A run on one thread whose events are picked by numbers.
 
-ghost use Rattle.std.specs.Prelude.{◌≡◌, ◌++◌, true, List, length, IfNone, IfOk, IfSome, OnOk};
-ghost use Rattle.pact_operators.specs.Allowed.{Bag, Counted};
-ghost use Rattle.pact_operators.specs.Inputs.{AreInputsOf};
-ghost use Rattle.pact_operators.specs.PlanOps.{plan_ops};
-ghost use Rattle.pact_operators.specs.Programs.{IsPlanOf, IsProgram, ProgramData};
-ghost use Rattle.pact_record.specs.Widths.{AreWide};
+ghost use Rattle.std.specs.Prelude.{◌≡◌, ◌++◌, true, IfNone, IfOk, IfSome, OnOk};
 ghost use Rattle.plan_trees.specs.Physicals.{IsPhysical};
-ghost use Rattle.ship_strategy.specs.PlanFacts.{facts_of};
-ghost use Rattle.ship_strategy.specs.Ships.{LegalShip};
-ghost use Rattle.flow_instance.specs.Spots.{Setting, setting};
-ghost use Rattle.flow_instance.specs.Spread.{Spread};
-ghost use Rattle.flow_instance.specs.Worlds.{History, IsStuck, enabled};
+ghost use Rattle.flow_instance.specs.Worlds.{IsStuck, enabled};
+ghost use Rattle.flow_core.specs.Outcomes.{IsWorldOutcome};
 ghost use Rattle.flow_core.specs.Picks.{GoesByPick, IsLed, enabled_events, events_of, if_enabled, joined_below, picked_from, takes_from};
-ghost use Rattle.flow_core.specs.Wired.{input_in};
-ghost use Rattle.flow_core.specs.Worlds.{IsStanding, StandsForSome, seen};
+ghost use Rattle.flow_core.specs.PlanTables.{input_in};
+ghost use Rattle.flow_core.specs.Worlds.{StandsForSome, seen};
 
 use crate::alone::run_alone;
 use crate::worlds::World;
@@ -45,10 +37,10 @@ impl<L: Local> World<L> {
     ) -> Result<(), OutOfMemory>
         ensures { OnOk result (events.new.items ≡ events.old.items ++ takes_from self.now.physical self.now.depth (seen self.now) worker (input_in self.now.physical.tree at port)) }
     {
-        let Some(edge) = self.wiring.input(at, port) else {
+        let Some(edge) = self.tables.input(at, port) else {
             return Ok(());
         };
-        for from in 0..self.wiring.workers() {
+        for from in 0..self.tables.workers() {
             let pipe = PipeId {
                 edge,
                 from,
@@ -82,7 +74,7 @@ impl<L: Local> World<L> {
     fn list_at(&self, events: &mut Vec<Event>, at: u32) -> Result<(), OutOfMemory>
         ensures { OnOk result (events.new.items ≡ events.old.items ++ joined_below self.now.physical.workers (λ worker. events_of self.now.physical self.now.depth (seen self.now) at worker)) }
     {
-        for worker in 0..self.wiring.workers() {
+        for worker in 0..self.tables.workers() {
             self.list_of(events, at, worker)?;
         }
         Ok(())
@@ -142,16 +134,13 @@ fn go_by_picks<L: Local>(world: &mut World<L>, picks: &[u32]) -> Result<(), OutO
 /// Lets events happen until none can; the numbers pick the first of them. At each step the enabled events are ordered
 /// by the number of their source or operator, then by worker, then by the sender of what is taken. The next number,
 /// modulo the number of enabled events, is the place of the event that happens. If no event is enabled, every instance
-/// is done, and the numbers that are left are ignored. After the last number it goes on like `run_alone`, and its
-/// conditions and clauses are those of `run_alone`. It waits for no other thread.
+/// is done, and the numbers that are left are ignored. After the last number it goes on like `run_alone`. Its condition
+/// and its clause are those of `run_alone`. It waits for no other thread.
 ///
 /// No clause says that the events that happened are the picked ones; `replay` promises that for a list of events.
 pub fn run_picked<L: Local>(world: World<L>, picks: &[u32]) -> Result<Outcome, OutOfMemory>
     requires { StandsForSome world }
-    ensures spread { IfOk result (λ o. (g : Setting) (h : History) → IsStanding g world h → Spread g o.rows o.counts) }
-    ensures counted { IfOk result (λ o. (p : ProgramData) (inputs : List Bag) (h : History) → IsProgram p → AreInputsOf p inputs → IsPlanOf p.functions p.ops world.physical.tree → LegalShip (facts_of p world.physical.tree) world.physical → IsStanding (setting p inputs world.physical) world h → Counted (plan_ops p inputs) world.physical.tree o.rows o.counts) }
-    ensures widths { IfOk result (λ o. (g : Setting) (h : History) → IsStanding g world h → AreWide g.fields o.rows) }
-    ensures counts { IfOk result (λ o. (p : ProgramData) → IsPlanOf p.functions p.ops world.physical.tree → length o.counts ≡ length p.ops) }
+    ensures { IfOk result (IsWorldOutcome world) }
 {
     let mut world = world;
     go_by_picks(&mut world, picks)?;

@@ -11,9 +11,9 @@ ghost use Rattle.flow_core.specs.Left.{AreAllEmptied, AreEmptied, AreFilled, Are
 ghost use Rattle.flow_core.specs.Worlds.{IsStanding, IsWhole, StandsForSome, depth_limit, instance_in, seen};
 
 use crate::lefts::{InstanceList, Instances, NoteList, NoteLists};
+use crate::plan_tables::PlanTables;
+use crate::queued_instances::{QueuedInstance, Row};
 use crate::starting::empty_queues;
-use crate::stations::{Row, Station};
-use crate::wirings::Wiring;
 use crate::worlds::World;
 use local_strategy::Local;
 use pact_operators::{Physical, Program};
@@ -31,7 +31,7 @@ fn empty_row<L: Local>(
     let mut held = Vec::with_capacity(alloc, own.held.len())?;
     for instance in own.held {
         let queues = empty_queues(alloc, workers)?;
-        held.push_reserved(Station { instance, queues });
+        held.push_reserved(QueuedInstance { instance, queues });
     }
     Ok(Row { held })
 }
@@ -53,21 +53,21 @@ pub(crate) fn empty_rows<L: Local>(
 
 // Appends the notes that are left on a pipe to it.
 fn refill<L: Local>(world: &mut World<L>, left: NoteList) -> Result<(), OutOfMemory>
-    requires whole { IsWhole world.old.physical world.old.stations }
+    requires whole { IsWhole world.old.physical world.old.queued_instances }
     requires pipe { IsPipeOf world.old.physical left.pipe }
-    ensures filled { OnOk result (AreFilled world.old.physical world.old.stations (left ∷ []) world.new.stations) }
+    ensures filled { OnOk result (AreFilled world.old.physical world.old.queued_instances (left ∷ []) world.new.queued_instances) }
     ensures physical { world.new.physical ≡ world.old.physical }
     ensures depth { world.new.depth ≡ world.old.depth }
 {
     let NoteList { pipe, notes } = left;
-    world.stations[pipe.edge as usize].held[pipe.from as usize].refill(pipe.to, notes)
+    world.queued_instances[pipe.edge as usize].held[pipe.from as usize].refill(pipe.to, notes)
 }
 
 // Appends the notes that are left on all pipes to them.
 fn refill_all<L: Local>(world: &mut World<L>, lists: NoteLists) -> Result<(), OutOfMemory>
-    requires whole { IsWhole world.old.physical world.old.stations }
+    requires whole { IsWhole world.old.physical world.old.queued_instances }
     requires pipes { AllByRecursion (λ (l : LeftOn). IsPipeOf world.old.physical l.pipe) lists }
-    ensures filled { OnOk result (AreFilled world.old.physical world.old.stations lists world.new.stations) }
+    ensures filled { OnOk result (AreFilled world.old.physical world.old.queued_instances lists world.new.queued_instances) }
     ensures physical { world.new.physical ≡ world.old.physical }
     ensures depth { world.new.depth ≡ world.old.depth }
 {
@@ -102,16 +102,16 @@ impl<L: Local> World<L> {
         ensures laws { IfOk result ObeysLaws }
         ensures physical { IfOk result (λ w. w.physical ≡ physical.now) }
         ensures depth { IfOk result (λ w. w.depth ≡ depth) }
-        ensures batch { IfOk result (λ w. (at worker : ℕ) → (instance_in w.stations at worker).part.batch ≡ (instance_of instances at worker).part.batch) }
+        ensures batch { IfOk result (λ w. (at worker : ℕ) → (instance_in w.queued_instances at worker).part.batch ≡ (instance_of instances at worker).part.batch) }
     {
         // `fields` makes it known that this is a program, and `workers` that this is a physical plan.
         let (_fields, workers) = (program.fields(), physical.workers());
-        let stations = empty_rows(alloc, workers, instances)?;
+        let queued_instances = empty_rows(alloc, workers, instances)?;
         let mut world = World {
             alloc,
-            wiring: Wiring::new(physical),
+            tables: PlanTables::new(physical),
             depth,
-            stations,
+            queued_instances,
         };
         refill_all(&mut world, notes)?;
         Ok(world)

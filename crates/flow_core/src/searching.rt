@@ -17,11 +17,11 @@ use pact_operators::MAX_NODES;
 impl<L: Local> World<L> {
     // A worker whose pipe along the edge to the receiver has a note.
     fn sender(&self, edge: u32, to: u32) -> Option<u32>
-        ensures some { IfSome result (λ from. 0 < length (queue_in self.now.stations edge from to)) }
+        ensures some { IfSome result (λ from. 0 < length (queue_in self.now.queued_instances edge from to)) }
         ensures below { IfSome result (λ from. from < self.now.physical.workers) }
-        ensures none { IfNone result ((from : ℕ) → from < self.now.physical.workers → length (queue_in self.now.stations edge from to) ≡ 0) }
+        ensures none { IfNone result ((from : ℕ) → from < self.now.physical.workers → length (queue_in self.now.queued_instances edge from to) ≡ 0) }
     {
-        for from in 0..self.wiring.workers() {
+        for from in 0..self.tables.workers() {
             if self.queued(PipeId { edge, from, to }) > 0 {
                 return Some(from);
             }
@@ -38,11 +38,11 @@ impl<L: Local> World<L> {
     // The event that takes a note at the port, if the instance can take one there.
     fn take_at(&self, at: u32, worker: u32, port: u32) -> Option<Event>
         requires physical { IsPhysical self.now.physical }
-        requires wanted { want (instance_in self.now.stations at worker) ≡ wants.Take port }
+        requires wanted { want (instance_in self.now.queued_instances at worker) ≡ wants.Take port }
         ensures some { IfSome result (λ e. enabled self.now.physical self.now.depth (seen self.now) e ≡ true) }
         ensures none { IfNone result (IsIdle self.now.physical self.now.depth (seen self.now) at worker) }
     {
-        let edge = self.wiring.input(at, port)?;
+        let edge = self.tables.input(at, port)?;
         let from = self.sender(edge, worker)?;
         self.if_enabled(Event::Take(PipeId {
             edge,
@@ -75,7 +75,7 @@ impl<L: Local> World<L> {
         ensures some { IfSome result (λ e. enabled self.now.physical self.now.depth (seen self.now) e ≡ true) }
         ensures none { IfNone result ((worker : ℕ) → worker < self.now.physical.workers → IsIdle self.now.physical self.now.depth (seen self.now) at worker) }
     {
-        for worker in 0..self.wiring.workers() {
+        for worker in 0..self.tables.workers() {
             if let Some(event) = self.event_of(at, worker) {
                 return Some(event);
             }

@@ -13,7 +13,7 @@ ghost use Rattle.flow_instance.specs.Spots.{setting};
 ghost use Rattle.flow_core.specs.Starting.{AreAllStarted, AreAllUnstarted, AreDealt, AreUnstarted, CanStartRow, HaveAtMost, StartAllFrom, StartFrom, TakesOwn, first_share};
 
 use crate::lefts::{InstanceList, Instances};
-use crate::stations::Queue;
+use crate::queued_instances::Queue;
 use flow_instance::{Instance, Unstarted};
 use local_strategy::Local;
 use pact_bag::{Inputs, Rows};

@@ -13,16 +13,16 @@ ghost use Rattle.flow_instance.specs.Instances.{want};
 ghost use Rattle.flow_instance.specs.Local.{IsLocal};
 ghost use Rattle.flow_instance.specs.Spots.{Setting, Spot, setting};
 ghost use Rattle.flow_instance.specs.Steps.{Took, later};
-ghost use Rattle.flow_core.specs.Stations.{IsReadyFor, total_given};
+ghost use Rattle.flow_core.specs.QueuedInstances.{IsReadyFor, total_given};
 ghost use Rattle.flow_instance.specs.Worlds.{History, does_want, enabled};
 ghost use Rattle.flow_core.specs.Outcomes.{IsOutcome};
 ghost use Rattle.flow_core.specs.Laws.{ObeysLaws};
-ghost use Rattle.flow_core.specs.Worlds.{HasBatchSize, IsStanding, IsWhole, StandsForSome, depth_limit, instance_in, no_station, queue_in, seen, station_in};
+ghost use Rattle.flow_core.specs.Worlds.{HasBatchSize, IsStanding, IsWhole, StandsForSome, depth_limit, instance_in, no_queued_instance, queue_in, seen, queued_instance_in};
 
+use crate::plan_tables::PlanTables;
+use crate::queued_instances::{QueuedInstance, Row};
 use crate::resuming::empty_rows;
 use crate::starting::start_instances;
-use crate::stations::{Row, Station};
-use crate::wirings::Wiring;
 use flow_instance::{Event, Note, PipeId, Want};
 use local_strategy::Local;
 use pact_bag::{Counts, Inputs, Outcome};
@@ -35,9 +35,9 @@ use std::marker::Model;
 #[derive(Drop)]
 pub struct World<L: Local> {
     pub(crate) alloc: Global,
-    pub(crate) wiring: Wiring,
+    pub(crate) tables: PlanTables,
     pub(crate) depth: u32,
-    pub(crate) stations: Vec<Row<L>>,
+    pub(crate) queued_instances: Vec<Row<L>>,
 }
 
 impl<L: Local> Model for World<L> {
@@ -48,7 +48,7 @@ impl<L: Local> Model for World<L> {
 
     ghost coded = { coded_world };
 
-    ghost view = { λ w. record { physical = w.wiring; depth = w.depth; stations = w.stations.items } };
+    ghost view = { λ w. record { physical = w.tables; depth = w.depth; queued_instances = w.queued_instances.items } };
 }
 
 // How many records each source and operator emitted.
@@ -101,12 +101,12 @@ impl<L: Local> World<L> {
         // `fields` makes it known that this is a program, and `workers` that this is a physical plan.
         let (_fields, workers) = (program.fields(), physical.workers());
         let instances = start_instances(alloc, program, physical, inputs, batch)?;
-        let stations = empty_rows(alloc, workers, instances)?;
+        let queued_instances = empty_rows(alloc, workers, instances)?;
         Ok(World {
             alloc,
-            wiring: Wiring::new(physical),
+            tables: PlanTables::new(physical),
             depth,
-            stations,
+            queued_instances,
         })
     }
 
@@ -133,31 +133,31 @@ impl<L: Local> World<L> {
         World::start_owned(alloc, program, physical, inputs.copy(alloc)?, batch, depth)
     }
 
-    // The station of a source or operator on a worker, if there is one.
-    fn station(&self, at: u32, worker: u32) -> Option<&Station<L>>
-        ensures some { IfSome result (λ station. station.now ≡ station_in self.now.stations at worker) }
-        ensures none { IfNone result (station_in self.now.stations at worker ≡ no_station) }
+    // The queued instance of a source or operator on a worker, if there is one.
+    fn queued_instance(&self, at: u32, worker: u32) -> Option<&QueuedInstance<L>>
+        ensures some { IfSome result (λ queued_instance. queued_instance.now ≡ queued_instance_in self.now.queued_instances at worker) }
+        ensures none { IfNone result (queued_instance_in self.now.queued_instances at worker ≡ no_queued_instance) }
     {
-        let row = self.stations.get(at as usize)?;
+        let row = self.queued_instances.get(at as usize)?;
         row.held.get(worker as usize)
     }
 
     // What an instance wants. An instance that doesn't exist wants nothing.
     pub(crate) fn want(&self, at: u32, worker: u32) -> Want
-        ensures { result ≡ want (instance_in self.now.stations at worker) }
+        ensures { result ≡ want (instance_in self.now.queued_instances at worker) }
     {
-        match self.station(at, worker) {
-            Some(station) => station.instance.want(),
+        match self.queued_instance(at, worker) {
+            Some(queued_instance) => queued_instance.instance.want(),
             None => Want::Done,
         }
     }
 
     // How many notes are on a pipe.
     pub(crate) fn queued(&self, pipe: PipeId) -> usize
-        ensures { result ≡ length (queue_in self.now.stations pipe.edge pipe.from pipe.to) }
+        ensures { result ≡ length (queue_in self.now.queued_instances pipe.edge pipe.from pipe.to) }
     {
-        match self.station(pipe.edge, pipe.from) {
-            Some(station) => station.queued(pipe.to),
+        match self.queued_instance(pipe.edge, pipe.from) {
+            Some(queued_instance) => queued_instance.queued(pipe.to),
             None => 0,
         }
     }
@@ -165,7 +165,7 @@ impl<L: Local> World<L> {
     fn can_put(&self, pipe: PipeId) -> bool
         ensures { result ≡ enabled self.now.physical self.now.depth (seen self.now) (events.Put pipe) }
     {
-        self.wiring.has(pipe.edge, pipe.from)
+        self.tables.has(pipe.edge, pipe.from)
             && does_want(self.want(pipe.edge, pipe.from), Want::Put(pipe.to))
             && self.queued(pipe) < self.depth as usize
     }
@@ -173,11 +173,11 @@ impl<L: Local> World<L> {
     fn can_take(&self, pipe: PipeId) -> bool
         ensures { result ≡ enabled self.now.physical self.now.depth (seen self.now) (events.Take pipe) }
     {
-        let workers = self.wiring.workers();
+        let workers = self.tables.workers();
         if pipe.from >= workers || pipe.to >= workers {
             return false;
         }
-        let Some((at, port)) = self.wiring.reader(pipe.edge) else {
+        let Some((at, port)) = self.tables.reader(pipe.edge) else {
             return false;
         };
         does_want(self.want(at, pipe.to), Want::Take(port)) && self.queued(pipe) > 0
@@ -193,43 +193,43 @@ impl<L: Local> World<L> {
             Event::Put(pipe) => self.can_put(pipe),
             Event::Take(pipe) => self.can_take(pipe),
             Event::End { at, worker } => {
-                self.wiring.has(at, worker) && does_want(self.want(at, worker), Want::End)
+                self.tables.has(at, worker) && does_want(self.want(at, worker), Want::End)
             }
         }
     }
 
     // Moves the note that the sender wants to put to the pipe.
     fn put(&mut self, pipe: PipeId) -> Result<(), OutOfMemory>
-        requires wanted { want (instance_in self.old.stations pipe.edge pipe.from) ≡ wants.Put pipe.to }
-        requires whole { IsWhole self.old.physical self.old.stations }
+        requires wanted { want (instance_in self.old.queued_instances pipe.edge pipe.from) ≡ wants.Put pipe.to }
+        requires whole { IsWhole self.old.physical self.old.queued_instances }
         requires has { has pipe.edge self.old.physical.tree ≡ true }
         requires from { pipe.from < self.old.physical.workers }
         requires to { pipe.to < self.old.physical.workers }
         ensures put { OnOk result (Puts (seen self.old) pipe (seen self.new)) }
-        ensures whole { OnOk result (IsWhole self.new.physical self.new.stations) }
+        ensures whole { OnOk result (IsWhole self.new.physical self.new.queued_instances) }
         ensures physical { self.new.physical ≡ self.old.physical }
         ensures depth { self.new.depth ≡ self.old.depth }
     {
-        self.stations[pipe.edge as usize].held[pipe.from as usize].put(pipe.to)
+        self.queued_instances[pipe.edge as usize].held[pipe.from as usize].put(pipe.to)
     }
 
     // Removes and returns the first note of a pipe.
     fn give(&mut self, pipe: PipeId) -> Note
-        requires some { 0 < length (queue_in self.old.stations pipe.edge pipe.from pipe.to) }
-        requires whole { IsWhole self.old.physical self.old.stations }
+        requires some { 0 < length (queue_in self.old.queued_instances pipe.edge pipe.from pipe.to) }
+        requires whole { IsWhole self.old.physical self.old.queued_instances }
         requires has { has pipe.edge self.old.physical.tree ≡ true }
         requires from { pipe.from < self.old.physical.workers }
         requires to { pipe.to < self.old.physical.workers }
-        ensures note { result ≡ first_note (queue_in self.old.stations pipe.edge pipe.from pipe.to) }
-        ensures instances { (at worker : ℕ) → instance_in self.new.stations at worker
-            ≡ instance_in self.old.stations at worker }
-        ensures queue { ListChanged (queue_in self.old.stations) pipe
-            (later (queue_in self.old.stations pipe.edge pipe.from pipe.to)) (queue_in self.new.stations) }
-        ensures whole { IsWhole self.new.physical self.new.stations }
+        ensures note { result ≡ first_note (queue_in self.old.queued_instances pipe.edge pipe.from pipe.to) }
+        ensures instances { (at worker : ℕ) → instance_in self.new.queued_instances at worker
+            ≡ instance_in self.old.queued_instances at worker }
+        ensures queue { ListChanged (queue_in self.old.queued_instances) pipe
+            (later (queue_in self.old.queued_instances pipe.edge pipe.from pipe.to)) (queue_in self.new.queued_instances) }
+        ensures whole { IsWhole self.new.physical self.new.queued_instances }
         ensures physical { self.new.physical ≡ self.old.physical }
         ensures depth { self.new.depth ≡ self.old.depth }
     {
-        self.stations[pipe.edge as usize].held[pipe.from as usize].give(pipe.to)
+        self.queued_instances[pipe.edge as usize].held[pipe.from as usize].give(pipe.to)
     }
 
     fn receive(
@@ -240,35 +240,35 @@ impl<L: Local> World<L> {
         from: u32,
         note: Note,
     ) -> Result<(), OutOfMemory>
-        requires ready { IsReadyFor (instance_in self.old.stations at worker) worker port from note }
-        requires whole { IsWhole self.old.physical self.old.stations }
+        requires ready { IsReadyFor (instance_in self.old.queued_instances at worker) worker port from note }
+        requires whole { IsWhole self.old.physical self.old.queued_instances }
         requires has { has at self.old.physical.tree ≡ true }
         requires worker { worker < self.old.physical.workers }
         ensures took { OnOk result ((s : Spot) (taken : ℕ → ℕ → List NoteData) (put : ℕ → List NoteData)
-            → IsLocal s worker (instance_in self.old.stations at worker) taken put
-            → Took s worker (instance_in self.old.stations at worker) port from note
-            (instance_in self.new.stations at worker)) }
+            → IsLocal s worker (instance_in self.old.queued_instances at worker) taken put
+            → Took s worker (instance_in self.old.queued_instances at worker) port from note
+            (instance_in self.new.queued_instances at worker)) }
         ensures others { OnOk result (OthersSame (seen self.old) at worker (seen self.new)) }
         ensures queues { OnOk result ((edge a b : ℕ)
-            → queue_in self.new.stations edge a b ≡ queue_in self.old.stations edge a b) }
-        ensures whole { OnOk result (IsWhole self.new.physical self.new.stations) }
+            → queue_in self.new.queued_instances edge a b ≡ queue_in self.old.queued_instances edge a b) }
+        ensures whole { OnOk result (IsWhole self.new.physical self.new.queued_instances) }
         ensures physical { self.new.physical ≡ self.old.physical }
         ensures depth { self.new.depth ≡ self.old.depth }
     {
-        self.stations[at as usize].held[worker as usize].take(port, from, note)
+        self.queued_instances[at as usize].held[worker as usize].take(port, from, note)
     }
 
     fn end(&mut self, at: u32, worker: u32)
-        requires wanted { want (instance_in self.old.stations at worker) ≡ wants.End }
-        requires whole { IsWhole self.old.physical self.old.stations }
+        requires wanted { want (instance_in self.old.queued_instances at worker) ≡ wants.End }
+        requires whole { IsWhole self.old.physical self.old.queued_instances }
         requires has { has at self.old.physical.tree ≡ true }
         requires worker { worker < self.old.physical.workers }
         ensures ends { Ends (seen self.old) at worker (seen self.new) }
-        ensures whole { IsWhole self.new.physical self.new.stations }
+        ensures whole { IsWhole self.new.physical self.new.queued_instances }
         ensures physical { self.new.physical ≡ self.old.physical }
         ensures depth { self.new.depth ≡ self.old.depth }
     {
-        self.stations[at as usize].held[worker as usize].end();
+        self.queued_instances[at as usize].held[worker as usize].end();
     }
 
     // Moves the first note of a pipe to its reader.
@@ -277,11 +277,11 @@ impl<L: Local> World<L> {
         requires stands { StandsForSome self.old }
         ensures stepped { OnOk result ((g : Setting) (h : History) → IsStanding g self.old h
             → Steps g (seen self.old) (events.Take pipe) (seen self.new)) }
-        ensures whole { OnOk result (IsWhole self.new.physical self.new.stations) }
+        ensures whole { OnOk result (IsWhole self.new.physical self.new.queued_instances) }
         ensures physical { self.new.physical ≡ self.old.physical }
         ensures depth { self.new.depth ≡ self.old.depth }
     {
-        let Some((at, port)) = self.wiring.reader(pipe.edge) else {
+        let Some((at, port)) = self.tables.reader(pipe.edge) else {
             unreachable!()
         };
         let note = self.give(pipe);
@@ -294,7 +294,7 @@ impl<L: Local> World<L> {
         requires stands { StandsForSome self.old }
         ensures stepped { OnOk result ((g : Setting) (h : History) → IsStanding g self.old h
             → Steps g (seen self.old) event (seen self.new)) }
-        ensures whole { OnOk result (IsWhole self.new.physical self.new.stations) }
+        ensures whole { OnOk result (IsWhole self.new.physical self.new.queued_instances) }
         ensures physical { self.new.physical ≡ self.old.physical }
         ensures depth { self.new.depth ≡ self.old.depth }
     {
@@ -321,8 +321,8 @@ impl<L: Local> World<L> {
         ensures depth { self.new.depth ≡ self.old.depth }
         ensures stands { OnOk result (StandsForSome self.new) }
         ensures laws { OnOk result (ObeysLaws self.new) }
-        ensures parts { OnOk result ((at worker : ℕ) → (instance_in self.new.stations at worker).part
-            ≡ (instance_in self.old.stations at worker).part) }
+        ensures parts { OnOk result ((at worker : ℕ) → (instance_in self.new.queued_instances at worker).part
+            ≡ (instance_in self.old.queued_instances at worker).part) }
     {
         self.change(event)
     }
@@ -333,10 +333,12 @@ impl<L: Local> World<L> {
         requires { StandsForSome self }
         ensures { IfOk result (λ o. IsOutcome self o.rows o.counts) }
     {
-        let counts = count_rows(self.alloc, &self.stations)?;
-        let root = self.wiring.root();
-        let mut stations = self.stations;
-        let rows = stations.swap_remove(root as usize).into_placed(self.alloc)?;
+        let counts = count_rows(self.alloc, &self.queued_instances)?;
+        let root = self.tables.root();
+        let mut queued_instances = self.queued_instances;
+        let rows = queued_instances
+            .swap_remove(root as usize)
+            .into_placed(self.alloc)?;
         Ok(Outcome { rows, counts })
     }
 }

@@ -3,7 +3,7 @@ use Rattle.std.proofs.Common.{◌≡◌, ◌&&◌, ℕ, Bool, true, false, Some,
 use Rattle.std.specs.Option.{IsSome}
 use Rattle.std.specs.List.Sorted.{IsPermutation}
 use Rattle.flow_instance.specs.Instances.{port_ended}
-use Rattle.flow_instance.specs.Local.{works_at_once}
+use Rattle.flow_instance.specs.Local.{is_pipelined}
 use Rattle.pact_operators.specs.Programs.{HasKeyLists, IsKindFor, is_pair_kind}
 use Rattle.pact_operators.specs.Allowed.{Bag}
 use Rattle.pact_record.specs.Widths.{AreBelow, AreWide}
@@ -24,7 +24,7 @@ has_function p h = subst IsSome (sym h.called) refl
 
 -- ---- by kind
 
-groups_open : (kind : OpKind) (ended : Bool) → works_at_once kind ≡ false → is_built kind ended ≡ false
+groups_open : (kind : OpKind) (ended : Bool) → is_pipelined kind ≡ false → is_built kind ended ≡ false
 groups_open Source ended w = refl
 groups_open Map ended w = refl
 groups_open Reduce ended w = refl
@@ -40,7 +40,7 @@ reduce_kind Match called n ks js k h l = absurd (cc)
 reduce_kind Cross called n ks js k h l = absurd (cc)
 reduce_kind CoGroup called n ks js k h l = absurd (cc)
 
-cogroup_kind : (kind : OpKind) (called : Kind) (n : ℕ) (ks js : List ℕ) → works_at_once kind ≡ false → is_reduce kind ≡ false → IsKindFor kind called → HasKeyLists kind n ks js → (called ≡ kinds.CoGroup) × ((length ks ≡ n) × (length js ≡ n))
+cogroup_kind : (kind : OpKind) (called : Kind) (n : ℕ) (ks js : List ℕ) → is_pipelined kind ≡ false → is_reduce kind ≡ false → IsKindFor kind called → HasKeyLists kind n ks js → (called ≡ kinds.CoGroup) × ((length ks ≡ n) × (length js ≡ n))
 cogroup_kind Source called n ks js w k h l = absurd (cc)
 cogroup_kind Map called n ks js w k h l = absurd (cc)
 cogroup_kind Reduce called n ks js w k h l = absurd (cc)
@@ -67,7 +67,7 @@ cross_kind CoGroup called n ks js k h l = absurd (cc)
 -- ---- of an instance
 
 module _ {L : Type 0} (rows : L → Bag) (keys : L → List ℕ) (is_sealed : L → Bool) (s : State L) (sound : IsSound rows keys is_sealed s) where
-  pub left_open : works_at_once s.part.kind ≡ false → is_sealed s.left ≡ false
+  pub left_open : is_pipelined s.part.kind ≡ false → is_sealed s.left ≡ false
   left_open w = sound.left_sealed ∙ groups_open s.part.kind (port_ended (seen rows s) 0) w
 
   own_reduce : is_reduce s.part.kind ≡ true → (sound.operator.function.function.kind ≡ kinds.Reduce) × (length s.part.left_keys ≡ sound.operator.function.function.keys)
@@ -100,7 +100,7 @@ module _ {L : Type 0} (rows : L → Bag) (keys : L → List ℕ) (is_sealed : L 
       let own = cross_kind s.part.kind o.function.function.kind o.function.function.keys s.part.left_keys s.part.right_keys k o.kind o.keys in
       (subst (λ (h : WithFields). h.function.kind ≡ kinds.Cross) (its_function s.part f o e) own.0, sound.left_keys ∙ own.1)
 
-  module _ (l r : L) (w : works_at_once s.part.kind ≡ false) (k : is_reduce s.part.kind ≡ false) (p : IsPermutation (rows s.left) (rows l)) (q : IsPermutation (rows s.right) (rows r)) (i : keys l ≡ keys s.left) (j : keys r ≡ keys s.right) where
+  module _ (l r : L) (w : is_pipelined s.part.kind ≡ false) (k : is_reduce s.part.kind ≡ false) (p : IsPermutation (rows s.left) (rows l)) (q : IsPermutation (rows s.right) (rows r)) (i : keys l ≡ keys s.left) (j : keys r ≡ keys s.right) where
     own_sides : AreSides sound.operator.function s.part.left_keys s.part.right_keys (keys l) (keys r) (rows l) (rows r)
     own_sides =
         let o = sound.operator in

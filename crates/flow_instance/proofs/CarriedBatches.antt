@@ -9,8 +9,8 @@ use Rattle.pact_operators.specs.Allowed.{Bag}
 use Rattle.pact_record.proofs.Lists.{AllByRecursion-append, AllByRecursion-get_or}
 use Rattle.pact_record.specs.Widths.{AreWide}
 use Rattle.pact_record.specs.declared.values.Value.{Value}
-use Rattle.flow_instance.specs.Sending.{AreCarried, AreCarriedBut, IsBatchFor, batch_parcel}
-use Rattle.flow_instance.specs.declared.parcels.Parcel.{Parcel}
+use Rattle.flow_instance.specs.Sending.{AreCarried, AreCarriedBut, IsBatchFor, addressed_batch}
+use Rattle.flow_instance.specs.declared.addressed_notes.AddressedNote.{AddressedNote}
 use Rattle.flow_instance.specs.Local.{rows_for}
 
 pub rows_for-append : (to : ℕ) (a b : List (ℕ × Bag)) → rows_for to (a ++ b) ≡ rows_for to a ++ rows_for to b
@@ -18,11 +18,11 @@ rows_for-append to [] b = refl
 rows_for-append to (w ∷ a) b = ap (λ (l : Bag). cond (w.0 == to) w.1 [] ++ l) (rows_for-append to a b) ∙ sym (append_assoc (cond (w.0 == to) w.1 []) (rows_for to a) (rows_for to b))
 
 -- the held rows are queued as a batch
-pub stowed : (fields to : ℕ) (done held : Bag) (old before after : List Parcel) → 0 < length held → after ≡ before ++ batch_parcel (to, held) ∷ [] → AreCarriedBut fields to done old before held → AreCarriedBut fields to done old after []
-stowed fields to done held old before after some e c = record {
+pub queued_if_full : (fields to : ℕ) (done held : Bag) (old before after : List AddressedNote) → 0 < length held → after ≡ before ++ addressed_batch (to, held) ∷ [] → AreCarriedBut fields to done old before held → AreCarriedBut fields to done old after []
+queued_if_full fields to done held old before after some e c = record {
   more = c.more ++ (to, held) ∷ [];
-  behind = e ∙ ap (λ (l : List Parcel). l ++ batch_parcel (to, held) ∷ []) c.behind ∙ append_assoc old (map batch_parcel c.more) (batch_parcel (to, held) ∷ [])
-      ∙ ap (λ (l : List Parcel). old ++ l) (sym (map-append batch_parcel c.more ((to, held) ∷ [])));
+  behind = e ∙ ap (λ (l : List AddressedNote). l ++ addressed_batch (to, held) ∷ []) c.behind ∙ append_assoc old (map addressed_batch c.more) (addressed_batch (to, held) ∷ [])
+      ∙ ap (λ (l : List AddressedNote). old ++ l) (sym (map-append addressed_batch c.more ((to, held) ∷ [])));
   batches = AllByRecursion-append (IsBatchFor fields to) c.more ((to, held) ∷ []) c.batches ((refl, some, c.wide), tt);
   carried = append-nil (rows_for to (c.more ++ (to, held) ∷ [])) ∙ rows_for-append to c.more ((to, held) ∷ [])
       ∙ ap (λ (l : Bag). rows_for to c.more ++ l) (ap (λ (b : Bool). cond b held [] ++ []) (eq-eqb to to refl) ∙ append-nil held) ∙ c.carried;
@@ -30,10 +30,10 @@ stowed fields to done held old before after some e c = record {
 }
 
 -- all rows are held, and none is in a batch yet
-pub all_held : (fields to : ℕ) (rows : Bag) (old : List Parcel) → AreWide fields rows → AreCarriedBut fields to rows old old rows
+pub all_held : (fields to : ℕ) (rows : Bag) (old : List AddressedNote) → AreWide fields rows → AreCarriedBut fields to rows old old rows
 all_held fields to rows old wide = record { more = []; behind = sym (append-nil old); batches = tt; carried = refl; wide = wide }
 
-pub one_more : (fields to : ℕ) (done : Bag) (row : List Value) (old new : List Parcel) (held : Bag) → length row ≡ fields → AreCarriedBut fields to done old new held
+pub one_more : (fields to : ℕ) (done : Bag) (row : List Value) (old new : List AddressedNote) (held : Bag) → length row ≡ fields → AreCarriedBut fields to done old new held
     → AreCarriedBut fields to (done ++ row ∷ []) old new (held ++ row ∷ [])
 one_more fields to done row old new held width c = record {
   more = c.more;
@@ -43,7 +43,7 @@ one_more fields to done row old new held width c = record {
   wide = AllByRecursion-append (λ (r : List Value). length r ≡ fields) held (row ∷ []) c.wide (width, tt);
 }
 
-pub all_carried : (fields to : ℕ) (done : Bag) (old new : List Parcel) (held : Bag) → length held < 1 → AreCarriedBut fields to done old new held → AreCarried fields to done old new
+pub all_carried : (fields to : ℕ) (done : Bag) (old new : List AddressedNote) (held : Bag) → length held < 1 → AreCarriedBut fields to done old new held → AreCarried fields to done old new
 all_carried fields to done old new held few c = record {
   more = c.more;
   behind = c.behind;
@@ -61,7 +61,7 @@ pub next_width : (fields : ℕ) (done rows : Bag) (row : List Value) → AreWide
 next_width fields done rows row wide n = ap length n.1 ∙ AllByRecursion-get_or (λ (r : List Value). length r ≡ fields) rows (length done) row n.0 wide
 
 -- the held rows have the width of the next row
-pub held_width : (to : ℕ) (done rows : Bag) (row : List Value) (old new : List Parcel) (held : Bag) → HaveOneWidth rows → IsNext done rows row
+pub held_width : (to : ℕ) (done rows : Bag) (row : List Value) (old new : List AddressedNote) (held : Bag) → HaveOneWidth rows → IsNext done rows row
     → ((fields : ℕ) → AreWide fields rows → AreCarriedBut fields to done old new held) → AllByRecursion (λ r. length r ≡ length row) held
 held_width to done rows row old new held one n c =
     let wide = recursion_from_All (λ (r : List Value). length r ≡ one.width) rows one.all in

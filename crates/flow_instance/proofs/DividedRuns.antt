@@ -19,7 +19,7 @@ use Rattle.pact_operators.proofs.SourceKinds.{is_source}
 use Rattle.flow_instance.specs.declared.notes.Note.{Note}
 use Rattle.flow_instance.specs.declared.notes.Want.TheVariants.{Done}
 use Rattle.flow_instance.specs.Instances.{Instance, all_ended, port_ended, want}
-use Rattle.flow_instance.specs.Local.{Gave, IsGiven, IsLocal, Placed, rows_for, taken_rows, works_at_once}
+use Rattle.flow_instance.specs.Local.{Gave, IsGiven, IsLocal, Placed, rows_for, taken_rows, is_pipelined}
 use Rattle.flow_instance.specs.Notes.{rows_of}
 use Rattle.flow_instance.specs.Spots.{Setting, Spot, ports_of, sent, setting, spot}
 use Rattle.flow_instance.specs.Spread.{Spread, given_in, sum_below}
@@ -70,7 +70,7 @@ told : (s : Spot) (worker : ℕ) (i : Instance) (taken : ℕ → ℕ → List No
 told s worker i taken put l done =
     let fin = finished_by i.waiting i.marks (port_ended i 0) (port_ended i 1) i.finished done in
     let ended : all_ended i ≡ true = and_from (port_ended i 0) (port_ended i 1) fin.first fin.second in
-    let all : (works_at_once s.kind || all_ended i) ≡ true = or_right (works_at_once s.kind) (all_ended i) ended in
+    let all : (is_pipelined s.kind || all_ended i) ≡ true = or_right (is_pipelined s.kind) (all_ended i) ended in
     record {
       gave = subst (λ (b : Bool). Gave b (IsGiven s s.kind s.ports worker (taken_rows s.workers taken)) l.given) all l.gave;
       put_all = λ to less. joined (l.sent_on to less) (is_same (ap (λ (ws : List (ℕ × Bag)). rows_of (put to) ++ rows_for to ws) fin.waiting ∙ append-nil (rows_of (put to))));

@@ -8,7 +8,7 @@ use Rattle.std.proofs.lemmas.List.Sorted.{IsPermutation-refl}
 use Rattle.flow_instance.proofs.Bags.{is_same, joined}
 use Rattle.flow_instance.proofs.GivenForNotes.{none_at_end}
 use Rattle.flow_instance.specs.Instances.{Instance, Part as PartData, all_ended, ended_at, kept_at, port_ended}
-use Rattle.flow_instance.specs.Local.{Calls, Gave, IsGiven, KeepsRows, MayGive, may_match, works_at_once}
+use Rattle.flow_instance.specs.Local.{Calls, Gave, IsGiven, KeepsRows, MayGive, may_match, is_pipelined}
 use Rattle.plan_trees.specs.Senders.{all_below}
 use Rattle.flow_instance.specs.Spots.{Port as PortData, Spot}
 use Rattle.flow_instance.specs.Steps.{Carry, GivesNow, KeepsMore, Mark, Took, kept_with}
@@ -23,10 +23,10 @@ use Rattle.tac_syntax.specs.Valid.{WithFields}
 use Rattle.tac_syntax.specs.declared.declarations.OpKind.{OpKind}
 use Rattle.tac_syntax.specs.declared.declarations.OpKind.TheVariants.{Source, Map, Reduce, Match, Cross, CoGroup}
 use Rattle.flow_instance.specs.Grouping.{AreCoGroupsGiven, AreGroupsGiven}
-use Rattle.flow_instance.specs.Sending.{AreFew, batches_in, batch_parcel, mark_parcel, marks_in}
+use Rattle.flow_instance.specs.Sending.{AreFew, batches_in, addressed_batch, addressed_mark, marks_in}
 use Rattle.flow_instance.specs.States.{AreGivenLast, AreOpsOf, AreOrderly, GivesLast, HasEnded, HasFlags, HasTaken, IsOperator, IsReady, IsSound, IsSoundIfTaking, body_in, is_built, is_reduce, part_of, port_of, seen, spot_of}
 use Rattle.flow_instance.specs.StateSteps.{HasGiven, HasMarked, Takes}
-use Rattle.flow_instance.specs.declared.parcels.Parcel.{Parcel}
+use Rattle.flow_instance.specs.declared.addressed_notes.AddressedNote.{AddressedNote}
 use Rattle.flow_instance.specs.declared.parts.Part.{Part}
 use Rattle.flow_instance.specs.declared.states.State.{State}
 use Rattle.flow_instance.proofs.RowsSentOrPlaced.{batches_in-queue, marks_in-queue, orderly_marked}
@@ -94,7 +94,7 @@ calls_of_group p ops f k h e a key group = by p.kind k a.calls ∙ (λ i. Out (s
   by Cross k c = absurd (cc)
   by CoGroup k c = absurd (cc)
 
-reduce_waits : (kind : OpKind) → is_reduce kind ≡ true → works_at_once kind ≡ false
+reduce_waits : (kind : OpKind) → is_reduce kind ≡ true → is_pipelined kind ≡ false
 reduce_waits Reduce k = refl
 reduce_waits kind k = absurd (cc)
 
@@ -118,7 +118,7 @@ reduce_given rows keys is_sealed s f kept out h k e p g = λ ops a.
 
 -- ---- the output of a CoGroup
 
-may_cogroup : (s : Spot) (kind : OpKind) (ports : List PortData) (worker : ℕ) (left right out : Bag) → works_at_once kind ≡ false → is_reduce kind ≡ false → takes kind ≡ length ports
+may_cogroup : (s : Spot) (kind : OpKind) (ports : List PortData) (worker : ℕ) (left right out : Bag) → is_pipelined kind ≡ false → is_reduce kind ≡ false → takes kind ≡ length ports
     → CoGrouped (s.ops.of_groups s.at) (s.ops.left_keys s.at) (s.ops.right_keys s.at) left right (keys_in_either (s.ops.left_keys s.at) (s.ops.right_keys s.at) left right) out → MayGive s kind ports worker left right out
 may_cogroup s CoGroup [] worker left right out w k e g = absurd (omega (arith, e))
 may_cogroup s CoGroup (p ∷ []) worker left right out w k e g = absurd (omega (arith, e))
@@ -126,10 +126,10 @@ may_cogroup s CoGroup (p ∷ q ∷ []) worker left right out w k e g = g
 may_cogroup s CoGroup (p ∷ q ∷ r ∷ ports) worker left right out w k e g = absurd (omega (arith, e))
 may_cogroup s kind ports worker left right out w k e g = absurd (cc)
 
-calls_of_groups : (p : Part) (ops : PlanOps) (f : WithFields) → works_at_once p.kind ≡ false → is_reduce p.kind ≡ false → IsOperator p → p.called ≡ Some f → AreOpsOf ops (part_of p) → (key : List Value) (left right : Bag)
+calls_of_groups : (p : Part) (ops : PlanOps) (f : WithFields) → is_pipelined p.kind ≡ false → is_reduce p.kind ≡ false → IsOperator p → p.called ≡ Some f → AreOpsOf ops (part_of p) → (key : List Value) (left right : Bag)
     → ops.of_groups p.at key left right ≡ Out f.fields f.function.body (of_groups key left right)
 calls_of_groups p ops f w k h e a key left right = by p.kind w k a.calls ∙ (λ i. Out (sym (its_fields p f h e) i) (body_in (e i)) (of_groups key left right)) where
-  by : (kind : OpKind) → works_at_once kind ≡ false → is_reduce kind ≡ false → Calls (spot_of (part_of p) ops) kind p.fields (body_in p.called) → ops.of_groups p.at key left right ≡ Out p.fields (body_in p.called) (of_groups key left right)
+  by : (kind : OpKind) → is_pipelined kind ≡ false → is_reduce kind ≡ false → Calls (spot_of (part_of p) ops) kind p.fields (body_in p.called) → ops.of_groups p.at key left right ≡ Out p.fields (body_in p.called) (of_groups key left right)
   by Source w k c = absurd (cc)
   by Map w k c = absurd (cc)
   by Reduce w k c = absurd (cc)
@@ -137,7 +137,7 @@ calls_of_groups p ops f w k h e a key left right = by p.kind w k a.calls ∙ (λ
   by Cross w k c = absurd (cc)
   by CoGroup w k c = c key left right
 
-pub cogroup_given : {L : Type 0} (rows : L → Bag) (keys : L → List ℕ) (is_sealed : L → Bool) (s : State L) (f : WithFields) (lefts rights out : Bag) → IsSound rows keys is_sealed s → works_at_once s.part.kind ≡ false → is_reduce s.part.kind ≡ false
+pub cogroup_given : {L : Type 0} (rows : L → Bag) (keys : L → List ℕ) (is_sealed : L → Bool) (s : State L) (f : WithFields) (lefts rights out : Bag) → IsSound rows keys is_sealed s → is_pipelined s.part.kind ≡ false → is_reduce s.part.kind ≡ false
     → s.part.called ≡ Some f → IsPermutation (rows s.left) lefts → IsPermutation (rows s.right) rights
     → AreCoGroupsGiven (λ k l r. Out f.fields f.function.body (of_groups k l r)) s.part.left_keys s.part.right_keys lefts rights out → AreGivenLast rows s out
 cogroup_given rows keys is_sealed s f lefts rights out h w k e p q g = λ ops a.
@@ -189,7 +189,7 @@ took_more rows keys is_sealed s t port from ready h not_yet = λ ops a.
     let new = record s { left_ended = t.left_ended; right_ended = t.right_ended; left = t.left } in
     let all : all_ended (seen rows new) ≡ false = ap (λ (u : State _). all_ended (seen rows u)) (sym h.same) ∙ not_yet in
     subst (λ (u : State _). Took spot s.part.worker (seen rows s) port from End (seen rows u)) (sym h.same)
-    (took_of spot s.part.worker (seen rows s) (seen rows new) port from End [] [] (IsPermutation-refl []) (gives_nothing (works_at_once s.part.kind) spot s.part.worker (seen rows s) (seen rows new) port all) refl refl
+    (took_of spot s.part.worker (seen rows s) (seen rows new) port from End [] [] (IsPermutation-refl []) (gives_nothing (is_pipelined s.part.kind) spot s.part.worker (seen rows s) (seen rows new) port all) refl refl
     (λ p k. ap (λ (u : State _). ended_at (seen rows u) p k) (sym h.same) ∙ h.ended p k)
     (λ e. end_keeps spot s.part.kind (seen rows s) (seen rows new) port h.kept refl)
     (each_wide s.part.fields (seen rows new) (wide_permuted s.part.fields (rows s.left) (rows t.left) h.kept sound.left_wide) sound.right_wide)
@@ -217,8 +217,8 @@ gives_last s worker i j port kept out false all p q g =
     (subst (λ (taken : ℕ → Bag). IsGiven s s.kind s.ports worker taken out) (no_more (kept_at i) port)
     (record { left = g.left; right = g.right; out = g.out; of_left = joined p g.of_left; of_right = joined q g.of_right; may = g.may; permuted = g.permuted }))
 
-pub queue_lists : (p : PartData) (out before placed : Bag) (old queue : List Parcel) → (g : HasGiven p out before placed old) → (m : HasMarked p old queue) → queue ≡ map batch_parcel g.list ++ map mark_parcel m.list
-queue_lists p out before placed old queue g m = m.behind ∙ ap (λ (l : List Parcel). l ++ map mark_parcel m.list) g.is
+pub queue_lists : (p : PartData) (out before placed : Bag) (old queue : List AddressedNote) → (g : HasGiven p out before placed old) → (m : HasMarked p old queue) → queue ≡ map addressed_batch g.list ++ map addressed_mark m.list
+queue_lists p out before placed old queue g m = m.behind ∙ ap (λ (l : List AddressedNote). l ++ map addressed_mark m.list) g.is
 
 module _ {L : Type 0} (rows : L → Bag) (keys : L → List ℕ) (is_sealed : L → Bool) (s a b c d : State L) (port from : ℕ) (out : Bag) (ready : IsReady rows keys is_sealed s port)
     (ended : HasEnded rows s port from a) (all : all_ended (seen rows a) ≡ true) (grouped : b ≡ record a { left = b.left; right = b.right })
@@ -278,7 +278,7 @@ module _ {L : Type 0} (rows : L → Bag) (keys : L → List ℕ) (is_sealed : L 
         let own : AreGivenLast rows first out = subst (λ (u : State L). AreGivenLast rows u out) ended.same last_given in
         subst (λ (u : State L). Took spot s.part.worker (seen rows s) port from End (seen rows u)) (sym is_last)
         (took_of spot s.part.worker (seen rows s) (seen rows last) port from End out out (IsPermutation-refl out)
-        (gives_last spot s.part.worker (seen rows s) (seen rows last) port (kept_at (seen rows first)) out (works_at_once s.part.kind) all_last ended.kept (IsPermutation-refl (rows s.right)) (own ops o))
+        (gives_last spot s.part.worker (seen rows s) (seen rows last) port (kept_at (seen rows first)) out (is_pipelined s.part.kind) all_last ended.kept (IsPermutation-refl (rows s.right)) (own ops o))
         refl refl (λ p k. ap (λ (u : State L). ended_at (seen rows u) p k) (sym ended.same) ∙ ended.ended p k)
         (λ e. absurd (let clash : true ≡ false = sym all_last ∙ e in cc))
         (each_wide s.part.fields (seen rows last) (subst (λ (p : Part). AreWide p.fields (rows b.left)) part_a left_wide) (subst (λ (p : Part). AreWide p.fields (rows b.right)) part_a right_wide))

@@ -6,7 +6,7 @@ use Rattle.pact_operators.specs.Allowed.{Bag, count_of}
 use Rattle.flow_instance.specs.Local.{Placed}
 use Rattle.plan_trees.specs.declared.physicals.Ship.{Ship}
 use Rattle.pact_record.specs.Widths.{AreWide}
-use Rattle.flow_instance.specs.Sending.{batches_in, batch_parcel, mark_parcel, marks_in}
+use Rattle.flow_instance.specs.Sending.{batches_in, addressed_batch, addressed_mark, marks_in}
 use Rattle.flow_instance.specs.States.{AreOrderly, HasBegun, part_of, seen, spot_of}
 use Rattle.flow_instance.specs.StateSteps.{HasGiven, HasMarked}
 use Rattle.flow_instance.specs.declared.parts.Part.{Part}
@@ -20,8 +20,8 @@ placed_first o before out placed e h = subst (λ (l : Bag). Placed o l placed) (
 
 module _ {L : Type 0} (rows : L → Bag) (s c d : State L) (out : Bag) (none : s.placed ≡ []) (given : c ≡ record s { queue = c.queue; placed = c.placed; given = c.given }) (counted : c.given ≡ count_of (s.given + length out))
     (g : HasGiven (part_of s.part) out s.placed c.placed c.queue.items) (orderly : AreOrderly s.part.workers c.queue.items) where
-  lists : c.queue.items ≡ map batch_parcel g.list ++ map mark_parcel []
-  lists = g.is ∙ sym (append-nil (map batch_parcel g.list))
+  lists : c.queue.items ≡ map addressed_batch g.list ++ map addressed_mark []
+  lists = g.is ∙ sym (append-nil (map addressed_batch g.list))
 
   -- some sender hasn't ended
   pub begun_more : all_ended (seen rows c) ≡ false → HasBegun rows s out c

@@ -16,7 +16,7 @@ use Rattle.pact_record.specs.Record.{key_of}
 use Rattle.pact_record.specs.declared.values.Value.{Value}
 use Rattle.flow_instance.specs.declared.notes.Note.{Note}
 use Rattle.flow_instance.specs.declared.notes.Note.TheVariants.{Batch, End}
-use Rattle.flow_instance.specs.Local.{IsGiven, MayGive, KeepsRows, may_match, works_at_once}
+use Rattle.flow_instance.specs.Local.{IsGiven, MayGive, KeepsRows, may_match, is_pipelined}
 use Rattle.flow_instance.specs.Spots.{Spot, Port, is_edge}
 use Rattle.flow_instance.specs.Steps.{GivesAtOnce, KeepsMore, kept_with, note_rows}
 use Rattle.flow_instance.proofs.Bags.{is_same, joined, turned, beside, crossed-nil, crossed-append, crossed-left}
@@ -123,7 +123,7 @@ none_at_end s Cross (suc port) kept out = ((λ e. e), (λ e. e))
 none_at_end s kind port kept out = ((λ e. e), (λ e. e))
 
 pub given_more : (s : Spot) (kind : OpKind) (ports : List Port) (worker port from : ℕ) (note : Note) (rows new kept : ℕ → Bag) (given out : Bag)
-    → works_at_once kind ≡ true → is_edge (slice_get ports port) from worker ≡ true → Grown rows port note new → KeepsRows s kind rows kept → (port ≡ 0 → rows 1 ≡ [])
+    → is_pipelined kind ≡ true → is_edge (slice_get ports port) from worker ≡ true → Grown rows port note new → KeepsRows s kind rows kept → (port ≡ 0 → rows 1 ≡ [])
     → IsGiven s kind ports worker rows given → GivesAtOnce s kind port (kept 0) note out → IsGiven s kind ports worker new (given ++ out)
 given_more s kind ports worker port from End rows new kept given out w e grown keeps order g o = ended s kind ports worker port rows new given out grown g ((none_at_end s kind port (kept 0) out).0 o)
 given_more s kind (p ∷ q ∷ r ∷ ports) worker port from (Batch batch) rows new kept given out w e grown keeps order g o = absurd g.may
@@ -158,7 +158,7 @@ given_more s kind ports worker port from note rows new kept given out w e grown 
 
 -- the output of an operator that waits for all its input
 pub given_last : (s : Spot) (kind : OpKind) (ports : List Port) (worker port from : ℕ) (note : Note) (rows new kept : ℕ → Bag) (out : Bag)
-    → works_at_once kind ≡ false → is_edge (slice_get ports port) from worker ≡ true → Grown rows port note new → KeepsRows s kind rows kept
+    → is_pipelined kind ≡ false → is_edge (slice_get ports port) from worker ≡ true → Grown rows port note new → KeepsRows s kind rows kept
     → IsGiven s kind ports worker (kept_with kept port note) out → IsGiven s kind ports worker new out
 given_last s kind (p ∷ q ∷ r ∷ ports) worker port from note rows new kept out w e grown keeps g = absurd g.may
 given_last s Reduce (p ∷ q ∷ []) worker port from note rows new kept out w e grown keeps g = absurd g.may

@@ -4,7 +4,7 @@ use Rattle.std.specs.List.{AllByRecursion}
 use Rattle.flow_instance.proofs.LocalAfterTakes.{took_local}
 use Rattle.flow_instance.proofs.LocalAfterPuts.{IsPutting, batch, mark, putting_by, offered_local}
 use Rattle.flow_instance.specs.Instances.{Instance, Part, ended_at, port_ended, want}
-use Rattle.flow_instance.specs.Local.{Calls, IsLocal, IsPartOf, IsReceiver, IsWaiting, works_at_once}
+use Rattle.flow_instance.specs.Local.{Calls, IsLocal, IsPartOf, IsReceiver, IsWaiting, is_pipelined}
 use Rattle.flow_instance.specs.Notes.{AreNotes, has_end}
 use Rattle.flow_instance.specs.Spots.{Port, Spot, is_edge}
 use Rattle.flow_instance.specs.Steps.{Added, AddedTo, GivesNow, Took, next_note, offered}
@@ -81,7 +81,7 @@ local_taken s i j port from note taken new put h wanted edge below open_still fi
 pub took_receiver : (s : Spot) (worker : ℕ) (i j : Instance) (port from r : ℕ) (note : Note) → Took s worker i port from note j → Took s worker i port from note (record j { receiver = r })
 took_receiver s worker i j port from r note t = record {
   out = t.out;
-  gives = by (works_at_once s.kind) t.gives;
+  gives = by (is_pipelined s.kind) t.gives;
   part = t.part;
   finished = t.finished;
   ended = t.ended;

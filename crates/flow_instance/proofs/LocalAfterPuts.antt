@@ -8,7 +8,7 @@ use Rattle.pact_operators.specs.Allowed.{Bag}
 use Rattle.flow_instance.specs.declared.notes.Note.{Note}
 use Rattle.flow_instance.specs.declared.notes.Want.TheVariants.{Put, End}
 use Rattle.flow_instance.specs.Instances.{Instance, all_ended, kept_at, port_ended, want, want_by}
-use Rattle.flow_instance.specs.Local.{IsLocal, IsReceiver, IsWaiting, IsGiven, Gave, KeepsRows, one_if, marks_for, rows_for, taken_rows, works_at_once}
+use Rattle.flow_instance.specs.Local.{IsLocal, IsReceiver, IsWaiting, IsGiven, Gave, KeepsRows, one_if, marks_for, rows_for, taken_rows, is_pipelined}
 use Rattle.plan_trees.proofs.EachWorker.{none_each}
 use Rattle.flow_instance.specs.Notes.{AreNotes, IsNote, has_end, rows_of}
 use Rattle.flow_instance.specs.Spots.{Spot, sent}
@@ -183,7 +183,7 @@ started_local s worker i t =
       put_notes = λ to. tt;
       waiting_notes = t.carries.notes;
       no_edge = λ port from e. refl;
-      gave = subst (λ (r : ℕ → Bag). Gave (works_at_once s.kind || all_ended i) (IsGiven s s.kind s.ports worker r) t.out) rows t.gives;
+      gave = subst (λ (r : ℕ → Bag). Gave (is_pipelined s.kind || all_ended i) (IsGiven s s.kind s.ports worker r) t.out) rows t.gives;
       sent_on = t.carries.sent_on;
       placed = t.placed;
       placed_wide = t.placed_wide;

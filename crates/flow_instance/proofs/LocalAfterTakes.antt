@@ -11,7 +11,7 @@ use Rattle.plan_trees.specs.declared.physicals.Ship.{Ship}
 use Rattle.flow_instance.specs.declared.notes.Note.{Note}
 use Rattle.flow_instance.specs.declared.notes.Want.TheVariants.{Take}
 use Rattle.flow_instance.specs.Instances.{Instance, Part, all_ended, ended_at, kept_at, port_ended, want, want_by}
-use Rattle.flow_instance.specs.Local.{IsLocal, IsGiven, IsPartOf, Gave, KeepsRows, Placed, sender_ended, one_if, marks_for, rows_for, taken_rows, works_at_once}
+use Rattle.flow_instance.specs.Local.{IsLocal, IsGiven, IsPartOf, Gave, KeepsRows, Placed, sender_ended, one_if, marks_for, rows_for, taken_rows, is_pipelined}
 use Rattle.plan_trees.specs.Sending.{goes, has_out}
 use Rattle.flow_instance.specs.Notes.{AreNotes, IsNote, has_end, rows_of}
 use Rattle.flow_instance.specs.Spots.{Spot, Port, is_edge, sent}
@@ -87,7 +87,7 @@ gave_more true P Q out f g = f g
 gave_more false P Q out f g = g
 
 gave_next : (w : Bool) (s : Spot) (worker : ℕ) (i j : Instance) (port from : ℕ) (note : Note) (rows new : ℕ → Bag) (given out : Bag)
-    → works_at_once s.kind ≡ w → all_ended i ≡ false → is_edge (slice_get s.ports port) from worker ≡ true → Grown rows port note new → KeepsRows s s.kind rows (kept_at i) → (port ≡ 0 → rows 1 ≡ [])
+    → is_pipelined s.kind ≡ w → all_ended i ≡ false → is_edge (slice_get s.ports port) from worker ≡ true → Grown rows port note new → KeepsRows s s.kind rows (kept_at i) → (port ≡ 0 → rows 1 ≡ [])
     → Gave (w || all_ended i) (IsGiven s s.kind s.ports worker rows) given → GivesNow w s worker i j port note out → Gave (w || all_ended j) (IsGiven s s.kind s.ports worker new) (given ++ out)
 gave_next true s worker i j port from note rows new given out w not_yet e grown keeps order g o =
     given_more s s.kind s.ports worker port from note rows new (kept_at i) given out w e grown keeps order g o
@@ -144,7 +144,7 @@ took_local s worker i j taken new put port from note l wanted below edge unended
       no_edge = each_list (λ p k. is_edge (slice_get s.ports p) k worker ≡ false → new p k ≡ []) port from
           (λ bad. absurd (let clash : true ≡ false = sym edge ∙ bad in cc))
           (λ p k other h. a.elsewhere p k other ∙ l.no_edge p k h);
-      gave = gave_next (works_at_once s.kind) s worker i j port from note (taken_rows s.workers taken) (taken_rows s.workers new) l.given t.out refl not_yet edge grown (l.kept not_yet) one_port l.gave t.gives;
+      gave = gave_next (is_pipelined s.kind) s worker i j port from note (taken_rows s.workers taken) (taken_rows s.workers new) l.given t.out refl not_yet edge grown (l.kept not_yet) one_port l.gave t.gives;
       sent_on = λ to less.
           let waited : rows_of (put to) ++ rows_for to i.waiting ≡ rows_of (put to) = ap (λ (ws : List (ℕ × Bag)). rows_of (put to) ++ rows_for to ws) taking.waiting ∙ append-nil (rows_of (put to)) in
           joined (is_same (sent-append s.out s.workers worker to l.given t.out))

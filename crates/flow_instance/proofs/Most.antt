@@ -12,7 +12,7 @@ use Rattle.pact_bag.specs.Pairs.{crossed, matched}
 use Rattle.plan_trees.specs.Plans.{PlanTree, leaf, over, both, root_of}
 use Rattle.flow_instance.specs.declared.notes.Want.TheVariants.{Done}
 use Rattle.flow_instance.specs.Instances.{all_ended, want}
-use Rattle.flow_instance.specs.Local.{Gave, IsGiven, one_if, rows_for, taken_rows, works_at_once}
+use Rattle.flow_instance.specs.Local.{Gave, IsGiven, one_if, rows_for, taken_rows, is_pipelined}
 use Rattle.flow_instance.specs.Most.{AreCallsBounded, done_at, events_at, most_below, most_given, most_of, most_of_one, most_of_two, notes_on, own_most, tree_sum}
 use Rattle.plan_trees.specs.declared.physicals.Ship.{Ship}
 use Rattle.flow_instance.specs.Notes.{rows_of}
@@ -129,7 +129,7 @@ source_gives s kind worker rows true given e = omega (arith, length_permutation 
 module _ (g : Setting) (turns : ℕ → ℕ → ℕ) (w : World) (h : History) (bounded : AreCallsBounded g.ops turns) (pipes : (edge from to : ℕ) → h.put edge from to ≡ h.taken edge from to ++ w.queue edge from to) where
   -- the facts about an instance's records
   pub record Told (t : PlanTree) (k : ℕ) (given : Bag) : Type 0 where
-    pub gave : Gave (works_at_once (spot g t).kind || all_ended (w.instance (root_of t) k))
+    pub gave : Gave (is_pipelined (spot g t).kind || all_ended (w.instance (root_of t) k))
         (IsGiven (spot g t) (spot g t).kind (spot g t).ports k (taken_rows g.physical.workers (λ port from. lists_at h.taken (slice_get (ports_of g.physical t) port) from k))) given
     pub notes : (to : ℕ) → to < g.physical.workers → length (h.put (root_of t) k to) ≤ length given + 1
     pub rows : (to : ℕ) → to < g.physical.workers → length (rows_of (h.put (root_of t) k to)) ≤ length given
@@ -182,7 +182,7 @@ module _ (g : Setting) (turns : ℕ → ℕ → ℕ) (w : World) (h : History) (
       let each : sum_below g.physical.workers (given (leaf n) at) ≤ sum_below g.physical.workers (λ k. length (share_from 0 g.physical.workers k (g.ops.rows n))) =
       sum-le g.physical.workers (given (leaf n) at) (λ k. length (share_from 0 g.physical.workers k (g.ops.rows n))) (λ k less.
       source_gives (spot g (leaf n)) (g.ops.kind n) k (taken_rows g.physical.workers (λ port from. lists_at h.taken (slice_get (ports_of g.physical (leaf n)) port) from k))
-      (works_at_once (g.ops.kind n) || all_ended (w.instance n k)) (chosen (leaf n) at k).0 ((chosen (leaf n) at k).1 less).gave) in
+      (is_pipelined (g.ops.kind n) || all_ended (w.instance n k)) (chosen (leaf n) at k).0 ((chosen (leaf n) at k).1 less).gave) in
       let all : sum_below g.physical.workers (given (leaf n) at) ≤ length (g.ops.rows n) = omega (arith, each, shares 0 g.physical.workers g.physical.workers (g.ops.rows n)) in
       all
   sound (over n t) at =
@@ -192,7 +192,7 @@ module _ (g : Setting) (turns : ℕ → ℕ → ℕ) (w : World) (h : History) (
       let each : sum_below g.physical.workers (given (over n t) at.0) ≤ g.physical.workers * one_bound (g.ops.kind n) x (turns n) =
       sum-const g.physical.workers (one_bound (g.ops.kind n) x (turns n)) (given (over n t) at.0) (λ k less.
       one_gives turns (spot g (over n t)) (g.ops.kind n) (port_from g.physical t) k (taken_rows g.physical.workers (λ port from. lists_at h.taken (slice_get (ports_of g.physical (over n t)) port) from k))
-      (works_at_once (g.ops.kind n) || all_ended (w.instance n k)) (chosen (over n t) at.0 k).0 x bounded (taken_few t at_t k x less below) ((chosen (over n t) at.0 k).1 less).gave) in
+      (is_pipelined (g.ops.kind n) || all_ended (w.instance n k)) (chosen (over n t) at.0 k).0 x bounded (taken_few t at_t k x less below) ((chosen (over n t) at.0 k).1 less).gave) in
       let all : sum_below g.physical.workers (given (over n t) at.0) ≤ most_of_one (g.ops.kind n) g.physical.workers x (turns n) = omega (arith, each, one_is (g.ops.kind n) g.physical.workers x (turns n)) in
       all
   sound (both n t u) at =
@@ -205,7 +205,7 @@ module _ (g : Setting) (turns : ℕ → ℕ → ℕ) (w : World) (h : History) (
       let each : sum_below g.physical.workers (given (both n t u) at.0) ≤ g.physical.workers * two_bound (g.ops.kind n) x y (turns n) =
       sum-const g.physical.workers (two_bound (g.ops.kind n) x y (turns n)) (given (both n t u) at.0) (λ k less.
       two_give turns (spot g (both n t u)) (g.ops.kind n) (port_from g.physical t) (port_from g.physical u) k (taken_rows g.physical.workers (λ port from. lists_at h.taken (slice_get (ports_of g.physical (both n t u)) port) from k))
-      (works_at_once (g.ops.kind n) || all_ended (w.instance n k)) (chosen (both n t u) at.0 k).0 x y bounded (taken_few t at_t k x less below_t) (taken_few u at_u k y less below_u)
+      (is_pipelined (g.ops.kind n) || all_ended (w.instance n k)) (chosen (both n t u) at.0 k).0 x y bounded (taken_few t at_t k x less below_t) (taken_few u at_u k y less below_u)
       ((chosen (both n t u) at.0 k).1 less).gave) in
       let all : sum_below g.physical.workers (given (both n t u) at.0) ≤ most_of_two (g.ops.kind n) g.physical.workers x y (turns n) = omega (arith, each, two_is (g.ops.kind n) g.physical.workers x y (turns n)) in
       all

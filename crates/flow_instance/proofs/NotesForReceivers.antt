@@ -11,8 +11,8 @@ use Rattle.pact_record.specs.declared.values.Value.{Value}
 use Rattle.plan_trees.specs.Sending.{goes, has_pipe, sent}
 use Rattle.plan_trees.specs.declared.physicals.Ship.{Ship}
 use Rattle.plan_trees.specs.declared.physicals.Ship.TheVariants.{Forward, Partition, Broadcast}
-use Rattle.flow_instance.specs.Sending.{AreCarried, AreFew, AreMarked, AreSent, AreSentSoFar, IsBatchFor, HasPipe, IsSent, IsSplit, IsTurn, batch_parcel, mark_parcel}
-use Rattle.flow_instance.specs.declared.parcels.Parcel.{Parcel}
+use Rattle.flow_instance.specs.Sending.{AreCarried, AreFew, AreMarked, AreSent, AreSentSoFar, IsBatchFor, HasPipe, IsSent, IsSplit, IsTurn, addressed_batch, addressed_mark}
+use Rattle.flow_instance.specs.declared.addressed_notes.AddressedNote.{AddressedNote}
 use Rattle.flow_instance.proofs.CarriedBatches.{rows_for-append}
 use Rattle.flow_instance.proofs.SplitRows.{read}
 
@@ -25,10 +25,10 @@ as_sent fields workers to from ship [] below pipe h = tt
 as_sent fields workers to from ship (w ∷ more) below pipe h =
     (((subst (λ (n : ℕ). n < workers) (sym h.0.0) below, subst (λ (n : ℕ). has_pipe ship from n ≡ true) (sym h.0.0) pipe), h.0.1, h.0.2), as_sent fields workers to from ship more below pipe h.1)
 
-pub none_few : (most : ℕ) (queue : List Parcel) → queue ≡ [] → AreFew most queue
+pub none_few : (most : ℕ) (queue : List AddressedNote) → queue ≡ [] → AreFew most queue
 none_few most queue e = subst (AreFew most) (sym e) tt
 
-pub none_sent : (fields workers from : ℕ) (ship : Ship) (rows : Bag) (queue : List Parcel) → queue ≡ [] → AreSentSoFar fields workers ship from 0 rows queue
+pub none_sent : (fields workers from : ℕ) (ship : Ship) (rows : Bag) (queue : List AddressedNote) → queue ≡ [] → AreSentSoFar fields workers ship from 0 rows queue
 none_sent fields workers from ship rows queue e =
     record { list = []; is = e; batches = tt; each = λ turn t less _ _. absurd (omega (arith, less)); later = λ _ t _ _ _ _. refl; others = λ t above. refl }
 
@@ -53,7 +53,7 @@ sooner workers from n to m t early below tl turn its other less = elim (cases_lt
 ]
 
 -- one more receiver to which the edge leads
-pub sent_one : (fields workers from n to : ℕ) (ship : Ship) (rows part : Bag) (old new : List Parcel) → n < workers → to < workers → IsTurn workers from n to → has_pipe ship from to ≡ true → part ≡ sent ship workers from to rows
+pub sent_one : (fields workers from n to : ℕ) (ship : Ship) (rows part : Bag) (old new : List AddressedNote) → n < workers → to < workers → IsTurn workers from n to → has_pipe ship from to ≡ true → part ≡ sent ship workers from to rows
     → AreCarried fields to part old new → AreSentSoFar fields workers ship from n rows old → AreSentSoFar fields workers ship from (n + 1) rows new
 sent_one fields workers from n to ship rows part old new early below turn pipe part_is c h =
     let all = h.list ++ c.more in
@@ -63,7 +63,7 @@ sent_one fields workers from n to ship rows part old new early below turn pipe p
     rows_for-append to h.list c.more ∙ ap (λ (l : Bag). l ++ rows_for to c.more) (h.later n to (omega arith) early below turn) ∙ c.carried ∙ part_is in
     record {
       list = all;
-      is = c.behind ∙ ap (λ (l : List Parcel). l ++ map batch_parcel c.more) h.is ∙ sym (map-append batch_parcel h.list c.more);
+      is = c.behind ∙ ap (λ (l : List AddressedNote). l ++ map addressed_batch c.more) h.is ∙ sym (map-append addressed_batch h.list c.more);
       batches = AllByRecursion-append (IsSent fields workers ship from) h.list c.more h.batches (as_sent fields workers to from ship c.more below pipe c.batches);
       each = λ m t less tl its. elim (cases_eq t to) as (λ _. rows_for t all ≡ sent ship workers from t rows) [
         | inl e ↦ subst (λ (k : ℕ). rows_for k all ≡ sent ship workers from k rows) (sym e) here
@@ -80,7 +80,7 @@ turn_of workers from t fl tl = elim (cases_lt t from) as (λ _. (turn : ℕ) × 
   | inr above ↦ (t - from, omega (arith, above, tl), inl (omega (arith, above)))
 ]
 
-pub all_sent : (fields workers from : ℕ) (ship : Ship) (rows : Bag) (queue : List Parcel) → from < workers → AreSentSoFar fields workers ship from workers rows queue → AreSent fields workers ship from rows queue
+pub all_sent : (fields workers from : ℕ) (ship : Ship) (rows : Bag) (queue : List AddressedNote) → from < workers → AreSentSoFar fields workers ship from workers rows queue → AreSent fields workers ship from rows queue
 all_sent fields workers from ship rows queue fl h = record {
   list = h.list;
   is = h.is;
@@ -96,10 +96,10 @@ filter-const false [] = refl
 filter-const true (x ∷ xs) = ap (λ (l : List _). x ∷ l) (filter-const true xs)
 filter-const false (x ∷ xs) = filter-const false xs
 
-pub sent_forward : (fields workers from : ℕ) (rows : Bag) (old new : List Parcel) → from < workers → old ≡ [] → AreCarried fields from rows old new → AreSent fields workers Forward from rows new
+pub sent_forward : (fields workers from : ℕ) (rows : Bag) (old new : List AddressedNote) → from < workers → old ≡ [] → AreCarried fields from rows old new → AreSent fields workers Forward from rows new
 sent_forward fields workers from rows old new below none c = record {
   list = c.more;
-  is = c.behind ∙ ap (λ (l : List Parcel). l ++ map batch_parcel c.more) none;
+  is = c.behind ∙ ap (λ (l : List AddressedNote). l ++ map addressed_batch c.more) none;
   batches = as_sent fields workers from from Forward c.more below (eq-eqb from from refl) c.batches;
   each = λ t less. elim (cases_eq t from) as (λ _. rows_for t c.more ≡ sent Forward workers from t rows) [
     | inl e ↦ subst (λ (n : ℕ). rows_for n c.more ≡ sent Forward workers from n rows) (sym e)
@@ -127,13 +127,13 @@ marks_for-last : (to m : ℕ) (marks : List ℕ) → marks_for to (marks ++ m �
 marks_for-last to m [] = omega arith
 marks_for-last to m (n ∷ marks) = omega (arith, marks_for-last to m marks)
 
-pub marked_one : (workers from to : ℕ) (ship : Ship) (first old new : List Parcel) → new ≡ old ++ mark_parcel to ∷ [] → to < workers → has_pipe ship from to ≡ true → AreMarked workers ship from to first old → AreMarked workers ship from (to + 1) first new
+pub marked_one : (workers from to : ℕ) (ship : Ship) (first old new : List AddressedNote) → new ≡ old ++ addressed_mark to ∷ [] → to < workers → has_pipe ship from to ≡ true → AreMarked workers ship from to first old → AreMarked workers ship from (to + 1) first new
 marked_one workers from to ship first old new e below pipe h =
     let all = h.list ++ to ∷ [] in
     let told : (t : ℕ) → marks_for t all ≡ marks_for t h.list + one_if (to == t) = λ t. marks_for-last t to h.list in
     record {
       list = all;
-      behind = e ∙ ap (λ (l : List Parcel). l ++ mark_parcel to ∷ []) h.behind ∙ append_assoc first (map mark_parcel h.list) (mark_parcel to ∷ []) ∙ ap (λ (l : List Parcel). first ++ l) (sym (map-append mark_parcel h.list (to ∷ [])));
+      behind = e ∙ ap (λ (l : List AddressedNote). l ++ addressed_mark to ∷ []) h.behind ∙ append_assoc first (map addressed_mark h.list) (addressed_mark to ∷ []) ∙ ap (λ (l : List AddressedNote). first ++ l) (sym (map-append addressed_mark h.list (to ∷ [])));
       receivers = AllByRecursion-append (HasPipe workers ship from) h.list (to ∷ []) h.receivers ((below, pipe), tt);
       each = λ t less. elim (cases_eq t to) as (λ _. marks_for t all ≡ one_if (has_pipe ship from t)) [
         | inl same ↦ omega (arith, told t, h.later t (omega (arith, same)), ap one_if (eq-eqb to t (sym same)), ap one_if (ap (has_pipe ship from) same ∙ pipe))
@@ -142,7 +142,7 @@ marked_one workers from to ship first old new e below pipe h =
       later = λ t above. omega (arith, told t, h.later t (omega (arith, above)), ap one_if (ne_eqb to t (λ s. omega (arith, s, above))));
     }
 
-pub marked_none : (workers from to : ℕ) (ship : Ship) (first old : List Parcel) → has_pipe ship from to ≡ false → AreMarked workers ship from to first old → AreMarked workers ship from (to + 1) first old
+pub marked_none : (workers from to : ℕ) (ship : Ship) (first old : List AddressedNote) → has_pipe ship from to ≡ false → AreMarked workers ship from to first old → AreMarked workers ship from (to + 1) first old
 marked_none workers from to ship first old none h = record {
   list = h.list;
   behind = h.behind;
@@ -154,5 +154,5 @@ marked_none workers from to ship first old none h = record {
   later = λ t above. h.later t (omega (arith, above));
 }
 
-pub none_marked : (workers from : ℕ) (ship : Ship) (queue : List Parcel) → AreMarked workers ship from 0 queue queue
+pub none_marked : (workers from : ℕ) (ship : Ship) (queue : List AddressedNote) → AreMarked workers ship from 0 queue queue
 none_marked workers from ship queue = record { list = []; behind = sym (append-nil queue); receivers = tt; each = λ t less. absurd (omega (arith, less)); later = λ t above. refl }

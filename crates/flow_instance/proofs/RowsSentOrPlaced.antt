@@ -15,13 +15,13 @@ use Rattle.pact_record.specs.Widths.{AreWide}
 use Rattle.pact_record.specs.declared.values.Value.{Value}
 use Rattle.plan_trees.specs.declared.physicals.Ship.{Ship}
 use Rattle.tac_syntax.specs.declared.declarations.OpKind.TheVariants.{Source}
-use Rattle.flow_instance.specs.Sending.{AreMarked, AreSent, HasPipe, IsInOrder, IsSent, batch_parcel, batches_in, mark_parcel, marks_in}
+use Rattle.flow_instance.specs.Sending.{AreMarked, AreSent, HasPipe, IsInOrder, IsSent, addressed_batch, batches_in, addressed_mark, marks_in}
 use Rattle.flow_instance.specs.States.{AreOrderly, PlacesAtRoot, spot_of}
 use Rattle.flow_instance.specs.StateSteps.{HasGiven, HasMarked}
-use Rattle.flow_instance.specs.declared.parcels.Parcel.{Parcel}
+use Rattle.flow_instance.specs.declared.addressed_notes.AddressedNote.{AddressedNote}
 
 -- at the root
-pub given_placed : (p : Part) (out before placed : Bag) (queue : List Parcel) → p.out ≡ None → queue ≡ [] → AreWide p.fields out → AreWide p.fields before → placed ≡ before ++ out → HasGiven p out before placed queue
+pub given_placed : (p : Part) (out before placed : Bag) (queue : List AddressedNote) → p.out ≡ None → queue ≡ [] → AreWide p.fields out → AreWide p.fields before → placed ≡ before ++ out → HasGiven p out before placed queue
 given_placed p out before placed queue root none out_wide wide e = record {
   list = [];
   is = none;
@@ -30,13 +30,13 @@ given_placed p out before placed queue root none out_wide wide e = record {
   wide = subst (AreWide p.fields) (sym e) (AllByRecursion-append (λ (r : List Value). length r ≡ p.fields) before out wide out_wide);
 }
 
-pub sent_on : (p : Part) (ship : Ship) (out : Bag) (queue : List Parcel) (ops : PlanOps) → p.out ≡ Some ship → (a : AreSent p.fields p.workers ship p.worker out queue) → Carry (spot_of p ops) p.worker out a.list
+pub sent_on : (p : Part) (ship : Ship) (out : Bag) (queue : List AddressedNote) (ops : PlanOps) → p.out ≡ Some ship → (a : AreSent p.fields p.workers ship p.worker out queue) → Carry (spot_of p ops) p.worker out a.list
 sent_on p ship out queue ops o a = record {
   notes = AllByRecursion-weaker (IsSent p.fields p.workers ship p.worker) (IsWaiting (spot_of p ops) p.worker) a.list (λ w h. ((h.0.0, ap (λ (x : Option Ship). has_out x p.worker w.0) o ∙ h.0.1), h.1, h.2)) a.batches;
   sent_on = λ to less. is_same (ap (λ (x : Option Ship). sent x p.workers p.worker to out) o ∙ sym (a.each to less));
 }
 
-pub given_sent : (p : Part) (ship : Ship) (out before : Bag) (queue : List Parcel) → p.out ≡ Some ship → PlacesAtRoot p.out before → AreWide p.fields before → AreSent p.fields p.workers ship p.worker out queue
+pub given_sent : (p : Part) (ship : Ship) (out before : Bag) (queue : List AddressedNote) → p.out ≡ Some ship → PlacesAtRoot p.out before → AreWide p.fields before → AreSent p.fields p.workers ship p.worker out queue
     → HasGiven p out before before queue
 given_sent p ship out before queue o at_root wide a = record {
   list = a.list;
@@ -48,14 +48,14 @@ given_sent p ship out before queue o at_root wide a = record {
 
 -- ---- end marks
 
-pub marked_none : (p : Part) (queue : List Parcel) → p.out ≡ None → HasMarked p queue queue
+pub marked_none : (p : Part) (queue : List AddressedNote) → p.out ≡ None → HasMarked p queue queue
 marked_none p queue root = record {
   list = [];
   behind = sym (append-nil queue);
   marks = λ ops. record { receivers = tt; each = λ to less. sym (ap (λ (x : Option Ship). one_if (has_out x p.worker to && true)) root) };
 }
 
-pub marked_some : (p : Part) (ship : Ship) (old new : List Parcel) → p.out ≡ Some ship → AreMarked p.workers ship p.worker p.workers old new → HasMarked p old new
+pub marked_some : (p : Part) (ship : Ship) (old new : List AddressedNote) → p.out ≡ Some ship → AreMarked p.workers ship p.worker p.workers old new → HasMarked p old new
 marked_some p ship old new o a = record {
   list = a.list;
   behind = a.behind;
@@ -81,38 +81,38 @@ no_ops = record {
   right_keys = λ n. [];
 }
 
-pub batches_in-queue : (list : List (ℕ × Bag)) (marks : List ℕ) → batches_in (map batch_parcel list ++ map mark_parcel marks) ≡ list
+pub batches_in-queue : (list : List (ℕ × Bag)) (marks : List ℕ) → batches_in (map addressed_batch list ++ map addressed_mark marks) ≡ list
 batches_in-queue [] [] = refl
 batches_in-queue [] (m ∷ marks) = batches_in-queue [] marks
 batches_in-queue (w ∷ list) marks = ap (λ (l : List (ℕ × Bag)). w ∷ l) (batches_in-queue list marks)
 
-pub marks_in-queue : (list : List (ℕ × Bag)) (marks : List ℕ) → marks_in (map batch_parcel list ++ map mark_parcel marks) ≡ marks
+pub marks_in-queue : (list : List (ℕ × Bag)) (marks : List ℕ) → marks_in (map addressed_batch list ++ map addressed_mark marks) ≡ marks
 marks_in-queue [] [] = refl
 marks_in-queue [] (m ∷ marks) = ap (λ (l : List ℕ). m ∷ l) (marks_in-queue [] marks)
 marks_in-queue (w ∷ list) marks = marks_in-queue list marks
 
-in_order : (queue : List Parcel) (list : List (ℕ × Bag)) (marks : List ℕ) → queue ≡ map batch_parcel list ++ map mark_parcel marks → IsInOrder queue
-in_order queue list marks e = e ∙ sym (λ i. map batch_parcel ((ap batches_in e ∙ batches_in-queue list marks) i) ++ map mark_parcel ((ap marks_in e ∙ marks_in-queue list marks) i))
+in_order : (queue : List AddressedNote) (list : List (ℕ × Bag)) (marks : List ℕ) → queue ≡ map addressed_batch list ++ map addressed_mark marks → IsInOrder queue
+in_order queue list marks e = e ∙ sym (λ i. map addressed_batch ((ap batches_in e ∙ batches_in-queue list marks) i) ++ map addressed_mark ((ap marks_in e ∙ marks_in-queue list marks) i))
 
-below_batches : (s : Spot) (worker : ℕ) (list : List (ℕ × Bag)) → AllByRecursion (IsWaiting s worker) list → AllByRecursion (λ (p : Parcel). p.to < s.workers) (map batch_parcel list)
+below_batches : (s : Spot) (worker : ℕ) (list : List (ℕ × Bag)) → AllByRecursion (IsWaiting s worker) list → AllByRecursion (λ (p : AddressedNote). p.to < s.workers) (map addressed_batch list)
 below_batches s worker [] h = tt
 below_batches s worker (w ∷ list) h = (h.0.0.0, below_batches s worker list h.1)
 
-below_marks : (s : Spot) (worker : ℕ) (list : List ℕ) → AllByRecursion (IsReceiver s worker) list → AllByRecursion (λ (p : Parcel). p.to < s.workers) (map mark_parcel list)
+below_marks : (s : Spot) (worker : ℕ) (list : List ℕ) → AllByRecursion (IsReceiver s worker) list → AllByRecursion (λ (p : AddressedNote). p.to < s.workers) (map addressed_mark list)
 below_marks s worker [] h = tt
 below_marks s worker (m ∷ list) h = (h.0.0, below_marks s worker list h.1)
 
-pub orderly_given : (p : Part) (out before placed : Bag) (queue : List Parcel) → HasGiven p out before placed queue → AreOrderly p.workers queue
+pub orderly_given : (p : Part) (out before placed : Bag) (queue : List AddressedNote) → HasGiven p out before placed queue → AreOrderly p.workers queue
 orderly_given p out before placed queue g = record {
-  order = in_order queue g.list [] (g.is ∙ sym (append-nil (map batch_parcel g.list)));
-  receivers = subst (AllByRecursion (λ (x : Parcel). x.to < p.workers)) (sym g.is) (below_batches (spot_of p no_ops) p.worker g.list (g.carries no_ops).notes);
+  order = in_order queue g.list [] (g.is ∙ sym (append-nil (map addressed_batch g.list)));
+  receivers = subst (AllByRecursion (λ (x : AddressedNote). x.to < p.workers)) (sym g.is) (below_batches (spot_of p no_ops) p.worker g.list (g.carries no_ops).notes);
 }
 
-pub orderly_marked : (p : Part) (out before placed : Bag) (old queue : List Parcel) → HasGiven p out before placed old → HasMarked p old queue → AreOrderly p.workers queue
+pub orderly_marked : (p : Part) (out before placed : Bag) (old queue : List AddressedNote) → HasGiven p out before placed old → HasMarked p old queue → AreOrderly p.workers queue
 orderly_marked p out before placed old queue g m =
-    let is = m.behind ∙ ap (λ (l : List Parcel). l ++ map mark_parcel m.list) g.is in
+    let is = m.behind ∙ ap (λ (l : List AddressedNote). l ++ map addressed_mark m.list) g.is in
     record {
       order = in_order queue g.list m.list is;
-      receivers = subst (AllByRecursion (λ (x : Parcel). x.to < p.workers)) (sym is) (AllByRecursion-append (λ (x : Parcel). x.to < p.workers) (map batch_parcel g.list) (map mark_parcel m.list)
+      receivers = subst (AllByRecursion (λ (x : AddressedNote). x.to < p.workers)) (sym is) (AllByRecursion-append (λ (x : AddressedNote). x.to < p.workers) (map addressed_batch g.list) (map addressed_mark m.list)
           (below_batches (spot_of p no_ops) p.worker g.list (g.carries no_ops).notes) (below_marks (spot_of p no_ops) p.worker m.list (m.marks no_ops).receivers));
     }

@@ -6,22 +6,22 @@ use Rattle.flow_instance.specs.declared.notes.Note.{Note}
 use Rattle.flow_instance.specs.declared.notes.Note.TheVariants.{Batch, End}
 use Rattle.pact_operators.specs.Allowed.{Bag}
 use Rattle.pact_record.proofs.Lists.{AllByRecursion-append}
-use Rattle.flow_instance.specs.Sending.{AreFew, IsFew, batches_in, mark_parcel, with_batch}
+use Rattle.flow_instance.specs.Sending.{AreFew, IsFew, batches_in, addressed_mark, with_batch}
 use Rattle.flow_instance.specs.States.{HasBegun, HasEnded, part_of, seen}
 use Rattle.flow_instance.specs.StateSteps.{HasMarked}
-use Rattle.flow_instance.specs.declared.parcels.Parcel.{Parcel}
+use Rattle.flow_instance.specs.declared.addressed_notes.AddressedNote.{AddressedNote}
 use Rattle.flow_instance.specs.declared.states.State.{State}
 use Rattle.flow_instance.proofs.NotesForReceivers.{none_few}
 
 -- ---- end marks
 
-marks_few : (most : ℕ) (marks : List ℕ) → AreFew most (map mark_parcel marks)
+marks_few : (most : ℕ) (marks : List ℕ) → AreFew most (map addressed_mark marks)
 marks_few most [] = tt
 marks_few most (m ∷ marks) = (tt, marks_few most marks)
 
 -- end marks follow the batches
-pub few_marked : (most : ℕ) (p : Part) (old new : List Parcel) → AreFew most old → HasMarked p old new → AreFew most new
-few_marked most p old new few m = subst (AreFew most) (sym m.behind) (AllByRecursion-append (λ (x : Parcel). IsFew most x.note) old (map mark_parcel m.list) few (marks_few most m.list))
+pub few_marked : (most : ℕ) (p : Part) (old new : List AddressedNote) → AreFew most old → HasMarked p old new → AreFew most new
+few_marked most p old new few m = subst (AreFew most) (sym m.behind) (AllByRecursion-append (λ (x : AddressedNote). IsFew most x.note) old (map addressed_mark m.list) few (marks_few most m.list))
 
 -- ---- the batches of a queue
 
@@ -29,7 +29,7 @@ with_note : (most to : ℕ) (note : Note) (others : List (ℕ × Bag)) → IsFew
 with_note most to (Batch rows) others few h = (few, h)
 with_note most to End others few h = h
 
-few_batches : (most : ℕ) (queue : List Parcel) → AreFew most queue → AllByRecursion (λ w. length w.1 ≤ most) (batches_in queue)
+few_batches : (most : ℕ) (queue : List AddressedNote) → AreFew most queue → AllByRecursion (λ w. length w.1 ≤ most) (batches_in queue)
 few_batches most [] h = tt
 few_batches most (p ∷ queue) h = with_note most p.to p.note (batches_in queue) h.0 (few_batches most queue h.1)
 

@@ -7,7 +7,7 @@ use Rattle.std.proofs.lemmas.List.Sorted.{IsPermutation-refl}
 use Rattle.flow_instance.proofs.Bags.{is_same}
 use Rattle.plan_trees.proofs.NumbersBelow.{all_below_from, all_below_none}
 use Rattle.flow_instance.specs.Instances.{all_ended, ended_at, kept_at, port_ended}
-use Rattle.flow_instance.specs.Local.{Calls, Gave, IsGiven, IsPartOf, KeepsRows, Placed, sender_ended, works_at_once}
+use Rattle.flow_instance.specs.Local.{Calls, Gave, IsGiven, IsPartOf, KeepsRows, Placed, sender_ended, is_pipelined}
 use Rattle.flow_instance.specs.Spots.{Port as PortData, Spot, is_edge, ports_of, setting, spot}
 use Rattle.flow_instance.specs.Steps.{Carry, Mark, Started}
 use Rattle.pact_operators.specs.Allowed.{Bag, count_of}
@@ -104,7 +104,7 @@ own_pipe Broadcast worker = refl
 -- ---- the records given at the start
 
 gives_by : (s : Spot) (kind : OpKind) (ports : List PortData) (worker : ℕ) (all : Bool) (out : Bag) → takes kind ≡ length ports → (kind ≡ Source → out ≡ share_from 0 s.workers worker (s.ops.rows s.at)) → (is_source_kind kind ≡ false → out ≡ [])
-    → (is_source_kind kind ≡ false → all ≡ false) → Gave (works_at_once kind || all) (IsGiven s kind ports worker (λ port. [])) out
+    → (is_source_kind kind ≡ false → all ≡ false) → Gave (is_pipelined kind || all) (IsGiven s kind ports worker (λ port. [])) out
 gives_by s Source [] worker all out a share none some = record { left = []; right = []; out = out; of_left = IsPermutation-refl []; of_right = IsPermutation-refl []; may = share refl; permuted = IsPermutation-refl out }
 gives_by s Map (p ∷ []) worker all out a share none some = record { left = []; right = []; out = []; of_left = IsPermutation-refl []; of_right = IsPermutation-refl []; may = refl; permuted = is_same (sym (none refl)) }
 gives_by s Reduce ports worker all out a share none some = subst (λ (b : Bool). Gave b (IsGiven s Reduce ports worker (λ port. [])) out) (sym (some refl)) (none refl)

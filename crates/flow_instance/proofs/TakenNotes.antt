@@ -8,7 +8,7 @@ use Rattle.std.proofs.lemmas.Bool.{and_left, and_right}
 use Rattle.std.proofs.lemmas.List.Sorted.{IsPermutation-refl, length_permutation}
 use Rattle.flow_instance.proofs.Bags.{beside, is_same, joined}
 use Rattle.flow_instance.specs.Instances.{Instance, all_ended, ended_at, kept_at, port_ended}
-use Rattle.flow_instance.specs.Local.{IsReceiver, Placed, marks_for, one_if, works_at_once, Calls}
+use Rattle.flow_instance.specs.Local.{IsReceiver, Placed, marks_for, one_if, is_pipelined, Calls}
 use Rattle.flow_instance.specs.Spots.{Spot, sent}
 use Rattle.plan_trees.specs.Sending.{has_out, goes}
 use Rattle.flow_instance.specs.Steps.{Carry, GivesAtOnce, GivesNow, KeepsMore, Mark, Took, is_end}
@@ -27,7 +27,7 @@ use Rattle.std.proofs.lemmas.Option.{same_Some}
 use Rattle.tac_syntax.specs.Call.{Out, of_pair, of_record}
 use Rattle.tac_syntax.specs.Valid.{WithFields}
 use Rattle.tac_syntax.specs.declared.declarations.OpKind.{OpKind}
-use Rattle.flow_instance.specs.Sending.{AreFew, batch_parcel, batches_in, marks_in}
+use Rattle.flow_instance.specs.Sending.{AreFew, addressed_batch, batches_in, marks_in}
 use Rattle.flow_instance.specs.States.{AreOpsOf, AreOrderly, ArePairsGiven, HasFlags, HasTaken, IsSound, IsOperator, IsReady, PlacesAtRoot, body_in, is_cross, is_map, is_match, needed_of, part_of, seen, spot_of}
 use Rattle.flow_instance.specs.StateSteps.{Gives, HasGiven, Takes}
 use Rattle.flow_instance.specs.Keeping.{IsKept, may_match}
@@ -47,7 +47,7 @@ placed_permuted None before out real placed p h = joined (beside (IsPermutation-
 placed_permuted (Some ship) before out real placed p h = h
 
 -- the given records are, in some order, an output that the operator may give
-pub took_of : (s : Spot) (worker : ℕ) (i j : Instance) (port from : ℕ) (note : Note) (out real : Bag) → IsPermutation out real → GivesNow (works_at_once s.kind) s worker i j port note out → j.part ≡ i.part → j.finished ≡ i.finished
+pub took_of : (s : Spot) (worker : ℕ) (i j : Instance) (port from : ℕ) (note : Note) (out real : Bag) → IsPermutation out real → GivesNow (is_pipelined s.kind) s worker i j port note out → j.part ≡ i.part → j.finished ≡ i.finished
     → ((p k : ℕ) → ended_at j p k ≡ ((is_end note && ((p == port) && (k == from))) || ended_at i p k)) → (all_ended j ≡ false → KeepsMore s s.kind (kept_at i) port note (kept_at j)) → ((p : ℕ) → AreWide s.fields (kept_at j p))
     → Carry s worker real j.waiting → Mark s worker (all_ended j) j.marks → Placed s.out (i.placed ++ real) j.placed → AreWide s.fields j.placed → j.given ≡ count_of (i.given + length real) → Took s worker i port from note j
 took_of s worker i j port from note out real p gives part finished ended kept kept_wide carry mark placed placed_wide given = record {
@@ -112,11 +112,11 @@ calls_of_pair p ops f k h e a l r = by p.kind k a.calls ∙ (λ i. Out (sym (its
 
 -- ---- batches
 
-none_marked : (list : List (ℕ × Bag)) → marks_in (map batch_parcel list) ≡ []
+none_marked : (list : List (ℕ × Bag)) → marks_in (map addressed_batch list) ≡ []
 none_marked [] = refl
 none_marked (w ∷ list) = none_marked list
 
-all_batches : (list : List (ℕ × Bag)) → batches_in (map batch_parcel list) ≡ list
+all_batches : (list : List (ℕ × Bag)) → batches_in (map addressed_batch list) ≡ list
 all_batches [] = refl
 all_batches (w ∷ list) = ap (λ (l : List (ℕ × Bag)). w ∷ l) (all_batches list)
 
@@ -129,7 +129,7 @@ module _ {L : Type 0} (rows : L → Bag) (keys : L → List ℕ) (is_sealed : L 
   still_taking = not_all (port_ended (seen rows s) 0) (port_ended (seen rows s) 1) port (port_ended (seen rows s) port) ready.which ready.not_ended (λ e. ap (port_ended (seen rows s)) e) (λ e. ap (port_ended (seen rows s)) e)
 
   -- an operator that works at once gave records for a batch
-  pub took_given : (t : State L) (ops : PlanOps) (from : ℕ) (batch out real : Bag) → works_at_once s.part.kind ≡ true → GivesAtOnce (spot_of (part_of s.part) ops) s.part.kind port (rows s.left) (Batch batch) out → IsPermutation out real
+  pub took_given : (t : State L) (ops : PlanOps) (from : ℕ) (batch out real : Bag) → is_pipelined s.part.kind ≡ true → GivesAtOnce (spot_of (part_of s.part) ops) s.part.kind port (rows s.left) (Batch batch) out → IsPermutation out real
       → KeepsMore (spot_of (part_of s.part) ops) s.part.kind (kept_at (seen rows s)) port (Batch batch) (kept_at (seen rows s)) → t ≡ record s { queue = t.queue; placed = t.placed; given = t.given } → t.given ≡ count_of (s.given + length real)
       → HasGiven (part_of s.part) real s.placed t.placed t.queue.items → Took (spot_of (part_of s.part) ops) s.part.worker (seen rows s) port from (Batch batch) (seen rows t)
   took_given t ops from batch out real at_once gives same kept frame counted given =
@@ -146,7 +146,7 @@ module _ {L : Type 0} (rows : L → Bag) (keys : L → List ℕ) (is_sealed : L 
       given.places given.wide counted
 
   -- the rows of a batch that are kept
-  pub took_kept : (t : State L) (ops : PlanOps) (from : ℕ) (batch : Bag) → GivesNow (works_at_once s.part.kind) (spot_of (part_of s.part) ops) s.part.worker (seen rows s) (seen rows t) port (Batch batch) []
+  pub took_kept : (t : State L) (ops : PlanOps) (from : ℕ) (batch : Bag) → GivesNow (is_pipelined s.part.kind) (spot_of (part_of s.part) ops) s.part.worker (seen rows s) (seen rows t) port (Batch batch) []
       → KeepsMore (spot_of (part_of s.part) ops) s.part.kind (kept_at (seen rows s)) port (Batch batch) (kept_at (seen rows t)) → ((p : ℕ) → AreWide s.part.fields (kept_at (seen rows t) p)) → t ≡ record s { left = t.left; right = t.right }
       → Took (spot_of (part_of s.part) ops) s.part.worker (seen rows s) port from (Batch batch) (seen rows t)
   took_kept t ops from batch gives kept wide frame =
@@ -174,7 +174,7 @@ map_keeps s Source old note new k = tt
 map_keeps s Map old note new k = tt
 map_keeps s kind old note new k = absurd (cc)
 
-map_at_once : (kind : OpKind) → is_map kind ≡ true → works_at_once kind ≡ true
+map_at_once : (kind : OpKind) → is_map kind ≡ true → is_pipelined kind ≡ true
 map_at_once Source k = refl
 map_at_once Map k = refl
 map_at_once Reduce k = absurd (cc)
@@ -212,7 +212,7 @@ pair_keeps s Match i batch k = is_same (append-nil i.left_kept)
 pair_keeps s Cross i batch k = is_same (append-nil i.left_kept)
 pair_keeps s CoGroup i batch k = absurd (cc)
 
-pair_at_once : (kind : OpKind) → is_pair_kind kind ≡ true → works_at_once kind ≡ true
+pair_at_once : (kind : OpKind) → is_pair_kind kind ≡ true → is_pipelined kind ≡ true
 pair_at_once Source k = refl
 pair_at_once Map k = refl
 pair_at_once Reduce k = absurd (cc)
@@ -267,7 +267,7 @@ or_true : (b : Bool) → (b || true) ≡ true
 or_true true = refl
 or_true false = refl
 
-gives_kept_left : (p : Part) (ops : PlanOps) (i j : Instance) (kind : OpKind) (batch : Bag) → is_map kind ≡ false → all_ended j ≡ false → GivesNow (works_at_once kind) (record (spot_of (part_of p) ops) { kind = kind }) p.worker i j 0 (Batch batch) []
+gives_kept_left : (p : Part) (ops : PlanOps) (i j : Instance) (kind : OpKind) (batch : Bag) → is_map kind ≡ false → all_ended j ≡ false → GivesNow (is_pipelined kind) (record (spot_of (part_of p) ops) { kind = kind }) p.worker i j 0 (Batch batch) []
 gives_kept_left p ops i j Source batch k e = refl
 gives_kept_left p ops i j Map batch k e = absurd (cc)
 gives_kept_left p ops i j Reduce batch k e = rw e refl
@@ -301,7 +301,7 @@ took_left rows keys is_sealed s t batch ready k frame right p wide from ops a =
     (left_keeps s.part ops s.part.kind (seen rows s) (seen rows t) batch a k p right) (each_wide s.part.fields (seen rows t) wide (subst (AreWide s.part.fields) (sym right) ready.sound.right_wide)) frame
 
 gives_kept_right : (p : Part) (ops : PlanOps) (i j : Instance) (kind : OpKind) (batch : Bag) → is_pair_kind kind ≡ false → 1 < takes kind → all_ended j ≡ false
-    → GivesNow (works_at_once kind) (record (spot_of (part_of p) ops) { kind = kind }) p.worker i j 1 (Batch batch) []
+    → GivesNow (is_pipelined kind) (record (spot_of (part_of p) ops) { kind = kind }) p.worker i j 1 (Batch batch) []
 gives_kept_right p ops i j Source batch k two e = absurd (omega (arith, two))
 gives_kept_right p ops i j Map batch k two e = absurd (omega (arith, two))
 gives_kept_right p ops i j Reduce batch k two e = absurd (omega (arith, two))

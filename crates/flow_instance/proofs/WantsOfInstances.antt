@@ -12,7 +12,7 @@ use Rattle.flow_instance.specs.declared.notes.Want.TheVariants.{Done, End, Take}
 use Rattle.pact_operators.specs.Allowed.{Bag}
 use Rattle.flow_instance.specs.Sending.{batches_in, marks_in, with_batch, with_mark}
 use Rattle.flow_instance.specs.States.{AreOrderly, IsReady, IsWhole, part_of, port_of, seen}
-use Rattle.flow_instance.specs.declared.parcels.Parcel.{Parcel}
+use Rattle.flow_instance.specs.declared.addressed_notes.AddressedNote.{AddressedNote}
 use Rattle.flow_instance.specs.declared.parts.Port.{Port}
 use Rattle.flow_instance.specs.declared.states.State.{State}
 
@@ -52,9 +52,9 @@ none_by : (to : ℕ) (note : Note) (others : List (ℕ × Bag)) (marks : List �
 none_by to (notes.Batch rows) others marks e f = cc
 none_by to notes.End others marks e f = cc
 
-no_parcels : (queue : List Parcel) → batches_in queue ≡ [] → marks_in queue ≡ [] → queue ≡ []
-no_parcels [] e f = refl
-no_parcels (p ∷ queue) e f = absurd (none_by p.to p.note (batches_in queue) (marks_in queue) e f)
+no_addressed_notes : (queue : List AddressedNote) → batches_in queue ≡ [] → marks_in queue ≡ [] → queue ≡ []
+no_addressed_notes [] e f = refl
+no_addressed_notes (p ∷ queue) e f = absurd (none_by p.to p.note (batches_in queue) (marks_in queue) e f)
 
 there_by : (ports : List Port) (port from worker : ℕ) → is_edge (slice_get (map port_of ports) port) from worker ≡ true → port < length ports
 there_by [] port from worker e = absurd (cc)
@@ -77,7 +77,7 @@ ready rows keys is_sealed s port from h wanted edge =
     let t = taking_by i.waiting i.marks (port_ended i 0) (port_ended i 1) i.finished port wanted in
     record {
       sound = h.taking (not_all i.waiting i.marks (port_ended i 0) (port_ended i 1) port t);
-      none = no_parcels s.queue.items t.waiting t.marks;
+      none = no_addressed_notes s.queue.items t.waiting t.marks;
       there = there_by s.part.ports.items port from s.part.worker edge;
       not_ended = not_ended_at i port t;
       which = which_port i port t;

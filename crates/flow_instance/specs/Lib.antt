@@ -15,4 +15,3 @@ pub mod Grouping
 pub mod Starting
 pub mod InstanceCode
 pub mod Limits
-pub mod Held

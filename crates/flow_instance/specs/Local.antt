@@ -57,10 +57,10 @@ sender_ended port from worker notes = not (is_edge port from worker) || has_end 
 -- ---- the records given
 
 -- whether an operator of this kind gives records before it has taken all
-abbrev pub works_at_once : OpKind → Bool
-works_at_once Reduce = false
-works_at_once CoGroup = false
-works_at_once kind = true
+abbrev pub is_pipelined : OpKind → Bool
+is_pipelined Reduce = false
+is_pipelined CoGroup = false
+is_pipelined kind = true
 
 -- The output that an operator of this kind with these ports may give for the records of its ports. A source gives its
 -- share of the rows.
@@ -146,7 +146,7 @@ pub record IsLocal (s : Spot) (worker : ℕ) (i : Instance) (taken : ℕ → ℕ
   pub waiting_notes : AllByRecursion (IsWaiting s worker) i.waiting
   pub no_edge : (port from : ℕ) → is_edge (slice_get s.ports port) from worker ≡ false → taken port from ≡ []
   -- the given records follow from the notes taken
-  pub gave : Gave (works_at_once s.kind || all_ended i) (IsGiven s s.kind s.ports worker (taken_rows s.workers taken)) given
+  pub gave : Gave (is_pipelined s.kind || all_ended i) (IsGiven s s.kind s.ports worker (taken_rows s.workers taken)) given
   pub counted : i.given ≡ count_of (length given)
   -- Each given record was put or waits, once for each worker that it goes to, and no other record was put or waits.
   pub sent_on : (to : ℕ) → to < s.workers → IsPermutation (sent s.out s.workers worker to given) (rows_of (put to) ++ rows_for to i.waiting)

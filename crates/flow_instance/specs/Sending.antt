@@ -9,7 +9,7 @@ use Rattle.pact_record.specs.Widths.{AreWide}
 use Rattle.plan_trees.specs.Sending.{has_pipe, sent}
 use Rattle.plan_trees.specs.declared.physicals.Ship.{Ship}
 use Rattle.plan_trees.specs.declared.physicals.Ship.TheVariants.{Partition}
-use Rattle.flow_instance.specs.declared.parcels.Parcel.{Parcel}
+use Rattle.flow_instance.specs.declared.addressed_notes.AddressedNote.{AddressedNote}
 
 -- ---- a queue as a list of batches and a list of end marks
 
@@ -22,24 +22,24 @@ with_mark to (Batch rows) others = others
 with_mark to End others = to ∷ others
 
 -- the batches with their receivers
-abbrev pub batches_in : List Parcel → List (ℕ × Bag)
+abbrev pub batches_in : List AddressedNote → List (ℕ × Bag)
 batches_in [] = []
 batches_in (p ∷ queue) = with_batch p.to p.note (batches_in queue)
 
 -- the receivers of the end marks
-abbrev pub marks_in : List Parcel → List ℕ
+abbrev pub marks_in : List AddressedNote → List ℕ
 marks_in [] = []
 marks_in (p ∷ queue) = with_mark p.to p.note (marks_in queue)
 
-abbrev pub batch_parcel : ℕ × Bag → Parcel
-batch_parcel w = record { to = w.0; note = Batch w.1 }
+abbrev pub addressed_batch : ℕ × Bag → AddressedNote
+addressed_batch w = record { to = w.0; note = Batch w.1 }
 
-abbrev pub mark_parcel : ℕ → Parcel
-mark_parcel to = record { to = to; note = End }
+abbrev pub addressed_mark : ℕ → AddressedNote
+addressed_mark to = record { to = to; note = End }
 
 -- every batch is before every end mark
-abbrev pub IsInOrder : List Parcel → Type 0
-IsInOrder queue = queue ≡ map batch_parcel (batches_in queue) ++ map mark_parcel (marks_in queue)
+abbrev pub IsInOrder : List AddressedNote → Type 0
+IsInOrder queue = queue ≡ map addressed_batch (batches_in queue) ++ map addressed_mark (marks_in queue)
 
 -- a batch of at most `most` records, or an end mark
 abbrev pub IsFew : ℕ → Note → Type 0
@@ -47,7 +47,7 @@ IsFew most (Batch rows) = length rows ≤ most
 IsFew most End = Unit {0}
 
 -- each note of a queue satisfies `IsFew`
-abbrev pub AreFew : ℕ → List Parcel → Type 0
+abbrev pub AreFew : ℕ → List AddressedNote → Type 0
 AreFew most queue = AllByRecursion (λ p. IsFew most p.note) queue
 
 -- ---- batches for one receiver
@@ -57,16 +57,16 @@ abbrev pub IsBatchFor : ℕ → ℕ → ℕ × Bag → Type 0
 IsBatchFor fields to w = (w.0 ≡ to) × (0 < length w.1) × AreWide fields w.1
 
 -- batches that carry these records to the worker were added at the end of the queue
-pub record AreCarried (fields to : ℕ) (rows : Bag) (old new : List Parcel) : Type 0 where
+pub record AreCarried (fields to : ℕ) (rows : Bag) (old new : List AddressedNote) : Type 0 where
   pub more : List (ℕ × Bag)
-  pub behind : new ≡ old ++ map batch_parcel more
+  pub behind : new ≡ old ++ map addressed_batch more
   pub batches : AllByRecursion (IsBatchFor fields to) more
   pub carried : rows_for to more ≡ rows
 
 -- batches with some of the records were added at the end of the queue, and the others are held
-pub record AreCarriedBut (fields to : ℕ) (rows : Bag) (old new : List Parcel) (held : Bag) : Type 0 where
+pub record AreCarriedBut (fields to : ℕ) (rows : Bag) (old new : List AddressedNote) (held : Bag) : Type 0 where
   pub more : List (ℕ × Bag)
-  pub behind : new ≡ old ++ map batch_parcel more
+  pub behind : new ≡ old ++ map addressed_batch more
   pub batches : AllByRecursion (IsBatchFor fields to) more
   pub carried : rows_for to more ++ held ≡ rows
   pub wide : AreWide fields held
@@ -85,9 +85,9 @@ abbrev pub IsSent : (fields workers : ℕ) → Ship → (from : ℕ) → ℕ × 
 IsSent fields workers ship from w = HasPipe workers ship from w.0 × (0 < length w.1) × AreWide fields w.1
 
 -- a queue of batches that carry each record to the workers that it goes to
-pub record AreSent (fields workers : ℕ) (ship : Ship) (from : ℕ) (rows : Bag) (queue : List Parcel) : Type 0 where
+pub record AreSent (fields workers : ℕ) (ship : Ship) (from : ℕ) (rows : Bag) (queue : List AddressedNote) : Type 0 where
   pub list : List (ℕ × Bag)
-  pub is : queue ≡ map batch_parcel list
+  pub is : queue ≡ map addressed_batch list
   pub batches : AllByRecursion (IsSent fields workers ship from) list
   pub each : (to : ℕ) → to < workers → rows_for to list ≡ sent ship workers from to rows
   pub others : (to : ℕ) → workers ≤ to → rows_for to list ≡ []
@@ -97,18 +97,18 @@ abbrev pub IsTurn : (workers from n to : ℕ) → Type 0
 IsTurn workers from n to = (from + n ≡ to) ⊎ (from + n ≡ to + workers)
 
 -- the batches for the first n receivers
-pub record AreSentSoFar (fields workers : ℕ) (ship : Ship) (from n : ℕ) (rows : Bag) (queue : List Parcel) : Type 0 where
+pub record AreSentSoFar (fields workers : ℕ) (ship : Ship) (from n : ℕ) (rows : Bag) (queue : List AddressedNote) : Type 0 where
   pub list : List (ℕ × Bag)
-  pub is : queue ≡ map batch_parcel list
+  pub is : queue ≡ map addressed_batch list
   pub batches : AllByRecursion (IsSent fields workers ship from) list
   pub each : (turn to : ℕ) → turn < n → to < workers → IsTurn workers from turn to → rows_for to list ≡ sent ship workers from to rows
   pub later : (turn to : ℕ) → n ≤ turn → turn < workers → to < workers → IsTurn workers from turn to → rows_for to list ≡ []
   pub others : (to : ℕ) → workers ≤ to → rows_for to list ≡ []
 
 -- end marks for those of the first n workers to which the edge leads were added at the end of the queue
-pub record AreMarked (workers : ℕ) (ship : Ship) (from n : ℕ) (old new : List Parcel) : Type 0 where
+pub record AreMarked (workers : ℕ) (ship : Ship) (from n : ℕ) (old new : List AddressedNote) : Type 0 where
   pub list : List ℕ
-  pub behind : new ≡ old ++ map mark_parcel list
+  pub behind : new ≡ old ++ map addressed_mark list
   pub receivers : AllByRecursion (HasPipe workers ship from) list
   pub each : (to : ℕ) → to < n → marks_for to list ≡ one_if (has_pipe ship from to)
   pub later : (to : ℕ) → n ≤ to → marks_for to list ≡ 0

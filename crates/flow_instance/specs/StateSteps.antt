@@ -7,23 +7,23 @@ use Rattle.flow_instance.specs.declared.notes.Note.{Note}
 use Rattle.pact_operators.specs.Allowed.{Bag, count_of}
 use Rattle.pact_operators.specs.PlanOps.{PlanOps}
 use Rattle.pact_record.specs.Widths.{AreWide}
-use Rattle.flow_instance.specs.Sending.{AreFew, batch_parcel, mark_parcel}
+use Rattle.flow_instance.specs.Sending.{AreFew, addressed_batch, addressed_mark}
 use Rattle.flow_instance.specs.States.{AreGivenLast, AreOrderly, HasFlags, HasTaken, IsSoundIfTaking, part_of, spot_of}
-use Rattle.flow_instance.specs.declared.parcels.Parcel.{Parcel}
+use Rattle.flow_instance.specs.declared.addressed_notes.AddressedNote.{AddressedNote}
 use Rattle.flow_instance.specs.declared.states.State.{State}
 
 -- The records were placed, or wait in a queue of batches.
-pub record HasGiven (p : Part) (out placed_before placed : Bag) (queue : List Parcel) : Type 0 where
+pub record HasGiven (p : Part) (out placed_before placed : Bag) (queue : List AddressedNote) : Type 0 where
   pub list : List (ℕ × Bag)
-  pub is : queue ≡ map batch_parcel list
+  pub is : queue ≡ map addressed_batch list
   pub carries : (ops : PlanOps) → Carry (spot_of p ops) p.worker out list
   pub places : Placed p.out (placed_before ++ out) placed
   pub wide : AreWide p.fields placed
 
 -- End marks for all receivers were added at the end of the queue.
-pub record HasMarked (p : Part) (old new : List Parcel) : Type 0 where
+pub record HasMarked (p : Part) (old new : List AddressedNote) : Type 0 where
   pub list : List ℕ
-  pub behind : new ≡ old ++ map mark_parcel list
+  pub behind : new ≡ old ++ map addressed_mark list
   pub marks : (ops : PlanOps) → Mark (spot_of p ops) p.worker true list
 
 -- It gave these records. Only `queue`, `placed` and `given` changed.

@@ -1,8 +1,8 @@
 -- The fields of an instance, and the instance as data that they represent.
 use Rattle.std.specs.Prelude.{◌≡◌, ◌≤◌, ◌<◌, ◌+◌, ◌&&◌, ◌||◌, ◌==◌, ◌⊎◌, ℕ, Bool, true, false, List, [], filter, length, map, not, slice_get, Option, Some, None}
 use Rattle.flow_instance.specs.Instances.{Instance, Part as PartData, all_ended, ended_at, kept_at, port_ended}
-use Rattle.flow_instance.specs.Local.{Calls, IsGiven, Placed, works_at_once}
-use Rattle.flow_instance.specs.Spots.{Port as PortData, Spot, is_edge}
+use Rattle.flow_instance.specs.Local.{Calls, IsGiven, Placed, is_pipelined}
+use Rattle.flow_instance.specs.Spots.{Port as PortData, Spot, is_edge, ship_in}
 use Rattle.flow_instance.specs.Steps.{Carry, Mark, Took}
 use Rattle.flow_instance.specs.declared.notes.Note.{Note}
 use Rattle.pact_operators.specs.Allowed.{Bag, count_of}
@@ -10,6 +10,7 @@ use Rattle.pact_bag.specs.Pairs.{crossed, matched}
 use Rattle.pact_operators.specs.PlanOps.{PlanOps}
 use Rattle.pact_operators.specs.Programs.{HasKeyLists, IsKindFor, is_pair_kind, takes}
 use Rattle.pact_record.specs.Widths.{AreBelow, AreWide}
+use Rattle.plan_trees.specs.Senders.{AreEndedAtStart}
 use Rattle.plan_trees.specs.declared.physicals.Ship.{Ship}
 use Rattle.tac_syntax.specs.Call.{Out, of_pair}
 use Rattle.tac_syntax.specs.Code.{Code, stop}
@@ -20,7 +21,7 @@ use Rattle.std.specs.List.{AllByRecursion}
 use Rattle.std.specs.VecDeque.{deque_capacity, deque_len}
 use Rattle.std.specs.List.Sorted.{IsPermutation}
 use Rattle.flow_instance.specs.Sending.{IsInOrder, batches_in, marks_in}
-use Rattle.flow_instance.specs.declared.parcels.Parcel.{Parcel}
+use Rattle.flow_instance.specs.declared.addressed_notes.AddressedNote.{AddressedNote}
 use Rattle.flow_instance.specs.Keeping.{may_match}
 use Rattle.flow_instance.specs.declared.parts.Part.{Part}
 use Rattle.flow_instance.specs.declared.parts.Port.{Port}
@@ -84,7 +85,7 @@ pub record AreOpsOf (ops : PlanOps) (p : PartData) : Type 0 where
   pub nulls : p.nulls ≡ ops.nulls
 
 -- the waiting notes are in order, and their receivers are workers
-pub record AreOrderly (workers : ℕ) (queue : List Parcel) : Type 0 where
+pub record AreOrderly (workers : ℕ) (queue : List AddressedNote) : Type 0 where
   pub order : IsInOrder queue
   pub receivers : AllByRecursion (λ p. p.to < workers) queue
 
@@ -102,7 +103,7 @@ GivesLast false Given out = Given out
 -- the output of a Reduce or a CoGroup for the rows that it has kept
 abbrev pub AreGivenLast : {L : Type 0} → (L → Bag) → State L → Bag → Type 0
 AreGivenLast rows s out = (ops : PlanOps) → AreOpsOf ops (part_of s.part)
-    → GivesLast (works_at_once s.part.kind) (IsGiven (spot_of (part_of s.part) ops) s.part.kind (map port_of s.part.ports.items) s.part.worker (kept_at (seen rows s))) out
+    → GivesLast (is_pipelined s.part.kind) (IsGiven (spot_of (part_of s.part) ops) s.part.kind (map port_of s.part.ports.items) s.part.worker (kept_at (seen rows s))) out
 
 -- the function's output for the matching pairs of a kept left record and one of these right records, in some order
 abbrev pub ArePairsGiven : {L : Type 0} → (L → Bag) → (L → List ℕ) → State L → (rights out : Bag) → Type 0
@@ -114,6 +115,10 @@ abbrev pub HasTaken : {L : Type 0} → (L → Bag) → State L → (port from : 
 HasTaken rows s port from note t = (ops : PlanOps) → AreOpsOf ops (part_of s.part) → Took (spot_of (part_of s.part) ops) s.part.worker (seen rows s) port from note (seen rows t)
 
 -- ---- the start
+
+-- which senders of a port have ended before any note has come: those that send nothing there
+abbrev pub AreFlagsOf : Part → (port : ℕ) → List Bool → Type 0
+AreFlagsOf own port flags = AreEndedAtStart (ship_in (slice_get (map port_of own.ports.items) port)) own.workers own.worker flags
 
 -- nothing was taken or given, and nothing waits
 pub record IsFresh {L : Type 0} (rows : L → Bag) (keys : L → List ℕ) (is_sealed : L → Bool) (own : Part) (s : State L) : Type 0 where

@@ -9,7 +9,7 @@ use Rattle.pact_operators.specs.Allowed.{Bag, Gives, GivesBoth, count_of}
 use Rattle.flow_instance.specs.declared.notes.Note.{Note}
 use Rattle.flow_instance.specs.declared.notes.Note.TheVariants.{Batch, End}
 use Rattle.flow_instance.specs.Instances.{Instance, all_ended, ended_at, kept_at}
-use Rattle.flow_instance.specs.Local.{Gave, IsGiven, IsPartOf, IsReceiver, IsWaiting, KeepsRows, Placed, marks_for, may_match, one_if, rows_for, sender_ended, works_at_once}
+use Rattle.flow_instance.specs.Local.{Gave, IsGiven, IsPartOf, IsReceiver, IsWaiting, KeepsRows, Placed, marks_for, may_match, one_if, rows_for, sender_ended, is_pipelined}
 use Rattle.flow_instance.specs.Spots.{Spot, sent}
 use Rattle.plan_trees.specs.Sending.{has_out}
 
@@ -59,7 +59,7 @@ pub record Mark (s : Spot) (worker : ℕ) (owed : Bool) (marks : List ℕ) : Typ
 -- An instance i, for which no note waits, took a note at a port from a sender and became j.
 pub record Took (s : Spot) (worker : ℕ) (i : Instance) (port from : ℕ) (note : Note) (j : Instance) : Type 0 where
   pub out : Bag
-  pub gives : GivesNow (works_at_once s.kind) s worker i j port note out
+  pub gives : GivesNow (is_pipelined s.kind) s worker i j port note out
   pub part : j.part ≡ i.part
   pub finished : j.finished ≡ i.finished
   pub ended : (p k : ℕ) → ended_at j p k ≡ ((is_end note && ((p == port) && (k == from))) || ended_at i p k)
@@ -121,7 +121,7 @@ pub record AddedTo (old : ℕ → List Note) (a : ℕ) (note : Note) (new : ℕ 
 -- Nothing was taken or put. A source has given its share, which waits or is placed, and its end marks wait.
 pub record Started (s : Spot) (worker : ℕ) (i : Instance) : Type 0 where
   pub out : Bag
-  pub gives : Gave (works_at_once s.kind || all_ended i) (IsGiven s s.kind s.ports worker (λ port. [])) out
+  pub gives : Gave (is_pipelined s.kind || all_ended i) (IsGiven s s.kind s.ports worker (λ port. [])) out
   pub part : IsPartOf s worker i.part
   pub ended : (port from : ℕ) → from < s.workers → ended_at i port from ≡ sender_ended (slice_get s.ports port) from worker []
   pub kept : KeepsRows s s.kind (λ port. []) (kept_at i)

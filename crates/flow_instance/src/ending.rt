@@ -48,7 +48,7 @@ impl<L: Local> State<L> {
         requires sound { IsSound L.rows L.key_fields L.is_sealed self.old }
         ensures { IfOk result (GivesGroups L.rows self.old self.new) }
     {
-        if self.part.works_at_once() {
+        if self.part.is_pipelined() {
             return Ok(Rows::new(self.alloc));
         }
         self.left.seal()?;

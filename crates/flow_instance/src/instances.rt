@@ -15,9 +15,9 @@ ghost use Rattle.plan_trees.specs.Plans.{has, subtree_of};
 ghost use Rattle.flow_instance.specs.Limits.{batch_limit};
 ghost use Rattle.flow_instance.specs.Starting.{CanStart, IsShareOf, IsStartedFrom};
 
+use crate::addressed_notes::AddressedNote;
 use crate::before_start::Unstarted;
 use crate::notes::{Note, Want};
-use crate::parcels::Parcel;
 use crate::states::State;
 use local_strategy::Local;
 use pact_bag::Rows;
@@ -98,8 +98,8 @@ impl<L: Local> Instance<L> {
     pub fn want(&self) -> Want
         ensures { result ≡ want self.now }
     {
-        if let Some(parcel) = self.state.queue.front() {
-            return Want::Put(parcel.to);
+        if let Some(addressed) = self.state.queue.front() {
+            return Want::Put(addressed.to);
         }
         if !self.state.left_ended.have_all_ended() {
             return Want::Take(0);
@@ -146,9 +146,9 @@ impl<L: Local> Instance<L> {
             → AddedTo put to result new → IsLocal s self.old.part.worker self.new taken new }
     {
         match self.state.queue.pop_front() {
-            Some(parcel) => {
-                self.state.receiver = parcel.to;
-                parcel.note
+            Some(addressed) => {
+                self.state.receiver = addressed.to;
+                addressed.note
             }
             None => unreachable!(),
         }
@@ -164,7 +164,9 @@ impl<L: Local> Instance<L> {
             → IsLocal s self.old.part.worker before taken put → IsLocal s self.old.part.worker self.new taken put }
     {
         let to = self.state.receiver;
-        self.state.queue.push_front_reserved(Parcel { to, note });
+        self.state
+            .queue
+            .push_front_reserved(AddressedNote { to, note });
         self.state.receiver = self.state.part.workers;
     }
 

@@ -15,6 +15,7 @@
 //! batches, each for a worker to which an edge leads, and end marks after them.
 #![tactic(auto)]
 
+pub mod addressed_notes;
 pub mod before_start;
 mod ending;
 mod grouping;
@@ -22,7 +23,6 @@ pub mod instances;
 mod keeping;
 mod matching;
 pub mod notes;
-pub mod parcels;
 mod parts;
 mod senders;
 pub mod sending;
@@ -31,8 +31,8 @@ mod states;
 mod taking;
 mod targets;
 
+pub use addressed_notes::AddressedNote;
 pub use before_start::Unstarted;
 pub use instances::{Instance, MAX_BATCH};
 pub use notes::{Event, Note, PipeId, Want};
-pub use parcels::Parcel;
 pub use sending::{queue_end_marks, queue_rows};

@@ -1,7 +1,7 @@
 //! The part of a program and of a physical plan that an instance keeps.
 
 ghost use Rattle.std.specs.Prelude.{◌≡◌, ◌||◌, not, Some, IsSome};
-ghost use Rattle.flow_instance.specs.Local.{works_at_once};
+ghost use Rattle.flow_instance.specs.Local.{is_pipelined};
 ghost use Rattle.pact_operators.specs.Programs.{is_pair_kind};
 ghost use Rattle.flow_instance.specs.States.{is_cross, is_map, is_match, is_reduce};
 
@@ -80,8 +80,8 @@ impl Part {
     }
 
     /// Whether it emits records before it has taken all input.
-    pub(crate) fn works_at_once(&self) -> bool
-        ensures { result ≡ works_at_once self.now.kind }
+    pub(crate) fn is_pipelined(&self) -> bool
+        ensures { result ≡ is_pipelined self.now.kind }
     {
         !matches!(self.kind, OpKind::Reduce | OpKind::CoGroup)
     }

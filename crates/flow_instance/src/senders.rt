@@ -1,7 +1,7 @@
 //! The senders of a port.
 
 ghost use Rattle.std.specs.Prelude.{IfOk};
-ghost use Rattle.flow_instance.specs.Held.{AreFlagsOf};
+ghost use Rattle.flow_instance.specs.States.{AreFlagsOf};
 
 use crate::parts::Part;
 use pact_record::OutOfMemory;

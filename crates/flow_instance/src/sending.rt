@@ -4,10 +4,10 @@ ghost use Rattle.std.specs.Prelude.{◌≡◌, ◌<◌, ◌≤◌, ◌+◌, ◌^
 ghost use Rattle.pact_operators.specs.Allowed.{Bag};
 ghost use Rattle.pact_record.specs.Widths.{AreWide};
 ghost use Rattle.flow_instance.specs.Sending.{AreCarried, AreCarriedBut, AreFew, AreMarked, AreSent, IsSplit, IsTurn};
-ghost use Rattle.flow_instance.specs.declared.parcels.Parcel.{Parcel as Sealed};
+ghost use Rattle.flow_instance.specs.declared.addressed_notes.AddressedNote.{AddressedNote as Sealed};
 
+use crate::addressed_notes::AddressedNote;
 use crate::notes::Note;
-use crate::parcels::Parcel;
 use crate::targets::target;
 use pact_bag::Rows;
 use pact_record::{Keys, OutOfMemory};
@@ -18,23 +18,23 @@ use std::mem;
 
 // Queues the rows as a batch if there are at least `least` of them, and otherwise returns them. `more` rows are still
 // to come; the next batch has room for up to `least` of them.
-fn stow(
+fn queue_if_full(
     alloc: Global,
     to: u32,
     least: u32,
     more: usize,
     rows: Rows,
-    queue: &mut VecDeque<Parcel>,
+    queue: &mut VecDeque<AddressedNote>,
 ) -> Result<Rows, OutOfMemory>
     requires { 1 ≤ least }
-    ensures stowed { IfOk result (λ held. (fields : ℕ) (done : Bag) (old : List Sealed) → AreCarriedBut fields to done old queue.old.items rows → AreCarriedBut fields to done old queue.new.items held) }
+    ensures queued_if_full { IfOk result (λ held. (fields : ℕ) (done : Bag) (old : List Sealed) → AreCarriedBut fields to done old queue.old.items rows → AreCarriedBut fields to done old queue.new.items held) }
     ensures few { IfOk result (λ held. length held < least) }
     ensures batches { IfOk result (λ _. (most : ℕ) → length rows ≤ most → AreFew most queue.old.items → AreFew most queue.new.items) }
 {
     if rows.len() < least as usize {
         return Ok(rows);
     }
-    queue.push_back(Parcel {
+    queue.push_back(AddressedNote {
         to,
         note: Note::Batch(rows),
     })?;
@@ -47,7 +47,7 @@ fn cut(
     to: u32,
     batch: u32,
     rows: Rows,
-    queue: &mut VecDeque<Parcel>,
+    queue: &mut VecDeque<AddressedNote>,
 ) -> Result<(), OutOfMemory>
     requires { 1 ≤ batch }
     ensures carried { OnOk result ((fields : ℕ) → AreWide fields rows → AreCarried fields to rows queue.old.items queue.new.items) }
@@ -60,9 +60,9 @@ fn cut(
     for row in rows.into_records() {
         held.push(row)?;
         more -= 1;
-        held = stow(alloc, to, batch, more, held, queue)?;
+        held = queue_if_full(alloc, to, batch, more, held, queue)?;
     }
-    let _none = stow(alloc, to, 1, 0, held, queue)?;
+    let _none = queue_if_full(alloc, to, 1, 0, held, queue)?;
     Ok(())
 }
 
@@ -72,7 +72,7 @@ fn send_to(
     to: u32,
     batch: u32,
     rows: Rows,
-    queue: &mut VecDeque<Parcel>,
+    queue: &mut VecDeque<AddressedNote>,
 ) -> Result<(), OutOfMemory>
     requires { 1 ≤ batch }
     ensures carried { OnOk result ((fields : ℕ) → AreWide fields rows → AreCarried fields to rows queue.old.items queue.new.items) }
@@ -81,7 +81,7 @@ fn send_to(
     if rows.len() > batch as usize {
         return cut(alloc, to, batch, rows, queue);
     }
-    let _none = stow(alloc, to, 1, 0, rows, queue)?;
+    let _none = queue_if_full(alloc, to, 1, 0, rows, queue)?;
     Ok(())
 }
 
@@ -134,7 +134,7 @@ fn send_parts(
     workers: u32,
     batch: u32,
     parts: Vec<Rows>,
-    queue: &mut VecDeque<Parcel>,
+    queue: &mut VecDeque<AddressedNote>,
 ) -> Result<(), OutOfMemory>
     requires some { 1 ≤ batch }
     requires from { from < workers }
@@ -160,7 +160,7 @@ fn send_all(
     workers: u32,
     batch: u32,
     rows: Rows,
-    queue: &mut VecDeque<Parcel>,
+    queue: &mut VecDeque<AddressedNote>,
 ) -> Result<(), OutOfMemory>
     requires some { 1 ≤ batch }
     requires from { from < workers }
@@ -177,15 +177,16 @@ fn send_all(
     send_to(alloc, to, batch, rows, queue)
 }
 
-// Queues the records for all workers to which an edge leads.
-fn send(
+/// Queues the records for all workers to which an edge leads, in batches of at most `batch`. The queue must be empty. Out
+/// of memory is the only error, and the queue then has some of the batches.
+pub fn queue_rows(
     alloc: Global,
     ship: &Ship,
     from: u32,
     workers: u32,
     batch: u32,
     rows: Rows,
-    queue: &mut VecDeque<Parcel>,
+    queue: &mut VecDeque<AddressedNote>,
 ) -> Result<(), OutOfMemory>
     requires some { 1 ≤ batch }
     requires below { from < workers }
@@ -203,39 +204,17 @@ fn send(
     }
 }
 
-/// Takes an empty queue. Returns it with the records, in batches of at most `batch`, for all workers to which an edge
-/// leads. Out of memory is the only error, and the queue is lost then.
-pub fn queue_rows(
-    alloc: Global,
-    ship: &Ship,
-    from: u32,
-    workers: u32,
-    batch: u32,
-    rows: Rows,
-    queue: VecDeque<Parcel>,
-) -> Result<VecDeque<Parcel>, OutOfMemory>
-    requires some { 1 ≤ batch }
-    requires below { from < workers }
-    requires none { queue.items ≡ [] }
-    ensures sent { IfOk result (λ queue. (fields : ℕ) → AreWide fields rows → AreSent fields workers ship.now from rows queue.items) }
-    ensures batches { IfOk result (λ queue. AreFew batch queue.items) }
-{
-    let mut queue = queue;
-    send(alloc, ship, from, workers, batch, rows, &mut queue)?;
-    Ok(queue)
-}
-
 // Adds an end mark if there is a pipe.
 fn mark_along(
     ship: &Ship,
     from: u32,
     to: u32,
-    queue: &mut VecDeque<Parcel>,
+    queue: &mut VecDeque<AddressedNote>,
 ) -> Result<(), OutOfMemory>
     ensures { OnOk result ((workers : ℕ) (old : List Sealed) → to < workers → AreMarked workers ship.now from to old queue.old.items → AreMarked workers ship.now from (to + 1) old queue.new.items) }
 {
     if ship.has_pipe(from, to) {
-        queue.push_back(Parcel {
+        queue.push_back(AddressedNote {
             to,
             note: Note::End,
         })?;
@@ -243,19 +222,18 @@ fn mark_along(
     Ok(())
 }
 
-/// Returns the queue with an end mark added for each worker to which the edge leads. Out of memory is the only error,
-/// and the queue is lost then.
+/// Queues an end mark for each worker to which the edge leads. Out of memory is the only error, and the queue then has
+/// some of the end marks.
 pub fn queue_end_marks(
     ship: &Ship,
     from: u32,
     workers: u32,
-    queue: VecDeque<Parcel>,
-) -> Result<VecDeque<Parcel>, OutOfMemory>
-    ensures { IfOk result (λ new. AreMarked workers ship.now from workers queue.items new.items) }
+    queue: &mut VecDeque<AddressedNote>,
+) -> Result<(), OutOfMemory>
+    ensures { OnOk result (AreMarked workers ship.now from workers queue.old.items queue.new.items) }
 {
-    let mut marked = queue;
     for to in 0..workers {
-        mark_along(ship, from, to, &mut marked)?;
+        mark_along(ship, from, to, queue)?;
     }
-    Ok(marked)
+    Ok(())
 }

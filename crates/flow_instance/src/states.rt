@@ -5,10 +5,9 @@ ghost use Rattle.flow_instance.specs.Instances.{all_ended};
 ghost use Rattle.pact_record.specs.Widths.{AreWide};
 ghost use Rattle.flow_instance.specs.Sending.{AreFew};
 ghost use Rattle.flow_instance.specs.StateSteps.{Gives, HasMarked};
-ghost use Rattle.flow_instance.specs.Held.{IsHeldAtStart};
 ghost use Rattle.flow_instance.specs.States.{HasBegun, IsFresh, PlacesAtRoot, part_of, seen};
 
-use crate::parcels::Parcel;
+use crate::addressed_notes::AddressedNote;
 use crate::parts::Part;
 use crate::senders::senders_at;
 use crate::sending::{queue_end_marks, queue_rows};
@@ -18,7 +17,6 @@ use pact_record::OutOfMemory;
 use plan_trees::EndedSenders;
 use std::alloc::Global;
 use std::collections::VecDeque;
-use std::mem;
 
 /// For each port, the state has the senders that have ended and the kept rows. It also has the waiting notes with their
 /// receivers, batches before end marks, and the records that the root gave, and it counts the given records.
@@ -30,36 +28,11 @@ pub(crate) struct State<L: Local> {
     pub(crate) right_ended: EndedSenders,
     pub(crate) left: L,
     pub(crate) right: L,
-    pub(crate) queue: VecDeque<Parcel>,
+    pub(crate) queue: VecDeque<AddressedNote>,
     pub(crate) receiver: u32,
     pub(crate) placed: Rows,
     pub(crate) given: u64,
     pub(crate) finished: bool,
-}
-
-// The fields of a fresh state that need memory. They are made while the part is only borrowed, so that the part isn't
-// lost if memory runs out.
-#[derive(Drop)]
-struct Held<L: Local> {
-    left_ended: EndedSenders,
-    right_ended: EndedSenders,
-    left: L,
-    right: L,
-}
-
-fn held_at_start<L: Local>(alloc: Global, part: &Part) -> Result<Held<L>, OutOfMemory>
-    ensures { IfOk result (IsHeldAtStart L.rows L.key_fields L.is_sealed part.now) }
-{
-    let left = L::start(alloc, &part.left_keys)?;
-    let right = L::start(alloc, &part.right_keys)?;
-    let left_ended = senders_at(alloc, part, 0)?;
-    let right_ended = senders_at(alloc, part, 1)?;
-    Ok(Held {
-        left_ended,
-        right_ended,
-        left,
-        right,
-    })
 }
 
 impl<L: Local> State<L> {
@@ -67,15 +40,18 @@ impl<L: Local> State<L> {
     pub(crate) fn fresh(alloc: Global, part: Part) -> Result<State<L>, OutOfMemory>
         ensures { IfOk result (IsFresh L.rows L.key_fields L.is_sealed part) }
     {
-        let held: Held<L> = held_at_start(alloc, &part)?;
+        let left = L::start(alloc, &part.left_keys)?;
+        let right = L::start(alloc, &part.right_keys)?;
+        let left_ended = senders_at(alloc, &part, 0)?;
+        let right_ended = senders_at(alloc, &part, 1)?;
         let receiver = part.workers;
         Ok(State {
             alloc,
             part,
-            left_ended: held.left_ended,
-            right_ended: held.right_ended,
-            left: held.left,
-            right: held.right,
+            left_ended,
+            right_ended,
+            left,
+            right,
             queue: VecDeque::new(alloc),
             receiver,
             placed: Rows::new(alloc),
@@ -126,17 +102,15 @@ impl<L: Local> State<L> {
             let mut rows = rows;
             return self.placed.append(&mut rows);
         };
-        let queue = mem::replace(&mut self.queue, VecDeque::new(self.alloc));
-        self.queue = queue_rows(
+        queue_rows(
             self.alloc,
             ship,
             self.part.worker,
             self.part.workers,
             self.part.batch,
             rows,
-            queue,
-        )?;
-        Ok(())
+            &mut self.queue,
+        )
     }
 
     /// Queues the end marks after the waiting notes.
@@ -147,8 +121,6 @@ impl<L: Local> State<L> {
         let Some(ship) = &self.part.out else {
             return Ok(());
         };
-        let queue = mem::replace(&mut self.queue, VecDeque::new(self.alloc));
-        self.queue = queue_end_marks(ship, self.part.worker, self.part.workers, queue)?;
-        Ok(())
+        queue_end_marks(ship, self.part.worker, self.part.workers, &mut self.queue)
     }
 }

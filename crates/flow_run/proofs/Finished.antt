@@ -10,7 +10,6 @@ use Rattle.pact_operators.specs.Allowed.{Bag, Counted}
 use Rattle.pact_operators.specs.Inputs.{AreInputsOf}
 use Rattle.pact_operators.specs.PlanOps.{plan_ops}
 use Rattle.pact_operators.specs.Programs.{IsPlanOf, IsProgram, ProgramData}
-use Rattle.pact_record.specs.Widths.{AreWide}
 use Rattle.ship_strategy.specs.PlanFacts.{facts_of}
 use Rattle.ship_strategy.specs.Ships.{LegalShip}
 use Rattle.plan_trees.specs.Physicals.{IsPhysical, PhysicalData, has_edge, ship_at}
@@ -23,9 +22,9 @@ use Rattle.flow_instance.specs.declared.notes.Note.{Note}
 use Rattle.flow_instance.specs.Instances.{Instance}
 use Rattle.flow_instance.specs.Local.{IsLocal}
 use Rattle.flow_instance.specs.Spots.{Port, Setting, ports_of, setting, spot}
-use Rattle.flow_instance.specs.Spread.{Spread}
 use Rattle.flow_instance.specs.Worlds.{History, IsOutside, Stands, lists_at}
 use Rattle.flow_core.specs.Left.{AreOfPlan, IsPipeOf, LeftOn, StandForSome, instance_of, left_world}
+use Rattle.flow_core.specs.Outcomes.{IsWorldOutcome}
 use Rattle.flow_core.specs.Worlds.{IsStanding, WorldData, no_instance}
 use Rattle.flow_run.specs.Ends.{IsEndOf, IsPipeIf, PipeTables, goes_along, notes_in}
 use Rattle.flow_run.specs.Outcomes.{IsPlanOutcome}
@@ -190,18 +189,14 @@ all_local g ws each at worker there below =
 -- a run on one thread, from a world that represents a history of the plan's run
 pub plan_outcome : {E : Type 0} (p : ProgramData) (inputs : List Bag) (physical : PhysicalData) (w : WorldData) (h : History) (r : Result Outcome E) → w.physical ≡ physical
     → IsProgram p → AreInputsOf p inputs → IsPlanOf p.functions p.ops physical.tree → IsStanding (setting p inputs physical) w h
-    → IfOk r (λ o. (g : Setting) (h : History) → IsStanding g w h → Spread g o.rows o.counts)
-    → IfOk r (λ o. (p : ProgramData) (inputs : List Bag) (h : History) → IsProgram p → AreInputsOf p inputs → IsPlanOf p.functions p.ops w.physical.tree → LegalShip (facts_of p w.physical.tree) w.physical
-    → IsStanding (setting p inputs w.physical) w h → Counted (plan_ops p inputs) w.physical.tree o.rows o.counts)
-    → IfOk r (λ o. (g : Setting) (h : History) → IsStanding g w h → AreWide g.fields o.rows)
-    → IfOk r (λ o. (p : ProgramData) → IsPlanOf p.functions p.ops w.physical.tree → length o.counts ≡ length p.ops)
+    → IfOk r (IsWorldOutcome w)
     → IfOk r (IsPlanOutcome p inputs physical)
-plan_outcome p inputs physical w h (Ok o) same is are plan stand spread counted widths counts = record {
-  spread = spread (setting p inputs physical) h stand;
+plan_outcome p inputs physical w h (Ok o) same is are plan stand run = record {
+  spread = run.spread (setting p inputs physical) h stand;
   counted = λ legal. subst
       (λ (q : PhysicalData). IsPlanOf p.functions p.ops q.tree → LegalShip (facts_of p q.tree) q → IsStanding (setting p inputs q) w h → Counted (plan_ops p inputs) q.tree o.rows o.counts)
-      same (counted p inputs h is are) plan legal stand;
-  widths = widths (setting p inputs physical) h stand;
-  counts = counts p (subst (λ (q : PhysicalData). IsPlanOf p.functions p.ops q.tree) (sym same) plan);
+      same (run.counted p inputs h is are) plan legal stand;
+  widths = run.widths (setting p inputs physical) h stand;
+  counts = run.counts p (subst (λ (q : PhysicalData). IsPlanOf p.functions p.ops q.tree) (sym same) plan);
 }
-plan_outcome p inputs physical w h (Err e) same is are plan stand spread counted widths counts = tt
+plan_outcome p inputs physical w h (Err e) same is are plan stand run = tt

@@ -1,5 +1,5 @@
 pub mod BlankTables
-pub mod BenchLaws
+pub mod WorkerStateLaws
 pub mod ReadyWorkers
 pub mod TakenFrom
 pub mod Turning

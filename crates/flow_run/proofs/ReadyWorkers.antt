@@ -27,11 +27,11 @@ use Rattle.flow_instance.proofs.LocalAfterTakes.{IsTaking, taking_by}
 use Rattle.flow_core.specs.Worlds.{no_instance}
 use Rattle.flow_run.specs.Tables.{cell, cell_in}
 use Rattle.flow_run.specs.Ends.{ArePuts, AreTakes, EndTable, IsPipeIf, PipeTables, goes_along, notes_in}
-use Rattle.flow_run.specs.Benches.{AllHeld, Happens, Held, HeldAt, IsReady, IsReadyFor, Rests, StaysReady, TakesAt, Works, bench}
+use Rattle.flow_run.specs.WorkerStates.{AllHeld, Happens, Held, HeldAt, IsReady, IsReadyFor, Rests, StaysReady, TakesAt, Works, worker_state}
 use Rattle.flow_run.specs.Tries.{HasNotPutTo, HasPutTo, HasStepped, MayTake, AfterAttempt}
 use Rattle.flow_run.specs.Workers.{HasWorked}
 use Rattle.flow_run.specs.declared.workers.Worker.{Worker}
-use Rattle.flow_run.proofs.BenchLaws.{works_kept}
+use Rattle.flow_run.proofs.WorkerStateLaws.{works_kept}
 
 next_fits : (s : Spot) (worker : ℕ) (waiting : List (ℕ × Bag)) → AllByRecursion (IsWaiting s worker) waiting → IsNote s.fields (next_note waiting)
 next_fits s worker [] h = tt
@@ -121,12 +121,12 @@ module _ (g : Setting) (fields worker : ℕ) (pipes : PipeTables) (instances : L
   others_stay : (j : Instance) (k : ℕ) → k ≢ at → get_or (set instances at j) k no_instance ≡ get_or instances k no_instance
   others_stay j k other = get_or-set_other instances at k j no_instance other
 
-  pub put_event : (to : ℕ) (j : Instance) (puts' : EndTable) → want i ≡ Put to → HasPutTo i at to puts j puts' → Happens worker (bench instances puts takes) at (bench (set instances at j) puts' takes)
-  put_event to j puts' wanted h = subst (λ (x : Instance). want x ≡ Put to → HasPutTo x at to puts j puts' → Happens worker (bench instances puts takes) at (bench (set instances at j) puts' takes)) (sym at_is)
+  pub put_event : (to : ℕ) (j : Instance) (puts' : EndTable) → want i ≡ Put to → HasPutTo i at to puts j puts' → Happens worker (worker_state instances puts takes) at (worker_state (set instances at j) puts' takes)
+  put_event to j puts' wanted h = subst (λ (x : Instance). want x ≡ Put to → HasPutTo x at to puts j puts' → Happens worker (worker_state instances puts takes) at (worker_state (set instances at j) puts' takes)) (sym at_is)
       (λ wanted h. inl (record { to = to; wanted = wanted; instance = now_at j ∙ h.instance; others = others_stay j; put = h.put; taken = λ edge from. refl })) wanted h
 
   pub put_rest : (to : ℕ) (j : Instance) (puts' : EndTable) → want i ≡ Put to → HasNotPutTo pipes worker i at to puts j puts'
-      → Rests (bench instances puts takes) at (bench (set instances at j) puts' takes) × HeldAt pipes worker (bench (set instances at j) puts' takes) at
+      → Rests (worker_state instances puts takes) at (worker_state (set instances at j) puts' takes) × HeldAt pipes worker (worker_state (set instances at j) puts' takes) at
   put_rest to j puts' wanted h = (
     record {
       receiver = h.receiver;
@@ -135,14 +135,14 @@ module _ (g : Setting) (fields worker : ℕ) (pipes : PipeTables) (instances : L
       put = h.put;
       taken = λ edge from. refl;
     },
-    subst (λ (w : Want). Held pipes worker (bench (set instances at j) puts' takes) at w) (sym (ap want (now_at j ∙ h.instance) ∙ wanted))
+    subst (λ (w : Want). Held pipes worker (worker_state (set instances at j) puts' takes) at w) (sym (ap want (now_at j ∙ h.instance) ∙ wanted))
         (h.its_pipe, h.pipe_is, subst (λ (ns : List Note). h.its_pipe.depth ≤ length ns) (sym (h.put at to)) h.full),
   )
 
   pub take_event : (port : ℕ) (j : Instance) (takes' : EndTable) → want i ≡ Take port → TakesAt i worker port (λ a b. notes_in (cell takes a b)) j (λ a b. notes_in (cell takes' a b))
-      → Happens worker (bench instances puts takes) at (bench (set instances at j) puts takes')
+      → Happens worker (worker_state instances puts takes) at (worker_state (set instances at j) puts takes')
   take_event port j takes' wanted h =
-      subst (λ (x : Instance). want x ≡ Take port → TakesAt x worker port (λ a b. notes_in (cell takes a b)) j (λ a b. notes_in (cell takes' a b)) → Happens worker (bench instances puts takes) at (bench (set instances at j) puts takes')) (sym at_is)
+      subst (λ (x : Instance). want x ≡ Take port → TakesAt x worker port (λ a b. notes_in (cell takes a b)) j (λ a b. notes_in (cell takes' a b)) → Happens worker (worker_state instances puts takes) at (worker_state (set instances at j) puts takes')) (sym at_is)
       (λ wanted h. inr (inl (record {
         port = port;
         wanted = wanted;
@@ -152,7 +152,7 @@ module _ (g : Setting) (fields worker : ℕ) (pipes : PipeTables) (instances : L
       }))) wanted h
 
   -- the instance is the same
-  rest_same : (j : Instance) (takes' : EndTable) → j ≡ i → ((a b : ℕ) → notes_in (cell takes' a b) ≡ notes_in (cell takes a b)) → Rests (bench instances puts takes) at (bench (set instances at j) puts takes')
+  rest_same : (j : Instance) (takes' : EndTable) → j ≡ i → ((a b : ℕ) → notes_in (cell takes' a b) ≡ notes_in (cell takes a b)) → Rests (worker_state instances puts takes) at (worker_state (set instances at j) puts takes')
   rest_same j takes' same taken = record {
     receiver = i.receiver;
     instance = now_at j ∙ same ∙ ap (λ (x : Instance). record x { receiver = i.receiver }) at_is;
@@ -162,13 +162,13 @@ module _ (g : Setting) (fields worker : ℕ) (pipes : PipeTables) (instances : L
   }
 
   pub take_rest : (port : ℕ) (j : Instance) (takes' : EndTable) → want i ≡ Take port → (j ≡ i) × ((a b : ℕ) → notes_in (cell takes' a b) ≡ notes_in (cell takes a b))
-      → Rests (bench instances puts takes) at (bench (set instances at j) puts takes') × HeldAt pipes worker (bench (set instances at j) puts takes') at
+      → Rests (worker_state instances puts takes) at (worker_state (set instances at j) puts takes') × HeldAt pipes worker (worker_state (set instances at j) puts takes') at
   take_rest port j takes' wanted h = (
     rest_same j takes' h.0 h.1,
-    subst (λ (w : Want). Held pipes worker (bench (set instances at j) puts takes') at w) (sym (ap want (now_at j ∙ h.0) ∙ wanted)) tt,
+    subst (λ (w : Want). Held pipes worker (worker_state (set instances at j) puts takes') at w) (sym (ap want (now_at j ∙ h.0) ∙ wanted)) tt,
   )
 
-  pub end_event : (j : Instance) → want i ≡ End → j ≡ finish i → Happens worker (bench instances puts takes) at (bench (set instances at j) puts takes)
+  pub end_event : (j : Instance) → want i ≡ End → j ≡ finish i → Happens worker (worker_state instances puts takes) at (worker_state (set instances at j) puts takes)
   end_event j wanted same = inr (inr (record {
     wanted = ap want (sym at_is) ∙ wanted;
     instance = now_at j ∙ same ∙ ap finish at_is;
@@ -177,25 +177,25 @@ module _ (g : Setting) (fields worker : ℕ) (pipes : PipeTables) (instances : L
     taken = λ edge from. refl;
   }))
 
-  pub done_rest : want i ≡ Done → Rests (bench instances puts takes) at (bench (set instances at i) puts takes) × HeldAt pipes worker (bench (set instances at i) puts takes) at
+  pub done_rest : want i ≡ Done → Rests (worker_state instances puts takes) at (worker_state (set instances at i) puts takes) × HeldAt pipes worker (worker_state (set instances at i) puts takes) at
   done_rest wanted = (
     rest_same i takes refl (λ a b. refl),
-    subst (λ (w : Want). Held pipes worker (bench (set instances at i) puts takes) at w) (sym (ap want (now_at i) ∙ wanted)) tt,
+    subst (λ (w : Want). Held pipes worker (worker_state (set instances at i) puts takes) at w) (sym (ap want (now_at i) ∙ wanted)) tt,
   )
 
   pub put_stepped : (to : ℕ) (j : Instance) (puts' : EndTable) (t : Attempt) → want i ≡ Put to → AfterAttempt t (HasPutTo i at to puts j puts') (HasNotPutTo pipes worker i at to puts j puts')
-      → HasStepped pipes worker (bench instances puts takes) at (bench (set instances at j) puts' takes) t
+      → HasStepped pipes worker (worker_state instances puts takes) at (worker_state (set instances at j) puts' takes) t
   put_stepped to j puts' t wanted h = map_attempt t (put_event to j puts' wanted) (put_rest to j puts' wanted) h
 
   pub take_stepped : {E : Type 0} (port : ℕ) (j : Instance) (takes' : EndTable) (r : Result Attempt E) → want i ≡ Take port
       → IfOk r (λ t. AfterAttempt t (TakesAt i worker port (λ a b. notes_in (cell takes a b)) j (λ a b. notes_in (cell takes' a b))) ((j ≡ i) × ((a b : ℕ) → notes_in (cell takes' a b) ≡ notes_in (cell takes a b))))
-      → IfOk r (HasStepped pipes worker (bench instances puts takes) at (bench (set instances at j) puts takes'))
+      → IfOk r (HasStepped pipes worker (worker_state instances puts takes) at (worker_state (set instances at j) puts takes'))
   take_stepped port j takes' (Ok t) wanted h = map_attempt t (take_event port j takes' wanted) (take_rest port j takes' wanted) h
   take_stepped port j takes' (Err e) wanted h = tt
 
 -- ---- a worker that stays ready
 
-pub stays_ready : (fields worker : ℕ) (pipes : PipeTables) (instances more : List Instance) (puts takes puts' takes' : EndTable) → Works worker (length instances) (bench instances puts takes) (bench more puts' takes')
+pub stays_ready : (fields worker : ℕ) (pipes : PipeTables) (instances more : List Instance) (puts takes puts' takes' : EndTable) → Works worker (length instances) (worker_state instances puts takes) (worker_state more puts' takes')
     → length more ≡ length instances → ArePuts pipes worker puts' → AreTakes pipes worker takes' → StaysReady fields worker pipes instances puts takes more puts' takes'
 stays_ready fields worker pipes instances more puts takes puts' takes' works same put_ends take_ends = record {
   stays = λ g r. record {
@@ -204,7 +204,7 @@ stays_ready fields worker pipes instances more puts takes puts' takes' works sam
     below = r.below;
     few = omega (arith, r.few, same);
     only = λ at less. r.only at (omega (arith, less, same));
-    local = works_kept g worker r.physical.plan.different (length instances) r.only (bench instances puts takes) (bench more puts' takes') r.local works;
+    local = works_kept g worker r.physical.plan.different (length instances) r.only (worker_state instances puts takes) (worker_state more puts' takes') r.local works;
     pipes_are = r.pipes_are;
     puts_are = put_ends;
     takes_are = take_ends;
@@ -212,7 +212,7 @@ stays_ready fields worker pipes instances more puts takes puts' takes' works sam
 }
 
 pub ready_after : (fields worker : ℕ) (pipes : PipeTables) (instances more : List Instance) (puts takes puts' takes' : EndTable) → IsReady fields worker pipes instances puts takes
-    → Works worker (length instances) (bench instances puts takes) (bench more puts' takes') → length more ≡ length instances → ArePuts pipes worker puts' → AreTakes pipes worker takes'
+    → Works worker (length instances) (worker_state instances puts takes) (worker_state more puts' takes') → length more ≡ length instances → ArePuts pipes worker puts' → AreTakes pipes worker takes'
     → IsReady fields worker pipes more puts' takes'
 ready_after fields worker pipes instances more puts takes puts' takes' h works same put_ends take_ends =
     record { setting = h.setting; ready = (stays_ready fields worker pipes instances more puts takes puts' takes' works same put_ends take_ends).stays h.setting h.ready }
@@ -221,14 +221,14 @@ ready_after fields worker pipes instances more puts takes puts' takes' h works s
 
 pub has_worked : {L W X E : Type 0} (fields : ℕ) (pipes : PipeTables) (before after : Worker L W) (old new : List Instance) (r : Result X E) → old ≡ before.instances.items → after.instances.items ≡ new → after.number ≡ before.number
     → length new ≡ length old → OnOk r (IsReady fields before.number pipes new after.puts after.takes) → OnOk r (StaysReady fields before.number pipes old before.puts before.takes new after.puts after.takes)
-    → OnOk r (Works before.number (length old) (bench old before.puts before.takes) (bench new after.puts after.takes)) → OnOk r (AllHeld pipes before.number (length new) (bench new after.puts after.takes))
+    → OnOk r (Works before.number (length old) (worker_state old before.puts before.takes) (worker_state new after.puts after.takes)) → OnOk r (AllHeld pipes before.number (length new) (worker_state new after.puts after.takes))
     → OnOk r (HasWorked fields pipes before after)
 has_worked fields pipes before after old new (Ok x) old_is new_is number same ready stays works held = record {
   number = number;
   count = ap length new_is ∙ same ∙ ap length old_is;
   ready = subst (λ (l : List Instance). IsReady fields before.number pipes l after.puts after.takes) (sym new_is) ready;
   stays = subst (λ (x : List Instance × List Instance). StaysReady fields before.number pipes x.0 before.puts before.takes x.1 after.puts after.takes) (λ i. (old_is i, sym new_is i)) stays;
-  works = subst (λ (x : List Instance × List Instance). Works before.number (length x.0) (bench x.0 before.puts before.takes) (bench x.1 after.puts after.takes)) (λ i. (old_is i, sym new_is i)) works;
-  held = subst (λ (l : List Instance). AllHeld pipes before.number (length l) (bench l after.puts after.takes)) (sym new_is) held;
+  works = subst (λ (x : List Instance × List Instance). Works before.number (length x.0) (worker_state x.0 before.puts before.takes) (worker_state x.1 after.puts after.takes)) (λ i. (old_is i, sym new_is i)) works;
+  held = subst (λ (l : List Instance). AllHeld pipes before.number (length l) (worker_state l after.puts after.takes)) (sym new_is) held;
 }
 has_worked fields pipes before after old new (Err e) old_is new_is number same ready stays works held = tt

@@ -14,7 +14,7 @@ use Rattle.flow_core.specs.Starting.{AreAllStarted}
 use Rattle.flow_core.specs.Worlds.{no_instance}
 use Rattle.flow_instance.proofs.LocalAfterPuts.{started_local}
 use Rattle.flow_core.proofs.SharesOfRows.{each_last}
-use Rattle.flow_run.specs.Benches.{AllLocal, IsReady, IsReadyFor, Works, bench}
+use Rattle.flow_run.specs.WorkerStates.{AllLocal, IsReady, IsReadyFor, Works, worker_state}
 use Rattle.flow_run.specs.Ends.{EndTable, PipeTables}
 use Rattle.flow_run.specs.WorkerData.{AreLocal, HaveReturned, WorkerData, nothing, worker_at, with_column, with_columns}
 use Rattle.flow_run.specs.Runs.{AreAssembled, AreAtStart, AreDealt, AreStill, IsAssembled}
@@ -24,7 +24,7 @@ use Rattle.flow_run.specs.Workers.{HasWorked, HaveAllWorked, IsWorkerReady, all_
 use Rattle.flow_run.specs.declared.schedules.Job.{Job}
 use Rattle.flow_run.specs.declared.workers.Worker.{Worker}
 use Rattle.flow_run.proofs.Arranged.{columns_at, length_column, length_columns, blank}
-use Rattle.flow_run.proofs.BenchLaws.{works_kept}
+use Rattle.flow_run.proofs.WorkerStateLaws.{works_kept}
 use Rattle.flow_run.proofs.Finished.{all_local}
 use Rattle.flow_run.proofs.StartedWorkers.{ready_for, edge_there}
 use Rattle.flow_run.proofs.WiredPipes.{pipes_of}
@@ -170,7 +170,7 @@ module _ (g : Setting) (size ops : ℕ) (list : List (List Instance)) (started :
 record HasLeft (fields worker : ℕ) (pipes : PipeTables) (own : List Instance) (puts takes : EndTable) (w : WorkerData) : Type 0 where
   count : length w.instances ≡ length own
   ready : IsReady fields worker pipes w.instances w.puts w.takes
-  works : Works worker (length own) (bench own puts takes) (bench w.instances w.puts w.takes)
+  works : Works worker (length own) (worker_state own puts takes) (worker_state w.instances w.puts w.takes)
 
 -- a plan has at most 64 sources and operators
 pub few_numbers : (p : PhysicalData) (ops : ℕ) → IsPhysical p → ((at : ℕ) → at < ops → has at p.tree ≡ true) → ops ≤ 64
@@ -197,7 +197,7 @@ module _ (g : Setting) (ops depth : ℕ) (pipes : PipeTables) (puts takes : EndT
   left_worker k own put take a b i h = record {
     count = h.count ∙ ap length i.instances_are;
     ready = subst (λ (n : ℕ). IsReady g.fields n pipes b.instances.items b.puts b.takes) i.number_is h.ready;
-    works = subst (λ (x : ℕ × List Instance × EndTable × EndTable). Works x.0 (length x.1) (bench x.1 x.2 x.3) (bench b.instances.items b.puts b.takes))
+    works = subst (λ (x : ℕ × List Instance × EndTable × EndTable). Works x.0 (length x.1) (worker_state x.1 x.2 x.3) (worker_state b.instances.items b.puts b.takes))
         (λ t. (i.number_is t, i.instances_are t, i.puts_are t, i.takes_are t)) h.works;
   }
 
@@ -228,11 +228,11 @@ module _ (g : Setting) (ops depth : ℕ) (pipes : PipeTables) (puts takes : EndT
       takes = λ worker below. (left worker below).ready.ready.takes_are;
     }
 
-    kept_local : (worker : ℕ) → worker < g.physical.workers → AllLocal g worker (bench (worker_at ws worker).instances (worker_at ws worker).puts (worker_at ws worker).takes)
+    kept_local : (worker : ℕ) → worker < g.physical.workers → AllLocal g worker (worker_state (worker_at ws worker).instances (worker_at ws worker).puts (worker_at ws worker).takes)
     kept_local worker below =
         let own = get_or all worker [] in
-        works_kept g worker plan.plan.different (length own) (λ at less. all_ops at (omega (arith, less, start.each worker below))) (bench own (get_or puts worker []) (get_or takes worker []))
-        (bench (worker_at ws worker).instances (worker_at ws worker).puts (worker_at ws worker).takes) (ready_one worker below).local (left worker below).works
+        works_kept g worker plan.plan.different (length own) (λ at less. all_ops at (omega (arith, less, start.each worker below))) (worker_state own (get_or puts worker []) (get_or takes worker []))
+        (worker_state (worker_at ws worker).instances (worker_at ws worker).puts (worker_at ws worker).takes) (ready_one worker below).local (left worker below).works
 
     are_local : AreLocal g ws
     are_local = all_local g ws (λ worker below at there. kept_local worker below at there)

@@ -22,7 +22,7 @@ use Rattle.flow_instance.proofs.parts.Port.TheSendSync.{the_send as port_sends}
 use Rattle.tac_syntax.proofs.statements.Rec.TheSendSync.{the_send as rec_sends}
 use Rattle.tac_syntax.proofs.statements.LoopList.TheSendSync.{the_send as list_sends}
 use Rattle.pact_bag.proofs.rows.Rows.TheSendSync.{the_send as rows_send}
-use Rattle.flow_instance.proofs.parcels.Parcel.TheSendSync.{the_send as parcel_send}
+use Rattle.flow_instance.proofs.addressed_notes.AddressedNote.TheSendSync.{the_send as addressed_send}
 use Rattle.plan_trees.proofs.senders.EndedSenders.TheSendSync.{the_send as senders_send}
 use Rattle.batch_channel.proofs.ends.PutEnd.TheSendSync.{the_send as put_sends}
 use Rattle.batch_channel.proofs.ends.TakeEnd.TheSendSync.{the_send as take_sends}
@@ -106,7 +106,7 @@ module _ (L : RattleType) where
             (
               search (sendable, crosses, as_row_send, l) depth 20,
               (
-                search (sendable, crosses, as_row_send, parcel_send) depth 20,
+                search (sendable, crosses, as_row_send, addressed_send) depth 20,
                 (
                   search (sendable, crosses, as_row_send) depth 20,
                   (

@@ -15,7 +15,7 @@ use Rattle.flow_instance.proofs.StandsAfterEvents.{local_same}
 use Rattle.flow_core.specs.Worlds.{no_instance}
 use Rattle.flow_run.specs.Tables.{cell}
 use Rattle.flow_run.specs.Ends.{EndTable, PipeTables, goes_along, notes_in}
-use Rattle.flow_run.specs.Benches.{IsReadyFor}
+use Rattle.flow_run.specs.WorkerStates.{IsReadyFor}
 use Rattle.flow_run.specs.Wires.{AreWired, EndTables, IsWiredIf}
 use Rattle.flow_run.proofs.WiredPipes.{pipes_of, puts_of, takes_of}
 

@@ -7,8 +7,8 @@ use Rattle.flow_instance.specs.Notes.{IsNote}
 use Rattle.flow_instance.specs.Spots.{Port, Spot, is_edge}
 use Rattle.flow_instance.specs.Steps.{Added, Took}
 use Rattle.flow_run.specs.Ends.{PipeTables}
-use Rattle.flow_core.specs.Stations.{TakesNote}
-use Rattle.flow_run.specs.Benches.{TakesAt}
+use Rattle.flow_core.specs.QueuedInstances.{TakesNote}
+use Rattle.flow_run.specs.WorkerStates.{TakesAt}
 use Rattle.flow_run.specs.Tries.{MayTake}
 
 port_there : (ports : List Port) (port edge : ℕ) → slice_get (map (λ (p : Port). p.edge) ports) port ≡ Some edge → (p : Port) × (slice_get ports port ≡ Some p) × (p.edge ≡ edge)

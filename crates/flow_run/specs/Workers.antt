@@ -1,6 +1,6 @@
 -- Workers before and after their work.
 use Rattle.std.specs.Prelude.{◌≡◌, ◌<◌, ℕ, List, length, map, slice_index_or}
-use Rattle.flow_run.specs.Benches.{AllHeld, Bench, IsReady, StaysReady, Works, bench}
+use Rattle.flow_run.specs.WorkerStates.{AllHeld, WorkerState, IsReady, StaysReady, Works, worker_state}
 use Rattle.flow_run.specs.Ends.{PipeTables}
 use Rattle.flow_run.specs.WorkerData.{WorkerData}
 use Rattle.flow_run.specs.declared.workers.Worker.{Worker}
@@ -14,8 +14,8 @@ module _ {L W : Type 0} where
   all_data ws = map data_of ws
 
   -- the worker as functions of places
-  abbrev pub bench_of : Worker L W → Bench
-  bench_of w = bench w.instances.items w.puts w.takes
+  abbrev pub worker_state_of : Worker L W → WorkerState
+  worker_state_of w = worker_state w.instances.items w.puts w.takes
 
   -- what `work` requires
   abbrev pub IsWorkerReady : ℕ → PipeTables → Worker L W → Type 0
@@ -29,8 +29,8 @@ module _ {L W : Type 0} where
     pub count : length after.instances.items ≡ length before.instances.items
     pub ready : IsReady fields before.number pipes after.instances.items after.puts after.takes
     pub stays : StaysReady fields before.number pipes before.instances.items before.puts before.takes after.instances.items after.puts after.takes
-    pub works : Works before.number (length before.instances.items) (bench_of before) (bench_of after)
-    pub held : AllHeld pipes before.number (length after.instances.items) (bench_of after)
+    pub works : Works before.number (length before.instances.items) (worker_state_of before) (worker_state_of after)
+    pub held : AllHeld pipes before.number (length after.instances.items) (worker_state_of after)
 
   -- the same workers, each after its work
   pub record HaveAllWorked (fields : ℕ) (pipes : PipeTables) (before after : List (Worker L W)) : Type 0 where

@@ -18,7 +18,7 @@ use std::alloc::Global;
 use std::collections::VecDeque;
 use std::sync::Wait;
 
-// The most pipes that a physical plan can have: edges, senders and receivers.
+// No physical plan has more pipes: there are at most 64 edges, and 16 senders and receivers for each.
 const MAX_PIPES: u32 = 64 * 16 * 16;
 
 // The notes that are left in a pipe.

@@ -7,7 +7,8 @@
 //! worker leaves. The worker's instances represent what its ends have put and taken, so no worker has to know of
 //! another. When all have returned, `gather` closes the pipes and lists the notes that are left on them, `arrange`
 //! lists the instances, and the world of both runs on the caller's thread to its end (`finishing`). `run_in_turn` does
-//! the same with one worker after the other on the caller's thread.
+//! the same with one worker after the other on the caller's thread. `run_on_one` needs no worker and no pipe between
+//! threads: it runs the world from its start.
 #![tactic(auto)]
 
 mod arranging;
@@ -27,5 +28,5 @@ mod worker_contexts;
 pub mod workers;
 
 pub use options::Options;
-pub use runs::{run, run_in_turn, run_owned};
+pub use runs::{run, run_in_turn, run_on_one, run_owned};
 pub use workers::{Worker, work};

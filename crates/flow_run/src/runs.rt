@@ -24,8 +24,12 @@ use std::sync::Wait;
 use std::thread::Threads;
 use worker_gate::{Flags, Gate};
 
-// The run on one worker. It starts no thread, and waits for none.
-fn run_on_one<L: Local>(
+/// Runs a plan on the caller's thread, which steps the instances of all its workers. It starts no thread and waits for
+/// none. It ignores `options.workers`: the plan has its number of workers. A batch has 1 to 1,024 records, and a pipe
+/// holds 1 to 64 notes. The rows of the sources are given away: each moves to its worker.
+///
+/// Out of memory is the only error. A run also reports it after 2^64 - 1 events, more than any machine gets through.
+pub fn run_on_one<L: Local>(
     alloc: Global,
     program: &Program,
     physical: &Physical,
@@ -144,10 +148,10 @@ pub fn run<L: Local, R: Threads + Wait + Sync, G: Gate>(
     run_owned::<L, R, G>(rt, alloc, program, physical, copied, options, gate)
 }
 
-/// Like `run`, but it starts no thread, also with one worker. The first worker works on the caller's thread until its
-/// instances are done or it leaves, then the second one, and so on. A worker that waits for another's note leaves after
-/// 4,096 turns without an event, or after one if another has left before it. So they mostly leave much, which is
-/// finished as in `run`.
+/// Like `run`, but it starts no thread, and a single worker works as one of several does. The first worker works on the
+/// caller's thread until its instances are done or it leaves, then the second one, and so on. A worker that waits for
+/// another's note leaves after 4,096 turns without an event, or after one if another has left before it. So they mostly
+/// leave much, which is finished as in `run`.
 ///
 /// Out of memory is the only error. Like `run`, it promises nothing if it doesn't return: its pipes are those that
 /// threads share.

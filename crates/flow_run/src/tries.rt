@@ -5,7 +5,7 @@ ghost use Rattle.batch_channel.specs.Ends.{APipe};
 ghost use Rattle.flow_instance.specs.Instances.{ended_at, want};
 ghost use Rattle.flow_instance.specs.Notes.{IsNote};
 ghost use Rattle.flow_instance.specs.Steps.{Added, next_note};
-ghost use Rattle.flow_run.specs.Benches.{TakesAt};
+ghost use Rattle.flow_run.specs.WorkerStates.{TakesAt};
 ghost use Rattle.flow_run.specs.Ends.{ArePuts, AreTakes, IsPipeIf, notes_in};
 ghost use Rattle.flow_run.specs.Tables.{cell, cell_in};
 ghost use Rattle.flow_run.specs.Tries.{HasNotPut, HasNotPutTo, HasPut, HasPutTo, MayTake, AfterAttempt};

@@ -1,7 +1,7 @@
 //! Turns over all instances of a worker.
 
 ghost use Rattle.std.specs.Prelude.{◌≡◌, ◌<◌, length, IfOk, OnOk};
-ghost use Rattle.flow_run.specs.Benches.{AllHeld, IsReady, Works, bench};
+ghost use Rattle.flow_run.specs.WorkerStates.{AllHeld, IsReady, Works, worker_state};
 ghost use Rattle.flow_run.specs.Ends.{ArePuts, AreTakes};
 ghost use Rattle.flow_run.specs.Tries.{HasStepped, AfterAttempt};
 
@@ -30,8 +30,8 @@ fn step<L: Local, W: Width, R: Wait, G: Gate>(
     ensures count { length instances.new ≡ length instances.old }
     ensures puts { OnOk result (ArePuts pipes.now context.now.number puts.new) }
     ensures takes { OnOk result (AreTakes pipes.now context.now.number takes.new) }
-    ensures stepped { IfOk result (HasStepped pipes.now context.now.number (bench instances.old puts.old takes.old) at
-        (bench instances.new puts.new takes.new)) }
+    ensures stepped { IfOk result (HasStepped pipes.now context.now.number (worker_state instances.old puts.old takes.old) at
+        (worker_state instances.new puts.new takes.new)) }
 {
     let i = &mut instances[at as usize];
     match i.want() {
@@ -65,9 +65,9 @@ pub(crate) fn turn<L: Local, W: Width, R: Wait, G: Gate>(
     ensures count { length instances.new ≡ length instances.old }
     ensures ready { OnOk result (IsReady W.fields context.now.number pipes.now instances.new puts.new takes.new) }
     ensures works { OnOk result (Works context.now.number (length instances.old)
-        (bench instances.old puts.old takes.old) (bench instances.new puts.new takes.new)) }
+        (worker_state instances.old puts.old takes.old) (worker_state instances.new puts.new takes.new)) }
     ensures held { IfOk result (λ attempt. AfterAttempt attempt (Unit {0}) (AllHeld pipes.now context.now.number
-        (length instances.new) (bench instances.new puts.new takes.new))) }
+        (length instances.new) (worker_state instances.new puts.new takes.new))) }
 {
     let count = instances.len() as u32;
     let mut attempt = Attempt::Blocked;

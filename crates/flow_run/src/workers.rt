@@ -1,7 +1,7 @@
 //! Workers and their work.
 
 ghost use Rattle.std.specs.Prelude.{◌≡◌, length, OnOk};
-ghost use Rattle.flow_run.specs.Benches.{AllHeld, IsReady, StaysReady, Works, bench};
+ghost use Rattle.flow_run.specs.WorkerStates.{AllHeld, IsReady, StaysReady, Works, worker_state};
 ghost use Rattle.flow_run.specs.Workers.{HasWorked, IsWorkerReady};
 
 use crate::attempts::Attempt;
@@ -94,9 +94,9 @@ fn turns<L: Local, W: Width, R: Wait, G: Gate>(
     ensures stays { OnOk result (StaysReady W.fields context.now.number pipes.now instances.old puts.old takes.old
         instances.new puts.new takes.new) }
     ensures works { OnOk result (Works context.now.number (length instances.old)
-        (bench instances.old puts.old takes.old) (bench instances.new puts.new takes.new)) }
+        (worker_state instances.old puts.old takes.old) (worker_state instances.new puts.new takes.new)) }
     ensures held { OnOk result (AllHeld pipes.now context.now.number (length instances.new)
-        (bench instances.new puts.new takes.new)) }
+        (worker_state instances.new puts.new takes.new)) }
 {
     let mut idle = 0u32;
     for _ in context.rt.forever() {
@@ -115,10 +115,10 @@ fn turns<L: Local, W: Width, R: Wait, G: Gate>(
 }
 
 /// The worker does events of its own instances and nothing else, until all of them are done or it leaves. It goes over
-/// its instances in turns. After a turn without an event it yields the thread, and after 63 such turns in a row it
-/// naps. It leaves only after such a turn, and only for one of three reasons: another worker has left; 4,096 such turns
-/// came in a row and not all workers have started; or a put would be the 2^61st of its end, and isn't done. It sets the
-/// flags that it has started and that it leaves.
+/// its instances in turns. After a turn without an event it yields the thread, and from the 64th such turn in a row on
+/// it naps. It leaves only after such a turn, and only for one of three reasons: another worker has left; 4,096 such
+/// turns came in a row and not all workers have started; or a put would be the 2^61st of its end, and isn't done. It
+/// sets the flags that it has started and that it leaves.
 ///
 /// Out of memory is the only error. The worker may only be dropped then, and it has set the flag that it leaves.
 pub fn work<L: Local, W: Width, R: Wait, G: Gate>(

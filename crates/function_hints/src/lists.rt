@@ -35,12 +35,18 @@ pub enum Hint {
     SinkNeverSet {
         field: u32,
     },
+    /// The sink keeps a field that a source or operator below sets, but that no record at the sink has, since a function
+    /// in between leaves it out.
+    SinkDropped {
+        field: u32,
+    },
     /// The source has a column that nobody reads and that the sink doesn't keep.
     ColumnUnread {
         op: u32,
         field: u32,
     },
-    /// The statement reads a register, and no assignment can come before it.
+    /// The statement reads a register, and no assignment can come before it. Or it is a `min`, and reads a value register
+    /// that is always Null.
     ReadBeforeSet {
         function: u32,
         statement: u32,
@@ -67,13 +73,13 @@ pub enum Hint {
         statement: u32,
         field: Option<u32>,
     },
-    /// `eq` of a text and a number, one of them of that field of the input.
+    /// `eq`, `lt` or `le` of a text and a number, one of them of that field of the input.
     TextWithNumber {
         op: u32,
         statement: u32,
         field: Option<u32>,
     },
-    /// `cat` of a number, of that field of the input if it is one.
+    /// `cat` or `len` of a number, of that field of the input if it is one.
     CatOfNumber {
         op: u32,
         statement: u32,

@@ -4,7 +4,7 @@ use crate::lists::Register;
 use crate::statements::{behind, inside, inside_other, times_assigned};
 use order_free::order_test;
 use pact_record::Op2;
-use tac_syntax::{Body, Rec, Stmt, Valid};
+use tac_syntax::{Body, LoopList, Rec, Stmt, Valid};
 
 /// If the function fails the order test: the statement that makes it fail, if it is one of those that can be told.
 pub fn order_fault(f: &Valid) -> Option<Option<u32>> {
@@ -174,12 +174,12 @@ fn first_loop_in(stmt: &Stmt, at: u32) -> Option<u32> {
     }
 }
 
-/// The first loop over a group that is inside another one.
+/// The first loop over the list that is inside another one over it. `is_inside` says whether the body is inside one.
 #[cycle(inner)]
-pub fn inner_loop(body: &Body, first: u32) -> Option<u32> {
+pub fn inner_loop(body: &Body, first: u32, list: LoopList, is_inside: bool) -> Option<u32> {
     let mut at = first;
     for stmt in body.stmts() {
-        let found = inner_loop_in(stmt, at);
+        let found = inner_loop_in(stmt, at, list, is_inside);
         if found.is_some() {
             return found;
         }
@@ -189,17 +189,26 @@ pub fn inner_loop(body: &Body, first: u32) -> Option<u32> {
 }
 
 #[cycle(inner)]
-fn inner_loop_in(stmt: &Stmt, at: u32) -> Option<u32> {
+fn inner_loop_in(stmt: &Stmt, at: u32, list: LoopList, is_inside: bool) -> Option<u32> {
     match stmt {
         Stmt::If { body, other, .. } => {
-            let found = inner_loop(body, inside(at));
+            let found = inner_loop(body, inside(at), list, is_inside);
             if found.is_some() {
                 return found;
             }
-            inner_loop(other, inside_other(at, body))
+            inner_loop(other, inside_other(at, body), list, is_inside)
         }
-        Stmt::Repeat { body, .. } => inner_loop(body, inside(at)),
-        Stmt::Each { body, .. } => first_loop(body, inside(at)),
+        Stmt::Repeat { body, .. } => inner_loop(body, inside(at), list, is_inside),
+        Stmt::Each {
+            list: over,
+            body,
+            ..
+        } => {
+            if *over == list && is_inside {
+                return Some(at);
+            }
+            inner_loop(body, inside(at), list, is_inside || *over == list)
+        }
         _ => None,
     }
 }

@@ -150,3 +150,32 @@ fn files_have_their_hints(rt: HostRuntime) -> Result<(), Fail> {
     assert!(rt; named.items() == [FileHint::HeaderLike { line: 1 }].as_slice());
     Ok(())
 }
+
+// Files of two columns of texts, and whether their first rows look like the names of the columns.
+const HEADERS: &[(&[u8], bool)] = &[
+    (b"city,rows\na,1\nb,2\n", true),
+    (b"city,rows\na,1\nb,x\n", false),
+    (b"city,rows\na,1\n", true),
+    (b"city,price ($)\na,1\n", true),
+    (b"city,Total [net]\na,\nb,1\n", false),
+    (b"city,rows\na,1\nb,\nc,3\n", true),
+    (b"city,rows\na,1\nb,\nc,\n", false),
+    (b"city, rows\na, 1\nb, 2\n", true),
+    (b"city,gr\xC3\xB6\xC3\x9Fe\na,1\nb,2\n", true),
+    (b"city,5\na,1\nb,2\n", false),
+    (b"tea,NULL\nmilk,5\nrice,7\n", false),
+    (b"tea,unknown\nmilk,5\nrice,7\n", false),
+    (b"tea,true\nmilk,5\nrice,7\n", false),
+    (b"tea,price\nmilk,\"1,000\"\nrice,1e3\n", true),
+];
+
+#[test]
+fn headers_are_rows_of_names(rt: HostRuntime) -> Result<(), Fail> {
+    let alloc = rt.alloc();
+    let columns = two_columns(alloc)?;
+    for (text, named) in HEADERS {
+        let found = file_hints(alloc, text, &columns)?;
+        assert!(rt; (found.len() == 1) == *named);
+    }
+    Ok(())
+}

@@ -154,3 +154,142 @@ fn rows_count(rt: HostRuntime) -> Result<(), Fail> {
     assert!(rt; size_hints(alloc, &paired, &[5, 20000])?.len() == 0);
     Ok(())
 }
+
+// A map that counts its own calls is called twice: its field is Null in the lower one alone.
+const SHARED: &str = "pact 1
+fields 4
+source s s.csv int:0 text:1
+function f map
+  v0 = get in 2
+  v1 = int 1
+  v0 = addw v0 v1
+  r0 = copy in
+  set r0 2 v0
+  emit r0
+end
+map a f s
+map b f a
+sink b 0 1 2
+";
+
+// A field that no caller has, and a text by way of a record register, count once for both callers.
+const SHARED_WRONG: &str = "pact 1
+fields 4
+source s s.csv int:0 text:1
+function f map
+  r0 = copy in
+  v0 = get in 3
+  v1 = get r0 1
+  v0 = add v0 v1
+  set r0 2 v0
+  emit r0
+end
+map a f s
+map b f a
+sink b 0 1 2
+";
+
+const KEYED: &str = "pact 1
+fields 4
+source s s.csv int:0 text:1
+function f reduce 2
+  v0 = key 0
+  v1 = key 1
+  v2 = cat v1 v0
+  v3 = cat v1 v1
+  r0 = new
+  set r0 2 v2
+  set r0 3 v3
+  emit r0
+end
+reduce r f s by 0 1
+sink r 2 3
+";
+
+#[test]
+fn callers_count_together(rt: HostRuntime) -> Result<(), Fail> {
+    let alloc = rt.alloc();
+    assert!(rt; hints(alloc, SHARED)?.len() == 0);
+    assert!(rt;
+        hints(alloc, SHARED_WRONG)?.items()
+            == [
+                Hint::NeverSet {
+                    op: 1,
+                    statement: Some(1),
+                    field: 3
+                },
+                Hint::TextArithmetic {
+                    op: 1,
+                    statement: 3,
+                    field: Some(1)
+                },
+            ]
+            .as_slice()
+    );
+    assert!(rt;
+        hints(alloc, KEYED)?.items()
+            == [Hint::CatOfNumber {
+                op: 1,
+                statement: 2,
+                field: None
+            }]
+            .as_slice()
+    );
+    Ok(())
+}
+
+const PAIRS: &str = "pact 1
+fields 4
+source s s.csv int:0 int:1
+source t t.csv int:2 int:3
+function pairs cogroup 1
+  each x1 of left
+    each x2 of right
+      r0 = copy x1
+      v0 = get x2 3
+      set r0 3 v0
+      emit r0
+    end
+  end
+end
+cogroup c pairs s t by 0 = 2
+sink c 0 1 3
+";
+
+const SQUARE: &str = "pact 1
+fields 4
+source s s.csv int:0 int:1
+source t t.csv int:2 int:3
+function least cogroup 1
+  each x1 of left
+    v0 = get x1 1
+    each x2 of left
+      v1 = get x2 1
+      v0 = min v0 v1
+    end
+    r0 = copy x1
+    set r0 1 v0
+    emit r0
+  end
+end
+cogroup c least s t by 0 = 2
+sink c 0 1
+";
+
+#[test]
+fn only_loops_over_one_group_are_square(rt: HostRuntime) -> Result<(), Fail> {
+    let alloc = rt.alloc();
+    let pairs = program(alloc, PAIRS)?;
+    assert!(rt; size_hints(alloc, &pairs, &[20000, 20000])?.len() == 0);
+    let square = program(alloc, SQUARE)?;
+    assert!(rt;
+        size_hints(alloc, &square, &[20000, 5])?.items()
+            == [Hint::SquareLoop {
+                function: 0,
+                statement: 2
+            }]
+            .as_slice()
+    );
+    assert!(rt; size_hints(alloc, &square, &[5, 20000])?.len() == 0);
+    Ok(())
+}

@@ -21,5 +21,5 @@ pub mod refusals;
 pub use loaded::{Loaded, is_source, push_rows};
 pub use loading::{load, load_program, load_sources, load_text};
 pub use named_sources::source_named;
-pub use programs::program_of;
+pub use programs::{program_of, text_refused};
 pub use refusals::Refusal;

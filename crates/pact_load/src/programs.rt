@@ -17,7 +17,8 @@ use tac_syntax::{Function, Valid};
 use tac_validate::validate;
 use text_lines::TextFault;
 
-fn text_refused(alloc: Global, name: &[u8], fault: TextFault) -> Refusal
+/// The refusal of a faulty text, which it names `name`.
+pub fn text_refused(alloc: Global, name: &[u8], fault: TextFault) -> Refusal
     ensures { TextRefused name.now fault result }
 {
     match fault {

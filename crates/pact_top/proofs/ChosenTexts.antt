@@ -13,8 +13,8 @@ use Rattle.pact_load.specs.declared.loaded.Loaded.{Loaded}
 use Rattle.pact_top.specs.declared.rewriting.RunOutcome.{RunOutcome}
 
 module _ (l : Loaded) (workers plans : ℕ) (choice : Choice) where
-  pub told-AreCounts : (prune combine : Bool) (r : RunOutcome) (is : IsLayoutOutcome l workers choice.plan choice.chosen.layout prune combine r) (asked : Bool) (told : Option (List ℕ))
-      → IsChoice l workers plans choice → AreReportedCounts l.program choice.plan r.outcome.counts r.kept.items r.combined.items asked told → AreCounts l workers plans prune combine is.bag asked told
+  pub told-AreCounts : (prune combine : Bool) (r : RunOutcome) (is : IsLayoutOutcome l workers choice.best.plan choice.best.chosen.layout prune combine r) (asked : Bool) (told : Option (List ℕ))
+      → IsChoice l workers plans choice → AreReportedCounts l.program choice.best.plan r.outcome.counts r.kept.items r.combined.items asked told → AreCounts l workers plans prune combine is.bag asked told
   told-AreCounts prune combine r is true (Some text) chosen h = record {
     choice = choice;
     is_choice = chosen;
@@ -31,13 +31,13 @@ module _ (l : Loaded) (workers plans : ℕ) (choice : Choice) where
   told-AreCounts prune combine r is true None chosen h = absurd (cc)
   told-AreCounts prune combine r is false told chosen h = h
 
-  pub certificate-line : (steps : List Condition) (c : Certificate) (out : List ℕ) → IsDerived l workers plans choice steps → c ≡ certificate_of l.program steps choice.plan
-      → out ≡ compact_text (certificate_data c) ++ codes "\n" → IsCertificateText out c → Checks l.program c (Ok choice.plan) → IsCertificateLine l workers plans out
+  pub certificate-line : (steps : List Condition) (c : Certificate) (out : List ℕ) → IsDerived l workers plans choice steps → c ≡ certificate_of l.program steps choice.best.plan
+      → out ≡ compact_text (certificate_data c) ++ codes "\n" → IsCertificateText out c → Checks l.program c (Ok choice.best.plan) → IsCertificateLine l workers plans out
   certificate-line steps c out derived same text read checks = record {
     choice = choice;
     steps = steps;
     derived = derived;
     spelled = subst (λ (x : Certificate). out ≡ compact_text (certificate_data x) ++ codes "\n") same text;
     read_back = subst (IsCertificateText out) same read;
-    accepted = subst (λ (x : Certificate). Checks l.program x (Ok choice.plan)) same checks;
+    accepted = subst (λ (x : Certificate). Checks l.program x (Ok choice.best.plan)) same checks;
   }

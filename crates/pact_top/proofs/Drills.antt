@@ -61,10 +61,10 @@ summary_beside rows sink bag left text same h =
     record { lines = h.lines; spelled = lines_beside sink bag left h.lines same h.spelled; told = h.told ∙ ap (λ (n : ℕ). summary_text rows n h.lines) lengths }
 
 pub is_drill_text : (seed rows workers plans : ℕ) (prune combine : Bool) (run : FinishedRun) (text : List ℕ) → IsFinishedRun (drilled seed rows) workers plans prune combine run
-    → IsSummary rows run.program.sink run.outcome.rows text → IsDrillText seed rows text
+    → IsSummary rows run.program.sink run.ran.outcome.rows text → IsDrillText seed rows text
 is_drill_text seed rows workers plans prune combine run text is told =
     let bag = is.outcome.bag in
-    let summary = summary_beside rows drill_program.sink bag run.outcome.rows text is.outcome.rows (subst (λ (p : ProgramData). IsSummary rows p.sink run.outcome.rows text) is.program told) in
+    let summary = summary_beside rows drill_program.sink bag run.ran.outcome.rows text is.outcome.rows (subst (λ (p : ProgramData). IsSummary rows p.sink run.ran.outcome.rows text) is.program told) in
     let only = only_bag drill_program is_a_program groups_free (generated seed rows ∷ []) drill_program.plan bag in
     record {
       bag = bag;

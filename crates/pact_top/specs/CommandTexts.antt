@@ -69,15 +69,15 @@ row_counts (op ∷ ops) inputs = cond (is_source_kind op.kind) (length (get_or i
 -- least cost for the sources' numbers of rows, with one of its layouts for `workers` workers.
 pub record IsChoice (l : Loaded) (workers plans : ℕ) (c : Choice) : Type 0 where
   pub listing : IsListing l.program plans c.listed
-  pub chosen : IsChosen l.program (plans_of c.listed.entries) (row_counts l.program.ops l.inputs) workers c.chosen
-  pub plan : IsAt c.listed.entries c.chosen.entry c.plan
+  pub chosen : IsChosen l.program (plans_of c.listed.entries) (row_counts l.program.ops l.inputs) workers c.best.chosen
+  pub plan : IsAt c.listed.entries c.best.chosen.entry c.best.plan
 
 -- These are the exchanges by which the chosen plan was listed: legal exchanges, one after another, lead to it from the
 -- plan as written.
 pub record IsDerived (l : Loaded) (workers plans : ℕ) (c : Choice) (steps : List Condition) : Type 0 where
   pub choice : IsChoice l workers plans c
-  pub steps_to : AreStepsTo c.listed.entries c.chosen.entry steps
-  pub leads : Lead l.program l.program.plan steps c.plan
+  pub steps_to : AreStepsTo c.listed.entries c.best.chosen.entry steps
+  pub leads : Lead l.program l.program.plan steps c.best.plan
 
 -- ---- `run`
 
@@ -108,14 +108,14 @@ pub record IsCountsText (l : Loaded) (workers plans : ℕ) (prune combine : Bool
   pub choice : Choice
   pub is_choice : IsChoice l workers plans choice
   pub counts : List ℕ
-  pub counted : Counted (plan_ops l.program l.inputs) choice.plan bag counts
+  pub counted : Counted (plan_ops l.program l.inputs) choice.best.plan bag counts
   pub left : Bag
   pub rows : HaveSameRows l.program.sink bag left
   pub whole : prune ≡ false → bag ≡ left
   pub kept : List Kept
   pub combined : List (ℕ × ℕ)
-  pub run : IsRunRewrittenAs (in_layout l workers choice.plan choice.chosen.layout) l.inputs prune combine (record { rows = left; counts = counts }) kept combined
-  pub spelled : text ≡ told_text l.program choice.plan counts kept combined
+  pub run : IsRunRewrittenAs (in_layout l workers choice.best.plan choice.best.chosen.layout) l.inputs prune combine (record { rows = left; counts = counts }) kept combined
+  pub spelled : text ≡ told_text l.program choice.best.plan counts kept combined
 
 -- The counts are printed if they are asked for, and they are then those of the very bag that is written.
 abbrev pub AreCounts : Loaded → (workers plans : ℕ) → (prune combine : Bool) → Bag → Bool → Option (List ℕ) → Type 0
@@ -140,10 +140,10 @@ abbrev pub shown : Loaded → (workers : ℕ) → Choice → List Condition → 
 shown l workers c steps = record {
   plans = length c.listed.entries;
   complete = c.listed.complete;
-  entry = c.chosen.entry;
-  layout = c.chosen.layout;
-  cost = c.chosen.cost;
-  physical = layout_of (facts_of l.program c.plan) l.program.ops c.plan c.chosen.layout workers;
+  entry = c.best.chosen.entry;
+  layout = c.best.chosen.layout;
+  cost = c.best.chosen.cost;
+  physical = layout_of (facts_of l.program c.best.plan) l.program.ops c.best.plan c.best.chosen.layout workers;
   counts = row_counts l.program.ops l.inputs;
   steps = steps;
 }
@@ -163,9 +163,9 @@ pub record IsCertificateLine (l : Loaded) (workers plans : ℕ) (text : List ℕ
   pub choice : Choice
   pub steps : List Condition
   pub derived : IsDerived l workers plans choice steps
-  pub spelled : text ≡ compact_text (certificate_data (certificate_of l.program steps choice.plan)) ++ codes "\n"
-  pub read_back : IsCertificateText text (certificate_of l.program steps choice.plan)
-  pub accepted : Checks l.program (certificate_of l.program steps choice.plan) (Ok choice.plan)
+  pub spelled : text ≡ compact_text (certificate_data (certificate_of l.program steps choice.best.plan)) ++ codes "\n"
+  pub read_back : IsCertificateText text (certificate_of l.program steps choice.best.plan)
+  pub accepted : Checks l.program (certificate_of l.program steps choice.best.plan) (Ok choice.best.plan)
 
 -- ---- `check`
 

@@ -44,11 +44,11 @@ pub record IsListedChoice (p : ProgramData) (inputs : List Bag) (workers : ℕ) 
 -- the plan, and its numbers are those of an entry and of a layout.
 pub record IsSoundChoice (l : Loaded) (workers plans : ℕ) (c : Choice) : Type 0 where
   pub choice : IsChoice l workers plans c
-  pub plan : IsPlanOf l.program.functions l.program.ops c.plan
-  pub answers : KeepAnswers l.program l.program.plan c.plan
-  pub known : facts_in c.facts ≡ facts_of l.program c.plan
-  pub entry : c.chosen.entry < length c.listed.entries
-  pub layout : c.chosen.layout < layout_count l.program.ops
+  pub plan : IsPlanOf l.program.functions l.program.ops c.best.plan
+  pub answers : KeepAnswers l.program l.program.plan c.best.plan
+  pub known : facts_in c.best.facts ≡ facts_of l.program c.best.plan
+  pub entry : c.best.chosen.entry < length c.listed.entries
+  pub layout : c.best.chosen.layout < layout_count l.program.ops
 
 -- ---- a run
 
@@ -68,7 +68,7 @@ pub record IsLayoutOutcome (l : Loaded) (workers : ℕ) (plan : PlanTree) (layou
 pub record IsFinishedRun (l : Loaded) (workers plans : ℕ) (prune combine : Bool) (run : FinishedRun) : Type 0 where
   pub program : run.program ≡ l.program
   pub chosen : IsSoundChoice l workers plans run.choice
-  pub outcome : IsLayoutOutcome l workers run.choice.plan run.choice.chosen.layout prune combine (record { outcome = run.outcome; kept = run.kept; combined = run.combined })
+  pub outcome : IsLayoutOutcome l workers run.choice.best.plan run.choice.best.chosen.layout prune combine run.ran
 
 -- the text of the counts if it is asked for, and none otherwise
 abbrev pub AreReportedCounts : ProgramData → PlanTree → List ℕ → List Kept → List (ℕ × ℕ) → Bool → Option (List ℕ) → Type 0

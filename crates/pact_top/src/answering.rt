@@ -15,7 +15,7 @@ ghost use Rattle.pact_words.specs.Words.{AreOptionsInRange, IsInRange, asked, to
 use crate::certificates::{CERTIFICATE_LIMIT, certificate_in, rechecked};
 use crate::choosing::{certificate_texts, plan_texts};
 use crate::generating::{drill_text, generated_text};
-use crate::repeating::{IterationInput, iteration_texts};
+use crate::repeating::{IterationInput, IterationLimits, iteration_texts};
 use crate::runners::Runner;
 use crate::running::run_texts;
 use crate::texts::Texts;
@@ -155,22 +155,21 @@ fn iterate<
     feed: &mut F,
     name: &[u8],
     source: &[u8],
-    rounds: u32,
+    limits: IterationLimits,
     options: Options,
-    stable: bool,
     read: &D,
     run: &T,
     format: &W,
 ) -> Result<Texts, Refusal>
     requires options { AreOptionsInRange options }
-    requires rounds { 1 ≤ rounds }
+    requires rounds { 1 ≤ limits.rounds }
     requires reads { IsReader (D.pre read.now) (D.post read.now) }
     requires runs { T.ready run.now }
     requires formats { IsFormatter (W.pre format.now) (W.post format.now) }
-    ensures { Comes (λ files. work.texts_for files (to_iterate name.now source.now rounds options stable)) (F.shows feed.old) (F.shows feed.new) result }
+    ensures { Comes (λ files. work.texts_for files (to_iterate name.now source.now limits.rounds options limits.stable)) (F.shows feed.old) (F.shows feed.new) result }
 {
     let repeated = load_repeated(alloc, feed, name, source, read)?;
-    let texts = iteration_texts(alloc, repeated, rounds, options, stable, run, format)?;
+    let texts = iteration_texts(alloc, repeated, limits, options, run, format)?;
     Ok(texts)
 }
 
@@ -270,8 +269,9 @@ fn texts_for<
             stable,
         } => {
             let (name, source) = (program.as_bytes(), source.as_bytes());
+            let limits = IterationLimits { rounds, stable };
             iterate(
-                alloc, feed, name, source, rounds, options, stable, read, run, format,
+                alloc, feed, name, source, limits, options, read, run, format,
             )
         }
     }

@@ -27,16 +27,6 @@ use ship_strategy::{Table, layout_known};
 use std::alloc::Global;
 use swap_certificate::{certificate, certificate_line};
 
-/// The listed plans, which of them is chosen and with which layout, the plan itself, and what is known of its
-/// operators.
-#[derive(Drop)]
-pub struct Choice {
-    pub listed: Listed,
-    pub chosen: Chosen,
-    pub plan: Plan,
-    pub facts: Table,
-}
-
 /// Which of the listed plans is chosen for some rows and with which layout, the plan itself, and what is known of its
 /// operators.
 #[derive(Drop)]
@@ -44,6 +34,13 @@ pub struct ListedChoice {
     pub chosen: Chosen,
     pub plan: Plan,
     pub facts: Table,
+}
+
+/// The listed plans, and the best of them for some rows.
+#[derive(Drop)]
+pub struct Choice {
+    pub listed: Listed,
+    pub best: ListedChoice,
 }
 
 // How many rows a source or operator has of its own (0 for an operator), and the place of the next source. If it is a
@@ -126,25 +123,16 @@ pub fn choose_plan(
 {
     let Loaded { program, inputs } = loaded;
     let (listed, known) = enumerate_and_analyse(alloc, program, plans)?;
-    let ListedChoice {
-        chosen,
-        plan,
-        facts,
-    } = choose_listed(alloc, program, inputs, &listed, &known, workers)?;
-    Ok(Choice {
-        listed,
-        chosen,
-        plan,
-        facts,
-    })
+    let best = choose_listed(alloc, program, inputs, &listed, &known, workers)?;
+    Ok(Choice { listed, best })
 }
 
 // The exchanges that lead to the chosen plan.
 fn steps_to(alloc: Global, choice: &Choice) -> Result<ConditionList, OutOfMemory>
-    requires { choice.now.chosen.entry < length choice.now.listed.entries }
+    requires { choice.now.best.chosen.entry < length choice.now.listed.entries }
     ensures { IfOk result (λ steps. (l : LoadedData) (workers plans : ℕ) → IsChoice l workers plans choice.now → IsDerived l workers plans choice.now steps) }
 {
-    steps_of(alloc, &choice.listed, choice.chosen.entry)
+    steps_of(alloc, &choice.listed, choice.best.chosen.entry)
 }
 
 // What `plan` shows of the choice.
@@ -157,27 +145,22 @@ fn shown(
 ) -> Result<Shown, OutOfMemory>
     requires inputs { AreInputsOf loaded.now.program loaded.now.inputs }
     requires workers { (1 ≤ workers) × (workers ≤ worker_limit) }
-    requires plan { IsPlanOf loaded.now.program.functions loaded.now.program.ops choice.now.plan }
-    requires facts { facts_in choice.now.facts ≡ facts_of loaded.now.program choice.now.plan }
-    requires layout { choice.now.chosen.layout < layout_count loaded.now.program.ops }
+    requires plan { IsPlanOf loaded.now.program.functions loaded.now.program.ops choice.now.best.plan }
+    requires facts { facts_in choice.now.best.facts ≡ facts_of loaded.now.program choice.now.best.plan }
+    requires layout { choice.now.best.chosen.layout < layout_count loaded.now.program.ops }
     ensures { IfOk result (λ s. s ≡ texts.shown loaded.now workers choice.now steps) }
 {
     let counts = row_counts(alloc, &loaded.program, &loaded.inputs)?;
     let entries = choice.listed.entries();
-    let number = choice.chosen.layout;
+    let best = &choice.best;
+    let number = best.chosen.layout;
     Ok(Shown {
         plans: entries.len() as u32,
         complete: choice.listed.complete(),
-        entry: choice.chosen.entry,
+        entry: best.chosen.entry,
         layout: number,
-        cost: choice.chosen.cost,
-        physical: layout_known(
-            &loaded.program,
-            &choice.plan,
-            &choice.facts,
-            number,
-            workers,
-        ),
+        cost: best.chosen.cost,
+        physical: layout_known(&loaded.program, &best.plan, &best.facts, number, workers),
         counts,
         steps,
     })
@@ -217,7 +200,12 @@ pub fn certificate_texts(
 {
     let choice = choose_plan(alloc, loaded, workers, plans)?;
     let steps = steps_to(alloc, &choice)?;
-    let certificate = certificate(alloc, &loaded.program, steps.conditions(), &choice.plan)?;
+    let certificate = certificate(
+        alloc,
+        &loaded.program,
+        steps.conditions(),
+        &choice.best.plan,
+    )?;
     let out = certificate_line(alloc, &certificate)?;
     Ok(Texts::out_alone(out))
 }

@@ -8,6 +8,7 @@ ghost use Rattle.pact_top.specs.CommandTexts.{IsDrillText, IsGeneratedText, IsSu
 ghost use Rattle.pact_top.specs.Formatters.{IsFormatter};
 
 use crate::lines::lines_of;
+use crate::rewriting::RunOutcome;
 use crate::runners::Runner;
 use crate::running::{FinishedRun, run_chosen};
 use csv_sink::write_fields;
@@ -47,15 +48,12 @@ fn summary<W: Fn(Rows, &[u32]) -> Result<Bytes, OutOfMemory>>(
     run: FinishedRun,
     format: &W,
 ) -> Result<Bytes, OutOfMemory>
-    requires widths { AreWide run.program.fields run.outcome.rows }
+    requires widths { AreWide run.program.fields run.ran.outcome.rows }
     requires formats { IsFormatter (W.pre format.now) (W.post format.now) }
-    ensures { IfOk result (IsSummary rows run.program.sink run.outcome.rows) }
+    ensures { IfOk result (IsSummary rows run.program.sink run.ran.outcome.rows) }
 {
-    let FinishedRun {
-        program,
-        outcome,
-        ..
-    } = run;
+    let FinishedRun { program, ran, .. } = run;
+    let RunOutcome { outcome, .. } = ran;
     let Outcome { rows: bag, .. } = outcome;
     let out = bag.len() as u64;
     let lines = lines_of(bag, program.sink(), format)?;

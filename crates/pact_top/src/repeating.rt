@@ -15,7 +15,7 @@ ghost use Rattle.pact_top.specs.Iterations.{HasSource, IsCallOf, IsIterationText
 ghost use Rattle.bag_lines.specs.Lines.{AreLines};
 ghost use Rattle.pact_top.specs.Formatters.{IsFormatter};
 
-use crate::choosing::{ListedChoice, choose_listed};
+use crate::choosing::choose_listed;
 use crate::lines::lines_of;
 use crate::runners::Runner;
 use crate::running::run_plan;
@@ -38,11 +38,12 @@ pub struct IterationInput {
     pub at: usize,
 }
 
-// How long an iteration goes on.
+/// How long an iteration goes on: for this number of rounds. With `stable` it ends after the first round that gives back
+/// the rows with which it began.
 #[derive(Clone, Copy)]
-struct IterationLimits {
-    rounds: u32,
-    stable: bool,
+pub struct IterationLimits {
+    pub rounds: u32,
+    pub stable: bool,
 }
 
 // A program with the call for each of its rounds. It is a call because a round may run on threads: the bounds of an
@@ -81,20 +82,13 @@ fn one_round<T: Runner>(
     requires runs { T.ready run.now }
     ensures { IfOk result (AllowsOn program.now inputs.now) }
 {
-    let ListedChoice {
-        chosen,
-        plan,
-        facts,
-    } = choose_listed(alloc, program, inputs, listed, known, options.workers)?;
+    let best = choose_listed(alloc, program, inputs, listed, known, options.workers)?;
     let copied = inputs.copy(alloc)?;
     let unchanged = Rewrites {
         combine: false,
         prune: false,
     };
-    let number = chosen.layout;
-    let left = run_plan(
-        alloc, program, copied, &plan, &facts, number, options, unchanged, run,
-    )?;
+    let left = run_plan(alloc, program, copied, &best, options, unchanged, run)?;
     Ok(left.outcome.rows)
 }
 
@@ -122,7 +116,7 @@ fn run_rounds<T: Runner>(
     inputs: Inputs,
     at: usize,
     options: Options,
-    extent: IterationLimits,
+    limits: IterationLimits,
     run: &T,
 ) -> Result<Iterated, OutOfMemory>
     requires inputs { AreInputsOf program.now inputs }
@@ -130,9 +124,9 @@ fn run_rounds<T: Runner>(
     requires options { AreOptionsInRange options }
     requires plans { ArePlansOf program.now listed.now.entries }
     requires known { AreKnownPlans program.now (plans_of listed.now.entries) known.now }
-    requires rounds { 1 ≤ extent.rounds }
+    requires rounds { 1 ≤ limits.rounds }
     requires runs { T.ready run.now }
-    ensures { IfOk result (λ i. IsIterated program.now inputs (source_place program.now.ops at) (columns_at program.now at) extent.rounds extent.stable i.rows i.rounds) }
+    ensures { IfOk result (λ i. IsIterated program.now inputs (source_place program.now.ops at) (columns_at program.now at) limits.rounds limits.stable i.rows i.rounds) }
 {
     let ops = program.ops();
     let place = source_place(ops, at);
@@ -154,8 +148,8 @@ fn run_rounds<T: Runner>(
         inputs,
         place,
         columns,
-        extent.rounds,
-        extent.stable,
+        limits.rounds,
+        limits.stable,
     )
 }
 
@@ -191,34 +185,31 @@ fn texts_of_rounds<W: Fn(Rows, &[u32]) -> Result<Bytes, OutOfMemory>>(
     Ok(Texts { out, told })
 }
 
-/// The sorted rows of the last of `rounds` rounds. With `stable` an iteration ends after the first round that gives back
-/// the rows with which it began, and the texts then include the number of rounds. The plans of the program are listed
-/// and their operators analysed once. One plan is chosen for the rows of each round.
+/// The sorted rows of the last round. If the iteration may end early, the texts also include the number of rounds. The
+/// plans of the program are listed and their operators analysed once. One plan is chosen for the rows of each round.
 pub fn iteration_texts<T: Runner, W: Fn(Rows, &[u32]) -> Result<Bytes, OutOfMemory>>(
     alloc: Global,
     repeated: IterationInput,
-    rounds: u32,
+    limits: IterationLimits,
     options: Options,
-    stable: bool,
     run: &T,
     format: &W,
 ) -> Result<Texts, OutOfMemory>
     requires inputs { AreInputsOf repeated.loaded.program repeated.loaded.inputs }
     requires source { HasSource repeated.loaded.program repeated.at }
     requires options { AreOptionsInRange options }
-    requires rounds { 1 ≤ rounds }
+    requires rounds { 1 ≤ limits.rounds }
     requires runs { T.ready run.now }
     requires formats { IsFormatter (W.pre format.now) (W.post format.now) }
-    ensures { IfOk result (IsIterationText repeated rounds stable) }
+    ensures { IfOk result (IsIterationText repeated limits.rounds limits.stable) }
 {
     let IterationInput { loaded, at } = repeated;
     let Loaded { program, inputs } = loaded;
     // `fields` makes it known that `program` keeps the rules of a program.
     let _fields = program.fields();
     let (listed, known) = enumerate_and_analyse(alloc, &program, options.plans)?;
-    let extent = IterationLimits { rounds, stable };
     let iterated = run_rounds(
-        alloc, &program, &listed, &known, inputs, at, options, extent, run,
+        alloc, &program, &listed, &known, inputs, at, options, limits, run,
     )?;
-    texts_of_rounds(alloc, &program, iterated, stable, format)
+    texts_of_rounds(alloc, &program, iterated, limits.stable, format)
 }

@@ -1,18 +1,21 @@
-//! A task, rewritten by each step that is asked for, and then run once.
+//! A plan, rewritten by each step that is asked for, and then run once.
 
-ghost use Rattle.std.specs.Prelude.{IfOk};
+ghost use Rattle.std.specs.Prelude.{◌≡◌, IfOk};
+ghost use Rattle.combine_rule.specs.CombinedPrograms.{planned};
+ghost use Rattle.pact_operators.specs.Inputs.{AreInputsOf};
 ghost use Rattle.pact_operators.specs.Programs.{IsPlanOf};
+ghost use Rattle.pact_words.specs.Words.{AreOptionsInRange};
 ghost use Rattle.ship_strategy.specs.PlanFacts.{facts_of};
 ghost use Rattle.ship_strategy.specs.Ships.{LegalShip};
-ghost use Rattle.pact_top.specs.Runs.{CanRun, IsCombinedAs, IsCombinedTask, IsPrunedAs, IsPrunedTask, IsRunOutcome};
+ghost use Rattle.pact_top.specs.Runs.{IsCombinedAs, IsPrunedAs, IsRunOutcome};
 
 use crate::runners::Runner;
-use crate::tasks::Task;
+use crate::tasks::task_of;
 use combine_rule::{Combined, combine};
 use pact_bag::{Inputs, Outcome};
-use pact_operators::Program;
+use pact_operators::{Physical, Program};
 use pact_record::OutOfMemory;
-use pact_words::Rewrites;
+use pact_words::{Options, Rewrites};
 use prune_fields::{Kept, Pruned, prune};
 use std::alloc::Global;
 
@@ -25,118 +28,73 @@ pub struct RunOutcome {
     pub combined: Vec<(u32, u32)>,
 }
 
-// The pruned plan of the task, as a program and a task to run.
-fn prune_task(
-    alloc: Global,
-    program: &Program,
-    task: Task,
-) -> Result<(Program, Task, Vec<Kept>), OutOfMemory>
-    requires plan { IsPlanOf program.now.functions program.now.ops task.physical.tree }
-    requires legal { LegalShip (facts_of program.now task.physical.tree) task.physical }
-    ensures { IfOk result (λ r. IsPrunedTask program.now task r.0 r.1 r.2.items) }
-{
-    let Task {
-        physical,
-        options,
-        local,
-    } = task;
-    let Pruned {
-        program,
-        physical,
-        kept,
-    } = prune(alloc, program, &physical)?;
-    let task = Task {
-        physical,
-        options,
-        local,
-    };
-    Ok((program, task, kept))
-}
-
-// The task with fields dropped if that is asked for, and as it is otherwise.
+// The program and its plan with fields dropped if that is asked for, and as they are otherwise.
 fn prune_if(
     alloc: Global,
     program: &Program,
-    task: Task,
+    physical: &Physical,
     asked: bool,
-) -> Result<(Program, Task, Vec<Kept>), OutOfMemory>
-    requires plan { IsPlanOf program.now.functions program.now.ops task.physical.tree }
-    requires legal { LegalShip (facts_of program.now task.physical.tree) task.physical }
-    ensures { IfOk result (λ r. IsPrunedAs asked program.now task r.0 r.1 r.2.items) }
+) -> Result<(Program, Physical, Vec<Kept>), OutOfMemory>
+    requires plan { IsPlanOf program.now.functions program.now.ops physical.now.tree }
+    requires legal { LegalShip (facts_of program.now physical.now.tree) physical.now }
+    ensures { IfOk result (λ r. IsPrunedAs asked (planned program.now physical.now) (planned r.0 r.1) r.2.items) }
 {
     if asked {
-        prune_task(alloc, program, task)
+        let Pruned {
+            program,
+            physical,
+            kept,
+        } = prune(alloc, program, physical)?;
+        Ok((program, physical, kept))
     } else {
-        Ok((program.copy(alloc)?, task, Vec::new(alloc)))
+        Ok((program.copy(alloc)?, *physical, Vec::new(alloc)))
     }
 }
 
-// The combined plan of the task, as a program and a task to run.
-fn combine_task(
-    alloc: Global,
-    program: &Program,
-    task: Task,
-) -> Result<(Program, Task, Vec<(u32, u32)>), OutOfMemory>
-    requires plan { IsPlanOf program.now.functions program.now.ops task.physical.tree }
-    ensures { IfOk result (λ r. IsCombinedTask program.now task r.0 r.1 r.2.items) }
-{
-    let Task {
-        physical,
-        options,
-        local,
-    } = task;
-    let Combined {
-        program,
-        physical,
-        of,
-    } = combine(alloc, program, &physical)?;
-    let task = Task {
-        physical,
-        options,
-        local,
-    };
-    Ok((program, task, of))
-}
-
-// The task with partial groups if these are asked for, and as it is otherwise.
+// The program and its plan with partial groups if these are asked for, and as they are otherwise.
 fn combine_if(
     alloc: Global,
     program: &Program,
-    task: Task,
+    physical: &Physical,
     asked: bool,
-) -> Result<(Program, Task, Vec<(u32, u32)>), OutOfMemory>
-    requires plan { IsPlanOf program.now.functions program.now.ops task.physical.tree }
-    ensures { IfOk result (λ r. IsCombinedAs asked program.now task r.0 r.1 r.2.items) }
+) -> Result<(Program, Physical, Vec<(u32, u32)>), OutOfMemory>
+    requires plan { IsPlanOf program.now.functions program.now.ops physical.now.tree }
+    ensures { IfOk result (λ r. IsCombinedAs asked (planned program.now physical.now) (planned r.0 r.1) r.2.items) }
 {
     if asked {
-        combine_task(alloc, program, task)
+        let Combined {
+            program,
+            physical,
+            of,
+        } = combine(alloc, program, physical)?;
+        Ok((program, physical, of))
     } else {
-        Ok((program.copy(alloc)?, task, Vec::new(alloc)))
+        Ok((program.copy(alloc)?, *physical, Vec::new(alloc)))
     }
 }
 
-/// Runs the task, with the rewrites that are asked for: first fields are dropped, then partial groups are inserted.
-pub fn run_task_as<T: Runner>(
+/// Runs the plan with the rewrites that are asked for: first fields are dropped, then partial groups are inserted.
+pub fn run_rewritten<T: Runner>(
     alloc: Global,
     program: &Program,
-    task: Task,
+    physical: &Physical,
     inputs: Inputs,
+    options: Options,
     rewrites: Rewrites,
     run: &T,
 ) -> Result<RunOutcome, OutOfMemory>
-    requires can { CanRun program.now task inputs }
-    requires legal { LegalShip (facts_of program.now task.physical.tree) task.physical }
+    requires plan { IsPlanOf program.now.functions program.now.ops physical.now.tree }
+    requires legal { LegalShip (facts_of program.now physical.now.tree) physical.now }
+    requires inputs { AreInputsOf program.now inputs }
+    requires workers { options.workers ≡ physical.now.workers }
+    requires options { AreOptionsInRange options }
     requires runs { T.ready run.now }
-    ensures { IfOk result (IsRunOutcome program.now task inputs rewrites.prune rewrites.combine) }
+    ensures { IfOk result (IsRunOutcome (planned program.now physical.now) inputs rewrites.prune rewrites.combine) }
 {
-    let (pruned, pruned_task, kept) = prune_if(alloc, program, task, rewrites.prune)?;
-    let (rewritten, last_task, combined) = combine_if(
-        alloc,
-        &pruned,
-        pruned_task,
-        rewrites.combine,
-    )?;
-    let outcome = run.run(&rewritten, &last_task, inputs)?;
+    let (pruned, small, kept) = prune_if(alloc, program, physical, rewrites.prune)?;
+    let (rewritten, last, combined) = combine_if(alloc, &pruned, &small, rewrites.combine)?;
+    let task = task_of(last, options);
+    let outcome = run.run(&rewritten, &task, inputs)?;
     Ok(RunOutcome {
         outcome,
         kept,

@@ -1,7 +1,8 @@
 //! What runs a task.
 
 ghost use Rattle.std.specs.Prelude.{IfOk};
-ghost use Rattle.pact_top.specs.Runs.{CanRun, IsTaskOutcome, IsRunner};
+ghost use Rattle.flow_run.specs.Outcomes.{IsPlanOutcome};
+ghost use Rattle.pact_top.specs.Runs.{CanRun, IsRunner};
 
 use crate::tasks::Task;
 use pact_bag::{Inputs, Outcome};
@@ -18,7 +19,7 @@ pub trait Runner {
     fn run(&self, program: &Program, task: &Task, inputs: Inputs) -> Result<Outcome, OutOfMemory>
         requires ready { ready self.now }
         requires can { CanRun program.now task.now inputs }
-        ensures { IfOk result (IsTaskOutcome program.now task.now inputs) };
+        ensures { IfOk result (IsPlanOutcome program.now inputs task.now.physical) };
 }
 
 /// Runs by a call. What runs on threads is called: the bounds of an `impl` count for the calling thread alone.

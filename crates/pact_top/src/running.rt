@@ -1,27 +1,23 @@
 //! Runs of the chosen plan, and the texts made from them.
 
-ghost use Rattle.std.specs.Prelude.{◌≡◌, ◌≤◌, ◌<◌, ◌++◌, IfOk, OnOk};
-ghost use Rattle.flow_core.specs.Worlds.{depth_limit};
-ghost use Rattle.flow_instance.specs.Limits.{batch_limit};
+ghost use Rattle.std.specs.Prelude.{◌≡◌, ◌<◌, ◌++◌, IfOk, OnOk};
 ghost use Rattle.pact_operators.specs.Inputs.{AreInputsOf};
 ghost use Rattle.pact_operators.specs.Programs.{IsPlanOf, IsProgram};
 ghost use Rattle.pact_record.specs.Widths.{AreWide};
 ghost use Rattle.pact_words.specs.Words.{AreOptionsInRange};
 ghost use Rattle.reorder_pair.specs.Legal.{KeepAnswers};
 ghost use Rattle.bag_lines.specs.Lines.{AreLines};
-ghost use Rattle.ship_strategy.specs.Layouts.{layout_count, layout_of};
+ghost use Rattle.ship_strategy.specs.Layouts.{layout_count};
 ghost use Rattle.ship_strategy.specs.PlanFacts.{facts_of};
-ghost use Rattle.ship_strategy.specs.Ships.{LegalShip};
 ghost use Rattle.ship_strategy.specs.Views.{facts_in};
 ghost use Rattle.pact_top.specs.CommandTexts.{IsAnswerOf, keeps_text};
 ghost use Rattle.pact_top.specs.Formatters.{IsFormatter};
 ghost use Rattle.pact_top.specs.PrivateCalls.{AreReportedCounts, IsLayoutOutcome, IsFinishedRun};
 
-use crate::choosing::{Choice, choose_plan};
+use crate::choosing::{Choice, ListedChoice, choose_plan};
 use crate::lines::lines_of;
-use crate::rewriting::{RunOutcome, run_task_as};
+use crate::rewriting::{RunOutcome, run_rewritten};
 use crate::runners::Runner;
-use crate::tasks::Task;
 use crate::texts::Texts;
 use pact_bag::{Counts, Inputs, Outcome, Rows};
 use pact_load::Loaded;
@@ -30,7 +26,7 @@ use pact_record::{Bytes, OutOfMemory};
 use pact_words::{Options, Rewrites};
 use plan_printer::{counts_text, push_keeps, push_partials};
 use prune_fields::Kept;
-use ship_strategy::{Table, layout_known};
+use ship_strategy::layout_known;
 use std::alloc::Global;
 
 /// A run of a program by the plan that was chosen for it, and what the run gave.
@@ -38,72 +34,36 @@ use std::alloc::Global;
 pub struct FinishedRun {
     pub program: Program,
     pub choice: Choice,
-    pub outcome: Outcome,
-    pub kept: Vec<Kept>,
-    pub combined: Vec<(u32, u32)>,
+    pub ran: RunOutcome,
 }
 
-// The task to run: a plan in one of its layouts, with these options. The facts are those of the plan, so no function is
-// analysed again.
-fn task_of(program: &Program, plan: &Plan, facts: &Table, number: u32, options: Options) -> Task
-    requires options { AreOptionsInRange options }
-    requires plan { IsPlanOf program.now.functions program.now.ops plan.now }
-    requires facts { facts_in facts.now ≡ facts_of program.now plan.now }
-    requires layout { number < layout_count program.now.ops }
-    ensures physical { result.physical ≡ layout_of (facts_of program.now plan.now) program.now.ops plan.now number options.workers }
-    ensures workers { result.options.workers ≡ options.workers }
-    ensures batch { result.options.batch ≡ options.batch }
-    ensures depth { result.options.depth ≡ options.depth }
-    ensures few { (1 ≤ result.options.batch) × (result.options.batch ≤ batch_limit) }
-    ensures shallow { (1 ≤ result.options.depth) × (result.options.depth ≤ depth_limit) }
-    ensures local { result.local ≡ options.local }
-    ensures tree { result.physical.tree ≡ plan.now }
-    ensures legal { LegalShip (facts_of program.now result.physical.tree) result.physical }
-{
-    let physical = layout_known(program, plan, facts, number, options.workers);
-    let Options {
-        workers,
-        batch,
-        depth,
-        local,
-        ..
-    } = options;
-    let options = flow_run::Options {
-        workers,
-        batch,
-        depth,
-    };
-    Task {
-        physical,
-        options,
-        local,
-    }
-}
-
-/// What a run of a plan in parts gives, in the layout of this number. Cut to the sink's fields, the records are those of
-/// a bag that the plan as written also allows. `facts` has what is known of the plan's operators.
+/// What a run of the chosen plan in parts gives, in the chosen layout. Cut to the sink's fields, the records are those
+/// of a bag that the plan as written also allows.
 pub fn run_plan<T: Runner>(
     alloc: Global,
     program: &Program,
     inputs: Inputs,
-    plan: &Plan,
-    facts: &Table,
-    number: u32,
+    best: &ListedChoice,
     options: Options,
     rewrites: Rewrites,
     run: &T,
 ) -> Result<RunOutcome, OutOfMemory>
     requires inputs { AreInputsOf program.now inputs }
     requires options { AreOptionsInRange options }
-    requires plan { IsPlanOf program.now.functions program.now.ops plan.now }
-    requires facts { facts_in facts.now ≡ facts_of program.now plan.now }
-    requires layout { number < layout_count program.now.ops }
-    requires answers { KeepAnswers program.now program.now.plan plan.now }
+    requires plan { IsPlanOf program.now.functions program.now.ops best.now.plan }
+    requires facts { facts_in best.now.facts ≡ facts_of program.now best.now.plan }
+    requires layout { best.now.chosen.layout < layout_count program.now.ops }
+    requires answers { KeepAnswers program.now program.now.plan best.now.plan }
     requires runs { T.ready run.now }
-    ensures { IfOk result (IsLayoutOutcome (record { program = program.now; inputs = inputs }) options.workers plan.now number rewrites.prune rewrites.combine) }
+    ensures { IfOk result (IsLayoutOutcome (record { program = program.now; inputs = inputs }) options.workers best.now.plan best.now.chosen.layout rewrites.prune rewrites.combine) }
 {
-    let task = task_of(program, plan, facts, number, options);
-    run_task_as(alloc, program, task, inputs, rewrites, run)
+    let ListedChoice {
+        chosen,
+        plan,
+        facts,
+    } = best;
+    let physical = layout_known(program, plan, facts, chosen.layout, options.workers);
+    run_rewritten(alloc, program, &physical, inputs, options, rewrites, run)
 }
 
 // Appends the `keeps` lines to the counts, one for each source or operator whose records lost fields.
@@ -126,19 +86,19 @@ fn push_kept(
 fn reported_counts(
     alloc: Global,
     program: &Program,
-    choice: &Choice,
+    plan: &Plan,
     counts: &Counts,
     kept: &[Kept],
     combined: &[(u32, u32)],
     asked: bool,
 ) -> Result<Option<Bytes>, OutOfMemory>
-    requires plan { IsPlanOf program.now.functions program.now.ops choice.now.plan }
-    ensures { IfOk result (AreReportedCounts program.now choice.now.plan counts.now kept.now combined.now asked) }
+    requires plan { IsPlanOf program.now.functions program.now.ops plan.now }
+    ensures { IfOk result (AreReportedCounts program.now plan.now counts.now kept.now combined.now asked) }
 {
     if !asked {
         return Ok(None);
     }
-    let mut text = counts_text(alloc, program, &choice.plan, counts)?;
+    let mut text = counts_text(alloc, program, plan, counts)?;
     push_kept(alloc, &mut text, program, kept)?;
     push_partials(alloc, &mut text, program, counts, combined)?;
     Ok(Some(text))
@@ -159,18 +119,11 @@ pub fn run_chosen<T: Runner>(
 {
     let choice = choose_plan(alloc, &loaded, options.workers, options.plans)?;
     let Loaded { program, inputs } = loaded;
-    let number = choice.chosen.layout;
-    let RunOutcome {
-        outcome,
-        kept,
-        combined,
-    } = run_plan(
+    let ran = run_plan(
         alloc,
         &program,
         inputs,
-        &choice.plan,
-        &choice.facts,
-        number,
+        &choice.best,
         options,
         rewrites,
         run,
@@ -178,9 +131,7 @@ pub fn run_chosen<T: Runner>(
     Ok(FinishedRun {
         program,
         choice,
-        outcome,
-        kept,
-        combined,
+        ran,
     })
 }
 
@@ -191,26 +142,37 @@ fn texts_of_run<W: Fn(Rows, &[u32]) -> Result<Bytes, OutOfMemory>>(
     counts: bool,
     format: &W,
 ) -> Result<Texts, OutOfMemory>
-    requires plan { IsPlanOf run.program.functions run.program.ops run.choice.plan }
-    requires widths { AreWide run.program.fields run.outcome.rows }
+    requires plan { IsPlanOf run.program.functions run.program.ops run.choice.best.plan }
+    requires widths { AreWide run.program.fields run.ran.outcome.rows }
     requires formats { IsFormatter (W.pre format.now) (W.post format.now) }
-    ensures lines { IfOk result (λ texts. AreLines run.program.sink run.outcome.rows texts.out) }
-    ensures counts { IfOk result (λ texts. AreReportedCounts run.program run.choice.plan run.outcome.counts run.kept.items run.combined.items counts texts.told) }
+    ensures lines { IfOk result (λ texts. AreLines run.program.sink run.ran.outcome.rows texts.out) }
+    ensures counts { IfOk result (λ texts. AreReportedCounts run.program run.choice.best.plan run.ran.outcome.counts run.ran.kept.items run.ran.combined.items counts texts.told) }
     ensures program { IsProgram run.program }
 {
     let FinishedRun {
         program,
         choice,
+        ran,
+    } = run;
+    let RunOutcome {
         outcome,
         kept,
         combined,
-    } = run;
+    } = ran;
     let Outcome {
         rows,
         counts: given,
     } = outcome;
     let out = lines_of(rows, program.sink(), format)?;
-    let told = reported_counts(alloc, &program, &choice, &given, &kept, &combined, counts)?;
+    let told = reported_counts(
+        alloc,
+        &program,
+        &choice.best.plan,
+        &given,
+        &kept,
+        &combined,
+        counts,
+    )?;
     Ok(Texts { out, told })
 }
 

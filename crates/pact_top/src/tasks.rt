@@ -3,19 +3,15 @@
 //! What runs a task is a `Runner`, so the code that asks for a run is written once for both ways.
 
 ghost use Rattle.std.specs.Prelude.{◌≡◌, IfOk};
-ghost use Rattle.flow_core.specs.Worlds.{HasBatchSize, IsStanding, StandsForSome};
-ghost use Rattle.flow_instance.specs.Events.{no_history};
-ghost use Rattle.flow_instance.specs.Spots.{setting};
-ghost use Rattle.pact_top.specs.Runs.{CanRun, IsTaskOutcome};
+ghost use Rattle.flow_run.specs.Outcomes.{IsPlanOutcome};
+ghost use Rattle.pact_top.specs.Runs.{CanRun, task_of};
 
-use flow_core::{World, run_alone};
-use flow_run::run_owned;
+use flow_run::{run_on_one, run_owned};
 use group_table::GroupTable;
-use local_strategy::Local;
 use pact_bag::{Inputs, Outcome};
 use pact_operators::{Physical, Program};
 use pact_record::OutOfMemory;
-use pact_words::LocalStrategy;
+use pact_words::{LocalStrategy, Options};
 use sort_local::SortLocal;
 use std::alloc::Global;
 use std::sync::Wait;
@@ -31,49 +27,27 @@ pub struct Task {
     pub local: LocalStrategy,
 }
 
-// The world of the task's plan at its start.
-fn world_of<L: Local>(
-    alloc: Global,
-    program: &Program,
-    task: &Task,
-    inputs: Inputs,
-) -> Result<World<L>, OutOfMemory>
-    requires { CanRun program.now task.now inputs }
-    ensures standing { IfOk result (λ w. IsStanding (setting program.now inputs task.now.physical) w no_history) }
-    ensures stands { IfOk result StandsForSome }
-    ensures physical { IfOk result (λ w. w.physical ≡ task.now.physical) }
-    ensures depth { IfOk result (λ w. w.depth ≡ task.now.options.depth) }
-    ensures batch { IfOk result (λ w. HasBatchSize w task.now.options.batch) }
+/// The task of running the plan with these options.
+pub fn task_of(physical: Physical, options: Options) -> Task
+    ensures { result ≡ task_of physical options }
 {
-    let Task {
+    let Options {
+        workers,
+        batch,
+        depth,
+        local,
+        ..
+    } = options;
+    let options = flow_run::Options {
+        workers,
+        batch,
+        depth,
+    };
+    Task {
         physical,
         options,
-        ..
-    } = task;
-    World::start_owned(
-        alloc,
-        program,
-        physical,
-        inputs,
-        options.batch,
-        options.depth,
-    )
-}
-
-// A run on the calling thread, with one strategy for finding the records of a key.
-fn run_with<L: Local>(
-    alloc: Global,
-    program: &Program,
-    task: &Task,
-    inputs: Inputs,
-) -> Result<Outcome, OutOfMemory>
-    requires { CanRun program.now task.now inputs }
-    ensures { IfOk result (IsTaskOutcome program.now task.now inputs) }
-{
-    // `fields` makes it known that `program` keeps the rules of a program.
-    let _fields = program.fields();
-    let world = world_of::<L>(alloc, program, task, inputs)?;
-    run_alone(world)
+        local,
+    }
 }
 
 /// The rows of a run, and how many records each source and operator gave. The calling thread steps the instances of all
@@ -85,17 +59,21 @@ pub fn run_task(
     inputs: Inputs,
 ) -> Result<Outcome, OutOfMemory>
     requires { CanRun program.now task.now inputs }
-    ensures { IfOk result (IsTaskOutcome program.now task.now inputs) }
+    ensures { IfOk result (IsPlanOutcome program.now inputs task.now.physical) }
 {
+    let Task {
+        physical,
+        options,
+        ..
+    } = task;
     match task.local {
-        LocalStrategy::Hash => run_with::<GroupTable>(alloc, program, task, inputs),
-        LocalStrategy::Sort => run_with::<SortLocal>(alloc, program, task, inputs),
+        LocalStrategy::Hash => run_on_one::<GroupTable>(alloc, program, physical, inputs, *options),
+        LocalStrategy::Sort => run_on_one::<SortLocal>(alloc, program, physical, inputs, *options),
     }
 }
 
 /// The rows of a run with a thread for each worker, and how many records each source and operator gave. It consumes the
 /// rows of the sources.
-#[tactic(auto, using(crate::proofs::RunPlans::plan_has_run))]
 pub fn run_task_on_threads<R: Threads + Wait + Sync, G: Gate>(
     rt: &R,
     alloc: Global,
@@ -105,7 +83,7 @@ pub fn run_task_on_threads<R: Threads + Wait + Sync, G: Gate>(
     gate: &G,
 ) -> Result<Outcome, OutOfMemory>
     requires { CanRun program.now task.now inputs }
-    ensures { IfOk result (IsTaskOutcome program.now task.now inputs) }
+    ensures { IfOk result (IsPlanOutcome program.now inputs task.now.physical) }
 {
     let Task {
         physical,

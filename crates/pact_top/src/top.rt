@@ -2,11 +2,12 @@
 
 ghost use Rattle.std.specs.Prelude.{◌≡◌, ◌≤◌, IfOk};
 ghost use Rattle.bag_lines.specs.Lines.{AreLines, CanFormat};
+ghost use Rattle.flow_run.specs.Outcomes.{IsPlanOutcome};
 ghost use Rattle.pact_top.specs.Headline.{KeepsPromises};
 ghost use Rattle.pact_load.specs.Readers.{CanRead, IsRead};
 ghost use Rattle.pact_load.specs.Answers.{status_of, refusal_line};
 ghost use Rattle.pact_top.specs.Refusal.{AnswersWords, threads_asked};
-ghost use Rattle.pact_top.specs.Runs.{CanRun, IsTaskOutcome};
+ghost use Rattle.pact_top.specs.Runs.{CanRun};
 ghost use Rattle.pact_top.specs.Statuses.{TellsMore, WritesAnswer, WritesTexts};
 ghost use Rattle.pact_top.specs.Writing.{WritesLine};
 ghost use Rattle.pact_words.specs.Words.{IsInRange, asked, texts_of};
@@ -89,7 +90,7 @@ fn answer_alone<F: Feed>(
     let run = CalledRuns {
         call: |program: &Program, task: &Task, inputs: Inputs| -> Result<Outcome, OutOfMemory>
             requires { CanRun program.now task.now inputs }
-            ensures { IfOk result (IsTaskOutcome program.now task.now inputs) }
+            ensures { IfOk result (IsPlanOutcome program.now inputs task.now.physical) }
         { run_task(alloc, program, task, inputs) },
     };
     let format = |bag: Rows, fields: &[u32]| -> Result<Bytes, OutOfMemory>
@@ -122,7 +123,7 @@ fn answer_on_threads<R: Threads + Wait + Sync, F: Feed, G: Gate>(
     let run = CalledRuns {
         call: |program: &Program, task: &Task, inputs: Inputs| -> Result<Outcome, OutOfMemory>
             requires { CanRun program.now task.now inputs }
-            ensures { IfOk result (IsTaskOutcome program.now task.now inputs) }
+            ensures { IfOk result (IsPlanOutcome program.now inputs task.now.physical) }
         { run_task_on_threads(rt, alloc, program, task, inputs, gate) },
     };
     let format = |bag: Rows, fields: &[u32]| -> Result<Bytes, OutOfMemory>

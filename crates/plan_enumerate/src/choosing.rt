@@ -7,7 +7,7 @@ ghost use Rattle.pact_operators.specs.Programs.{IsPlanOf, ProgramData};
 ghost use Rattle.ship_strategy.specs.Facts.{Facts};
 ghost use Rattle.ship_strategy.specs.Layouts.{layout_count, ways_of};
 ghost use Rattle.ship_strategy.specs.PlanFacts.{facts_of};
-ghost use Rattle.ship_strategy.specs.Seen.{AreTold};
+ghost use Rattle.ship_strategy.specs.EarlierFindings.{AreTrueFindings};
 ghost use Rattle.ship_strategy.specs.Views.{facts_in, ways_in};
 ghost use Rattle.plan_enumerate.specs.Choices.{IsChosen, layout_cost, pair_cost};
 ghost use Rattle.plan_enumerate.specs.KnownPlans.{AreKnownPlans};
@@ -24,7 +24,7 @@ use crate::plan_rows::{Rows, rows_of};
 use crate::weights::{Weight, row_weight, source_weight};
 use pact_bag::Counts;
 use pact_operators::{MAX_NODES, Op, Plan, Program};
-use ship_strategy::{Seen, Table, Ways, chosen, known_after, layouts};
+use ship_strategy::{EarlierFindings, Table, Ways, chosen, known_after, layouts};
 
 /// Which listed plan and which of its layouts is chosen, and what it is expected to cost.
 #[derive(Clone, Copy, Debug, PartialEq, Eq)]
@@ -132,13 +132,13 @@ fn cheapest_seen(
     entry: usize,
     counts: &Counts,
     workers: u32,
-    seen: &mut Seen,
+    seen: &mut EarlierFindings,
 ) -> Least
     requires within { entry < length entries.now }
     requires of { (t : PlanTree) → IsListed t entries.now → IsPlanOf program.now.functions program.now.ops t }
     requires workers { (1 ≤ workers) × (workers ≤ worker_limit) }
-    requires seen { AreTold program.now seen.old.tables }
-    ensures seen { AreTold program.now seen.new.tables }
+    requires seen { AreTrueFindings program.now seen.old.tables }
+    ensures seen { AreTrueFindings program.now seen.new.tables }
     ensures least { IsLeastBelow (pair_cost program.now (plans_of entries.now) counts.now workers entry) (layout_count program.now.ops) result.layout result.cost }
 {
     let plan = entries.at(entry).plan;
@@ -190,7 +190,7 @@ pub fn choose(program: &Program, listed: &Listed, counts: &Counts, workers: u32)
     ensures { IsChosen program.now (plans_of listed.now.entries) counts.now workers result }
 {
     let entries = listed.entries();
-    let mut seen = Seen::nothing();
+    let mut seen = EarlierFindings::nothing();
     let first = cheapest_seen(program, entries, 0, counts, workers, &mut seen);
     let mut chosen = Chosen {
         entry: 0,

@@ -22,9 +22,9 @@ abbrev pub is_called : List Op → ℕ → Bool
 is_called [] function = false
 is_called (op ∷ ops) function = calls op function || is_called ops function
 
--- the operator of a number calls the function
+-- the operator of a number, which isn't a source, calls the function
 abbrev pub IsCalled : ProgramData → ℕ → WithFields → Type 0
-IsCalled p op called = (found : Op) × (slice_get p.ops op ≡ Some found) × (slice_get p.functions found.function ≡ Some called)
+IsCalled p op called = (found : Op) × (slice_get p.ops op ≡ Some found) × (is_operator_kind found.kind ≡ true) × (slice_get p.functions found.function ≡ Some called)
 
 -- ---- fields that are read
 

@@ -1,6 +1,7 @@
 //! Whether hints hold.
 
 ghost use Rattle.std.specs.Prelude.{◌≡◌, ◌<◌, ◌||◌, true, false, IfSome};
+ghost use Rattle.pact_operators.specs.Programs.{is_operator_kind};
 ghost use Rattle.pact_record.specs.declared.records.TheConstants.{MAX_FIELDS};
 ghost use Rattle.pact_record.specs.FieldSets.{has_field};
 ghost use Rattle.pact_record.specs.Keys.{is_listed};
@@ -30,10 +31,17 @@ pub(crate) fn is_right(program: &Program, hint: &Hint) -> bool
     }
 }
 
-fn calls(op: &Op, function: u32) -> bool
+/// Whether the operator calls the function.
+pub(crate) fn calls(op: &Op, function: u32) -> bool
     ensures { result ≡ calls op.now function }
 {
-    op.kind != OpKind::Source && op.function == function
+    is_operator(op) && op.function == function
+}
+
+fn is_operator(op: &Op) -> bool
+    ensures { result ≡ is_operator_kind op.now.kind }
+{
+    op.kind != OpKind::Source
 }
 
 /// Whether some operator calls the function.
@@ -151,11 +159,14 @@ fn is_never_kept(program: &Program, field: u32) -> bool
     !known.has(field)
 }
 
-// The function that the operator calls.
+// The function that the operator calls. A source calls none.
 fn called(program: &Program, op: u32) -> Option<&Valid>
     ensures { IfSome result (λ f. IsCalled program.now op f.now) }
 {
     let found = program.ops().get(op as usize)?;
+    if !is_operator(found) {
+        return None;
+    }
     program.functions().get(found.function as usize)
 }
 

@@ -3,11 +3,14 @@
 ghost use Rattle.std.specs.Prelude.{IfOk, OnOk};
 ghost use Rattle.program_hints.specs.Hints.{AreRight};
 
-use crate::checks::{is_called, is_right};
+use crate::checks::{calls, is_called, is_right};
 use crate::columns::note_columns;
-use crate::nulls::{note_nulls, note_sink};
-use crate::operations::{columns_below, note_operations};
-use function_hints::{Hint, HintList, note_unread, note_unset, number_of, order_fault, silent_in};
+use crate::dropped::note_dropped;
+use crate::nulls::{note_keys, note_nulls, note_sink};
+use crate::operations::{columns_of_callers, note_operations};
+use function_hints::{
+    Hint, HintList, note_least, note_unread, note_unset, number_of, order_fault, silent_in,
+};
 use pact_operators::{Op, OpKind, Program, context};
 use pact_record::OutOfMemory;
 use std::alloc::Global;
@@ -43,6 +46,7 @@ fn found_hints(alloc: Global, program: &Program) -> Result<HintList, OutOfMemory
     note_functions(&mut list, program)?;
     note_operators(&mut list, program)?;
     note_sink(&mut list, program)?;
+    note_dropped(&mut list, program)?;
     if has_null_field(list.items()) {
         note_columns(&mut list, program)?;
     }
@@ -82,6 +86,7 @@ fn note_functions(list: &mut HintList, program: &Program) -> Result<(), OutOfMem
 
 fn note_function(list: &mut HintList, function: u32, body: &Body) -> Result<(), OutOfMemory> {
     note_unset(list, function, body)?;
+    note_least(list, function, body)?;
     note_unread(list, function, body)?;
     if let Some(statement) = silent_in(body, 0) {
         list.push(Hint::NothingEmitted {
@@ -115,11 +120,35 @@ fn note_operator(
     if !plan.has(at) {
         return Ok(());
     }
-    let body = &called.function().body;
-    note_nulls(list, at, &context(program, plan, at), body)?;
-    let columns = columns_below(program, &plan.subtree(at), at);
-    note_operations(list, at, &columns, body)?;
+    note_keys(list, at, &context(program, plan, at))?;
+    if is_first_caller(program.ops(), at, op.function) {
+        note_statements(list, program, at, op.function, called)?;
+    }
     note_order(list, at, called)
+}
+
+fn is_first_caller(ops: &[Op], at: u32, function: u32) -> bool {
+    for n in 0..ops.len() {
+        if calls(&ops[n], function) {
+            return number_of(n) == at;
+        }
+    }
+    false
+}
+
+// What statements do with fields of the inputs. Operators that call one function share its statements, so only what is
+// so for all of them counts, and comes once.
+fn note_statements(
+    list: &mut HintList,
+    program: &Program,
+    at: u32,
+    function: u32,
+    called: &Valid,
+) -> Result<(), OutOfMemory> {
+    let body = &called.function().body;
+    note_nulls(list, program, at, function, body)?;
+    let columns = columns_of_callers(program, function, called.named());
+    note_operations(list, at, &columns, body)
 }
 
 fn note_order(list: &mut HintList, op: u32, called: &Valid) -> Result<(), OutOfMemory> {

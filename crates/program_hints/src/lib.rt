@@ -4,13 +4,15 @@
 //! `Hint`'s kind, and names an operator, a function or a statement by its number.
 //!
 //! - `nulls` finds fields that are Null always, and `columns` columns that nobody reads.
-//! - `operations` finds operations on texts that want numbers, and on numbers that want texts.
+//! - `dropped` finds fields of the sink that a function leaves out.
+//! - `operations` finds operations on values of another type than they want.
 //! - `checks` has what clauses say of hints: `program_hints` returns no hint that doesn't pass.
 //! - `sizes` finds what takes long over many rows. `function_hints` has what a function's statements alone show.
 #![tactic(auto)]
 
 mod checks;
 mod columns;
+mod dropped;
 mod hints;
 mod nulls;
 mod operations;

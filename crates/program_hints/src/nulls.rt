@@ -3,23 +3,33 @@
 ghost use Rattle.std.specs.Prelude.{◌<◌};
 ghost use Rattle.pact_record.specs.declared.records.TheConstants.{MAX_FIELDS};
 
-use function_hints::{Hint, HintList, behind, bit, inside, inside_other};
-use pact_operators::{Program, attributes_of};
+use crate::checks::calls;
+use function_hints::{Hint, HintList, behind, bit, inside, inside_other, number_of};
+use pact_operators::{Program, attributes_of, context};
 use pact_record::{Fields, Keys, MAX_FIELDS, OutOfMemory};
 use tac_syntax::{Body, Context, LoopList, Rec, Stmt};
 
 /// The fields in which the records of an operator's inputs may have values, and which of the loops around a statement
 /// go over the left input.
 #[derive(Clone, Copy)]
-struct Inputs {
+pub(crate) struct Inputs {
     left: Fields,
     right: Fields,
     left_loops: u32,
 }
 
 impl Inputs {
-    // The fields in which the record may have a value, if it is a record of an input.
-    fn fields_of(&self, from: Rec) -> Option<Fields> {
+    /// The inputs outside of all loops.
+    pub(crate) fn new(left: Fields, right: Fields) -> Inputs {
+        Inputs {
+            left,
+            right,
+            left_loops: 0,
+        }
+    }
+
+    /// The fields in which the record may have a value, if it is a record of an input.
+    pub(crate) fn fields_of(&self, from: Rec) -> Option<Fields> {
         match from {
             Rec::Input | Rec::Left | Rec::First => Some(self.left),
             Rec::Right => Some(self.right),
@@ -40,7 +50,8 @@ impl Inputs {
         }
     }
 
-    fn in_loop(&self, name: u32, list: LoopList) -> Inputs {
+    /// The inputs inside a loop of that name.
+    pub(crate) fn in_loop(&self, name: u32, list: LoopList) -> Inputs {
         let left_loops = match list {
             LoopList::Group | LoopList::Left => self.left_loops | bit(name),
             LoopList::Right => self.left_loops & !bit(name),
@@ -53,26 +64,55 @@ impl Inputs {
     }
 }
 
-/// Appends a hint for each field that the function of an operator reads from its inputs, and for each key, that is Null
-/// in all records there.
+/// Appends a hint for each field that the function reads from the inputs of an operator, if the field is Null there in
+/// all records of all operators that call the function.
 pub(crate) fn note_nulls(
     list: &mut HintList,
+    program: &Program,
     op: u32,
-    context: &Context,
+    function: u32,
     body: &Body,
 ) -> Result<(), OutOfMemory> {
-    let inputs = Inputs {
-        left: context.left,
-        right: context.right,
-        left_loops: 0,
-    };
-    note_keys(list, op, &context.left_keys, inputs.left, &inputs)?;
-    note_keys(list, op, &context.right_keys, inputs.right, &inputs)?;
-    walk(list, op, body, 0, &inputs, Fields::empty())?;
+    walk(
+        list,
+        op,
+        body,
+        0,
+        &inputs_of_callers(program, function),
+        Fields::empty(),
+    )?;
     Ok(())
 }
 
-fn note_keys(
+// The fields that the inputs of some operator have that calls the function.
+fn inputs_of_callers(program: &Program, function: u32) -> Inputs {
+    let plan = program.plan();
+    let ops = program.ops();
+    let mut left = Fields::empty();
+    let mut right = Fields::empty();
+    for n in 0..ops.len() {
+        let number = number_of(n);
+        if calls(&ops[n], function) && plan.has(number) {
+            let inputs = context(program, plan, number);
+            left = left.union(inputs.left);
+            right = right.union(inputs.right);
+        }
+    }
+    Inputs::new(left, right)
+}
+
+/// Appends a hint for each key of an operator that is Null in all records of its input.
+pub(crate) fn note_keys(
+    list: &mut HintList,
+    op: u32,
+    context: &Context,
+) -> Result<(), OutOfMemory> {
+    let inputs = Inputs::new(context.left, context.right);
+    note_side(list, op, &context.left_keys, inputs.left, &inputs)?;
+    note_side(list, op, &context.right_keys, inputs.right, &inputs)
+}
+
+fn note_side(
     list: &mut HintList,
     op: u32,
     keys: &Keys,

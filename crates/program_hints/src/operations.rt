@@ -1,35 +1,67 @@
-//! Operations on texts that want numbers, and on numbers that want texts.
+//! Operations on texts that want numbers, on numbers that want texts, and comparisons of a text with a number.
 
+use crate::checks::calls;
 use crate::types::{Columns, Type, Types};
-use function_hints::{Hint, HintList, assigned_in, behind, inside, inside_other, number_of};
+use function_hints::{Hint, HintList, assigned_in, behind, bit, inside, inside_other, number_of};
 use pact_operators::{Op, OpKind, Plan, Program};
-use pact_record::{Column, Fields, MAX_FIELDS, Op2, OutOfMemory};
+use pact_record::{Column, Fields, Keys, MAX_FIELDS, Op1, Op2, OutOfMemory};
 use tac_syntax::{Body, Stmt};
 
-/// The fields of an operator's inputs that come from a column of a source below and that no function below sets.
-pub(crate) fn columns_below(program: &Program, plan: &Plan, at: u32) -> Columns {
-    let below = plan;
-    let mut columns = Columns {
+/// What is known of the inputs of all operators that call a function, which sets the fields `named` itself. A field is
+/// known if it comes from a column of a source and no function below sets it.
+pub(crate) fn columns_of_callers(program: &Program, function: u32, named: Fields) -> Columns {
+    let plan = program.plan();
+    let ops = program.ops();
+    let mut found = Found {
         texts: Fields::empty(),
         numbers: Fields::empty(),
+        written: Fields::empty(),
     };
-    let mut written = Fields::empty();
+    for n in 0..ops.len() {
+        let number = number_of(n);
+        if calls(&ops[n], function) && plan.has(number) {
+            found = found_below(program, &plan.subtree(number), number, &found);
+        }
+    }
+    let texts = found.texts.minus(found.written);
+    let numbers = found.numbers.minus(found.written);
+    Columns {
+        texts,
+        numbers,
+        text_keys: keys_of_callers(ops, function, texts),
+        number_keys: keys_of_callers(ops, function, numbers),
+        named,
+    }
+}
+
+// The columns of sources, those of texts and those of numbers, and the fields that functions set.
+#[derive(Clone, Copy)]
+struct Found {
+    texts: Fields,
+    numbers: Fields,
+    written: Fields,
+}
+
+// Adds what is below an operator.
+fn found_below(program: &Program, below: &Plan, at: u32, before: &Found) -> Found {
+    let mut found = *before;
     let ops = program.ops();
     for n in 0..ops.len() {
         let number = number_of(n);
         if number != at && below.has(number) {
-            columns = with_source(&columns, ops[n].columns.columns());
-            written = written.union(written_by(program, &ops[n]));
+            found = with_source(&found, ops[n].columns.columns());
+            found = Found {
+                texts: found.texts,
+                numbers: found.numbers,
+                written: found.written.union(written_by(program, &ops[n])),
+            };
         }
     }
-    Columns {
-        texts: columns.texts.minus(written),
-        numbers: columns.numbers.minus(written),
-    }
+    found
 }
 
-fn with_source(columns: &Columns, source: &[Column]) -> Columns {
-    let mut found = *columns;
+fn with_source(before: &Found, source: &[Column]) -> Found {
+    let mut found = *before;
     for column in source {
         if column.field < MAX_FIELDS {
             found = with_column(&found, *column);
@@ -38,21 +70,53 @@ fn with_source(columns: &Columns, source: &[Column]) -> Columns {
     found
 }
 
-fn with_column(columns: &Columns, column: Column) -> Columns {
+fn with_column(found: &Found, column: Column) -> Found {
     if column.field >= MAX_FIELDS {
-        return *columns;
+        return *found;
     }
     if column.text {
-        Columns {
-            texts: columns.texts.with(column.field),
-            numbers: columns.numbers,
+        Found {
+            texts: found.texts.with(column.field),
+            numbers: found.numbers,
+            written: found.written,
         }
     } else {
-        Columns {
-            texts: columns.texts,
-            numbers: columns.numbers.with(column.field),
+        Found {
+            texts: found.texts,
+            numbers: found.numbers.with(column.field),
+            written: found.written,
         }
     }
+}
+
+// The positions of keys that are among the fields in each operator that calls the function, with a bit for each.
+fn keys_of_callers(ops: &[Op], function: u32, fields: Fields) -> u32 {
+    let mut found = u32::MAX;
+    for op in ops {
+        if calls(op, function) {
+            found &= keys_among(op, fields);
+        }
+    }
+    found
+}
+
+// A key of a CoGroup comes from either side.
+fn keys_among(op: &Op, fields: Fields) -> u32 {
+    let left = positions_among(&op.left_keys, fields);
+    match op.kind {
+        OpKind::CoGroup => left & positions_among(&op.right_keys, fields),
+        _ => left,
+    }
+}
+
+fn positions_among(keys: &Keys, fields: Fields) -> u32 {
+    let mut found = 0u32;
+    for n in 0..keys.len() {
+        if fields.has(keys.at(n)) {
+            found |= bit(n);
+        }
+    }
+    found
 }
 
 // The fields that the operator's function may set.
@@ -117,28 +181,36 @@ fn walk_one(
             walk(list, op, body, inside(at), columns, &turned)?;
             Ok(turned)
         }
+        Stmt::One { op: by, a, .. } => {
+            note(list, hint_of_one(op, at, *by, types.of(*a)))?;
+            Ok(types.after(stmt, columns))
+        }
         Stmt::Two { op: by, a, b, .. } => {
-            note_two(list, op, at, *by, types.of(*a), types.of(*b))?;
+            note(list, hint_of(op, at, *by, types.of(*a), types.of(*b)))?;
             Ok(types.after(stmt, columns))
         }
         _ => Ok(types.after(stmt, columns)),
     }
 }
 
-fn note_two(
-    list: &mut HintList,
-    op: u32,
-    statement: u32,
-    by: Op2,
-    a: Type,
-    b: Type,
-) -> Result<(), OutOfMemory> {
-    match hint_of(op, statement, by, a, b) {
+fn note(list: &mut HintList, found: Option<Hint>) -> Result<(), OutOfMemory> {
+    match found {
         Some(hint) => {
             list.push(hint)?;
             Ok(())
         }
         None => Ok(()),
+    }
+}
+
+fn hint_of_one(op: u32, statement: u32, by: Op1, a: Type) -> Option<Hint> {
+    match (by, a) {
+        (Op1::Len, Type::Number { field, .. }) => Some(Hint::CatOfNumber {
+            op,
+            statement,
+            field,
+        }),
+        _ => None,
     }
 }
 
@@ -160,7 +232,7 @@ fn hint_of(op: u32, statement: u32, by: Op2, a: Type, b: Type) -> Option<Hint> {
                 field,
             })
         }
-        Op2::Eq => {
+        Op2::Eq | Op2::Lt | Op2::Le => {
             let field = mixed(a, b)?;
             Some(Hint::TextWithNumber {
                 op,

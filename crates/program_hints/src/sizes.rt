@@ -5,6 +5,7 @@ use function_hints::{Hint, HintList, inner_loop, number_of};
 use pact_operators::{Op, OpKind, Parts, Plan, Program};
 use pact_record::OutOfMemory;
 use std::alloc::Global;
+use tac_syntax::LoopList;
 
 /// An input with this number of rows is a large one.
 pub const LARGE_ROWS: u64 = 10_000;
@@ -43,7 +44,13 @@ fn note_operator(
     match tree.parts() {
         Parts::Alone { .. } => Ok(()),
         Parts::OverOne { input, .. } => {
-            note_loops(list, program, op, count_of(program, rows, &input))
+            note_loops(
+                list,
+                program,
+                op,
+                LoopList::Group,
+                count_of(program, rows, &input),
+            )
         }
         Parts::OverTwo { left, right, .. } => note_pair(
             list,
@@ -66,8 +73,8 @@ fn note_pair(
         Some(OpKind::Match) => note_match(list, op, left, right),
         Some(OpKind::Cross) => note_cross(list, op, left, right),
         _ => {
-            note_loops(list, program, op, left)?;
-            note_loops(list, program, op, right)
+            note_loops(list, program, op, LoopList::Left, left)?;
+            note_loops(list, program, op, LoopList::Right, right)
         }
     }
 }
@@ -105,14 +112,16 @@ fn note_cross(
     Ok(())
 }
 
-// A loop inside another one, if the input is large. Each function is reported once.
+// A loop over an input's group inside another one over it, if the input is large. A loop over the other input's group
+// isn't one: it makes pairs. Each function is reported once.
 fn note_loops(
     list: &mut HintList,
     program: &Program,
     op: u32,
+    group: LoopList,
     input: Option<Count>,
 ) -> Result<(), OutOfMemory> {
-    let Some(hint) = loop_hint(program, op, input) else {
+    let Some(hint) = loop_hint(program, op, group, input) else {
         return Ok(());
     };
     if !list.items().contains(&hint) {
@@ -121,13 +130,13 @@ fn note_loops(
     Ok(())
 }
 
-fn loop_hint(program: &Program, op: u32, input: Option<Count>) -> Option<Hint> {
+fn loop_hint(program: &Program, op: u32, group: LoopList, input: Option<Count>) -> Option<Hint> {
     if input?.least < LARGE_ROWS {
         return None;
     }
     let function = program.ops().get(op as usize)?.function;
     let called = program.functions().get(function as usize)?;
-    let statement = inner_loop(&called.function().body, 0)?;
+    let statement = inner_loop(&called.function().body, 0, group, false)?;
     Some(Hint::SquareLoop {
         function,
         statement,

@@ -1,6 +1,6 @@
 //! What is known of the values in registers.
 
-use function_hints::{Register, Registers};
+use function_hints::{Register, Registers, bit};
 use pact_record::{Fields, MAX_FIELDS, Op1, Op2};
 use tac_syntax::{Rec, Stmt};
 
@@ -14,11 +14,15 @@ pub(crate) enum Type {
     Number { field: Option<u32>, sure: bool },
 }
 
-/// The fields of an operator's inputs that hold texts or Null, and those that hold numbers or Null.
+/// The fields of the inputs that hold texts or Null, those that hold numbers or Null, and the positions of such keys,
+/// with a bit for each. `named` has the fields that the function sets itself.
 #[derive(Clone, Copy)]
 pub(crate) struct Columns {
     pub texts: Fields,
     pub numbers: Fields,
+    pub text_keys: u32,
+    pub number_keys: u32,
+    pub named: Fields,
 }
 
 impl Columns {
@@ -37,6 +41,16 @@ impl Columns {
                 field: found,
                 sure: false,
             }
+        } else {
+            Type::Any
+        }
+    }
+
+    fn type_of_key(&self, n: u32) -> Type {
+        if self.text_keys & bit(n) != 0 {
+            TEXT_OR_NULL
+        } else if self.number_keys & bit(n) != 0 {
+            NUMBER_OR_NULL
         } else {
             Type::Any
         }
@@ -97,9 +111,8 @@ impl Types {
             Stmt::Get { to, from, field } => self.with(*to, type_read(*from, *field, columns)),
             Stmt::One { to, op, .. } => self.with(*to, type_of_one(*op)),
             Stmt::Two { to, op, .. } => self.with(*to, type_of_two(*op)),
-            Stmt::Null { to } | Stmt::GetAt { to, .. } | Stmt::Key { to, .. } => {
-                self.with(*to, Type::Any)
-            }
+            Stmt::Key { to, at } => self.with(*to, columns.type_of_key(*at)),
+            Stmt::Null { to } | Stmt::GetAt { to, .. } => self.with(*to, Type::Any),
             _ => *self,
         }
     }
@@ -120,10 +133,10 @@ const TEXT_OR_NULL: Type = Type::Text {
     sure: false,
 };
 
-// A record register may have other values than an input.
+// A record register has what an input has, or Null, in the fields that the function doesn't set.
 fn type_read(from: Rec, field: u32, columns: &Columns) -> Type {
     match from {
-        Rec::Reg(_) => Type::Any,
+        Rec::Reg(_) if field >= MAX_FIELDS || columns.named.has(field) => Type::Any,
         _ => columns.type_of(field),
     }
 }

@@ -44,8 +44,8 @@ module _ (p : ProgramData) (program : IsProgram p) (inputs : List Bag) (of_input
   abbrev pub HaveShares : PlanTree → Type 0
   HaveShares t = (w : ℕ) → w < W → GaveShare O q gave t w
 
-  abbrev pub IsTold : PlanTree → Type 0
-  IsTold t = Told (root_of t) (length (all_of W (gave (root_of t))))
+  abbrev pub IsTrueFinding : PlanTree → Type 0
+  IsTrueFinding t = Told (root_of t) (length (all_of W (gave (root_of t))))
 
   abbrev pub HasFacts : PlanTree → Type 0
   HasFacts t = f (root_of t) ≡ facts_at p t
@@ -73,7 +73,7 @@ module _ (p : ProgramData) (program : IsProgram p) (inputs : List Bag) (of_input
 
   -- ---- a source
 
-  whole_leaf : (n : ℕ) → HaveShares (leaf n) → IsTold (leaf n) → IsWhole (leaf n)
+  whole_leaf : (n : ℕ) → HaveShares (leaf n) → IsTrueFinding (leaf n) → IsWhole (leaf n)
   whole_leaf n shares told = (
     (
       record {
@@ -92,7 +92,7 @@ module _ (p : ProgramData) (program : IsProgram p) (inputs : List Bag) (of_input
   abbrev OneAt : ℕ → PlanTree → ℕ → Bag × Bag → Type 0
   OneAt n t w x = IsReceived q gave t w x.0 × Gives O (O.kind n) n x.0 x.1 × IsPermutation x.1 (gave n w)
 
-  whole_over : (n : ℕ) (t : PlanTree) → HaveShares (over n t) → IsTold (over n t) → HasFacts (over n t) → AllowsOver (f n) (ship_of q t) (placement f q t) → IsWhole t → IsWhole (over n t)
+  whole_over : (n : ℕ) (t : PlanTree) → HaveShares (over n t) → IsTrueFinding (over n t) → HasFacts (over n t) → AllowsOver (f n) (ship_of q t) (placement f q t) → IsWhole t → IsWhole (over n t)
   whole_over n t shares told is legal whole =
       let x = picked W (OneAt n t) ([], []) (λ w b. let d = shares w b in ((d.rows, d.out), (d.below, d.given, d.permuted))) in
       let rows = λ (w : ℕ). (x.0 w).0 in
@@ -126,7 +126,7 @@ module _ (p : ProgramData) (program : IsProgram p) (inputs : List Bag) (of_input
   abbrev TwoAt : ℕ → PlanTree → PlanTree → ℕ → Bag × Bag × Bag → Type 0
   TwoAt n t u w x = IsReceived q gave t w x.0 × IsReceived q gave u w x.1 × GivesBoth O (O.kind n) n x.0 x.1 x.2 × IsPermutation x.2 (gave n w)
 
-  whole_both : (n : ℕ) (t u : PlanTree) → HaveShares (both n t u) → IsTold (both n t u) → HasFacts (both n t u)
+  whole_both : (n : ℕ) (t u : PlanTree) → HaveShares (both n t u) → IsTrueFinding (both n t u) → HasFacts (both n t u)
       → AllowsBoth (f n) (ship_of q t) (ship_of q u) (placement f q t) (placement f q u) → ((k : ℕ) → Attributes t k → Attributes u k → ⊥) → IsWhole t → IsWhole u → IsWhole (both n t u)
   whole_both n t u shares told is legal apart left_whole right_whole =
       let x = picked W (TwoAt n t u) ([], [], []) (λ w b. let d = shares w b in ((d.left_rows, d.right_rows, d.out), (d.left_below, d.right_below, d.given, d.permuted))) in
@@ -166,7 +166,7 @@ module _ (p : ProgramData) (program : IsProgram p) (inputs : List Bag) (of_input
 
   -- ---- the whole tree
 
-  pub all_whole : (t : PlanTree) → AllBelow HaveShares t → AllBelow IsTold t → AllBelow HasFacts t → IsLegal f q t → AreSidesApart p.functions p.ops t → AllBelow IsWhole t
+  pub all_whole : (t : PlanTree) → AllBelow HaveShares t → AllBelow IsTrueFinding t → AllBelow HasFacts t → IsLegal f q t → AreSidesApart p.functions p.ops t → AllBelow IsWhole t
   all_whole (leaf n) shares told facts legal apart = whole_leaf n shares told
   all_whole (over n t) shares told facts legal apart =
       let below = all_whole t shares.1 told.1 facts.1 legal.1 apart in

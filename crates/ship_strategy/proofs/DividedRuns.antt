@@ -18,7 +18,7 @@ use Rattle.ship_strategy.specs.Layouts.{layout_of, ways_of}
 use Rattle.ship_strategy.specs.Meets.{AllGaveShares, AllMeet, Meets}
 use Rattle.ship_strategy.specs.PlanFacts.{facts_at, facts_of}
 use Rattle.ship_strategy.specs.Ships.{AllowsBoth, AllowsOver, IsLegal, LegalShip, placement}
-use Rattle.ship_strategy.proofs.DividedEvaluations.{HaveShares, IsTold, IsWhole, all_whole}
+use Rattle.ship_strategy.proofs.DividedEvaluations.{HaveShares, IsTrueFinding, IsWhole, all_whole}
 use Rattle.ship_strategy.proofs.FactsBelow.{facts_below}
 use Rattle.ship_strategy.proofs.LaidSteps.{laid_workers}
 use Rattle.ship_strategy.proofs.MeetingRecords.{meet_both, meet_over}
@@ -43,7 +43,7 @@ module _ (p : ProgramData) (program : IsProgram p) (inputs : List Bag) (of_input
   whole_run Told told =
       all_whole p program inputs of_inputs q some (facts_of p q.tree) gave Told q.tree
       (all_below (HaveShares p program inputs of_inputs q some (facts_of p q.tree) gave Told) q.tree plan.different shares)
-      (all_below (IsTold p program inputs of_inputs q some (facts_of p q.tree) gave Told) q.tree plan.different
+      (all_below (IsTrueFinding p program inputs of_inputs q some (facts_of p q.tree) gave Told) q.tree plan.different
       (λ at there. subst (λ (n : ℕ). Told n (length (all_of q.workers (gave n)))) (sym (root_of-subtree at q.tree there)) (told at there)))
       (facts_below p q.tree plan.different) legal plan.apart
 

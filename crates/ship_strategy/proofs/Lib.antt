@@ -11,7 +11,7 @@ pub mod BlankTables
 pub mod FilledTables
 pub mod PlanAttributes
 pub mod FactsInContext
-pub mod SeenRows
+pub mod EarlierFindingRows
 pub mod PlanSets
 pub mod ProgramLayouts
 pub mod Arrivals

@@ -3,5 +3,5 @@ pub mod Ships
 pub mod Layouts
 pub mod Views
 pub mod PlanFacts
-pub mod Seen
+pub mod EarlierFindings
 pub mod Meets

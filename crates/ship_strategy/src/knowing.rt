@@ -11,10 +11,10 @@ ghost use Rattle.pact_operators.specs.PlanOps.{kind_at, left_keys_in, right_keys
 ghost use Rattle.pact_operators.specs.Programs.{HasLeftAttribute, HasRightAttribute};
 ghost use Rattle.ship_strategy.specs.PlanFacts as known;
 ghost use Rattle.ship_strategy.specs.PlanFacts.{attribute, facts_of, filled, no_sets, owned, sets_at};
-ghost use Rattle.ship_strategy.specs.Seen.{AreTold};
+ghost use Rattle.ship_strategy.specs.EarlierFindings.{AreTrueFindings};
 ghost use Rattle.ship_strategy.specs.Views.{facts_in, known_of, put};
 
-use crate::seen::Seen;
+use crate::earlier_findings::EarlierFindings;
 use crate::tables::{OpFacts, Table};
 use pact_operators::{OpKind, Parts, Plan, Program, attrs};
 use pact_record::{Fields, Keys};
@@ -104,10 +104,16 @@ fn facts_for(program: &Program, at: u32, left: Fields, right: Fields) -> OpFacts
 }
 
 // What `facts_for` returns, from earlier findings if there are any in this context.
-fn facts_after(program: &Program, at: u32, left: Fields, right: Fields, seen: &Seen) -> OpFacts
+fn facts_after(
+    program: &Program,
+    at: u32,
+    left: Fields,
+    right: Fields,
+    seen: &EarlierFindings,
+) -> OpFacts
     requires left { IsBelow program.now.fields (has_field left) }
     requires right { IsBelow program.now.fields (has_field right) }
-    requires seen { AreTold program.now seen.now.tables }
+    requires seen { AreTrueFindings program.now seen.now.tables }
     ensures { known_of result ≡ known.facts_for program.now at (has_field left) (has_field right) }
 {
     match seen.row(at, left, right) {
@@ -123,11 +129,11 @@ fn fill_root(
     at: u32,
     left: Fields,
     right: Fields,
-    seen: &Seen,
+    seen: &EarlierFindings,
     table: &mut Table,
 ) -> Fields
     requires at { at < node_limit }
-    requires seen { AreTold program.now seen.now.tables }
+    requires seen { AreTrueFindings program.now seen.now.tables }
     requires left { IsBelow program.now.fields (has_field left) }
     requires right { IsBelow program.now.fields (has_field right) }
     ensures attributes { (k : ℕ) → has_field result k ≡ (owned program.now.functions program.now.ops at k || (has_field left k || has_field right k)) }
@@ -139,8 +145,8 @@ fn fill_root(
 }
 
 // Enters what is known of each source and operator of the tree, and returns its attributes.
-fn fill(program: &Program, tree: &Plan, seen: &Seen, table: &mut Table) -> Fields
-    requires seen { AreTold program.now seen.now.tables }
+fn fill(program: &Program, tree: &Plan, seen: &EarlierFindings, table: &mut Table) -> Fields
+    requires seen { AreTrueFindings program.now seen.now.tables }
     ensures attributes { has_field result ≡ attribute program.now tree.now }
     ensures below { IsBelow program.now.fields (has_field result) }
     ensures table { facts_in table.new ≡ filled program.now tree.now (facts_in table.old) }
@@ -163,12 +169,12 @@ fn fill(program: &Program, tree: &Plan, seen: &Seen, table: &mut Table) -> Field
 
 /// What is known of each source and operator of the plan; `seen` remembers it. A function is analysed only if no plan
 /// that is still remembered had its operator in the same context.
-pub fn known_after(program: &Program, plan: &Plan, seen: &mut Seen) -> Table
-    requires seen { AreTold program.now seen.old.tables }
+pub fn known_after(program: &Program, plan: &Plan, seen: &mut EarlierFindings) -> Table
+    requires seen { AreTrueFindings program.now seen.old.tables }
     ensures value { facts_in result ≡ facts_of program.now plan.now }
     ensures left { (n k : ℕ) → has n plan.now ≡ true → Has (facts_in result n).left k ↔ HasLeftAttribute program.now.functions program.now.ops (subtree_of n plan.now) k }
     ensures right { (n k : ℕ) → has n plan.now ≡ true → Has (facts_in result n).right k ↔ HasRightAttribute program.now.functions program.now.ops (subtree_of n plan.now) k }
-    ensures seen { AreTold program.now seen.new.tables }
+    ensures seen { AreTrueFindings program.now seen.new.tables }
 {
     let mut table = Table::blank();
     fill(program, plan, seen, &mut table);
@@ -182,6 +188,6 @@ pub fn known(program: &Program, plan: &Plan) -> Table
     ensures left { (n k : ℕ) → has n plan.now ≡ true → Has (facts_in result n).left k ↔ HasLeftAttribute program.now.functions program.now.ops (subtree_of n plan.now) k }
     ensures right { (n k : ℕ) → has n plan.now ≡ true → Has (facts_in result n).right k ↔ HasRightAttribute program.now.functions program.now.ops (subtree_of n plan.now) k }
 {
-    let mut seen = Seen::nothing();
+    let mut seen = EarlierFindings::nothing();
     known_after(program, plan, &mut seen)
 }

@@ -24,7 +24,7 @@ use plan_trees::{parts_within, ship_below};
 
 // Where the records of a tree's root are, and whether every edge of the tree is legal.
 #[derive(Clone, Copy)]
-struct Looked {
+struct CheckedEdges {
     placement: Option<Keys>,
     legal: bool,
 }
@@ -107,29 +107,29 @@ fn both_so(one: bool, other: bool) -> bool
     one && other
 }
 
-fn look(table: &Table, physical: &Physical, tree: &Plan) -> Looked
+fn check_edges(table: &Table, physical: &Physical, tree: &Plan) -> CheckedEdges
     requires { EdgesLieIn tree.now physical.now.tree }
     ensures placement { result.placement ≡ ships.placement (facts_in table.now) physical.now tree.now }
     ensures legal { result.legal ≡ is_legal (facts_in table.now) physical.now tree.now }
 {
     match parts_within(physical, tree) {
-        Parts::Alone { .. } => Looked {
+        Parts::Alone { .. } => CheckedEdges {
             placement: None,
             legal: true,
         },
         Parts::OverOne { at, input } => {
-            let below = look(table, physical, &input);
+            let below = check_edges(table, physical, &input);
             let ship = ship_below(physical, &input);
             let x = table.at(at);
             let allowed = allows_over(&x, &ship, &below.placement);
-            Looked {
+            CheckedEdges {
                 placement: placed_over(&x, &ship, &below.placement),
                 legal: both_so(allowed, below.legal),
             }
         }
         Parts::OverTwo { at, left, right } => {
-            let on_left = look(table, physical, &left);
-            let on_right = look(table, physical, &right);
+            let on_left = check_edges(table, physical, &left);
+            let on_right = check_edges(table, physical, &right);
             let left_ship = ship_below(physical, &left);
             let right_ship = ship_below(physical, &right);
             let x = table.at(at);
@@ -140,7 +140,7 @@ fn look(table: &Table, physical: &Physical, tree: &Plan) -> Looked
                 &on_left.placement,
                 &on_right.placement,
             );
-            Looked {
+            CheckedEdges {
                 placement: placed_both(
                     &x,
                     &left_ship,
@@ -158,7 +158,7 @@ fn has_legal_edges(program: &Program, physical: &Physical) -> bool
     ensures { IsTrue result ↔ LegalShip (facts_of program.now physical.now.tree) physical.now }
 {
     let table = known(program, physical.plan());
-    look(&table, physical, physical.plan()).legal
+    check_edges(&table, physical, physical.plan()).legal
 }
 
 /// Whether every edge of the physical plan is legal: each operator has at one worker all records that it needs

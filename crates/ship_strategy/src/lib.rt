@@ -16,22 +16,22 @@
 #![tactic(auto)]
 
 mod all_layouts;
+mod earlier_findings;
 mod edges;
 mod knowing;
 mod laying;
 mod legality;
 mod numbering;
 mod placements;
-mod seen;
 mod tables;
 mod ways;
 
 pub use all_layouts::{layout, layout_in, layout_known, layouts};
+pub use earlier_findings::EarlierFindings;
 pub use edges::{left_ship, only_ship, right_ship};
 pub use knowing::{known, known_after, nothing_found};
 pub use legality::legal_ship;
 pub use numbering::{choices_of, chosen};
 pub use placements::{placed_both, placed_over};
-pub use seen::Seen;
 pub use tables::{OpFacts, Table};
 pub use ways::{Way, Ways};

@@ -14,7 +14,7 @@ use Rattle.tac_syntax.specs.Rules.{is_cogroup}
 use Rattle.tac_syntax.specs.Limits.{record_registers}
 use Rattle.tac_syntax.specs.Code.{Simple, load_int, load_text, load_null, move_value, get_field, get_at, get_key, apply_one, apply_two, new_record, copy_record, set_field, set_at, emit_record, Code, stop, plain, branch, again, each}
 use Rattle.tac_flow.specs.Known.{Side, left, Base, first, bound, some, nowhere, same_base, side_of, met, joined_base, Held, Known, State, joined, joined_held, dropped_base, dropped_held, dropped, with_field, without_field, either}
-use Rattle.tac_flow.specs.Steps.{Scope, fresh, fresh_by, record_at, value_at, held_of, is_copy, written, learns, start_state}
+use Rattle.tac_flow.specs.Steps.{Scope, fresh, fresh_by, record_at, value_at, held_of, is_copy, written, transfer, start_state}
 use Rattle.tac_flow.specs.Walks.{Note, decides, emits, noted, side_of_list, settled, walk, notes}
 use Rattle.tac_syntax.specs.WellFormed.{HasList, CanRead, IsWellFormedSimple, IsWellFormed}
 use Rattle.pact_record.proofs.Lists.{AllByRecursion-get_or}
@@ -105,29 +105,29 @@ module _ (c : Scope) (single : is_cogroup c.kind ≡ false) where
     }
   ]
 
-  learns-left : (sides : List Side) (a : Simple) (k : State) → AllByRecursion (λ s. s ≡ left) sides → IsWellFormedSimple c.kind c.fields (length sides) a → AllLeft k
-      → AllLeft (learns c sides a k) × AllByRecursion NoteOnLeft (noted c a k)
-  learns-left sides (load_int to n) k s f h = (record { all = h.all; count = h.count }, tt)
-  learns-left sides (load_text to bytes) k s f h = (record { all = h.all; count = h.count }, tt)
-  learns-left sides (load_null to) k s f h = (record { all = h.all; count = h.count }, tt)
-  learns-left sides (move_value to from) k s f h = (record { all = h.all; count = h.count }, tt)
-  learns-left sides (get_field to from field) k s f h = (record { all = h.all; count = h.count }, tt)
-  learns-left sides (get_at to from at) k s f h = (record { all = h.all; count = h.count }, tt)
-  learns-left sides (get_key to at) k s f h = (record { all = h.all; count = h.count }, tt)
-  learns-left sides (apply_one to op a) k s f h = (record { all = h.all; count = h.count }, tt)
-  learns-left sides (apply_two to op a b) k s f h = (record { all = h.all; count = h.count }, tt)
-  learns-left sides (new_record to) k s f h = (with_record k to (fresh c) h fresh_left, tt)
-  learns-left sides (copy_record to from) k s f h = (with_record k to (held_of c sides k from) h (held_of-left sides k from s f.1 h), tt)
-  learns-left sides (set_field to field value) k s f h = (set_left k to _ (written_left (record_at c.fields k to) field (value_at k value)) h, tt)
-  learns-left sides (set_at to at value) k s f h = (set_left k to _ (λ e. e) h, tt)
-  learns-left sides (emit_record from) k s f h = (h, (record_at-left k from f h, tt))
+  transfer-left : (sides : List Side) (a : Simple) (k : State) → AllByRecursion (λ s. s ≡ left) sides → IsWellFormedSimple c.kind c.fields (length sides) a → AllLeft k
+      → AllLeft (transfer c sides a k) × AllByRecursion NoteOnLeft (noted c a k)
+  transfer-left sides (load_int to n) k s f h = (record { all = h.all; count = h.count }, tt)
+  transfer-left sides (load_text to bytes) k s f h = (record { all = h.all; count = h.count }, tt)
+  transfer-left sides (load_null to) k s f h = (record { all = h.all; count = h.count }, tt)
+  transfer-left sides (move_value to from) k s f h = (record { all = h.all; count = h.count }, tt)
+  transfer-left sides (get_field to from field) k s f h = (record { all = h.all; count = h.count }, tt)
+  transfer-left sides (get_at to from at) k s f h = (record { all = h.all; count = h.count }, tt)
+  transfer-left sides (get_key to at) k s f h = (record { all = h.all; count = h.count }, tt)
+  transfer-left sides (apply_one to op a) k s f h = (record { all = h.all; count = h.count }, tt)
+  transfer-left sides (apply_two to op a b) k s f h = (record { all = h.all; count = h.count }, tt)
+  transfer-left sides (new_record to) k s f h = (with_record k to (fresh c) h fresh_left, tt)
+  transfer-left sides (copy_record to from) k s f h = (with_record k to (held_of c sides k from) h (held_of-left sides k from s f.1 h), tt)
+  transfer-left sides (set_field to field value) k s f h = (set_left k to _ (written_left (record_at c.fields k to) field (value_at k value)) h, tt)
+  transfer-left sides (set_at to at value) k s f h = (set_left k to _ (λ e. e) h, tt)
+  transfer-left sides (emit_record from) k s f h = (h, (record_at-left k from f h, tt))
 
   pub walk-left : (code : Code) (sides : List Side) (depth : ℕ) (k : State) → depth ≡ length sides → AllByRecursion (λ s. s ≡ left) sides → IsWellFormed c.kind c.fields depth code → AllLeft k
       → AllLeft (walk c sides code k) × AllByRecursion NoteOnLeft (notes c sides code k)
   walk-left stop sides depth k e s f h = (h, tt)
   walk-left (plain a next) sides depth k e s f h =
-      let one = learns-left sides a k s (subst (λ (d : ℕ). IsWellFormedSimple c.kind c.fields d a) e f.0) h in
-      let rest = walk-left next sides depth (learns c sides a k) e s f.1 one.0 in
+      let one = transfer-left sides a k s (subst (λ (d : ℕ). IsWellFormedSimple c.kind c.fields d a) e f.0) h in
+      let rest = walk-left next sides depth (transfer c sides a k) e s f.1 one.0 in
       (rest.0, AllByRecursion-append NoteOnLeft (noted c a k) _ one.1 rest.1)
   walk-left (branch on body other next) sides depth k e s f h =
       let p = walk-left body sides depth k e s f.0 h in

@@ -9,7 +9,7 @@ use Rattle.tac_syntax.specs.declared.statements.Rec.TheVariants.{Reg, Loop, Inpu
 use Rattle.tac_syntax.specs.Code.{Simple, load_int, load_text, load_null, move_value, get_field, get_at, get_key, apply_one, apply_two, new_record, copy_record, set_field, set_at, emit_record, Code, stop, plain, branch, again, each}
 use Rattle.tac_syntax.specs.WellFormed.{IsWellFormedSimple, IsWellFormed}
 use Rattle.tac_flow.specs.Known.{FieldSet, no_fields, only_field, with_field, without_field, fields_below, either, Side, left, Base, first, bound, some, nowhere, Origin, field_of, key_at, unknown, side_of, names_one, same_base, Known, Held, State, joined_known, joined_held, joined, dropped_origin, dropped_base, dropped_known, dropped_held, dropped}
-use Rattle.tac_flow.specs.Steps.{Scope, keys_of, key_or, fresh, value_at, record_at, held_of, origin_of, read_from, is_key_of, is_copy, written, written_at, kept_of, all_of, learns, learns_value, learns_record, constant}
+use Rattle.tac_flow.specs.Steps.{Scope, keys_of, key_or, fresh, value_at, record_at, held_of, origin_of, read_from, is_key_of, is_copy, written, written_at, kept_of, all_of, transfer, learns_value, learns_record, constant}
 use Rattle.tac_flow.specs.Walks.{side_of_list, repeated, walks_at_most, settled, walk}
 use Rattle.tac_flow.specs.Warm.{IsSmallScope}
 use Rattle.tac_flow.proofs.TwoCalls.{Sub}
@@ -18,7 +18,7 @@ use Rattle.tac_flow.proofs.LoopsSettle.{IsSmall, stays, settles}
 use Rattle.tac_flow.proofs.SetsBelowFields.{walk-small, dropped-small}
 use Rattle.tac_flow.proofs.LooserBases.{Loosens}
 use Rattle.tac_flow.proofs.LooserStates.{Sub-either, Forgets, KnowsLess, HoldsLess, IsLoose, knows-refl, holds-refl, knows-trans, holds-trans, knows-both, holds-both, knows-left, knows-right, knows-least, holds-left, holds-right, holds-least, Both-set, Both-get_or, Both-map, Both-refl, Both-trans, Both-same, Both-left, Both-right, Both-least}
-use Rattle.tac_flow.proofs.SoundStates.{IsSound, learns-sound, joined-sound, dropped-sound, settled-sound, walk-sound}
+use Rattle.tac_flow.proofs.SoundStates.{IsSound, transfer-sound, joined-sound, dropped-sound, settled-sound, walk-sound}
 pub use Rattle.tac_flow.specs.Warm.{IsLess, IsPlainCopy, IsCleanHere, IsClean}
 
 pub less-refl : (a : State) → IsLess a a
@@ -268,29 +268,29 @@ module _ (c : Scope) where
       (h (copy_less (record_at c.fields a to).base (record_at c.fields b to).base (value_at a value).origin (value_at b value).origin field (record_less a b to l).base (value_less a b value l).origin e))
   clean_here-less s a b l h = tt
 
-  pub learns-less : (sides : List Side) (s : Simple) (a b : State) → IsCleanHere c s a → IsLess a b → IsLess (learns c sides s a) (learns c sides s b)
-  learns-less sides (load_int to n) a b k h = set_value_less a b to constant constant h (knows-refl constant)
-  learns-less sides (load_text to bytes) a b k h = set_value_less a b to constant constant h (knows-refl constant)
-  learns-less sides (load_null to) a b k h = set_value_less a b to constant constant h (knows-refl constant)
-  learns-less sides (move_value to from) a b k h = set_value_less a b to (value_at a from) (value_at b from) h (value_less a b from h)
-  learns-less sides (get_field to from field) a b k h = set_value_less a b to _ _ h (read_less (held_of c sides a from) (held_of c sides b from) field (held_less sides a b from h))
-  learns-less sides (get_at to from at) a b k h = set_value_less a b to _ _ h (record {
+  pub transfer-less : (sides : List Side) (s : Simple) (a b : State) → IsCleanHere c s a → IsLess a b → IsLess (transfer c sides s a) (transfer c sides s b)
+  transfer-less sides (load_int to n) a b k h = set_value_less a b to constant constant h (knows-refl constant)
+  transfer-less sides (load_text to bytes) a b k h = set_value_less a b to constant constant h (knows-refl constant)
+  transfer-less sides (load_null to) a b k h = set_value_less a b to constant constant h (knows-refl constant)
+  transfer-less sides (move_value to from) a b k h = set_value_less a b to (value_at a from) (value_at b from) h (value_less a b from h)
+  transfer-less sides (get_field to from field) a b k h = set_value_less a b to _ _ h (read_less (held_of c sides a from) (held_of c sides b from) field (held_less sides a b from h))
+  transfer-less sides (get_at to from at) a b k h = set_value_less a b to _ _ h (record {
     deps = either_less (value_at a at).deps (all_of c sides a from) (value_at b at).deps (all_of c sides b from) (value_less a b at h).deps (all_less sides a b from h);
     origin = inl refl;
   })
-  learns-less sides (get_key to at) a b k h = set_value_less a b to _ _ h (knows-refl _)
-  learns-less sides (apply_one to op x) a b k h = set_value_less a b to _ _ h (record { deps = (value_less a b x h).deps; origin = inl refl })
-  learns-less sides (apply_two to op x y) a b k h = set_value_less a b to _ _ h (record {
+  transfer-less sides (get_key to at) a b k h = set_value_less a b to _ _ h (knows-refl _)
+  transfer-less sides (apply_one to op x) a b k h = set_value_less a b to _ _ h (record { deps = (value_less a b x h).deps; origin = inl refl })
+  transfer-less sides (apply_two to op x y) a b k h = set_value_less a b to _ _ h (record {
     deps = either_less (value_at a x).deps (value_at a y).deps (value_at b x).deps (value_at b y).deps (value_less a b x h).deps (value_less a b y h).deps;
     origin = inl refl;
   })
-  learns-less sides (new_record to) a b k h = set_record_less a b to (fresh c) (fresh c) h (holds-refl (fresh c))
-  learns-less sides (copy_record to from) a b k h = set_record_less a b to (held_of c sides a from) (held_of c sides b from) h (held_less sides a b from h)
-  learns-less sides (set_field to field value) a b k h = set_record_less a b to _ _ h
+  transfer-less sides (new_record to) a b k h = set_record_less a b to (fresh c) (fresh c) h (holds-refl (fresh c))
+  transfer-less sides (copy_record to from) a b k h = set_record_less a b to (held_of c sides a from) (held_of c sides b from) h (held_less sides a b from h)
+  transfer-less sides (set_field to field value) a b k h = set_record_less a b to _ _ h
       (written_less (record_at c.fields a to) (record_at c.fields b to) (value_at a value) (value_at b value) field k (record_less a b to h) (value_less a b value h))
-  learns-less sides (set_at to at value) a b k h = set_record_less a b to _ _ h
+  transfer-less sides (set_at to at value) a b k h = set_record_less a b to _ _ h
       (written_at_less (record_at c.fields a to) (record_at c.fields b to) (value_at a at) (value_at b at) (value_at a value) (value_at b value) (record_less a b to h) (value_less a b at h) (value_less a b value h))
-  learns-less sides (emit_record from) a b k h = h
+  transfer-less sides (emit_record from) a b k h = h
 
 -- ---- loops
 
@@ -390,7 +390,7 @@ module _ (c : Scope) (scope : IsSmallScope c) where
   grows stop sides depth a b e f h g l q = record { walks = l; clean = tt }
   grows (plain s next) sides depth a b e f h g l q =
       let own = subst (λ (d : ℕ). IsWellFormedSimple c.kind c.fields d s) e f.0 in
-      let rest = grows next sides depth _ _ e f.1 (learns-sound c scope sides s a own h) (learns-sound c scope sides s b own g) (learns-less c sides s a b q.0 l) q.1 in
+      let rest = grows next sides depth _ _ e f.1 (transfer-sound c scope sides s a own h) (transfer-sound c scope sides s b own g) (transfer-less c sides s a b q.0 l) q.1 in
       record { walks = rest.walks; clean = (clean_here-less c s a b l q.0, rest.clean) }
   grows (branch on body other next) sides depth a b e f h g l q =
       let p = grows body sides depth a b e f.0 h g l q.0 in

@@ -10,7 +10,7 @@ use Rattle.tac_syntax.specs.Code.{Simple, load_int, load_text, load_null, move_v
 use Rattle.tac_syntax.specs.FieldRegisters.{TakesSimple, Takes}
 use Rattle.tac_syntax.specs.WellFormed.{CanRead, IsWellFormedSimple, IsWellFormed}
 use Rattle.tac_flow.specs.Known.{FieldSet, no_fields, only_field, with_field, without_field, fields_below, either, Side, left, right, Base, first, bound, some, nowhere, Origin, field_of, key_at, unknown, side_of, Known, Held, State, joined_base, joined_origin, joined_known, joined_held, changed_from, zipped, joined, dropped_origin, dropped_base, dropped_known, dropped_held, dropped}
-use Rattle.tac_flow.specs.Steps.{Scope, fresh, value_at, record_at, held_of, origin_of, read_from, is_key_of, is_copy, written, written_at, kept_of, fields_of, all_of, learns, learns_value, learns_record, constant, start_state}
+use Rattle.tac_flow.specs.Steps.{Scope, fresh, value_at, record_at, held_of, origin_of, read_from, is_key_of, is_copy, written, written_at, kept_of, fields_of, all_of, transfer, learns_value, learns_record, constant, start_state}
 use Rattle.tac_flow.specs.Walks.{Note, decides, emits, noted, side_of_list, repeated, walks_at_most, settled, walk, notes}
 use Rattle.tac_flow.specs.Results.{writes_in, common_in, depends_in, control_in, anchored_in, is_on, FoundSets, summary, by_anchors, notes_of, sets_of}
 use Rattle.tac_flow.proofs.LooserStates.{Both, Both-set, Both-get_or, Both-map, Both-refl}
@@ -210,35 +210,35 @@ module _ (fields : ℕ) (ks js : List ℕ) (l r m s : FieldSet) (k : ℕ) (regis
         let kept = kept-at g h p in
         record { base = p.base; changed = refl; depends = λ i. p.depends i || ((q.deps i || o.deps i) || kept i) }
 
-  learns-at : (sides : List Side) (depth : ℕ) (t : Simple) (a b : State) → IsWellFormedSimple CoGroup fields depth t → TakesSimple registers t → StateAt k a b → StateAt k (learns one sides t a) (learns other sides t b)
-  learns-at sides depth (load_int to n) a b f u h = set_value-at a b to constant constant h (known-self k constant)
-  learns-at sides depth (load_text to bytes) a b f u h = set_value-at a b to constant constant h (known-self k constant)
-  learns-at sides depth (load_null to) a b f u h = set_value-at a b to constant constant h (known-self k constant)
-  learns-at sides depth (move_value to from) a b f u h = set_value-at a b to (value_at a from) (value_at b from) h (value-at a b from h)
-  learns-at sides depth (get_field to from field) a b f u h = set_value-at a b to _ _ h (read-at (held_of one sides a from) (held_of other sides b from) field (held-at sides depth a b from f.1 h))
-  learns-at sides depth (get_at to from at) a b f u h =
+  transfer-at : (sides : List Side) (depth : ℕ) (t : Simple) (a b : State) → IsWellFormedSimple CoGroup fields depth t → TakesSimple registers t → StateAt k a b → StateAt k (transfer one sides t a) (transfer other sides t b)
+  transfer-at sides depth (load_int to n) a b f u h = set_value-at a b to constant constant h (known-self k constant)
+  transfer-at sides depth (load_text to bytes) a b f u h = set_value-at a b to constant constant h (known-self k constant)
+  transfer-at sides depth (load_null to) a b f u h = set_value-at a b to constant constant h (known-self k constant)
+  transfer-at sides depth (move_value to from) a b f u h = set_value-at a b to (value_at a from) (value_at b from) h (value-at a b from h)
+  transfer-at sides depth (get_field to from field) a b f u h = set_value-at a b to _ _ h (read-at (held_of one sides a from) (held_of other sides b from) field (held-at sides depth a b from f.1 h))
+  transfer-at sides depth (get_at to from at) a b f u h =
       let number = value-at a b at h in
       let whole = all-at u sides a b from h in
       set_value-at a b to _ _ h (record { deps = λ i. number.deps i || whole i; origin = refl })
-  learns-at sides depth (get_key to at) a b f u h = set_value-at a b to _ _ h (record { deps = refl; origin = refl })
-  learns-at sides depth (apply_one to op x) a b f u h = set_value-at a b to _ _ h (record { deps = (value-at a b x h).deps; origin = refl })
-  learns-at sides depth (apply_two to op x y) a b f u h =
+  transfer-at sides depth (get_key to at) a b f u h = set_value-at a b to _ _ h (record { deps = refl; origin = refl })
+  transfer-at sides depth (apply_one to op x) a b f u h = set_value-at a b to _ _ h (record { deps = (value-at a b x h).deps; origin = refl })
+  transfer-at sides depth (apply_two to op x y) a b f u h =
       let p = value-at a b x h in
       let q = value-at a b y h in
       set_value-at a b to _ _ h (record { deps = λ i. p.deps i || q.deps i; origin = refl })
-  learns-at sides depth (new_record to) a b f u h = set_record-at a b to (fresh one) (fresh other) h (held-self k (fresh one))
-  learns-at sides depth (copy_record to from) a b f u h = set_record-at a b to (held_of one sides a from) (held_of other sides b from) h (held-at sides depth a b from f.1 h)
-  learns-at sides depth (set_field to field value) a b f u h =
+  transfer-at sides depth (new_record to) a b f u h = set_record-at a b to (fresh one) (fresh other) h (held-self k (fresh one))
+  transfer-at sides depth (copy_record to from) a b f u h = set_record-at a b to (held_of one sides a from) (held_of other sides b from) h (held-at sides depth a b from f.1 h)
+  transfer-at sides depth (set_field to field value) a b f u h =
       set_record-at a b to _ _ h (written-at (record_at fields a to) (record_at fields b to) (value_at a value) (value_at b value) field (record-at a b to h) (value-at a b value h))
-  learns-at sides depth (set_at to at value) a b f u h = set_record-at a b to _ _ h
+  transfer-at sides depth (set_at to at value) a b f u h = set_record-at a b to _ _ h
       (written_at-at u (record_at fields a to) (record_at fields b to) (value_at a at) (value_at b at) (value_at a value) (value_at b value) (record-at a b to h) (value-at a b at h) (value-at a b value h))
-  learns-at sides depth (emit_record from) a b f u h = h
+  transfer-at sides depth (emit_record from) a b f u h = h
 
   -- ---- bodies
 
   walk-at : (code : Code) (sides : List Side) (depth : ℕ) (a b : State) → IsWellFormed CoGroup fields depth code → Takes registers code → StateAt k a b → StateAt k (walk one sides code a) (walk other sides code b)
   walk-at stop sides depth a b f u h = h
-  walk-at (plain t next) sides depth a b f u h = walk-at next sides depth (learns one sides t a) (learns other sides t b) f.1 u.1 (learns-at sides depth t a b f.0 u.0 h)
+  walk-at (plain t next) sides depth a b f u h = walk-at next sides depth (transfer one sides t a) (transfer other sides t b) f.1 u.1 (transfer-at sides depth t a b f.0 u.0 h)
   walk-at (branch on body orelse next) sides depth a b f u h =
       walk-at next sides depth _ _ f.2 u.2 (joined-at k fields _ _ _ _ (walk-at body sides depth a b f.0 u.0 h) (walk-at orelse sides depth a b f.1 u.1 h))
   walk-at (again count body next) sides depth a b f u h =
@@ -271,7 +271,7 @@ module _ (fields : ℕ) (ks js : List ℕ) (l r m s : FieldSet) (k : ℕ) (regis
   notes-at stop sides depth a b f u h = tt
   notes-at (plain t next) sides depth a b f u h =
       Both-append (NoteAt k) (noted one t a) _ (noted other t b) _ (noted-at t a b h)
-      (notes-at next sides depth (learns one sides t a) (learns other sides t b) f.1 u.1 (learns-at sides depth t a b f.0 u.0 h))
+      (notes-at next sides depth (transfer one sides t a) (transfer other sides t b) f.1 u.1 (transfer-at sides depth t a b f.0 u.0 h))
   notes-at (branch on body orelse next) sides depth a b f u h =
       let both = joined-at k fields _ _ _ _ (walk-at body sides depth a b f.0 u.0 h) (walk-at orelse sides depth a b f.1 u.1 h) in (
         (value-at a b on h).deps,

@@ -10,7 +10,7 @@ use Rattle.tac_syntax.specs.Code.{Simple, load_int, load_text, load_null, move_v
 use Rattle.tac_syntax.specs.Call.{CallInput, Store, value_in, record_in, rows_of, after, bind}
 use Rattle.tac_syntax.specs.Exec.{times, for_each, exec}
 use Rattle.tac_flow.specs.Known.{FieldSet, Side, Held, State, joined, dropped}
-use Rattle.tac_flow.specs.Steps.{Scope, value_at, record_at, learns}
+use Rattle.tac_flow.specs.Steps.{Scope, value_at, record_at, transfer}
 use Rattle.tac_flow.specs.Walks.{Note, decides, emits, noted, side_of_list, settled, walk, notes}
 use Rattle.tac_syntax.specs.Forms.{anchors}
 use Rattle.tac_flow.proofs.TwoCalls.{anchor_at, Sub, SameRecord, AreTwins, AreCalls}
@@ -20,7 +20,7 @@ use Rattle.tac_flow.proofs.JoinsOfTwo.{SameShape, twins_left, twins_right}
 use Rattle.tac_flow.proofs.NamesOfLoops.{twins_before, twins_after, twins_inside}
 use Rattle.tac_flow.proofs.LoopsSettle.{IsSmall, joined-small, settled-small, settles, reached}
 use Rattle.tac_flow.proofs.SmallScopes.{IsSmallScope}
-use Rattle.tac_flow.proofs.SetsBelowFields.{walk-small, learns-small, dropped-small}
+use Rattle.tac_flow.proofs.SetsBelowFields.{walk-small, transfer-small, dropped-small}
 
 -- What is required of the notes, and what then holds for the outputs: branches are decided by what is read, and a
 -- record that is emitted preserves the relation of the outputs.
@@ -142,8 +142,8 @@ module _ (R : FieldSet) (c : Scope) (x y : CallInput) (calls : AreCalls R c x y)
   body_same stop sides depth k s t e f i g h = h
   body_same (plain a next) sides depth k s t e f i g h =
       let fine = subst (λ (d : ℕ). IsWellFormedSimple c.kind c.fields d a) e f.0 in
-      let told_parts = parts (noted c a k) (notes c sides next (learns c sides a k)) g in
-      body_same next sides depth (learns c sides a k) (after a s) (after a t) e f.1 (learns-small c small sides a k fine i) told_parts.1
+      let told_parts = parts (noted c a k) (notes c sides next (transfer c sides a k)) g in
+      body_same next sides depth (transfer c sides a k) (after a s) (after a t) e f.1 (transfer-small c small sides a k fine i) told_parts.1
       (record { twins = statement_same R c x y calls sides a k s t fine h.twins; outputs = outputs_after a sides k s t told_parts.0 h })
   body_same (branch on body other next) sides depth k s t e f i g h =
       let a = walk c sides body k in

@@ -12,13 +12,13 @@ use Rattle.tac_syntax.specs.Limits.{record_registers}
 use Rattle.tac_syntax.specs.Code.{Simple, load_int, load_text, load_null, move_value, get_field, get_at, get_key, apply_one, apply_two, new_record, copy_record, set_field, set_at, emit_record, Code, stop, plain, branch, again, each}
 use Rattle.tac_syntax.specs.WellFormed.{IsWellFormedSimple, IsWellFormed}
 use Rattle.tac_flow.specs.Known.{with_field, without_field, either, Side, Base, first, bound, some, nowhere, Origin, field_of, key_at, unknown, Known, Held, State, joined, dropped_base, dropped_held, dropped}
-use Rattle.tac_flow.specs.Steps.{Scope, fresh, fresh_by, record_at, value_at, held_of, is_copy, written, learns, learns_record, start_state}
+use Rattle.tac_flow.specs.Steps.{Scope, fresh, fresh_by, record_at, value_at, held_of, is_copy, written, transfer, learns_record, start_state}
 use Rattle.tac_flow.specs.Walks.{side_of_list, settled, walk}
 use Rattle.tac_flow.specs.Warm.{IsSmallScope}
 use Rattle.tac_flow.proofs.RoomToChange.{IsSmallHeld}
 use Rattle.tac_flow.proofs.EachItem.{AllByRecursion-set, AllByRecursion-at_any, AllByRecursion-replicate, AllByRecursion-map}
 use Rattle.tac_flow.proofs.LoopsSettle.{IsSmall, reached, joined-small}
-use Rattle.tac_flow.proofs.SetsBelowFields.{learns-small, dropped-small, start-small}
+use Rattle.tac_flow.proofs.SetsBelowFields.{transfer-small, dropped-small, start-small}
 use Rattle.tac_flow.proofs.LooserStates.{IsLoose, joined-loose}
 pub use Rattle.tac_flow.specs.Warm.{IsSound}
 
@@ -71,7 +71,7 @@ module _ (c : Scope) where
     with_record : (k : State) (to : ℕ) (g : Held) → IsSmall c.fields (learns_record k to g) → IsSound c k → IsLoose c.fields g → IsSound c (learns_record k to g)
     with_record k to g s h l = record { small = s; loose = AllByRecursion-set (IsLoose c.fields) k.records to g h.loose l }
 
-    learns_by : (sides : List Side) (a : Simple) (k : State) → IsSmall c.fields (learns c sides a k) → IsSound c k → IsSound c (learns c sides a k)
+    learns_by : (sides : List Side) (a : Simple) (k : State) → IsSmall c.fields (transfer c sides a k) → IsSound c k → IsSound c (transfer c sides a k)
     learns_by sides (load_int to n) k s h = record { small = s; loose = h.loose }
     learns_by sides (load_text to bytes) k s h = record { small = s; loose = h.loose }
     learns_by sides (load_null to) k s h = record { small = s; loose = h.loose }
@@ -87,8 +87,8 @@ module _ (c : Scope) where
     learns_by sides (set_at to at value) k s h = with_record k to _ s h (λ e j lt. lt-ltb j c.fields lt)
     learns_by sides (emit_record from) k s h = h
 
-    pub learns-sound : (sides : List Side) (a : Simple) (k : State) → IsWellFormedSimple c.kind c.fields (length sides) a → IsSound c k → IsSound c (learns c sides a k)
-    learns-sound sides a k f h = learns_by sides a k (learns-small c scope sides a k f h.small) h
+    pub transfer-sound : (sides : List Side) (a : Simple) (k : State) → IsWellFormedSimple c.kind c.fields (length sides) a → IsSound c k → IsSound c (transfer c sides a k)
+    transfer-sound sides a k f h = learns_by sides a k (transfer-small c scope sides a k f h.small) h
 
     zipped-loose : (xs ys : List Held) → AllByRecursion (IsSmallHeld c.fields) xs → AllByRecursion (IsSmallHeld c.fields) ys
         → AllByRecursion (IsLoose c.fields) (joined (c.fields) (record { values = []; records = xs }) (record { values = []; records = ys })).records
@@ -114,7 +114,7 @@ module _ (c : Scope) where
     pub walk-sound : (code : Code) (sides : List Side) (depth : ℕ) (k : State) → depth ≡ length sides → IsWellFormed c.kind c.fields depth code → IsSound c k → IsSound c (walk c sides code k)
     walk-sound stop sides depth k e f h = h
     walk-sound (plain a next) sides depth k e f h =
-        walk-sound next sides depth (learns c sides a k) e f.1 (learns-sound sides a k (subst (λ (d : ℕ). IsWellFormedSimple c.kind c.fields d a) e f.0) h)
+        walk-sound next sides depth (transfer c sides a k) e f.1 (transfer-sound sides a k (subst (λ (d : ℕ). IsWellFormedSimple c.kind c.fields d a) e f.0) h)
     walk-sound (branch on body other next) sides depth k e f h =
         walk-sound next sides depth _ e f.2 (joined-sound _ _ (walk-sound body sides depth k e f.0 h) (walk-sound other sides depth k e f.1 h))
     walk-sound (again count body next) sides depth k e f h =

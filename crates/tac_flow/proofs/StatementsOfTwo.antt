@@ -13,7 +13,7 @@ use Rattle.tac_syntax.specs.declared.statements.Rec.TheVariants.{Reg, Loop, Inpu
 use Rattle.tac_syntax.specs.Code.{Simple, load_int, load_text, load_null, move_value, get_field, get_at, get_key, apply_one, apply_two, new_record, copy_record, set_field, set_at, emit_record}
 use Rattle.tac_syntax.specs.Call.{CallInput, Store, numbered, at_numbered, set_numbered, value_in, record_in, named_record, put_value, put_record, key_values, empty_record, input_record, left_record, right_record, first_record, after}
 use Rattle.tac_flow.specs.Known.{FieldSet, either, less, side_of, Side, left, Known, Held, State, key_at}
-use Rattle.tac_flow.specs.Steps.{Scope, value_at, record_at, held_of, all_of, fields_by, fields_of, written_at, learns, learns_value, learns_record, constant, key_deps, fresh}
+use Rattle.tac_flow.specs.Steps.{Scope, value_at, record_at, held_of, all_of, fields_by, fields_of, written_at, transfer, learns_value, learns_record, constant, key_deps, fresh}
 use Rattle.tac_flow.proofs.ThreeLists.{Each-set, Each-get_or}
 use Rattle.tac_flow.proofs.TwoCalls.{Sub, SameValue, SameRecord, AreTwins, AreCalls, with_registers}
 use Rattle.tac_syntax.specs.WellFormed.{CanRead, IsWellFormedSimple}
@@ -139,7 +139,7 @@ module _ (R : FieldSet) (c : Scope) (x y : CallInput) (calls : AreCalls R c x y)
   constant_same : (s t : Store) (v : Value) → Values s t constant v v
   constant_same s t v = record { same = λ _. refl; own = tt; other = tt }
 
-  pub statement_same : (a : Simple) (k : State) (s t : Store) → IsWellFormedSimple c.kind c.fields (length sides) a → Twins k s t → Twins (learns c sides a k) (after a s) (after a t)
+  pub statement_same : (a : Simple) (k : State) (s t : Store) → IsWellFormedSimple c.kind c.fields (length sides) a → Twins k s t → Twins (transfer c sides a k) (after a s) (after a t)
   statement_same (load_int to n) k s t f h = with_value k s t to constant (Int n) (Int n) h (constant_same s t (Int n))
   statement_same (load_text to bytes) k s t f h = with_value k s t to constant (Text bytes) (Text bytes) h (constant_same s t (Text bytes))
   statement_same (load_null to) k s t f h = with_value k s t to constant Null Null h (constant_same s t Null)

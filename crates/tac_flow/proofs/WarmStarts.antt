@@ -13,8 +13,8 @@ use Rattle.tac_flow.proofs.WalkedSoFar.{walk-onto}
 use Rattle.tac_flow.specs.Memos.{Memos, is_large, place, places, memo_at, begun, put}
 use Rattle.tac_flow.specs.Warm.{IsSmallScope}
 use Rattle.tac_flow.proofs.LoopsSettle.{settles}
-use Rattle.tac_flow.proofs.SoundStates.{IsSound, learns-sound, joined-sound, dropped-sound, walk-sound}
-use Rattle.tac_flow.proofs.LooserWalks.{IsLess, less-refl, less-trans, less-both, less-left, less-right, less-least, dropped-less, learns-less, IsClean, IsTurn, settled-turns, settled-less, settled-grows, settled-rest, at_rest, warm_start, grows, again-turn, each-turn}
+use Rattle.tac_flow.proofs.SoundStates.{IsSound, transfer-sound, joined-sound, dropped-sound, walk-sound}
+use Rattle.tac_flow.proofs.LooserWalks.{IsLess, less-refl, less-trans, less-both, less-left, less-right, less-least, dropped-less, transfer-less, IsClean, IsTurn, settled-turns, settled-less, settled-grows, settled-rest, at_rest, warm_start, grows, again-turn, each-turn}
 pub use Rattle.tac_flow.specs.Warm.{IsKept, Fits, IsWarmed, HasSettled}
 
 pub put-here : (large : Bool) (n : ℕ) (s : State) (ms : Memos) → large ≡ true → put large n s ms n ≡ Some s
@@ -130,7 +130,7 @@ module _ (c : Scope) (least : ℕ) where
     fits-less stop sides depth n ms a b e f h g l q m = tt
     fits-less (plain s next) sides depth n ms a b e f h g l q m =
         let own = subst (λ (d : ℕ). IsWellFormedSimple c.kind c.fields d s) e f.0 in
-        fits-less next sides depth n ms _ _ e f.1 (learns-sound c scope sides s a own h) (learns-sound c scope sides s b own g) (learns-less c sides s a b q.0 l) q.1 m
+        fits-less next sides depth n ms _ _ e f.1 (transfer-sound c scope sides s a own h) (transfer-sound c scope sides s b own g) (transfer-less c sides s a b q.0 l) q.1 m
     fits-less (branch on body other next) sides depth n ms a b e f h g l q m =
         let p = grows c scope body sides depth a b e f.0 h g l q.0 in
         let r = grows c scope other sides depth a b e f.1 h g l q.1 in

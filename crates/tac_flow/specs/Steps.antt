@@ -146,21 +146,21 @@ learns_record k to h = record k { records = slice_set k.records to h }
 abbrev pub constant : Known
 constant = record { deps = no_fields; origin = unknown }
 
-abbrev pub learns : Scope → List Side → Simple → State → State
-learns c sides (load_int to value) k = learns_value k to constant
-learns c sides (load_text to bytes) k = learns_value k to constant
-learns c sides (load_null to) k = learns_value k to constant
-learns c sides (move_value to from) k = learns_value k to (value_at k from)
-learns c sides (get_field to from field) k = learns_value k to (read_from c (held_of c sides k from) field)
-learns c sides (get_at to from at) k = learns_value k to (record { deps = either (value_at k at).deps (all_of c sides k from); origin = unknown })
-learns c sides (get_key to at) k = learns_value k to (record { deps = key_deps c at; origin = key_at at })
-learns c sides (apply_one to op a) k = learns_value k to (record { deps = (value_at k a).deps; origin = unknown })
-learns c sides (apply_two to op a b) k = learns_value k to (record { deps = either (value_at k a).deps (value_at k b).deps; origin = unknown })
-learns c sides (new_record to) k = learns_record k to (fresh c)
-learns c sides (copy_record to from) k = learns_record k to (held_of c sides k from)
-learns c sides (set_field to field value) k = learns_record k to (written c (record_at c.fields k to) field (value_at k value))
-learns c sides (set_at to at value) k = learns_record k to (written_at c (record_at c.fields k to) (value_at k at) (value_at k value))
-learns c sides (emit_record from) k = k
+abbrev pub transfer : Scope → List Side → Simple → State → State
+transfer c sides (load_int to value) k = learns_value k to constant
+transfer c sides (load_text to bytes) k = learns_value k to constant
+transfer c sides (load_null to) k = learns_value k to constant
+transfer c sides (move_value to from) k = learns_value k to (value_at k from)
+transfer c sides (get_field to from field) k = learns_value k to (read_from c (held_of c sides k from) field)
+transfer c sides (get_at to from at) k = learns_value k to (record { deps = either (value_at k at).deps (all_of c sides k from); origin = unknown })
+transfer c sides (get_key to at) k = learns_value k to (record { deps = key_deps c at; origin = key_at at })
+transfer c sides (apply_one to op a) k = learns_value k to (record { deps = (value_at k a).deps; origin = unknown })
+transfer c sides (apply_two to op a b) k = learns_value k to (record { deps = either (value_at k a).deps (value_at k b).deps; origin = unknown })
+transfer c sides (new_record to) k = learns_record k to (fresh c)
+transfer c sides (copy_record to from) k = learns_record k to (held_of c sides k from)
+transfer c sides (set_field to field value) k = learns_record k to (written c (record_at c.fields k to) field (value_at k value))
+transfer c sides (set_at to at value) k = learns_record k to (written_at c (record_at c.fields k to) (value_at k at) (value_at k value))
+transfer c sides (emit_record from) k = k
 
 -- the state before the first statement
 abbrev pub start_state : Scope → State

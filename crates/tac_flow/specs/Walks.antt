@@ -5,7 +5,7 @@ use Rattle.tac_syntax.specs.declared.statements.LoopList.TheVariants.{Right as R
 use Rattle.tac_syntax.specs.Limits.{value_registers, record_registers}
 use Rattle.tac_syntax.specs.Code.{Simple, emit_record, Code, stop, plain, branch, again, each}
 use Rattle.tac_flow.specs.Known.{FieldSet, Side, left, right, State, Held, joined, dropped}
-use Rattle.tac_flow.specs.Steps.{Scope, learns, value_at, record_at}
+use Rattle.tac_flow.specs.Steps.{Scope, transfer, value_at, record_at}
 
 -- A note on the way: what decides a branch, and what is known of a record that is emitted.
 pub data Note : Type 0 where
@@ -40,7 +40,7 @@ settled fields turn k = repeated (walks_at_most fields) (λ j. joined fields j (
 -- the state after a body, if the surrounding loops are over these sides
 abbrev pub walk : Scope → List Side → Code → State → State
 walk c sides stop k = k
-walk c sides (plain a next) k = walk c sides next (learns c sides a k)
+walk c sides (plain a next) k = walk c sides next (transfer c sides a k)
 walk c sides (branch on body other next) k = walk c sides next (joined c.fields (walk c sides body k) (walk c sides other k))
 walk c sides (again count body next) k = walk c sides next (walk c sides body (settled c.fields (walk c sides body) k))
 walk c sides (each name list body next) k =
@@ -49,7 +49,7 @@ walk c sides (each name list body next) k =
 -- the notes on a body, in text order
 abbrev pub notes : Scope → List Side → Code → State → List Note
 notes c sides stop k = []
-notes c sides (plain a next) k = noted c a k ++ notes c sides next (learns c sides a k)
+notes c sides (plain a next) k = noted c a k ++ notes c sides next (transfer c sides a k)
 notes c sides (branch on body other next) k =
     decides (value_at k on).deps ∷ (notes c sides body k ++ (notes c sides other k ++ notes c sides next (joined c.fields (walk c sides body k) (walk c sides other k))))
 notes c sides (again count body next) k =

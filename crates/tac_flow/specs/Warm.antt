@@ -7,7 +7,7 @@ use Rattle.tac_syntax.specs.Contexts.{IsBelow, AreOfFields}
 use Rattle.tac_syntax.specs.Code.{Simple, set_field, Code, stop, plain, branch, again, each}
 use Rattle.tac_syntax.specs.Trees.{Statement, one_line}
 use Rattle.tac_flow.specs.Known.{FieldSet, Side, Base, some, nowhere, Origin, unknown, side_of, Known, Held, State, joined, dropped}
-use Rattle.tac_flow.specs.Steps.{Scope, is_copy, record_at, value_at, learns}
+use Rattle.tac_flow.specs.Steps.{Scope, is_copy, record_at, value_at, transfer}
 use Rattle.tac_flow.specs.Walks.{side_of_list, settled, walk, notes}
 use Rattle.tac_flow.specs.Results.{Gathered}
 use Rattle.tac_flow.specs.Gathering.{gather}
@@ -86,7 +86,7 @@ IsCleanHere c s k = Unit {0}
 -- each value that is put back on a walk from this state depends on its field; for a loop, in its first turn
 abbrev pub IsClean : Scope → List Side → Code → State → Type 0
 IsClean c sides stop k = Unit {0}
-IsClean c sides (plain s next) k = IsCleanHere c s k × IsClean c sides next (learns c sides s k)
+IsClean c sides (plain s next) k = IsCleanHere c s k × IsClean c sides next (transfer c sides s k)
 IsClean c sides (branch on body other next) k = IsClean c sides body k × IsClean c sides other k × IsClean c sides next (joined c.fields (walk c sides body k) (walk c sides other k))
 IsClean c sides (again count body next) k = IsClean c sides body k × IsClean c sides next (walk c sides body (settled c.fields (walk c sides body) k))
 IsClean c sides (each name list body next) k =
@@ -103,7 +103,7 @@ IsKept c Q turn (Some m) k = IsSound c m × IsLess m (settled c.fields turn k) �
 
 abbrev pub Fits : Scope → ℕ → List Side → Code → ℕ → Memos → State → Type 0
 Fits c least sides stop n ms k = Unit {0}
-Fits c least sides (plain a next) n ms k = Fits c least sides next n ms (learns c sides a k)
+Fits c least sides (plain a next) n ms k = Fits c least sides next n ms (transfer c sides a k)
 Fits c least sides (branch on body other next) n ms k =
     Fits c least sides body n ms k × Fits c least sides other (n + places least body) ms k × Fits c least sides next (n + places least body + places least other) ms (joined c.fields (walk c sides body k) (walk c sides other k))
 Fits c least sides (again count body next) n ms k =

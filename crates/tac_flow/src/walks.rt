@@ -48,10 +48,10 @@ fn held_of(scope: &Scope, sides: &Sides, facts: &Facts, from: Rec) -> RecordFact
     }
 }
 
-fn learn_get(scope: &Scope, sides: &Sides, facts: &mut Facts, to: u32, from: Rec, field: u32)
+fn transfer_get(scope: &Scope, sides: &Sides, facts: &mut Facts, to: u32, from: Rec, field: u32)
     requires well_formed { IsWellFormedSimple scope.now.kind scope.now.fields (length (sides_of sides.now)) (code.get_field to from field) }
     requires fields { scope.now.fields ≤ MAX_FIELDS }
-    ensures { state_of facts.new ≡ steps.learns (scope_of scope.now) (sides_of sides.now) (code.get_field to from field) (state_of facts.old) }
+    ensures { state_of facts.new ≡ steps.transfer (scope_of scope.now) (sides_of sides.now) (code.get_field to from field) (state_of facts.old) }
 {
     let row = held_of(scope, sides, facts, from);
     facts.set_value(to, scope.read_from(&row, field));
@@ -72,9 +72,9 @@ fn all_of(scope: &Scope, sides: &Sides, facts: &Facts, from: Rec) -> Fields
     }
 }
 
-fn learn_get_at(scope: &Scope, sides: &Sides, facts: &mut Facts, to: u32, from: Rec, at: u32)
+fn transfer_get_at(scope: &Scope, sides: &Sides, facts: &mut Facts, to: u32, from: Rec, at: u32)
     requires { IsWellFormedSimple scope.now.kind scope.now.fields (length (sides_of sides.now)) (code.get_at to from at) }
-    ensures { state_of facts.new ≡ steps.learns (scope_of scope.now) (sides_of sides.now) (code.get_at to from at) (state_of facts.old) }
+    ensures { state_of facts.new ≡ steps.transfer (scope_of scope.now) (sides_of sides.now) (code.get_at to from at) (state_of facts.old) }
 {
     let deps = facts
         .value(at)
@@ -84,31 +84,31 @@ fn learn_get_at(scope: &Scope, sides: &Sides, facts: &mut Facts, to: u32, from: 
     facts.set_value(to, ValueFacts { deps, origin });
 }
 
-fn learn_key(scope: &Scope, facts: &mut Facts, to: u32, at: u32)
+fn transfer_key(scope: &Scope, facts: &mut Facts, to: u32, at: u32)
     requires { to < value_registers }
-    ensures { (sides : List Side) → state_of facts.new ≡ steps.learns (scope_of scope.now) sides (code.get_key to at) (state_of facts.old) }
+    ensures { (sides : List Side) → state_of facts.new ≡ steps.transfer (scope_of scope.now) sides (code.get_key to at) (state_of facts.old) }
 {
     let deps = scope.key_deps(at);
     let origin = Origin::Key { at };
     facts.set_value(to, ValueFacts { deps, origin });
 }
 
-fn learn_set(scope: &Scope, facts: &mut Facts, to: u32, field: u32, value: u32)
+fn transfer_set(scope: &Scope, facts: &mut Facts, to: u32, field: u32, value: u32)
     requires to { to < record_registers }
     requires value { value < value_registers }
     requires field { field < MAX_FIELDS }
-    ensures { (sides : List Side) → state_of facts.new ≡ steps.learns (scope_of scope.now) sides (code.set_field to field value) (state_of facts.old) }
+    ensures { (sides : List Side) → state_of facts.new ≡ steps.transfer (scope_of scope.now) sides (code.set_field to field value) (state_of facts.old) }
 {
     let row = scope.written(&facts.record(to), field, &facts.value(value));
     facts.set_record(to, row);
 }
 
-fn learn_set_at(scope: &Scope, facts: &mut Facts, to: u32, at: u32, value: u32)
+fn transfer_set_at(scope: &Scope, facts: &mut Facts, to: u32, at: u32, value: u32)
     requires to { to < record_registers }
     requires at { at < value_registers }
     requires value { value < value_registers }
     requires fields { scope.now.fields ≤ MAX_FIELDS }
-    ensures { (sides : List Side) → state_of facts.new ≡ steps.learns (scope_of scope.now) sides (code.set_at to at value) (state_of facts.old) }
+    ensures { (sides : List Side) → state_of facts.new ≡ steps.transfer (scope_of scope.now) sides (code.set_at to at value) (state_of facts.old) }
 {
     let row = scope.written_at(&facts.record(to), &facts.value(at), &facts.value(value));
     facts.set_record(to, row);
@@ -136,9 +136,9 @@ pub(crate) fn walk_stmt(
             let value = facts.value(*from);
             facts.set_value(*to, value);
         }
-        Stmt::Get { to, from, field } => learn_get(scope, sides, facts, *to, *from, *field),
-        Stmt::GetAt { to, from, at } => learn_get_at(scope, sides, facts, *to, *from, *at),
-        Stmt::Key { to, at } => learn_key(scope, facts, *to, *at),
+        Stmt::Get { to, from, field } => transfer_get(scope, sides, facts, *to, *from, *field),
+        Stmt::GetAt { to, from, at } => transfer_get_at(scope, sides, facts, *to, *from, *at),
+        Stmt::Key { to, at } => transfer_key(scope, facts, *to, *at),
         Stmt::One { to, a, .. } => {
             let deps = facts.value(*a).deps;
             let origin = Origin::Unknown;
@@ -154,8 +154,8 @@ pub(crate) fn walk_stmt(
             let row = held_of(scope, sides, facts, *from);
             facts.set_record(*to, row);
         }
-        Stmt::Set { to, field, value } => learn_set(scope, facts, *to, *field, *value),
-        Stmt::SetAt { to, at, value } => learn_set_at(scope, facts, *to, *at, *value),
+        Stmt::Set { to, field, value } => transfer_set(scope, facts, *to, *field, *value),
+        Stmt::SetAt { to, at, value } => transfer_set_at(scope, facts, *to, *at, *value),
         Stmt::Emit { from } => noted.emitted(&facts.record(*from)),
         Stmt::If { on, body, other } => {
             walk_if(scope, sides, *on, body, other, facts, noted);

@@ -86,10 +86,10 @@ bounds_inside text at next inside h e =
 pub bounds_at : (text : List ℕ) (line at next : ℕ) (inside : List ℕ) → IsLineStart text line at
     → lines_of (drop at text) ≡ inside ∷ lines_of (drop next text) → AreBounds text line at (at + length (trimmed inside))
 bounds_at text line at next inside s e = record {
-  before = s.before;
+  start = s;
   inside = inside;
   later = lines_of (drop next text);
-  lines = s.lines ∙ ap (λ (x : List (List ℕ)). s.before ++ x) e;
-  numbered = s.numbered;
+  lines = e;
+  ends = refl;
   part = drop-take at (length (trimmed inside)) text ∙ trimmed_front (drop at text) inside (lines_of (drop next text)) e;
 }

@@ -1,3 +1,5 @@
 pub mod TextParts
 pub mod Samples
 pub mod Marks
+pub mod LineParts
+pub mod Scanning

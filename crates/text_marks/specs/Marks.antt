@@ -1,6 +1,6 @@
--- Which part of a text has its first fault, which words may be there instead, and which mend the text. All of it is said
--- by first faults of texts that are cut after a word, or have another word.
-use Rattle.std.specs.Prelude.{◌≡◌, ◌≢◌, ◌<◌, ◌⊎◌, ◌&&◌, ◌||◌, ◌==◌, ℕ, Bool, true, false, IsTrue, nat_lt, List, ◌++◌, length, codes, decimal, Option, Some, None}
+-- Which part of a text has its first fault, which words may be there instead, and which mend the text. All of it is
+-- said by first faults of texts that are cut after a word, or have another word.
+use Rattle.std.specs.Prelude.{◌≡◌, ◌≢◌, ◌<◌, ◌⊎◌, ◌+◌, ◌&&◌, ◌||◌, ◌==◌, ℕ, Bool, true, false, IsTrue, nat_lt, List, ◌++◌, length, codes, decimal, Option, Some, None}
 use Rattle.std.specs.List.{AllByRecursion}
 use Rattle.program_text.specs.ProgramTexts.{IsProgramText}
 use Rattle.program_text.specs.ProgramStates.{TellsFirstFault}
@@ -11,7 +11,8 @@ use Rattle.text_marks.specs.declared.marks.Mark.{Mark}
 use Rattle.text_marks.specs.declared.expected.Expected.{Expected}
 use Rattle.text_marks.specs.declared.expected.Expected.TheVariants.{Number, LineEnd}
 use Rattle.text_marks.specs.Samples.{sample_of}
-use Rattle.text_marks.specs.TextParts.{IsInside, cut_text, cut_with, line_number, text_with}
+use Rattle.text_marks.specs.LineParts.{AreNextWords, HasNoWord, IsNextWord}
+use Rattle.text_marks.specs.TextParts.{AreBounds, IsInside, LacksLine, LiesInLine, cut_text, cut_with, line_number, text_with}
 
 -- ---- first faults
 
@@ -37,13 +38,63 @@ abbrev pub IsFaultPart : List ℕ → Mark → Fault → Type 0
 IsFaultPart text mark fault =
     HasFirst (cut_text mark.to text) (Some fault) × (fault.what ≢ 12 → HasOther (cut_text mark.from text) fault)
 
--- A mark of a fault is a part that has it. Or it is empty: at a place such that the text up to there has the fault, or at
--- the text's end.
+-- No part of these bytes has the fault by itself: the text up to their end has another first fault, or the text up to
+-- their start has the same.
+abbrev pub HasNoFaultPart : List ℕ → (from to : ℕ) → Fault → Type 0
+HasNoFaultPart text from to fault = HasOther (cut_text to text) fault ⊎ HasFirst (cut_text from text) (Some fault)
+
+-- When no part is marked: a word or a line is missing (faults 4 and 12), the text doesn't have the fault or has no such
+-- line, or the line has it by no part of its own.
+abbrev pub MayBeEmpty : List ℕ → Fault → Type 0
+MayBeEmpty text fault =
+    (fault.what ≡ 4)
+    ⊎ ((fault.what ≡ 12)
+    ⊎ (HasOther (cut_text (length text) text) fault
+    ⊎ (LacksLine text fault.line
+    ⊎ ((from to : ℕ) × AreBounds text fault.line from to × HasNoFaultPart text from to fault))))
+
+-- None of these words has the fault by itself. Of fault 4, where a word is missing, and of fault 12 it isn't said.
+abbrev pub HaveNoFault : List ℕ → Fault → List Mark → Type 0
+HaveNoFault text fault words = fault.what ≢ 4 → fault.what ≢ 12 → AllByRecursion (λ word. HasNoFaultPart text word.from word.to fault) words
+
+-- ---- where a mark is
+
+-- The first word of the faulty line that has the fault: no word before it has it.
+abbrev pub IsFirstFaulty : List ℕ → Fault → Mark → Type 0
+IsFirstFaulty text fault mark =
+    (from end at : ℕ) × (before : List Mark) × AreBounds text fault.line from end × AreNextWords text fault.line end from before at
+    × HaveNoFault text fault before × IsNextWord text fault.line at end mark
+
+-- No word of the faulty line has the fault, and the last word ends at this place. Fault 1 is one of bytes, and the
+-- place is then the line's end.
+abbrev pub HasNoFaultyWord : List ℕ → Fault → (at : ℕ) → Type 0
+HasNoFaultyWord text fault at =
+    (from end : ℕ) × AreBounds text fault.line from end
+    × (((fault.what ≡ 1) × (at ≡ end))
+    ⊎ ((words : List Mark) × AreNextWords text fault.line end from words at × HasNoWord text at end × HaveNoFault text fault words))
+
+-- A mark with bytes is the first faulty word; or one byte, of fault 1 or if no word has the fault.
+abbrev pub IsFaultPlace : List ℕ → Fault → Mark → Type 0
+IsFaultPlace text fault mark =
+    ((fault.what ≢ 1) × IsFirstFaulty text fault mark)
+    ⊎ ((mark.to ≡ mark.from + 1) × (at : ℕ) × HasNoFaultyWord text fault at)
+
+-- A mark without bytes is after the last word if the text up to there has the fault, otherwise at the text's end.
+abbrev pub IsEmptyPlace : List ℕ → Fault → Mark → Type 0
+IsEmptyPlace text fault mark =
+    ((mark.from ≡ length text) × (LacksLine text fault.line ⊎ HasOther (cut_text (length text) text) fault))
+    ⊎ ((at : ℕ) × HasNoFaultyWord text fault at
+    × (((mark.from ≡ at) × HasFirst (cut_text at text) (Some fault)) ⊎ ((mark.from ≡ length text) × HasOther (cut_text at text) fault)))
+
+-- A mark of a fault is the part of the faulty line that has the fault: a word, or a byte if it is no word's fault. Or
+-- it is empty: at a place of that line such that the text up to there has the fault, or at the text's end.
 abbrev pub IsFaultMark : List ℕ → Fault → Mark → Type 0
 IsFaultMark text fault mark =
     (mark.line ≡ fault.line)
     × IsInside text mark.from mark.to
-    × (mark.from < mark.to → IsFaultPart text mark fault)
+    × (mark.from < length text → LiesInLine text mark)
+    × (mark.from < mark.to → IsFaultPart text mark fault × IsFaultPlace text fault mark)
+    × (mark.from ≡ mark.to → MayBeEmpty text fault × IsEmptyPlace text fault mark)
     × (mark.to < length text → HasFirst (cut_text mark.to text) (Some fault))
 
 -- ---- accepted words
@@ -53,10 +104,10 @@ abbrev pub is_beyond : ℕ → Option Fault → Bool
 is_beyond line None = true
 is_beyond line (Some fault) = nat_lt line fault.line || ((line == fault.line) && (fault.what == 4))
 
--- the first fault with the word, or if that is fault 12 of its line, with the word and the number 1
+-- the first fault with the word, or if (and only if) that is fault 12 of its line, with the word and the number 1
 abbrev pub HasTried : ℕ → ℕ → List ℕ → List ℕ → Option Fault → Type 0
 HasTried from to word text fault =
-    HasFirst (cut_with from to word text) fault
+    (HasFirst (cut_with from to word text) fault × (fault ≢ Some (record { line = line_number from text; what = 12 })))
     ⊎ (HasFirst (cut_with from to word text) (Some (record { line = line_number from text; what = 12 })) × HasFirst (cut_with from to (word ++ codes " 1") text) fault)
 
 -- what trying a word says

@@ -1,5 +1,5 @@
 -- Parts of a text, its lines, and the text with another word at a place.
-use Rattle.std.specs.Prelude.{◌≡◌, ◌≤◌, ◌<◌, ◌+◌, ◌&&◌, ◌||◌, ◌==◌, ℕ, Bool, false, not, if◌then◌else◌, List, [], ◌∷◌, ◌++◌, length, take, drop, codes}
+use Rattle.std.specs.Prelude.{◌≡◌, ◌≤◌, ◌<◌, ◌⊎◌, ◌+◌, ◌&&◌, ◌||◌, ◌==◌, ℕ, Bool, false, not, if◌then◌else◌, List, [], ◌∷◌, ◌++◌, length, take, drop, codes}
 use Rattle.std.specs.List.{count_by}
 use Rattle.text_lines.specs.TextLines.{lines_of, trimmed}
 use Rattle.text_marks.specs.declared.marks.Mark.{Mark}
@@ -33,14 +33,26 @@ pub record IsLineStart (text : List ℕ) (line at : ℕ) : Type 0 where
   pub lines : lines_of text ≡ before ++ lines_of (drop at text)
   pub numbered : line ≡ length before + 1
 
--- The line, without its line end, is between these places.
+-- The line begins at the first place and, without its line end, ends at the second.
 pub record AreBounds (text : List ℕ) (line from to : ℕ) : Type 0 where
-  pub before : List (List ℕ)
+  pub start : IsLineStart text line from
   pub inside : List ℕ
   pub later : List (List ℕ)
-  pub lines : lines_of text ≡ before ++ inside ∷ later
-  pub numbered : line ≡ length before + 1
+  pub lines : lines_of (drop from text) ≡ inside ∷ later
+  pub ends : to ≡ from + length (trimmed inside)
   pub part : drop from (take to text) ≡ trimmed inside
+
+-- the text has no line of this number; lines count from 1
+abbrev pub LacksLine : List ℕ → ℕ → Type 0
+LacksLine text line = (line < 1) ⊎ (length (lines_of text) < line)
+
+-- The mark is in the line that it names, before the line end.
+pub record LiesInLine (text : List ℕ) (mark : Mark) : Type 0 where
+  pub from : ℕ
+  pub to : ℕ
+  pub bounds : AreBounds text mark.line from to
+  pub after : from ≤ mark.from
+  pub before : mark.to ≤ to
 
 -- ---- cut texts
 

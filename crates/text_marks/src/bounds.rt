@@ -1,14 +1,15 @@
 //! Where the lines of a text begin and end.
 
-ghost use Rattle.std.specs.Prelude.{◌≡◌, ◌≤◌, ◌<◌, ◌+◌, IfSome, length};
-ghost use Rattle.text_marks.specs.TextParts.{AreBounds, IsInside, IsLineStart, line_number};
+ghost use Rattle.std.specs.Prelude.{◌≡◌, ◌≤◌, ◌<◌, ◌+◌, IfNone, IfSome, length};
+ghost use Rattle.text_marks.specs.TextParts.{AreBounds, IsInside, IsLineStart, LacksLine, line_number};
 
 use text_lines::{line_at, trim_line};
 
 // Where a line begins; at the text's end if the text has one line fewer.
 fn line_start(text: &[u8], line: u64) -> Option<usize>
     requires { 1 ≤ line }
-    ensures { IfSome result (λ at. IsLineStart text.now line at) }
+    ensures line { IfSome result (λ at. IsLineStart text.now line at) }
+    ensures none { IfNone result (LacksLine text.now line) }
 {
     let mut at = 0;
     for _ in 1..line {
@@ -25,6 +26,7 @@ fn line_start(text: &[u8], line: u64) -> Option<usize>
 pub fn line_bounds(text: &[u8], line: u64) -> Option<(usize, usize)>
     ensures inside { IfSome result (λ bounds. IsInside text.now bounds.0 bounds.1) }
     ensures line { IfSome result (λ bounds. AreBounds text.now line bounds.0 bounds.1) }
+    ensures none { IfNone result (LacksLine text.now line) }
 {
     if line == 0 {
         return None;

@@ -93,8 +93,8 @@ fn doubled(number: u64) -> u64
     }
 }
 
-// The greatest accepted number, if `low` is accepted and so is each number from there on up to it: by doubling, and then
-// by halving.
+// The greatest accepted number, if `low` is accepted and so is each number from there on up to it: by doubling, and
+// then by halving.
 fn greatest(alloc: Global, text: &[u8], mark: &Mark, low: u64) -> Result<u64, OutOfMemory>
     requires inside { IsInside text.now mark.now.from mark.now.to }
     requires order { low ≤ 2 }
@@ -258,8 +258,8 @@ fn add_end(
 }
 
 /// What may be instead of the marked part, found by trying each fixed word and a sample of each kind of word. If a name
-/// is wanted, the list has only that: names may be anything, fixed words too. An empty list says that an earlier part of
-/// the text is at fault. It says nothing about fault 1, whose mark may be inside of a word or a comment.
+/// is wanted, the list has only that: names may be anything, fixed words too. An empty list says that an earlier part
+/// of the text is at fault. It says nothing about fault 1, whose mark may be inside of a word or a comment.
 pub fn expected_at(alloc: Global, text: &[u8], mark: &Mark) -> Result<ExpectedList, OutOfMemory>
     requires { IsInside text.now mark.now.from mark.now.to }
     ensures { IfOk result (λ found. AreExpected mark.now.from mark.now.to text.now found) }

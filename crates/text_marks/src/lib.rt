@@ -1,8 +1,9 @@
 //! Where a program's text is faulty, what may be there instead, and where its declarations and statements are.
 //!
-//! Nothing here knows the grammar. Each answer is found by trial: the reader of programs reads the text up to a place,
-//! and its first fault decides. A trial ends the text by a blank and an empty line (`specs/TextParts.antt`), so that a text
-//! that merely ends too early is reported after the line that is tried, and a fault of that line at the line itself.
+//! Nothing here knows the grammar of a line, except the first words of blocks. Each answer is found by trial: the
+//! reader of programs reads the text up to a place, and its first fault decides. A trial ends the text by a blank and
+//! an empty line (`specs/TextParts.antt`), so that a text that merely ends too early is reported after the line that is
+//! tried, and a fault of that line at the line itself.
 //!
 //! - `fault_mark` marks the part of a text that has the fault that `read_program` reports.
 //! - `is_accepted` says whether a word may be at a place, `expected_at` lists what may be there, and `cures` lists the

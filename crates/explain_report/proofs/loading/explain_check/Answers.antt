@@ -1,5 +1,10 @@
-use Rattle.pact_load.proofs.DecidedLoading.{file-NamesDiffer}
+use Rattle.explain_report.specs.TextStages.{checked_of}
+use Rattle.explain_report.proofs.Foretold.{foretold_stop, foretold_value, if_ok, if_ok_both}
 use Rattle.explain_report.proofs.loading.explain_check.Goals as goal
 
-pub text_refusal-requires : goal.text_refusal-requires
-text_refusal-requires g c = record { names = file-NamesDiffer _ c.args.name.now c.in-Ok.program c.in-Ok.ensures.told.readings c.in-Ok.ensures.told.ends }
+pub returns-in-Ok-clause-told : goal.returns-in-Ok-clause-told
+returns-in-Ok-clause-told g c = if_ok c.without_fault.result (λ e zero. foretold_value (λ files. checked_of files c.args.name.now c.args.other.now c.args.text.now) c.in-Ok._plan e zero c.in-Ok.ensures) c.without_fault.ensures.status
+
+pub returns-in-Err-clause-told : goal.returns-in-Err-clause-told
+returns-in-Err-clause-told g c =
+    if_ok_both c.refused.result (λ e told cause. foretold_stop (λ files. checked_of files c.args.name.now c.args.other.now c.args.text.now) c.in-Err.refusal e cause told c.in-Err.ensures) c.refused.ensures.told c.refused.ensures.cause

@@ -28,7 +28,7 @@ loop-row-preserved c =
     let t = YieldsList-turn (YieldsList-from_vec {s = c.into_iter-row-iterator.result} c.args.rows (gives.0 ∙ items.ensures) (gives.1 ∙ items.result.ok.0 ∙ ap length items.ensures)) c.loop-row.yielded c.loop-row.row-iterator c.loop-row.yielded_by c.next.result c.next.new.self c.in-Some.row c.in-Some.is c.next.ensures.steps in
     let old = c.args.queue.now.items in
     let longer : length c.push.new.self ≡ length c.loop-row.held + 1 = ap length c.in_ok-push.ensures.ok ∙ length-append c.loop-row.held (c.in-Some.row ∷ []) in (
-      λ fields wide. c.in_ok-held-2.ensures.stowed fields (c.loop-row.yielded ++ c.in-Some.row ∷ []) old
+      λ fields wide. c.in_ok-held-2.ensures.queued_if_full fields (c.loop-row.yielded ++ c.in-Some.row ∷ []) old
           (subst (λ (held : Bag). AreCarriedBut fields c.args.to (c.loop-row.yielded ++ c.in-Some.row ∷ []) old c.loop-row.queue.items held) (sym c.in_ok-push.ensures.ok)
           (one_more fields c.args.to c.loop-row.yielded c.in-Some.row old c.loop-row.queue.items c.loop-row.held (next_width fields c.loop-row.yielded c.args.rows c.in-Some.row wide t) (c.loop-row.invariant.0 fields wide))),
       c.in_ok-held-2.ensures.few,
@@ -43,8 +43,8 @@ returns-clause-carried c = λ fields wide.
     let all = YieldsList-end (YieldsList-from_vec {s = c.into_iter-row-iterator.result} c.args.rows (gives.0 ∙ items.ensures) (gives.1 ∙ items.result.ok.0 ∙ ap length items.ensures)) c.loop-row.yielded c.loop-row.row-iterator c.loop-row.yielded_by c.next.result c.next.new.self c.in-None.is c.next.ensures.steps in
     let old = c.args.queue.now.items in
     let done : c.loop-row.yielded ≡ c.args.rows = sym (map-id c.loop-row.yielded) ∙ all.0 in
-    subst (λ (rows : Bag). AreCarried fields c.args.to rows old c.stow-2.new.queue.items) done
-    (all_carried fields c.args.to c.loop-row.yielded old c.stow-2.new.queue.items c.in_ok-_none._none c.in_ok-_none.ensures.few (c.in_ok-_none.ensures.stowed fields c.loop-row.yielded old (c.loop-row.invariant.0 fields wide)))
+    subst (λ (rows : Bag). AreCarried fields c.args.to rows old c.queue_if_full-2.new.queue.items) done
+    (all_carried fields c.args.to c.loop-row.yielded old c.queue_if_full-2.new.queue.items c.in_ok-_none._none c.in_ok-_none.ensures.few (c.in_ok-_none.ensures.queued_if_full fields c.loop-row.yielded old (c.loop-row.invariant.0 fields wide)))
 
 pub returns-clause-batches : goal.returns-clause-batches
 returns-clause-batches c = λ few. c.in_ok-_none.ensures.batches c.args.batch (omega (arith, c.loop-row.invariant.1)) (c.loop-row.invariant.3 few)

@@ -4,6 +4,5 @@ use Rattle.flow_run.proofs.runs.run_on_one.Goals as goal
 
 pub returns : goal.returns
 returns g c =
-    let run = c.run_alone.ensures in
     plan_outcome c.args.program.now c.args.inputs c.args.physical.now c.in_ok-world.world no_history c.run_alone.result c.in_ok-world.ensures.physical c.fields-fields.ensures.keeps c.requires.inputs c.requires.plan
-    c.in_ok-world.ensures.standing run.spread run.counted run.widths run.counts
+    c.in_ok-world.ensures.standing c.run_alone.ensures

@@ -1,5 +1,5 @@
 use Rattle.std.proofs.Common.{◌+◌, arith, refl}
-use Rattle.flow_run.specs.Benches.{nothing}
+use Rattle.flow_run.specs.WorkerStates.{nothing}
 use Rattle.flow_run.proofs.Turning.{turn_more}
 use Rattle.flow_run.proofs.turns.turn.Goals as goal
 

@@ -1,5 +1,5 @@
 use Rattle.std.proofs.Common.{length, refl, ◌∙◌}
-use Rattle.flow_run.specs.Benches.{bench, nothing}
+use Rattle.flow_run.specs.WorkerStates.{worker_state, nothing}
 use Rattle.flow_run.proofs.ReadyWorkers.{stays_ready}
 use Rattle.flow_run.proofs.Turning.{join_works}
 use Rattle.flow_run.proofs.workers.turns.Goals as goal
@@ -11,22 +11,22 @@ pub loop-preserved-then-is_progress : goal.loop-preserved-then-is_progress
 loop-preserved-then-is_progress g c = (
   c.in_ok-attempt.ensures.ready,
   c.in_ok-attempt.ensures.count ∙ c.loop.invariant.1,
-  join_works c.args.context.now.number (length c.args.instances.now) (length c.loop.instances) (bench c.args.instances.now c.args.puts.now c.args.takes.now) (bench c.loop.instances c.loop.puts c.loop.takes)
-      (bench c.turn.new.instances c.turn.new.puts c.turn.new.takes) c.loop.invariant.1 c.loop.invariant.2 c.in_ok-attempt.ensures.works,
+  join_works c.args.context.now.number (length c.args.instances.now) (length c.loop.instances) (worker_state c.args.instances.now c.args.puts.now c.args.takes.now) (worker_state c.loop.instances c.loop.puts c.loop.takes)
+      (worker_state c.turn.new.instances c.turn.new.puts c.turn.new.takes) c.loop.invariant.1 c.loop.invariant.2 c.in_ok-attempt.ensures.works,
 )
 
 pub loop-preserved : goal.loop-preserved
 loop-preserved g c = (
   c.in_ok-attempt.ensures.ready,
   c.in_ok-attempt.ensures.count ∙ c.loop.invariant.1,
-  join_works c.args.context.now.number (length c.args.instances.now) (length c.loop.instances) (bench c.args.instances.now c.args.puts.now c.args.takes.now) (bench c.loop.instances c.loop.puts c.loop.takes)
-      (bench c.turn.new.instances c.turn.new.puts c.turn.new.takes) c.loop.invariant.1 c.loop.invariant.2 c.in_ok-attempt.ensures.works,
+  join_works c.args.context.now.number (length c.args.instances.now) (length c.loop.instances) (worker_state c.args.instances.now c.args.puts.now c.args.takes.now) (worker_state c.loop.instances c.loop.puts c.loop.takes)
+      (worker_state c.turn.new.instances c.turn.new.puts c.turn.new.takes) c.loop.invariant.1 c.loop.invariant.2 c.in_ok-attempt.ensures.works,
 )
 
 pub returns-then-is_over-clause-works : goal.returns-then-is_over-clause-works
 returns-then-is_over-clause-works g c =
-    join_works c.args.context.now.number (length c.args.instances.now) (length c.loop.instances) (bench c.args.instances.now c.args.puts.now c.args.takes.now) (bench c.loop.instances c.loop.puts c.loop.takes)
-    (bench c.turn.new.instances c.turn.new.puts c.turn.new.takes) c.loop.invariant.1 c.loop.invariant.2 c.in_ok-attempt.ensures.works
+    join_works c.args.context.now.number (length c.args.instances.now) (length c.loop.instances) (worker_state c.args.instances.now c.args.puts.now c.args.takes.now) (worker_state c.loop.instances c.loop.puts c.loop.takes)
+    (worker_state c.turn.new.instances c.turn.new.puts c.turn.new.takes) c.loop.invariant.1 c.loop.invariant.2 c.in_ok-attempt.ensures.works
 
 pub returns-then-is_over-clause-stays : goal.returns-then-is_over-clause-stays
 returns-then-is_over-clause-stays g c =

@@ -9,13 +9,13 @@ pub certificate_line-requires : goal.certificate_line-requires
 certificate_line-requires c =
     let p = c.args.loaded.now.program in
     let derived = c.in_ok-steps.ensures c.args.loaded.now c.args.workers c.args.plans c.in_ok-choice.ensures.choice in
-    let leads = subst (λ (cs : List Condition). Lead p p.plan cs c.in_ok-choice.choice.plan) (sym c.conditions.ensures) derived.leads in
+    let leads = subst (λ (cs : List Condition). Lead p p.plan cs c.in_ok-choice.choice.best.plan) (sym c.conditions.ensures) derived.leads in
     record { stated = c.in_ok-certificate.ensures.can_be_written c.requires.names leads }
 
 pub returns : goal.returns
 returns c =
     let p = c.args.loaded.now.program in
-    let plan = c.in_ok-choice.choice.plan in
+    let plan = c.in_ok-choice.choice.best.plan in
     let derived = c.in_ok-steps.ensures c.args.loaded.now c.args.workers c.args.plans c.in_ok-choice.ensures.choice in
     let leads = subst (λ (cs : List Condition). Lead p p.plan cs plan) (sym c.conditions.ensures) derived.leads in
     let same = c.in_ok-certificate.ensures.certificate ∙ ap (λ (cs : List Condition). certificate_of p cs plan) c.conditions.ensures in

@@ -5,7 +5,7 @@ choose_listed-requires-clause-plans c = record { plans = c.in_ok-listed.ensures.
 
 pub returns : goal.returns
 returns c =
-    let p = c.in_ok-chosen.ensures in
+    let p = c.in_ok-best.ensures in
     record {
       choice = record { listing = c.in_ok-listed.ensures.listing; chosen = p.chosen; plan = p.there };
       plan = p.plan;

@@ -22,4 +22,4 @@ iterate-requires-clause-source g c =
 pub returns : goal.returns
 returns g c =
     iterated_read c.args.program.now c.ops-ops.result.now c.args.at c.source_place-place.result c.index-ops-at.result c.requires.source c.ops-ops.ensures.ops
-    c.source_place-place.ensures c.args.inputs c.args.extent.rounds c.args.extent.stable c.iterate.result c.iterate.ensures.rounds
+    c.source_place-place.ensures c.args.inputs c.args.limits.rounds c.args.limits.stable c.iterate.result c.iterate.ensures.rounds

@@ -1,5 +1,5 @@
 use Rattle.std.proofs.Common.{sym, ◌∙◌}
-use Rattle.ship_strategy.proofs.SeenRows.{seen-true}
+use Rattle.ship_strategy.proofs.EarlierFindingRows.{seen-true}
 use Rattle.ship_strategy.proofs.knowing.facts_after.Goals as goal
 
 pub returns-in-Some : goal.returns-in-Some

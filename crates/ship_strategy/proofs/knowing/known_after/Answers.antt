@@ -4,10 +4,10 @@ use Rattle.plan_trees.specs.Plans.{subtree_of}
 use Rattle.pact_operators.specs.Programs.{HasLeftAttribute, HasRightAttribute}
 use Rattle.ship_strategy.specs.Facts.{Facts}
 use Rattle.ship_strategy.specs.PlanFacts.{filled}
-use Rattle.ship_strategy.specs.Seen.{AreTold, IsTold}
+use Rattle.ship_strategy.specs.EarlierFindings.{AreTrueFindings, IsTrueFinding}
 use Rattle.tac_flow.proofs.EachItem.{AllByRecursion-set}
 use Rattle.ship_strategy.proofs.FilledTables.{filled_is}
-use Rattle.ship_strategy.proofs.SeenRows.{told}
+use Rattle.ship_strategy.proofs.EarlierFindingRows.{told}
 use Rattle.ship_strategy.proofs.PlanAttributes.{facts_left, facts_right}
 use Rattle.ship_strategy.proofs.knowing.known_after.Goals as goal
 
@@ -33,4 +33,4 @@ returns-clause-seen c =
     let p = c.args.program.now in
     let t = c.args.plan.now in
     let value = c.fill.ensures.table ∙ ap (λ (f : Facts). filled p t f) c.blank-table.ensures ∙ filled_is p t in
-    subst (AreTold p) (sym c.keep.ensures.tables) (AllByRecursion-set (IsTold p) c.args.seen.now.tables _ c.fill.new.table c.requires.seen (told p t c.fill.new.table value))
+    subst (AreTrueFindings p) (sym c.keep.ensures.tables) (AllByRecursion-set (IsTrueFinding p) c.args.seen.now.tables _ c.fill.new.table c.requires.seen (told p t c.fill.new.table value))

@@ -9,7 +9,7 @@ pub returns : goal.returns
 returns c =
     let p = c.args.program.now in
     let d = c.args.physical.now in
-    let same = c.look.ensures.legal
+    let same = c.check_edges.ensures.legal
     ∙ (λ i. is_legal (c.known-table.ensures.value i) d (c.plan-2.ensures i))
     ∙ ap (λ (t : PlanTree). is_legal (facts_of p t) d d.tree) c.plan.ensures in (
       λ e. legal_says (facts_of p d.tree) d d.tree (sym same ∙ e),

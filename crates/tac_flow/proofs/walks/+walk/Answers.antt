@@ -62,15 +62,15 @@ walk_stmt-returns-in-Repeat-clause-noted t c =
 
 pub walk_stmt-returns-in-Key-clause-facts : goal.walk_stmt-returns-in-Key-clause-facts
 walk_stmt-returns-in-Key-clause-facts t c =
-    c.learn_key.ensures (sides_of c.args.sides.now) ∙ ap (λ (s : Stmt). walk (scope_of c.args.scope.now) (sides_of c.args.sides.now) (only s) (state_of c.args.facts.now)) (sym c.in-Key.is)
+    c.transfer_key.ensures (sides_of c.args.sides.now) ∙ ap (λ (s : Stmt). walk (scope_of c.args.scope.now) (sides_of c.args.sides.now) (only s) (state_of c.args.facts.now)) (sym c.in-Key.is)
 
 pub walk_stmt-returns-in-Set-clause-facts : goal.walk_stmt-returns-in-Set-clause-facts
 walk_stmt-returns-in-Set-clause-facts t c =
-    c.learn_set.ensures (sides_of c.args.sides.now) ∙ ap (λ (s : Stmt). walk (scope_of c.args.scope.now) (sides_of c.args.sides.now) (only s) (state_of c.args.facts.now)) (sym c.in-Set.is)
+    c.transfer_set.ensures (sides_of c.args.sides.now) ∙ ap (λ (s : Stmt). walk (scope_of c.args.scope.now) (sides_of c.args.sides.now) (only s) (state_of c.args.facts.now)) (sym c.in-Set.is)
 
 pub walk_stmt-returns-in-SetAt-clause-facts : goal.walk_stmt-returns-in-SetAt-clause-facts
 walk_stmt-returns-in-SetAt-clause-facts t c =
-    c.learn_set_at.ensures (sides_of c.args.sides.now) ∙ ap (λ (s : Stmt). walk (scope_of c.args.scope.now) (sides_of c.args.sides.now) (only s) (state_of c.args.facts.now)) (sym c.in-SetAt.is)
+    c.transfer_set_at.ensures (sides_of c.args.sides.now) ∙ ap (λ (s : Stmt). walk (scope_of c.args.scope.now) (sides_of c.args.sides.now) (only s) (state_of c.args.facts.now)) (sym c.in-SetAt.is)
 
 pub walk_if-returns-clause-noted : goal.walk_if-returns-clause-noted
 walk_if-returns-clause-noted t c =

@@ -6,7 +6,7 @@ use Rattle.flow_instance.specs.Events.{first_note}
 use Rattle.flow_instance.specs.Instances.{Instance}
 use Rattle.flow_instance.specs.Worlds.{reader_of}
 use Rattle.flow_instance.specs.declared.notes.Note.{Note}
-use Rattle.flow_core.specs.Stations.{IsReadyFor}
+use Rattle.flow_core.specs.QueuedInstances.{IsReadyFor}
 use Rattle.flow_core.specs.Worlds.{WorldData, instance_in, queue_in}
 use Rattle.flow_core.proofs.EnabledEvents.{can_take_at, not_unread}
 use Rattle.flow_core.proofs.WorldsAfterEvents.{take_steps}
@@ -32,8 +32,8 @@ receive-requires-clause-ready g c κs within =
     ap (λ (w : WorldData). reader_of c.args.pipe.edge w.physical.tree) (sym c.self.view_is) ∙ sym c.reader.ensures ∙ c.in-Some.is in
     let can = can_take_at c.args.self.now c.args.pipe c.in-Some.at c.in-Some.port c.requires.stands c.requires.can reader in
     let p = c.args.pipe in
-    subst (λ (n : Note). IsReadyFor (instance_in c.give-note.new.self.stations c.in-Some.at p.to) p.to c.in-Some.port p.from n) (sym c.give-note.ensures.note)
-    (subst (λ (i : Instance). IsReadyFor i p.to c.in-Some.port p.from (first_note (queue_in c.args.self.now.stations p.edge p.from p.to))) (sym (c.give-note.ensures.instances c.in-Some.at p.to)) can.ready)
+    subst (λ (n : Note). IsReadyFor (instance_in c.give-note.new.self.queued_instances c.in-Some.at p.to) p.to c.in-Some.port p.from n) (sym c.give-note.ensures.note)
+    (subst (λ (i : Instance). IsReadyFor i p.to c.in-Some.port p.from (first_note (queue_in c.args.self.now.queued_instances p.edge p.from p.to))) (sym (c.give-note.ensures.instances c.in-Some.at p.to)) can.ready)
 
 pub receive-requires-clause-has : goal.receive-requires-clause-has
 receive-requires-clause-has g c κs within =

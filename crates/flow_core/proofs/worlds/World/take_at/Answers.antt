@@ -1,7 +1,7 @@
 use Rattle.std.proofs.Common.{ap, sym, ◌∙◌}
 use Rattle.flow_instance.specs.declared.notes.Event.TheVariants as events
 use Rattle.flow_instance.specs.Worlds.{enabled}
-use Rattle.flow_core.specs.Wired.{input_in}
+use Rattle.flow_core.specs.PlanTables.{input_in}
 use Rattle.flow_core.specs.Worlds.{WorldData, seen}
 use Rattle.flow_core.proofs.EventsOfWants.{idle_beside, idle_starved, idle_unread, input_reads, none_if}
 use Rattle.flow_core.proofs.worlds.World.take_at.Goals as goal

@@ -13,4 +13,4 @@ returns-clause-offered g c = search rules
 pub returns-clause-local : goal.returns-clause-local
 returns-clause-local g c = λ s taken put new to l wanted a.
     let i = c.args.self.now in
-    subst (λ (j : Instance). IsLocal s i.part.worker j taken new) (sym (returns-clause-offered g c)) (local_offered s i taken put new to c.in-Some.parcel.note (returns-clause-note g c) l wanted a)
+    subst (λ (j : Instance). IsLocal s i.part.worker j taken new) (sym (returns-clause-offered g c)) (local_offered s i taken put new to c.in-Some.addressed.note (returns-clause-note g c) l wanted a)

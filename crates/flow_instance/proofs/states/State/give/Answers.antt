@@ -1,6 +1,7 @@
 use Rattle.std.proofs.Common.{rules}
 use Rattle.std.proofs.lemmas.Result.{on_ok_weaker}
 use Rattle.flow_instance.proofs.NotesForReceivers.{none_few}
+use Rattle.flow_instance.proofs.OnOkTogether.{on_ok_two}
 use Rattle.pact_bag.proofs.Widths.{HaveOneWidth-append}
 use Rattle.flow_instance.specs.States.{part_of}
 use Rattle.flow_instance.proofs.RowsSentOrPlaced.{given_placed, given_sent, orderly_given}
@@ -28,12 +29,14 @@ pub returns : goal.returns
 returns g c =
     let s = c.args.self.now in
     let p = part_of s.part in
-    let queue = c.in_ok-self.field-0.items in
-    let sent = given_sent p c.in-Some.ship c.args.rows s.placed queue c.in-Some.is c.requires.at_root c.requires.placed_wide (c.in_ok-self.ensures.sent s.part.fields c.requires.wide) in
+    let queue = c.queue_rows.new.queue.items in
+    on_ok_two c.queue_rows.result (λ parts batches.
+    let sent = given_sent p c.in-Some.ship c.args.rows s.placed queue c.in-Some.is c.requires.at_root c.requires.placed_wide (parts s.part.fields c.requires.wide) in
     record {
       same = search rules;
       counted = search rules;
       sent = sent;
       orderly = orderly_given p c.args.rows s.placed s.placed queue sent;
-      batches = c.in_ok-self.ensures.batches;
-    }
+      batches = batches;
+    })
+    c.queue_rows.ensures.sent c.queue_rows.ensures.batches

@@ -11,7 +11,7 @@ pub seal-requires : goal.seal-requires
 seal-requires g c =
     let s = c.args.self.now in
     let sound = c.requires.sound in
-    left_open g.L.Local.rows g.L.Local.key_fields g.L.Local.is_sealed s sound (sym c.works_at_once.ensures ∙ c.if-works_at_once.false)
+    left_open g.L.Local.rows g.L.Local.key_fields g.L.Local.is_sealed s sound (sym c.is_pipelined.ensures ∙ c.if-is_pipelined.false)
 
 pub function-requires : goal.function-requires
 function-requires g c =
@@ -64,7 +64,7 @@ pub cogroup_kept-requires-clause-sides : goal.cogroup_kept-requires-clause-sides
 cogroup_kept-requires-clause-sides g c =
     let s = c.args.self.now in
     let sound = c.requires.sound in
-    λ lifetimes bound. sides_of g.L.Local.rows g.L.Local.key_fields g.L.Local.is_sealed s sound c.seal.new.self c.seal-2.new.self (sym c.works_at_once.ensures ∙ c.if-works_at_once.false) (sym c.reduces.ensures ∙ c.if-reduces.false) c.in_ok-seal.ensures.rows c.in_ok-seal-2.ensures.rows c.in_ok-seal.ensures.keys c.in_ok-seal-2.ensures.keys c.function-2.result.now c.function-2.ensures
+    λ lifetimes bound. sides_of g.L.Local.rows g.L.Local.key_fields g.L.Local.is_sealed s sound c.seal.new.self c.seal-2.new.self (sym c.is_pipelined.ensures ∙ c.if-is_pipelined.false) (sym c.reduces.ensures ∙ c.if-reduces.false) c.in_ok-seal.ensures.rows c.in_ok-seal-2.ensures.rows c.in_ok-seal.ensures.keys c.in_ok-seal-2.ensures.keys c.function-2.result.now c.function-2.ensures
 
 pub returns : goal.returns
 returns g c =
@@ -74,7 +74,7 @@ returns g c =
     let rights = g.L.Local.rows c.seal-2.new.self in
     if_ok_two c.cogroup_kept.result _ _ _ (λ out h wide. record {
       same = refl;
-      given = cogroup_given g.L.Local.rows g.L.Local.key_fields g.L.Local.is_sealed s c.function-2.result.now lefts rights out sound (sym c.works_at_once.ensures ∙ c.if-works_at_once.false) (sym c.reduces.ensures ∙ c.if-reduces.false) c.function-2.ensures c.in_ok-seal.ensures.rows c.in_ok-seal-2.ensures.rows h;
+      given = cogroup_given g.L.Local.rows g.L.Local.key_fields g.L.Local.is_sealed s c.function-2.result.now lefts rights out sound (sym c.is_pipelined.ensures ∙ c.if-is_pipelined.false) (sym c.reduces.ensures ∙ c.if-reduces.false) c.function-2.ensures c.in_ok-seal.ensures.rows c.in_ok-seal-2.ensures.rows h;
       left_wide = wide_permuted s.part.fields (g.L.Local.rows s.left) lefts c.in_ok-seal.ensures.rows sound.left_wide;
       right_wide = wide_permuted s.part.fields (g.L.Local.rows s.right) rights c.in_ok-seal-2.ensures.rows sound.right_wide;
       widths = subst (λ (n : ℕ). AreWide n out) (its_fields s.part c.function-2.result.now sound.operator c.function-2.ensures) wide;

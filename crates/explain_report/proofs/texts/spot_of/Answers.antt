@@ -1,0 +1,4 @@
+use Rattle.explain_report.proofs.texts.spot_of.Goals as goal
+
+pub returns : goal.returns
+returns c = record { mark = c.in_ok-mark.ensures.marked; expected = c.in_ok-expected.ensures }

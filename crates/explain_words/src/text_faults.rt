@@ -1,0 +1,107 @@
+//! What the explanation of a text fault says of its word, apart from what may be there instead.
+
+use crate::pages::Piece::{Number, Quote, Say};
+use crate::pages::text_of;
+use crate::places::{bytes_of, line_around, lines_of};
+use crate::{Page, Part, hints};
+use pact_record::OutOfMemory;
+use std::alloc::Global;
+
+/// The number of fields that the text gives its records, or 0.
+pub fn field_count(alloc: Global, text: &[u8]) -> Result<u64, OutOfMemory> {
+    for line in &lines_of(alloc, text)? {
+        if line.word(text, 0) == b"fields".as_slice() {
+            return Ok(text_of(line.word(text, 1)).parse::<u64>().unwrap_or(0));
+        }
+    }
+    Ok(0)
+}
+
+/// Appends a range of numbers that may be there. `fields` is the number of fields, and `is_key` says that the number is
+/// a key's place.
+pub fn put_range(
+    page: &mut Page,
+    low: u64,
+    high: u64,
+    fields: u64,
+    is_key: bool,
+) -> Result<(), OutOfMemory> {
+    if is_key {
+        page.put(b"the place of a key (0 for the first one)")
+    } else if low == 0 && high == 255 && fields > 0 {
+        page.add(&[
+            Say("a field (0 to "),
+            Number(fields.saturating_sub(1)),
+            Say(")"),
+        ])
+    } else if low == 1 && high == 64 {
+        page.put(b"a number of fields (1 to 64, or with `pact 2` 1 to 128)")
+    } else {
+        page.add(&[Say("a number, "), Number(low), Say(" to "), Number(high)])
+    }
+}
+
+/// Appends which word is at fault.
+pub fn put_word(page: &mut Page, text: &[u8], there: &Part, what: u32) -> Result<(), OutOfMemory> {
+    let word = bytes_of(text, there);
+    if text.is_empty() {
+        return page.line(&[Say("the file is empty")]);
+    }
+    if word.is_empty() {
+        return page.line(&[Say(if what == 4 {
+            "the missing word belongs here"
+        } else {
+            "the text ends here"
+        })]);
+    }
+    if text.starts_with(b"\xEF\xBB\xBF") && there.from == 0 {
+        return page.line(&[Say("the file begins with a byte-order mark: save it without one")]);
+    }
+    page.line(&[Say("the word at fault is "), Quote(word)])
+}
+
+/// What is usually meant by the word, in a line with that first word.
+pub fn usual_hint(what: u32, first: &str, word: &str) -> Option<&'static str> {
+    match what {
+        1 => hints::byte(word),
+        2 => hints::literal(word),
+        3 => hints::first_word(word),
+        5 => hints::left_over(first, word),
+        6 => hints::name(word),
+        7 | 8 => hints::operand(first, word),
+        9 => hints::operation(word),
+        12 => Some(
+            "a program begins with the line `pact 1` or `pact 2`, and then the line `fields F`",
+        ),
+        _ => None,
+    }
+}
+
+/// How many bytes are before the part on its line.
+pub fn blanks_before(text: &[u8], there: &Part) -> usize {
+    let (start, _) = line_around(text, there.from);
+    there.from.saturating_sub(start)
+}
+
+/// The part to show: at the end of a text that ends with a line end, the end of its last line.
+pub fn shown_part(text: &[u8], there: &Part) -> Part {
+    let is_last = there.from == there.to && there.to == text.len();
+    if !is_last || text.is_empty() {
+        return *there;
+    }
+    let cut = text.trim_ascii_end().len();
+    Part {
+        line: there.line,
+        from: cut,
+        to: cut,
+    }
+}
+
+/// Appends where `docs/faults.md` speaks of the fault.
+pub fn put_text_page(page: &mut Page, what: u32) -> Result<(), OutOfMemory> {
+    page.line(&[
+        Say("docs/faults.md, \"Text fault "),
+        Number(u64::from(what)),
+        Say("\""),
+    ])
+}

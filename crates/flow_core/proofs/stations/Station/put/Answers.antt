@@ -1,7 +1,0 @@
-use Rattle.std.proofs.Common.{ap, ◌∙◌}
-use Rattle.flow_instance.specs.Instances.{want}
-use Rattle.flow_core.specs.Worlds.{StationData}
-use Rattle.flow_core.proofs.stations.Station.put.Goals as goal
-
-pub offer-note-requires-clause-put : goal.offer-note-requires-clause-put
-offer-note-requires-clause-put g c κs within = (c.args.to, ap (λ (s : StationData). want s.instance) c.self.view_is ∙ c.requires.wanted)

@@ -1,5 +1,0 @@
-use Rattle.plan_trees.specs.Preorders.{count_of}
-use Rattle.flow_core.proofs.wirings.+reader_of.Given as goal
-
-abbrev pub decreases-reader_of : goal.decreases-reader_of
-decreases-reader_of l = count_of l.plan.now

@@ -1,0 +1,8 @@
+use Rattle.std.proofs.Common.{rules}
+use Rattle.order_free.proofs.StatementsInTurn.{smaller-only}
+use Rattle.program_hints.proofs.dropped.+copied.Goals as goal
+
+pub copied_in-copied_by-requires : goal.copied_in-copied_by-requires
+copied_in-copied_by-requires t c =
+    let smaller = smaller-only c.stmts-stmt-items.result.now c.loop-stmt.stmt-index c.stmt-item.result c.args.body.now c.loop-stmt-test.true c.stmt-item.is c.stmts-stmt-items.ensures in
+    search (rules, smaller)

@@ -1,0 +1,8 @@
+use Rattle.std.proofs.Common.{rules, inl, refl}
+use Rattle.text_marks.proofs.FaultPlaces.{byte_mark}
+use Rattle.text_marks.proofs.fault_marks.faulty_byte.Goals as goal
+
+pub returns-then-branch : goal.returns-then-branch
+returns-then-branch c =
+    byte_mark c.args.text.now c.args.fault c.args.start c.args.end c.args.end c.in-Some.byte c.requires.inside c.requires.line c.in-Some.ensures.inside c.in-Some.ensures.one (search rules)
+    (c.args.start, c.args.end, c.requires.line, inl (c.requires.byte, refl))
