@@ -298,16 +298,25 @@ static const char *line_end(const char *at)
     const char *end = strchr(at, '\n');
     return end == NULL ? at + strlen(at) : end;
 }
+/* Whether the place of an explanation is on the line of a text's fault. Where the text ends too early, it may be on a line before that. */
+static int is_on_line(const char *told, const char *place, unsigned long line)
+{
+    unsigned long shown;
+    if (sscanf(place, "\nedited.pact:%lu:", &shown) != 1)
+        return 0;
+    return shown == line || (shown < line && strstr(told, "\nthe text ends here\n") != NULL);
+}
 /* Whether an explanation's second to fourth lines are a place, what is there, and marks: of a fault of a text a place on its line, of a broken rule
    another one of the program, and of a bad row one of a file. */
 static int has_mark(const char *told, struct answer answer)
 {
-    char place[64] = "\nedited.pact:", *after;
+    static const char file[] = "\nedited.pact:";
     const char *second = line_end(told), *third, *fourth;
+    char *after;
     unsigned long line;
-    if (answer.status == 5 && sscanf(answer.err.bytes, "edited.pact:%lu:", &line) == 1)
-        snprintf(place, sizeof place, "\nedited.pact:%lu:", line);
-    if (answer.status != 7 && strncmp(second, place, strlen(place)) != 0)
+    if (answer.status != 7 && strncmp(second, file, strlen(file)) != 0)
+        return 0;
+    if (answer.status == 5 && sscanf(answer.err.bytes, "edited.pact:%lu:", &line) == 1 && !is_on_line(told, second, line))
         return 0;
     if (*(third = line_end(second + 1)) == '\0' || *(fourth = line_end(third + 1)) == '\0')
         return 0;

@@ -1,3 +1,4 @@
 mod Following
 mod Foretold
+mod Printing
 mod TextStages

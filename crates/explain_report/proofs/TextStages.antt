@@ -1,5 +1,5 @@
 -- What is read after a program's text, and what an explanation says of it.
-use Rattle.std.proofs.Common.{◌≡◌, ◌≢◌, inl, inr, ℕ, List, [], Option, Some, None, Result, Ok, Err, refl, ap, sym, subst, ◌∙◌, ◌++◌}
+use Rattle.std.proofs.Common.{◌≡◌, ◌≢◌, inl, inr, ℕ, List, [], Option, Some, None, Result, Ok, Err, refl, ap, subst, ◌∙◌, ◌++◌}
 use Rattle.pact_operators.specs.Allowed.{Bag}
 use Rattle.pact_operators.specs.Programs.{ProgramData}
 use Rattle.pact_outside.specs.declared.files.NamedFile.{NamedFile}
@@ -17,7 +17,7 @@ use Rattle.pact_load.proofs.StageLaws.{ends_at_first}
 use Rattle.text_marks.specs.Marks.{HasFirst}
 use Rattle.text_marks.specs.declared.trials.Fault.{Fault}
 use Rattle.explain_report.specs.Certificates.{followed}
-use Rattle.explain_report.specs.Explaining.{CanStop, ExplainsFile, ExplainsText, Foretells, ForetellsFile, ForetellsText, IsFaultExplained, MarksText, Reads, Tells, certificate_in, its_sources, no_more, with_source_named}
+use Rattle.explain_report.specs.Explaining.{CanStop, ExplainsFile, ExplainsText, ForetellsFile, ForetellsText, IsFaultExplained, Reads, Tells, certificate_in, its_sources, no_more, with_source_named}
 use Rattle.explain_report.specs.TextStages.{checked_of, loaded_of, repeated_of, with_certificate, with_rows, with_source}
 use Rattle.explain_report.specs.declared.explanations.Explanation.{Explanation}
 use Rattle.explain_report.proofs.Foretold.{comes_to_stop, foretold_after, foretold_grouped, stop_at_first}
@@ -56,12 +56,16 @@ module _ {before now : Feeding} (p : ProgramData) where
 -- ---- explanations of a text
 
 -- a refusal with this line, and what is said after it
-pub tells_fault : (line more : List ℕ) (r : Refusal) (e : Explanation) → r ≢ OutOfMemory → Says 5 line r → e.status ≡ status_of r → e.text ≡ refusal_line r ++ more → Tells (Decided 5 line) e
-tells_fault line more OutOfMemory e other said status text = absurd (other refl)
-tells_fault line more Usage e other said status text = absurd said
-tells_fault line more (CannotRead name) e other said status text = absurd said
-tells_fault line more CannotWrite e other said status text = absurd said
-tells_fault line more (Decided s l) e other said status text = (status ∙ said.0, more, text ∙ ap (λ (x : List ℕ). x ++ more) said.1)
+pub fault_told : (line more : List ℕ) (r : Refusal) (e : Explanation) → r ≢ OutOfMemory → Says 5 line r → e.status ≡ status_of r → e.text ≡ refusal_line r ++ more → (e.status ≡ 5) × (e.text ≡ line ++ more)
+fault_told line more OutOfMemory e other said status text = absurd (other refl)
+fault_told line more Usage e other said status text = absurd said
+fault_told line more (CannotRead name) e other said status text = absurd said
+fault_told line more CannotWrite e other said status text = absurd said
+fault_told line more (Decided s l) e other said status text = (status ∙ said.0, text ∙ ap (λ (x : List ℕ). x ++ more) said.1)
+
+-- a page that was empty, to which these bytes were appended
+pub whole_page : (old new below shown : List ℕ) → old ≡ [] → new ≡ old ++ below → shown ≡ new → shown ≡ below
+whole_page old new below shown empty put same = same ∙ (put ∙ ap (λ (t : List ℕ). t ++ below) empty)
 
 module _ (files : Option (List NamedFile)) (name text : List ℕ) (e : Explanation) where
   -- a text with a fault ends every command
@@ -81,7 +85,7 @@ module _ (files : Option (List NamedFile)) (name text : List ℕ) (e : Explanati
 
   pub text_with_fault : (fault : Fault) (reads : Reads) → HasFirst text (Some fault) → IsFaultExplained name text fault e → ExplainsText files name text reads e
   text_with_fault fault reads h x = record {
-    foretold = stopped (Decided 5 (text_line name fault.line fault.what)) (faulty_stops fault h) x.tells reads;
+    foretold = stopped (Decided 5 (text_line name fault.line fault.what)) (faulty_stops fault h) (x.status, x.below, x.begins) reads;
     first = Some fault;
     has_first = h;
     marked = x;

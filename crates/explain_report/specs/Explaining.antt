@@ -1,5 +1,5 @@
 -- What an explanation says of the work that `pact` does until a refusal is decided.
-use Rattle.std.specs.Prelude.{◌≡◌, ◌⊎◌, ◌++◌, ℕ, List, [], ◌∷◌, Option, Some, None, codes}
+use Rattle.std.specs.Prelude.{◌≡◌, ◌⊎◌, ◌++◌, ◌&&◌, ◌||◌, ◌==◌, ℕ, Bool, true, not, nat_lt, List, [], ◌∷◌, Option, Some, None, codes, length}
 use Rattle.pact_outside.specs.declared.files.NamedFile.{NamedFile}
 use Rattle.pact_words.specs.Words.{Asked, to_run, to_plan, to_certify, to_tell_sets, to_check, to_generate, to_drill, to_iterate, AreRefused, IsAsked}
 use Rattle.pact_load.specs.Answers.{refusal_line, status_of}
@@ -9,8 +9,11 @@ use Rattle.pact_load.specs.RefusalLines.{text_line, usage_line}
 use Rattle.pact_load.specs.Stages.{CanEnd, Stage, and_then, fails, gives, stops}
 use Rattle.pact_load.specs.declared.refusals.Refusal.{Refusal}
 use Rattle.pact_load.specs.declared.refusals.Refusal.TheVariants.{OutOfMemory, Usage, CannotRead, CannotWrite, Decided}
+use Rattle.text_marks.specs.Expecting.{LeavesNoneOut}
 use Rattle.text_marks.specs.Marks.{AreExpected, HasFirst, IsFaultMark}
+use Rattle.text_marks.specs.declared.marks.Mark.{Mark}
 use Rattle.text_marks.specs.declared.trials.Fault.{Fault}
+use Rattle.explain_report.specs.Printing.{IsPrinted}
 use Rattle.explain_report.specs.TextStages.{checked_of, loaded_of, repeated_of, with_certificate, with_source}
 use Rattle.explain_report.specs.declared.explanations.Explanation.{Explanation}
 use Rattle.explain_report.specs.declared.explanations.Spot.{Spot}
@@ -37,15 +40,25 @@ Foretells {A} stage e = ((e.status ≡ 0) × (value : A) × CanEnd stage (gives 
 
 -- ---- faults of a program's text
 
--- The marked part has the fault, and each item that is listed may be there instead.
+-- Whether what may be there is listed: not where a byte or a literal is at fault, or a line is missing at the text's end.
+abbrev pub lists_words : ℕ → List ℕ → Mark → Bool
+lists_words what text mark = not ((what == 1) || ((what == 2) || (what == 10))) && (not (what == 12) || nat_lt mark.from (length text))
+
+-- The marked part has the fault, and each item that is listed may be there instead. Where items are listed, none is
+-- left out.
 pub record IsSpot (text : List ℕ) (fault : Fault) (s : Spot) : Type 0 where
   pub mark : IsFaultMark text fault s.mark
   pub expected : AreExpected s.mark.from s.mark.to text s.expected
+  pub whole : lists_words fault.what text s.mark ≡ true → LeavesNoneOut s.mark.from s.mark.to text s.expected
 
--- The explanation is of this fault of the text: it has the fault's line, and marks a part that has the fault.
+-- The explanation is of this fault of the text: its text has the fault's line, and below it the place of a part that
+-- has the fault, and what may be there instead.
 pub record IsFaultExplained (name text : List ℕ) (fault : Fault) (e : Explanation) : Type 0 where
-  pub tells : Tells (Decided 5 (text_line name fault.line fault.what)) e
+  pub status : e.status ≡ 5
   pub spot : Spot
+  pub below : List ℕ
+  pub begins : e.text ≡ text_line name fault.line fault.what ++ below
+  pub printed : IsPrinted name text spot below
   pub shown : e.spot ≡ Some spot
   pub right : IsSpot text fault spot
 

@@ -1,3 +1,4 @@
 pub mod Certificates
+pub mod Printing
 pub mod Explaining
 pub mod TextStages

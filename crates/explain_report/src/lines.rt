@@ -123,25 +123,15 @@ fn explains_in<F: Feed>(
     said: Printed,
 ) -> Result<bool, OutOfMemory> {
     if is_refused_so(alloc, feed, program, line)? {
-        put_case_of(alloc, page, feed, program, line)?;
+        let mut whole = Page::new(alloc);
+        whole.line(&[Say(line)])?;
+        put_case(alloc, page, feed, program.as_bytes(), whole.bytes())?;
         return Ok(true);
     }
     Ok(
         put_other_path(alloc, page, feed, program, said)?
             || put_other_row(alloc, page, feed, program, said)?,
     )
-}
-
-fn put_case_of<F: Feed>(
-    alloc: Global,
-    page: &mut Page,
-    feed: &mut F,
-    program: &str,
-    line: &str,
-) -> Result<(), OutOfMemory> {
-    let mut whole = Page::new(alloc);
-    whole.line(&[Say(line)])?;
-    put_case(alloc, page, feed, program.as_bytes(), whole.bytes())
 }
 
 // The sources of a program, for a name that no source has.

@@ -1,9 +1,11 @@
 //! Faults of a program's text.
 
-ghost use Rattle.std.specs.Prelude.{IfOk};
+ghost use Rattle.std.specs.Prelude.{◌≡◌, ◌++◌, ◌∷◌, IfOk, OnOk, List, ℕ, Bool, true};
+ghost use Rattle.text_marks.specs.Expecting.{LeavesNoneOut};
 ghost use Rattle.text_marks.specs.Marks.{AreExpected};
 ghost use Rattle.text_marks.specs.TextParts.{IsInside};
-ghost use Rattle.explain_report.specs.Explaining.{IsSpot};
+ghost use Rattle.explain_report.specs.Explaining.{IsSpot, lists_words};
+ghost use Rattle.explain_report.specs.Printing.{IsPrinted, expected_line, item_text, others_text};
 
 use crate::explanations::Spot;
 use crate::trials::{mark_of, mended, mends, part_of, put_mended};
@@ -13,9 +15,9 @@ use explain_words::pages::text_of;
 use explain_words::places::{bytes_of, lines_of, put_place};
 use explain_words::spelling::meant_words;
 use explain_words::text_faults::{
-    blanks_before, field_count, put_range, put_text_page, put_word, shown_part, usual_hint,
+    field_count, put_end, put_range, put_side, put_text_page, put_word, shown_part, usual_hint,
 };
-use explain_words::{Page, Part, TextLine, hints};
+use explain_words::{Page, Part, hints};
 use pact_record::{Bytes, OutOfMemory};
 use std::alloc::Global;
 use text_marks::{
@@ -24,17 +26,17 @@ use text_marks::{
 
 // ---- what may be there
 
-fn put_item(
-    page: &mut Page,
-    item: &Expected,
-    fields: u64,
-    is_key: bool,
-) -> Result<(), OutOfMemory> {
+fn put_item(page: &mut Page, item: &Expected, fields: u64, is_key: bool) -> Result<(), OutOfMemory>
+    ensures { OnOk result (page.new ≡ page.old ++ item_text fields is_key item.now) }
+{
     match item {
         Expected::Word(word) => page.put(word),
         Expected::ValueRegister => page.put(b"a value register (v0 to v31)"),
         Expected::RecordRegister => page.put(b"a record register (r0 to r7)"),
-        Expected::Loop(number) => page.add(&[Say("x"), Number(u64::from(*number))]),
+        Expected::Loop(number) => {
+            page.put(b"x")?;
+            page.put_number(u64::from(*number))
+        }
         Expected::Number { low, high } => put_range(page, *low, *high, fields, is_key),
         Expected::Signed => {
             page.put(b"a whole number (-9223372036854775808 to 9223372036854775807)")
@@ -52,31 +54,74 @@ fn put_item(
     }
 }
 
+// Appends an item that isn't the first, and what joins it to the one before. The items after it are `more`.
+fn put_other(
+    page: &mut Page,
+    item: &Expected,
+    more: &[Expected],
+    fields: u64,
+    is_key: bool,
+) -> Result<(), OutOfMemory>
+    ensures { OnOk result
+        (page.new ++ others_text fields is_key more.now
+        ≡ page.old ++ others_text fields is_key (item.now ∷ more.now)) }
+{
+    if more.is_empty() {
+        page.put(b" or ")?;
+        return put_item(page, item, fields, is_key);
+    }
+    page.put(b", ")?;
+    put_item(page, item, fields, is_key)
+}
+
+fn put_others(
+    page: &mut Page,
+    items: &[Expected],
+    fields: u64,
+    is_key: bool,
+) -> Result<(), OutOfMemory>
+    ensures { OnOk result (page.new ≡ page.old ++ others_text fields is_key items.now) }
+{
+    let mut rest = items;
+    while let Some((item, more)) = rest.split_first() {
+        put_other(page, item, more, fields, is_key)?;
+        rest = more;
+    }
+    Ok(())
+}
+
+// Appends the line that lists items, or nothing without an item.
+fn put_list(
+    page: &mut Page,
+    items: &[Expected],
+    fields: u64,
+    is_key: bool,
+) -> Result<(), OutOfMemory>
+    ensures { OnOk result (page.new ≡ page.old ++ expected_line fields is_key items.now) }
+{
+    let Some((first, others)) = items.split_first() else {
+        return Ok(());
+    };
+    page.put(b"expected: ")?;
+    put_item(page, first, fields, is_key)?;
+    put_others(page, others, fields, is_key)?;
+    page.put(b"\n")
+}
+
 fn put_expected(
     alloc: Global,
     page: &mut Page,
     text: &[u8],
     line: u64,
     list: &ExpectedList,
-) -> Result<(), OutOfMemory> {
+) -> Result<(), OutOfMemory>
+    ensures { OnOk result
+        ((fields : ℕ) × (is_key : Bool) × (page.new ≡ page.old ++ expected_line fields is_key list.now)) }
+{
     let fields = field_count(alloc, text)?;
-    let is_key = word_in(alloc, text, line, 2)? == "key";
-    let count = list.items().len();
-    if count == 0 {
-        return Ok(());
-    }
-    page.put(b"expected: ")?;
-    for (at, item) in list.items().iter().enumerate() {
-        if at > 0 {
-            page.put(if at.saturating_add(1) == count {
-                b" or "
-            } else {
-                b", "
-            })?;
-        }
-        put_item(page, item, fields, is_key)?;
-    }
-    page.put(b"\n")
+    // a key's place is wanted in `vD = key K`; elsewhere `key` is a name
+    let is_key = word_in(alloc, text, line, 1)? == "=" && word_in(alloc, text, line, 2)? == "key";
+    put_list(page, list.items(), fields, is_key)
 }
 
 // The word of a line at that place, counted from 0, or none.
@@ -90,20 +135,6 @@ fn word_in<'a>(
     match words.get(at) {
         Some(mark) => Ok(text_of(bytes_of(text, &part_of(mark)))),
         None => Ok(""),
-    }
-}
-
-fn put_hint(
-    alloc: Global,
-    page: &mut Page,
-    text: &[u8],
-    there: &Part,
-    what: u32,
-) -> Result<(), OutOfMemory> {
-    let first = word_in(alloc, text, there.line, 0)?;
-    match usual_hint(what, first, text_of(bytes_of(text, there))) {
-        Some(words) => page.line(&[Say(words)]),
-        None => Ok(()),
     }
 }
 
@@ -201,7 +232,7 @@ fn put_cures(
     for other in &found.words {
         put_mended(alloc, page, text, there, other)?;
     }
-    if found.deletes && what == 5 {
+    if found.deletes && (what == 5 || what == 12) {
         put_mended(alloc, page, text, there, b"")?;
     }
     if found.deletes && what == 10 {
@@ -217,39 +248,6 @@ fn put_cures(
 }
 
 // ---- blocks
-
-// Appends which line an `end` closes, and whether both have the same indentation.
-fn put_end(
-    alloc: Global,
-    page: &mut Page,
-    text: &[u8],
-    lines: &[TextLine],
-    end: &TextLine,
-) -> Result<(), OutOfMemory> {
-    let open = open_blocks(alloc, text, end.number)?;
-    let Some(last) = open.last() else {
-        return Ok(());
-    };
-    for line in lines {
-        if line.number == *last {
-            let slants = blanks_before(text, &line.part(0)) != blanks_before(text, &end.part(0));
-            page.line(&[
-                Say("the end on line "),
-                Number(end.number),
-                Say(" closes the "),
-                Quote(line.word(text, 0)),
-                Say(" on line "),
-                Number(*last),
-                Say(if slants {
-                    ", but isn't indented like it"
-                } else {
-                    ""
-                }),
-            ])?;
-        }
-    }
-    Ok(())
-}
 
 // Appends the blocks that are open before a line, and which end before it closes which block.
 fn put_blocks(alloc: Global, page: &mut Page, text: &[u8], line: u64) -> Result<(), OutOfMemory> {
@@ -282,48 +280,36 @@ fn put_blocks(alloc: Global, page: &mut Page, text: &[u8], line: u64) -> Result<
     for there in &lines {
         let is_end = there.word(text, 0) == b"end".as_slice();
         if is_end && from < there.number && there.number < line && shown < 8 {
-            put_end(alloc, page, text, &lines, there)?;
+            let blocks = open_blocks(alloc, text, there.number)?;
+            if let Some(last) = blocks.last() {
+                put_end(page, text, &lines, there, *last)?;
+            }
             shown = shown.saturating_add(1);
         }
     }
     Ok(())
 }
 
-// Whether an end is missing above, or a function's first line.
-fn put_side(alloc: Global, page: &mut Page, text: &[u8], there: &Part) -> Result<(), OutOfMemory> {
-    let is_open = !open_blocks(alloc, text, there.line)?.is_empty();
-    let first = text_of(bytes_of(text, there));
-    match hints::form(first) {
-        Some(_) if is_open => page.line(&[Say(
-            "a function is still open here: an end is missing above",
-        )]),
-        Some(_) => page.line(&[Say(
-            "a statement belongs between a function's line and its end: above there may be an end too many, or one too early",
-        )]),
-        None => Ok(()),
-    }
-}
-
 // ---- all of it
 
-// Whether words are listed that may be there instead.
-fn lists_words(what: u32, mark: &Mark) -> bool {
-    match what {
-        1 | 2 | 10 => false,
-        12 => mark.from < mark.to,
-        _ => true,
-    }
+// Whether it is listed what may be there instead.
+fn lists_words(what: u32, text: &[u8], mark: &Mark) -> bool
+    ensures { result ≡ lists_words what text.now mark.now }
+{
+    !(what == 1 || what == 2 || what == 10) && (what != 12 || mark.from < text.len())
 }
 
 fn items_at(alloc: Global, text: &[u8], what: u32, mark: &Mark) -> Result<ExpectedList, OutOfMemory>
     requires { IsInside text.now mark.now.from mark.now.to }
-    ensures { IfOk result (λ items. AreExpected mark.now.from mark.now.to text.now items) }
+    ensures right { IfOk result (λ items. AreExpected mark.now.from mark.now.to text.now items) }
+    ensures whole { IfOk result (λ items. lists_words what text.now mark.now ≡ true
+        → LeavesNoneOut mark.now.from mark.now.to text.now items) }
 {
-    if lists_words(what, mark) {
-        expected_at(alloc, text, mark)
-    } else {
-        Ok(ExpectedList::new(alloc))
+    if lists_words(what, text, mark) {
+        let items = expected_at(alloc, text, mark)?;
+        return Ok(items);
     }
+    Ok(ExpectedList::new(alloc))
 }
 
 /// The part of the text that has this fault, and what may be there instead.
@@ -335,21 +321,18 @@ pub fn spot_of(alloc: Global, text: &[u8], fault: Fault) -> Result<Spot, OutOfMe
     Ok(Spot { mark, expected })
 }
 
-/// Appends where a text is faulty, and what may be there instead.
-pub fn put_text_fault(
+// Appends what is usually meant, what is open there, how such a line is written, and what mends the text.
+fn put_advice(
     alloc: Global,
     page: &mut Page,
-    file: &[u8],
     text: &[u8],
+    there: &Part,
     what: u32,
-    spot: &Spot,
 ) -> Result<(), OutOfMemory> {
-    let there = part_of(&spot.mark);
-    put_place(page, file, text, &shown_part(text, &there))?;
-    page.line(&[Say(text_fault(what))])?;
-    put_word(page, text, &there, what)?;
-    put_expected(alloc, page, text, there.line, &spot.expected)?;
-    put_hint(alloc, page, text, &there, what)?;
+    let first = word_in(alloc, text, there.line, 0)?;
+    if let Some(words) = usual_hint(what, first, text_of(bytes_of(text, there))) {
+        page.line(&[Say(words)])?;
+    }
     if what == 3 || what == 10 || what == 11 {
         let is_end = there.from == there.to;
         let line = there.line;
@@ -361,9 +344,35 @@ pub fn put_text_fault(
         )?;
     }
     if what == 3 {
-        put_side(alloc, page, text, &there)?;
+        let is_open = !open_blocks(alloc, text, there.line)?.is_empty();
+        put_side(page, text, there, is_open)?;
     }
-    put_form(alloc, page, text, &there, what)?;
-    put_cures(alloc, page, text, &there, what)?;
+    put_form(alloc, page, text, there, what)?;
+    put_cures(alloc, page, text, there, what)?;
     put_text_page(page, what)
+}
+
+/// Appends where a text is faulty, and what may be there instead.
+pub fn put_text_fault(
+    alloc: Global,
+    page: &mut Page,
+    file: &[u8],
+    text: &[u8],
+    what: u32,
+    spot: &Spot,
+) -> Result<(), OutOfMemory>
+    ensures { OnOk result
+        ((below : List ℕ) × (page.new ≡ page.old ++ below) × IsPrinted file.now text.now spot.now below) }
+{
+    let there = part_of(&spot.mark);
+    let shown = shown_part(text, &there);
+    put_place(page, file, text, &shown)?;
+    let mut between = Page::new(alloc);
+    between.line(&[Say(text_fault(what))])?;
+    put_word(&mut between, text, &there, what)?;
+    page.put(between.bytes())?;
+    put_expected(alloc, page, text, there.line, &spot.expected)?;
+    let mut after = Page::new(alloc);
+    put_advice(alloc, &mut after, text, &there, what)?;
+    page.put(after.bytes())
 }

@@ -11,7 +11,10 @@ use std::alloc::Global;
 use text_marks::{Mark, first_fault, with_word};
 
 /// The place of a mark.
-pub fn part_of(mark: &Mark) -> Part {
+pub fn part_of(mark: &Mark) -> Part
+    ensures line { result.line ≡ mark.now.line }
+    ensures from { result.from ≡ mark.now.from }
+{
     Part {
         line: mark.line,
         from: mark.from,

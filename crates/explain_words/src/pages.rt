@@ -1,7 +1,10 @@
 //! Texts that are put together from pieces.
 
+ghost use Rattle.std.specs.Prelude.{◌≡◌, ◌++◌, [], List, ℕ, OnOk, decimal};
+
 use pact_record::{Bytes, OutOfMemory};
 use std::alloc::Global;
+use std::marker::Model;
 use std::str;
 
 /// The most bytes of a quoted text that are shown.
@@ -25,6 +28,14 @@ pub enum Piece<'a> {
 pub struct Page {
     alloc: Global,
     text: Bytes,
+}
+
+impl Model for Page {
+    ghost use Rattle.std.specs.Prelude.{List, ℕ};
+
+    ghost Value = { List ℕ };
+
+    ghost view = { λ p. p.text };
 }
 
 /// The bytes from `from` up to `to`, or none if there are no such bytes.
@@ -74,7 +85,9 @@ fn hexadecimal(half: u8) -> u8 {
 }
 
 impl Page {
-    pub fn new(alloc: Global) -> Page {
+    pub fn new(alloc: Global) -> Page
+        ensures { result ≡ [] }
+    {
         Page {
             alloc,
             text: Bytes::new(alloc),
@@ -82,7 +95,9 @@ impl Page {
     }
 
     /// The text so far.
-    pub fn bytes(&self) -> &[u8] {
+    pub fn bytes(&self) -> &[u8]
+        ensures { result.now ≡ self.now }
+    {
         self.text.bytes()
     }
 
@@ -91,12 +106,16 @@ impl Page {
     }
 
     /// Appends bytes as they are.
-    pub fn put(&mut self, bytes: &[u8]) -> Result<(), OutOfMemory> {
+    pub fn put(&mut self, bytes: &[u8]) -> Result<(), OutOfMemory>
+        ensures { OnOk result (self.new ≡ self.old ++ bytes.now) }
+    {
         self.text.extend_from_slice(bytes)
     }
 
     /// Appends a number in decimal digits.
-    pub fn put_number(&mut self, number: u64) -> Result<(), OutOfMemory> {
+    pub fn put_number(&mut self, number: u64) -> Result<(), OutOfMemory>
+        ensures { OnOk result (self.new ≡ self.old ++ decimal number) }
+    {
         let digits = number.to_string(self.alloc)?;
         self.put(digits.as_bytes())
     }
@@ -183,32 +202,39 @@ impl Page {
 
     /// Appends a line of a text, and below it a line with marks under the bytes from `from` up to `to`, or one mark at
     /// `from` if there are none. A long line is cut on both sides of the marks.
-    pub fn excerpt(&mut self, line: &[u8], from: usize, to: usize) -> Result<(), OutOfMemory> {
+    pub fn excerpt(&mut self, line: &[u8], from: usize, to: usize) -> Result<(), OutOfMemory>
+        ensures { OnOk result ((more : List ℕ) × (self.new ≡ self.old ++ more)) }
+    {
         let first = from.saturating_sub(MOST_OF_LINE / 2);
         let last = first.saturating_add(MOST_OF_LINE).min(line.len());
+        let mut shown = Page::new(self.alloc);
         let mut marks = Page::new(self.alloc);
         let lead: &[u8] = if first > 0 { b"    .. " } else { b"    " };
         let blanks: &[u8] = if first > 0 { b"       " } else { b"    " };
-        self.put(lead)?;
+        shown.put(lead)?;
         marks.put(blanks)?;
         for at in first..last {
-            let width = self.put_sign(line, at)?;
-            if part(line, at, at.saturating_add(1)) == b"\t".as_slice() {
-                marks.put(b"\t")?;
-            } else if from <= at && at < to {
+            let width = shown.put_sign(line, at)?;
+            let is_tab = part(line, at, at.saturating_add(1)) == b"\t".as_slice();
+            if from <= at && at < to {
                 marks.put_times(b"^", width)?;
-            } else if at < from {
+            } else if at < from && !is_tab {
                 marks.put_times(b" ", width)?;
+            }
+            // a tab after a mark goes to the same place as one without
+            if is_tab {
+                marks.put(b"\t")?;
             }
         }
         if last < line.len() {
-            self.put(b" ..")?;
+            shown.put(b" ..")?;
         }
         if to <= from {
             marks.put(b"^")?;
         }
-        self.put(b"\n")?;
-        self.put(marks.bytes())?;
-        self.put(b"\n")
+        shown.put(b"\n")?;
+        shown.put(marks.bytes().trim_ascii_end())?;
+        shown.put(b"\n")?;
+        self.put(shown.bytes())
     }
 }

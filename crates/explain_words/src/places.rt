@@ -1,6 +1,8 @@
 //! Parts of texts, and how they are shown.
 
-use crate::pages::Piece::{Number, Quote, Say};
+ghost use Rattle.std.specs.Prelude.{◌≡◌, ◌≤◌, ◌<◌, ◌++◌, List, ℕ, OnOk, length, take};
+ghost use Rattle.explain_words.specs.Places as places;
+
 use crate::pages::{Page, part};
 use pact_record::OutOfMemory;
 use std::alloc::Global;
@@ -25,68 +27,100 @@ pub fn bytes_of<'a>(text: &'a [u8], there: &Part) -> &'a [u8] {
     part(text, there.from, there.to)
 }
 
-fn is_line_end(byte: u8) -> bool {
+fn is_line_end(byte: u8) -> bool
+    ensures { result ≡ places.is_line_end byte }
+{
     byte == b'\n' || byte == b'\r'
 }
 
-fn line_start(text: &[u8], at: usize) -> usize {
+/// Where the line begins and ends that the byte at `at` is on.
+pub fn line_around(text: &[u8], at: usize) -> (usize, usize) {
     let mut start = 0;
     for (place, byte) in part(text, 0, at.min(text.len())).iter().enumerate() {
         if is_line_end(*byte) {
             start = place.saturating_add(1);
         }
     }
-    start
-}
-
-fn line_stop(text: &[u8], at: usize) -> usize {
     for (place, byte) in part(text, at, text.len()).iter().enumerate() {
         if is_line_end(*byte) {
-            return at.saturating_add(place);
+            return (start, at.saturating_add(place));
         }
     }
-    text.len()
+    (start, text.len())
 }
 
-/// Where the line begins and ends that the byte at `at` is on.
-pub fn line_around(text: &[u8], at: usize) -> (usize, usize) {
-    (line_start(text, at), line_stop(text, at))
-}
-
-/// The number of characters. The bytes may begin or end inside one.
-pub fn count_signs(bytes: &[u8]) -> u64 {
-    let mut count = 0u64;
-    for byte in bytes {
-        if *byte < 128 || 192 <= *byte {
-            count = count.saturating_add(1);
-        }
+fn next_column(column: u64, byte: u8) -> u64
+    requires { column < 18446744073709551615 }
+    ensures { result ≡ places.next_column column byte }
+{
+    if is_line_end(byte) {
+        1
+    } else if byte < 128 || 192 <= byte {
+        column + 1
+    } else {
+        column
     }
-    count
+}
+
+// The bytes before a place; after the text, all of them.
+fn front_of(text: &[u8], at: usize) -> &[u8]
+    ensures front { result.now ≡ take at text.now }
+    ensures within { length result.now ≤ length text.now }
+{
+    if at < text.len() { &text[..at] } else { text }
+}
+
+fn next_line(line: u64, byte: u8) -> u64
+    requires { line < 18446744073709551615 }
+    ensures { result ≡ places.next_line line byte }
+{
+    if byte == b'\n' { line + 1 } else { line }
+}
+
+/// The line of a place of a text and its column in characters, both counted from 1; after the text, those of its end.
+pub fn place_at(text: &[u8], at: usize) -> (u64, u64)
+    ensures line { result.0 ≡ places.line_at at text.now }
+    ensures column { result.1 ≡ places.column_at at text.now }
+{
+    let mut line: u64 = 1;
+    let mut column: u64 = 1;
+    let mut rest = front_of(text, at);
+    while let Some((byte, behind)) = rest.split_first() {
+        line = next_line(line, *byte);
+        column = next_column(column, *byte);
+        rest = behind;
+    }
+    (line, column)
+}
+
+/// Appends a line with a file's name, a line's number and a column, as editors read them.
+pub fn put_place_line(
+    page: &mut Page,
+    file: &[u8],
+    line: u64,
+    column: u64,
+) -> Result<(), OutOfMemory>
+    ensures { OnOk result (page.new ≡ page.old ++ places.place_line file.now line column) }
+{
+    page.put(file)?;
+    page.put(b":")?;
+    page.put_number(line)?;
+    page.put(b":")?;
+    page.put_number(column)?;
+    page.put(b"\n")
 }
 
 /// Appends the file, line and column of a part, and its line with marks under the part.
-pub fn put_place(
-    page: &mut Page,
-    file: &[u8],
-    text: &[u8],
-    there: &Part,
-) -> Result<(), OutOfMemory> {
+pub fn put_place(page: &mut Page, file: &[u8], text: &[u8], there: &Part) -> Result<(), OutOfMemory>
+    ensures { OnOk result ((more : List ℕ) × (page.new ≡ page.old
+        ++ (places.place_line file.now there.now.line (places.column_at there.now.from text.now) ++ more))) }
+{
     let (start, stop) = line_around(text, there.from);
-    let column = count_signs(part(text, start, there.from)).saturating_add(1);
-    page.line(&[
-        Quote(file),
-        Say(":"),
-        Number(there.line),
-        Say(":"),
-        Number(column),
-    ])?;
+    let (_, column) = place_at(text, there.from);
+    put_place_line(page, file, there.line, column)?;
     let from = there.from.saturating_sub(start);
     let to = there.to.min(stop).saturating_sub(start);
     page.excerpt(part(text, start, stop), from, to)
-}
-
-fn is_blank(byte: u8) -> bool {
-    byte == b' ' || byte == b'\t'
 }
 
 /// The words of a line that begins and ends at these places, up to a comment. Literals count as several words.
@@ -101,7 +135,7 @@ pub fn words_between(
     let mut open: Option<usize> = None;
     for (place, byte) in part(text, start, stop).iter().enumerate() {
         let at = start.saturating_add(place);
-        let ends = is_blank(*byte) || *byte == b'#';
+        let ends = matches!(*byte, b' ' | b'\t' | b'#');
         match open {
             Some(from) if ends => {
                 words.push(Part { line, from, to: at })?;

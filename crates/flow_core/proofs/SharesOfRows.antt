@@ -62,6 +62,20 @@ none_dealt n workers shares is all = record {
   each = λ worker below. ap (λ (l : List Bag). get_or l worker []) is ∙ blank n worker [] refl;
 }
 
+-- a single worker has all rows
+one_has_all : (n : ℕ) (rows : Bag) → share_from n 1 0 rows ≡ rows
+one_has_all n [] = refl
+one_has_all n (row ∷ rows) =
+    ap (λ (b : Bool). cond b (row ∷ share_from (suc n) 1 0 rows) (share_from (suc n) 1 0 rows)) (eq-eqb (n % 1) 0 (omega arith)) ∙ ap (λ (l : Bag). row ∷ l) (one_has_all (suc n) rows)
+
+first_of_one : (rows : Bag) (worker : ℕ) → worker < 1 → get_or (rows ∷ []) worker [] ≡ share_from 0 1 worker rows
+first_of_one rows zero below = sym (one_has_all 0 rows)
+first_of_one rows (suc worker) below = absurd (omega (arith, below))
+
+pub dealt_to_one : (workers : ℕ) (rows : Bag) (shares : List Bag) → workers ≡ 1 → shares ≡ rows ∷ [] → AreDealt workers rows shares
+dealt_to_one workers rows shares one is =
+    subst (λ (n : ℕ). AreDealt n rows shares) (sym one) (subst (AreDealt 1 rows) (sym is) (record { long = refl; each = λ worker below. first_of_one rows worker below }))
+
 -- a share, however it was found
 pub share_is : (workers to : ℕ) (done share : Bag) (shares : List Bag) → to < workers → share ≡ get_or shares to share → AreDealt workers done shares → share ≡ share_from 0 workers to done
 share_is workers to done share shares less is dealt = is ∙ get_or_default shares to share [] (omega (arith, less, dealt.long)) ∙ dealt.each to less

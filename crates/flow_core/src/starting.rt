@@ -1,6 +1,6 @@
 //! The instances of a plan at their start.
 
-ghost use Rattle.std.specs.Prelude.{◌≡◌, ◌≤◌, ◌<◌, ℕ, [], List, true, false, length, IfOk};
+ghost use Rattle.std.specs.Prelude.{◌≡◌, ◌≤◌, ◌<◌, ◌∷◌, ℕ, [], List, true, false, length, IfOk};
 ghost use Rattle.std.specs.List.{AllByRecursion};
 ghost use Rattle.pact_operators.specs.Allowed.{Bag};
 ghost use Rattle.pact_operators.specs.Inputs.{AreInputsOf};
@@ -76,11 +76,23 @@ fn no_shares(alloc: Global, workers: u32, rows: usize) -> Result<Vec<Rows>, OutO
     Ok(shares)
 }
 
+// All rows as the share of one worker.
+fn one_share(alloc: Global, rows: Rows) -> Result<Vec<Rows>, OutOfMemory>
+    ensures { IfOk result (λ shares. shares.items ≡ rows ∷ []) }
+{
+    let mut shares = Vec::new(alloc);
+    shares.push(rows)?;
+    Ok(shares)
+}
+
 // Moves each row to the worker whose number is the row's modulo the number of workers.
 fn deal(alloc: Global, rows: Rows, workers: u32) -> Result<Vec<Rows>, OutOfMemory>
     requires { 1 ≤ workers }
     ensures { IfOk result (λ shares. AreDealt workers rows shares.items) }
 {
+    if workers == 1 {
+        return one_share(alloc, rows);
+    }
     // `rows` makes it known that they have one width.
     let _same = rows.rows();
     let count = rows.len();

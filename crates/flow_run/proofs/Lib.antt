@@ -12,4 +12,5 @@ mod Finished
 mod Sendable
 mod RunsOfWorkers
 mod WorkersInTurn
+mod WorkerLists
 mod StartedJobs

@@ -1,8 +1,8 @@
 -- Workers at their start and after their work.
-use Rattle.std.proofs.Common.{◌≡◌, ◌<◌, ◌≤◌, ◌+◌, ◌*◌, ℕ, zero, suc, true, false, List, [], ◌∷◌, ◌++◌, get_or, length, length-append, map, replicate, set, drop, refl, ap, sym, ◌∙◌, subst, arith}
+use Rattle.std.proofs.Common.{◌≡◌, ◌<◌, ◌≤◌, ◌+◌, ◌*◌, ℕ, zero, suc, true, false, List, [], ◌∷◌, ◌++◌, get_or, length, map, replicate, refl, ap, sym, ◌∙◌, subst, arith}
 use Rattle.std.specs.Prelude.{slice_index_or}
 use Rattle.std.specs.List.{All, AllByRecursion}
-use Rattle.std.proofs.lemmas.List.{get_or-set_other, length-map, length-replicate, length-set}
+use Rattle.std.proofs.lemmas.List.{length-map, length-replicate}
 use Rattle.pact_record.proofs.Lists.{AllByRecursion-get_or}
 use Rattle.plan_trees.specs.Physicals.{IsPhysical, PhysicalData}
 use Rattle.plan_trees.specs.Plans.{has, subtree_of}
@@ -13,61 +13,23 @@ use Rattle.flow_instance.specs.Spots.{Setting, spot}
 use Rattle.flow_core.specs.Starting.{AreAllStarted}
 use Rattle.flow_core.specs.Worlds.{no_instance}
 use Rattle.flow_instance.proofs.LocalAfterPuts.{started_local}
-use Rattle.flow_core.proofs.SharesOfRows.{each_last}
 use Rattle.flow_run.specs.WorkerStates.{AllLocal, IsReady, IsReadyFor, Works, worker_state}
 use Rattle.flow_run.specs.Ends.{EndTable, PipeTables}
-use Rattle.flow_run.specs.WorkerData.{AreLocal, HaveReturned, WorkerData, nothing, worker_at, with_column, with_columns}
-use Rattle.flow_run.specs.Runs.{AreAssembled, AreAtStart, AreDealt, AreStill, IsAssembled}
+use Rattle.flow_run.specs.WorkerData.{AreLocal, HaveReturned, WorkerData, nothing, worker_at, with_columns}
+use Rattle.flow_run.specs.Runs.{AreAssembled, AreAtStart, AreDealt, IsAssembled}
 use Rattle.flow_run.specs.Schedules.{AreJobs, AreWorkersOf, HasWorkedIn, IsJobReady, job_worker}
 use Rattle.flow_run.specs.Wires.{AreWired, EndTables}
 use Rattle.flow_run.specs.Workers.{HasWorked, HaveAllWorked, IsWorkerReady, all_data, data_of}
 use Rattle.flow_run.specs.declared.schedules.Job.{Job}
 use Rattle.flow_run.specs.declared.workers.Worker.{Worker}
-use Rattle.flow_run.proofs.Arranged.{columns_at, length_column, length_columns, blank}
+use Rattle.flow_run.proofs.Arranged.{columns_at, length_columns, blank}
+use Rattle.flow_run.proofs.WorkerLists.{all_last, map_get, map_last}
 use Rattle.flow_run.proofs.WorkerStateLaws.{works_kept}
 use Rattle.flow_run.proofs.Finished.{all_local}
 use Rattle.flow_run.proofs.StartedWorkers.{ready_for, edge_there}
 use Rattle.flow_run.proofs.WiredPipes.{pipes_of}
 
--- ---- lists from which the first rows are taken
-
-pub still_next : {X : Type 0} (from : ℕ) (old mid new : List (List X)) → AreStill from old mid → new ≡ set mid from [] → AreStill (from + 1) old new
-still_next from old mid new h is k more =
-    ap (λ l. get_or l k []) is ∙ get_or-set_other mid from k [] [] (omega (arith, more)) ∙ h k (omega (arith, more))
-
-drop_next : (xs : List (List Instance)) (n : ℕ) → n < length xs → drop n xs ≡ get_or xs n [] ∷ drop (suc n) xs
-drop_next [] n less = absurd (omega (arith, less))
-drop_next (x ∷ xs) zero less = refl
-drop_next (x ∷ xs) (suc n) less = drop_next xs n (omega (arith, less))
-
--- one row more
-pub columns_step : (at workers ops : ℕ) (first old left all new : List (List Instance)) (own : List Instance) (rows : List (List Instance)) → at < ops → own ≡ get_or old at [] → left ≡ set old at [] → new ≡ with_column all own
-    → with_columns all (drop at first) ≡ rows → length all ≡ workers → AreStill at first old → length old ≡ ops → length first ≡ ops
-    → (with_columns new (drop (at + 1) first) ≡ rows) × (length new ≡ workers) × AreStill (at + 1) first left × (length left ≡ ops)
-columns_step at workers ops first old left all new own rows less own_is left_is new_is columns long still old_long first_long =
-    let next : suc at ≡ at + 1 = omega arith in
-    let rest : drop at first ≡ get_or first at [] ∷ drop (at + 1) first = drop_next first at (omega (arith, less, first_long)) ∙ ap (λ (k : ℕ). get_or first at [] ∷ drop k first) next in (
-      ap (λ l. with_columns l (drop (at + 1) first)) (new_is ∙ ap (with_column all) (own_is ∙ still at (omega arith)))
-          ∙ sym (ap (with_columns all) rest) ∙ columns,
-      ap length new_is ∙ length_column all own ∙ long,
-      still_next at first old left still left_is,
-      ap length left_is ∙ length-set old at [] ∙ old_long,
-    )
-
 -- ---- jobs
-
-all_last : {X : Type 0} (P : X → Type 0) (xs : List X) (x : X) → AllByRecursion P xs → P x → AllByRecursion P (xs ++ x ∷ [])
-all_last P [] x h p = (p, tt)
-all_last P (y ∷ xs) x h p = (h.0, all_last P xs x h.1 p)
-
-map_last : {X Y : Type 0} (f : X → Y) (xs : List X) (x : X) → map f (xs ++ x ∷ []) ≡ map f xs ++ f x ∷ []
-map_last f [] x = refl
-map_last f (y ∷ xs) x = ap (λ l. f y ∷ l) (map_last f xs x)
-
-map_at : {X Y : Type 0} (f : X → Y) (xs : List X) (k : ℕ) (d : X) (e : Y) → k < length xs → get_or (map f xs) k e ≡ f (get_or xs k d)
-map_at f [] k d e less = absurd (omega (arith, less))
-map_at f (x ∷ xs) zero d e less = refl
-map_at f (x ∷ xs) (suc k) d e less = map_at f xs k d e (omega (arith, less))
 
 some_item : {X : Type 0} (xs : List X) (k : ℕ) → k < length xs → X
 some_item [] k less = absurd (omega (arith, less))
@@ -92,7 +54,7 @@ module _ {L W : Type 0} where
     as_many = sym (length-map jobs job_worker) ∙ ap length are.workers_are
 
     job_is : (k : ℕ) (d : Job L W) (e : Worker L W) → k < length jobs → (get_or jobs k d).worker ≡ get_or workers k e
-    job_is k d e less = sym (map_at job_worker jobs k d e less) ∙ ap (λ (l : List (Worker L W)). get_or l k e) are.workers_are
+    job_is k d e less = sym (map_get job_worker jobs k d e less) ∙ ap (λ (l : List (Worker L W)). get_or l k e) are.workers_are
 
     job_pipes : (k : ℕ) (d : Job L W) → k < length jobs → (get_or jobs k d).pipes.now ≡ pipes
     job_pipes k d less = AllByRecursion-get_or (λ (j : Job L W). j.pipes.now ≡ pipes) jobs k d less are.pipes_are
@@ -115,19 +77,9 @@ module _ {L W : Type 0} where
           let less_new : k < length new = omega (arith, less, same) in
           let d = some_item jobs k less in
           let done = AllByRecursion-get_or (λ (j : Job L W). j.failed ≡ false) new k d less_new r.done in
-          let is : (get_or new k d).worker ≡ get_or after k e = sym (map_at job_worker new k d e less_new) ∙ sym (ap (λ (l : List (Worker L W)). get_or l k e) r.workers_are) in
+          let is : (get_or new k d).worker ≡ get_or after k e = sym (map_get job_worker new k d e less_new) ∙ sym (ap (λ (l : List (Worker L W)). get_or l k e) r.workers_are) in
           subst (λ (x : PipeTables × Worker L W × Worker L W). HasWorked fields x.0 x.1 x.2) (λ i. (job_pipes k d less i, job_is k d e less i, is i)) ((worked k d less).works done);
     }
-
--- ---- workers at their start
-
-module _ {L W : Type 0} (all : List (List Instance)) (puts takes : EndTables) where
-  pub assembled_more : (n : ℕ) (workers new : List (Worker L W)) (w : Worker L W) → AreAssembled all puts takes n workers → new ≡ workers ++ w ∷ [] → IsAssembled (get_or all n []) (get_or puts n []) (get_or takes n []) n w
-      → AreAssembled all puts takes (n + 1) new
-  assembled_more n workers new w a is last = subst (AreAssembled all puts takes (n + 1)) (sym is) (record {
-    long = length-append workers (w ∷ []) ∙ ap (λ (k : ℕ). k + 1) a.long;
-    each = λ k d less. each_last (λ k (w : Worker L W). IsAssembled (get_or all k []) (get_or puts k []) (get_or takes k []) k w) workers w d n a.long (λ k less. a.each k d less) last k less;
-  })
 
 -- ---- instances at their start
 
@@ -150,7 +102,7 @@ module _ (g : Setting) (size ops : ℕ) (list : List (List Instance)) (started :
     instance_is : (at worker : ℕ) → at < ops → worker < g.physical.workers → get_or (get_or all worker []) at no_instance ≡ get_or (get_or list at []) worker no_instance
     instance_is at worker less below =
         ap (λ (l : List Instance). get_or l at no_instance) (own_is worker below)
-        ∙ map_at (λ (own : List Instance). get_or own worker no_instance) list at [] no_instance (omega (arith, less, started.long))
+        ∙ map_get (λ (own : List Instance). get_or own worker no_instance) list at [] no_instance (omega (arith, less, started.long))
 
     pub at_start : AreAtStart g ops all
     at_start = record {
@@ -212,7 +164,7 @@ module _ (g : Setting) (ops depth : ℕ) (pipes : PipeTables) (puts takes : EndT
     left worker below =
         let less : worker < length workers = omega (arith, below, assembled.long) in
         let d = some_item workers worker less in
-        subst (HasLeft g.fields worker pipes (get_or all worker []) (get_or puts worker []) (get_or takes worker [])) (sym (map_at data_of after worker d nothing (omega (arith, less, worked.long))))
+        subst (HasLeft g.fields worker pipes (get_or all worker []) (get_or puts worker []) (get_or takes worker [])) (sym (map_get data_of after worker d nothing (omega (arith, less, worked.long))))
         (left_worker worker (get_or all worker []) (get_or puts worker []) (get_or takes worker []) (slice_index_or workers worker d) (slice_index_or after worker d) (assembled.each worker d below) (worked.each worker d less))
 
     each_long : (n : ℕ) (xs : List WorkerData) → ((k : ℕ) → k < length xs → length (worker_at xs k).instances ≡ n) → AllByRecursion (λ (w : WorkerData). length w.instances ≡ n) xs

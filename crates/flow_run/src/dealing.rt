@@ -1,64 +1,45 @@
-//! Instances at their start and pipes are dealt out to the workers.
+//! Instances at their start are dealt out to the workers.
 
-ghost use Rattle.std.specs.Prelude.{◌≡◌, ◌≤◌, ℕ, List, length, IfOk};
+ghost use Rattle.std.specs.Prelude.{◌≡◌, ◌≤◌, ℕ, List, length, IfOk, OnOk};
 ghost use Rattle.pact_operators.specs.Allowed.{Bag};
 ghost use Rattle.pact_operators.specs.Programs.{IsPlanOf};
 ghost use Rattle.flow_instance.specs.Spots.{setting};
 ghost use Rattle.flow_core.specs.Starting.{AreAllStarted, AreStartedForSome};
 ghost use Rattle.flow_core.specs.Worlds.{depth_limit};
-ghost use Rattle.flow_run.specs.Runs.{AreAssembled, AreDealt};
+ghost use Rattle.flow_run.specs.Runs.{AreDealt};
+ghost use Rattle.flow_run.specs.WorkerData.{with_column};
+ghost use Rattle.flow_run.specs.Wires.{KeepEnds, instances_in};
 
-use crate::arranging::by_worker;
-use crate::tables::Tables;
-use crate::wires::{Wired, wire};
+use crate::wires::{Network, wire};
 use crate::workers::Worker;
-use batch_channel::{Pipe, PutEnd, TakeEnd, Width};
+use batch_channel::Width;
 use flow_core::InstanceList;
+use flow_instance::Instance;
 use local_strategy::Local;
 use pact_operators::{Physical, Program};
 use pact_record::OutOfMemory;
 use std::alloc::Global;
 use std::sync::Wait;
 
-/// The workers in the order of their numbers, and the pipes between them.
-#[derive(Drop)]
-pub(crate) struct Network<L: Local, W: Width> {
-    pub(crate) workers: Vec<Worker<L, W>>,
-    pub(crate) pipes: Tables<Pipe<W>>,
-}
-
-// Each worker with its instances and ends, in the order of their numbers.
-fn assemble<L: Local, W: Width>(
-    alloc: Global,
-    count: u32,
-    instances: InstanceList<L>,
-    puts: Tables<PutEnd<W>>,
-    takes: Tables<TakeEnd<W>>,
-) -> Result<Vec<Worker<L, W>>, OutOfMemory>
-    requires long { length instances ≡ count }
-    ensures { IfOk result (λ workers. AreAssembled instances puts takes count workers.items) }
+// Gives each worker the instance at its place: those of the next source or operator.
+fn add_row<L: Local, W: Width>(
+    workers: &mut [Worker<L, W>],
+    row: Vec<Instance<L>>,
+) -> Result<(), OutOfMemory>
+    requires { length row.items ≡ length workers.old }
+    ensures instances { OnOk result (instances_in workers.new ≡ with_column (instances_in workers.old) row.items) }
+    ensures kept { OnOk result (KeepEnds workers.old workers.new) }
 {
-    let mut instances = instances;
-    let mut puts = puts;
-    let mut takes = takes;
-    let mut workers = Vec::new(alloc);
-    for number in 0..count {
-        let at = number as usize;
-        let own = instances.take(alloc, at);
-        let own_puts = puts.take_table(alloc, at);
-        let own_takes = takes.take_table(alloc, at);
-        workers.push(Worker {
-            number,
-            instances: own,
-            puts: own_puts,
-            takes: own_takes,
-        })?;
+    let mut at: usize = 0;
+    for instance in row {
+        workers[at].instances.push(instance)?;
+        at += 1;
     }
-    Ok(workers)
+    Ok(())
 }
 
-/// Workers with these instances, which are at their start, and the pipes with the workers' ends. Each pipe holds at
-/// most `depth` notes.
+/// Workers with these instances, which are at their start, and with their ends of the pipes. Each pipe holds at most
+/// `depth` notes.
 pub(crate) fn deal<L: Local, W: Width, R: Wait>(
     rt: &R,
     alloc: Global,
@@ -77,14 +58,12 @@ pub(crate) fn deal<L: Local, W: Width, R: Wait>(
         n.workers.items) }
 {
     // `workers` makes it known that this is a physical plan.
-    let (ops, workers) = (program.ops(), physical.workers());
-    let instances = by_worker(alloc, ops.len(), workers, list)?;
-    let count = ops.len() as u32;
-    let wired = wire::<W, R>(rt, alloc, physical, count, depth)?;
-    let Wired { pipes, puts, takes } = wired;
-    let dealt = assemble(alloc, workers, instances, puts, takes)?;
-    Ok(Network {
-        workers: dealt,
-        pipes,
-    })
+    let (ops, _workers) = (program.ops(), physical.workers());
+    let mut list = list;
+    let mut network = wire::<L, W, R>(rt, alloc, physical, ops.len() as u32, depth)?;
+    for at in 0..ops.len() {
+        let row = list.take(alloc, at);
+        add_row(&mut network.workers, row)?;
+    }
+    Ok(network)
 }

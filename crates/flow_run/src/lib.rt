@@ -1,14 +1,14 @@
 //! A plan on threads: workers, and pipes between them.
 //!
-//! `run` starts all instances, those of a long source on threads (`begins`), and deals them out (`dealing`): each
-//! `Worker` gets its instance of every source and operator, and its ends of the pipes. `wire` makes a pipe for each
-//! edge, sender and receiver between which records can go. All workers work side by side (`schedules`). `work` goes
-//! over a worker's instances in turns (`turns`), attempts what each wants (`tries`), and ends when all are done or the
-//! worker leaves. The worker's instances represent what its ends have put and taken, so no worker has to know of
-//! another. When all have returned, `gather` closes the pipes and lists the notes that are left on them, `arrange`
-//! lists the instances, and the world of both runs on the caller's thread to its end (`finishing`). `run_in_turn` does
-//! the same with one worker after the other on the caller's thread. `run_on_one` needs no worker and no pipe between
-//! threads: it runs the world from its start.
+//! `run` starts all instances, those of a long source on threads (`begins`). `wire` makes a pipe for each edge, sender
+//! and receiver between which records can go, and workers with their ends of the pipes (`wires`); then each instance
+//! goes to its worker (`dealing`). All workers work side by side (`schedules`). `work` goes over a worker's instances
+//! in turns (`turns`), attempts what each wants (`tries`), and ends when all are done or the worker leaves. The
+//! worker's instances represent what its ends have put and taken, so no worker has to know of another. When all have
+//! returned, `gather` closes the pipes and lists the notes that are left on them, `arrange` lists the instances, and
+//! the world of both runs on the caller's thread to its end (`finishing`). `run_in_turn` does the same with one worker
+//! after the other on the caller's thread. `run_on_one` needs no worker and no pipe between threads: it runs the world
+//! from its start.
 #![tactic(auto)]
 
 mod arranging;

@@ -8,10 +8,11 @@ ghost use Rattle.flow_core.specs.Worlds.{depth_limit};
 ghost use Rattle.flow_run.specs.Outcomes.{IsPlanOutcome};
 
 use crate::begins::start_on_threads;
-use crate::dealing::{Network, deal};
+use crate::dealing::deal;
 use crate::finishing::finish;
 use crate::options::Options;
 use crate::schedules::{work_in_turn, work_side_by_side};
+use crate::wires::Network;
 use batch_channel::Width;
 use flow_core::{World, run_alone, start_instances};
 use local_strategy::Local;

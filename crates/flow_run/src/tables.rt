@@ -1,12 +1,11 @@
 //! Tables of places that are empty or hold something.
 
-ghost use Rattle.std.specs.Prelude.{◌≡◌, [], ℕ, None, Some, get_or, set, IfOk, IfSome, IfNone};
+ghost use Rattle.std.specs.Prelude.{◌≡◌, ℕ, None, Some, IfOk, IfSome, IfNone};
 ghost use Rattle.flow_run.specs.Tables.{HasPlace, HasPlaceIn, IsBlank, IsBlankRow, IsBlankTable, IsChanged, IsChangedIn, IsShaped, IsTakenOut, cell, cell_in};
 
 use pact_record::OutOfMemory;
 use std::alloc::Global;
 use std::marker::Model;
-use std::mem;
 
 /// Places that are empty or hold something.
 #[derive(Drop)]
@@ -112,20 +111,6 @@ impl<T> Tables<T> {
         let table = self.all.get_mut(a as usize)?;
         table.take(b, c)
     }
-
-    /// Removes and returns a table. One without places is there afterwards.
-    pub(crate) fn take_table(&mut self, alloc: Global, a: usize) -> Table<T>
-        ensures taken { result ≡ get_or self.old a [] }
-        ensures left { self.new ≡ set self.old a [] }
-    {
-        let none = Table {
-            rows: Vec::new(alloc),
-        };
-        if a >= self.all.len() {
-            return none;
-        }
-        mem::replace(&mut self.all[a], none)
-    }
 }
 
 // A row with nothing in it.
@@ -139,8 +124,12 @@ fn blank_row<T: Drop>(alloc: Global, columns: u32) -> Result<Row<T>, OutOfMemory
     Ok(Row { held })
 }
 
-// A table with nothing in it.
-fn blank_table<T: Drop>(alloc: Global, rows: u32, columns: u32) -> Result<Table<T>, OutOfMemory>
+/// A table with nothing in it.
+pub(crate) fn blank_table<T: Drop>(
+    alloc: Global,
+    rows: u32,
+    columns: u32,
+) -> Result<Table<T>, OutOfMemory>
     ensures { IfOk result (IsBlankTable rows columns) }
 {
     let mut all = Vec::with_capacity(alloc, rows as usize)?;

@@ -29,25 +29,25 @@ in_line text fault start end at mark b s w = record {
   before = w.3;
 }
 
-pub word_mark : (text : List ℕ) (fault : Fault) (start end at : ℕ) (before : List Mark) (mark : Mark) → IsInside text start end → AreBounds text fault.line start end → fault.what ≢ 1 → start ≤ at
+pub word_mark : (text : List ℕ) (fault : Fault) (start end at : ℕ) (before : List Mark) (mark : Mark) → IsInside text start end → AreBounds text fault.line start end → fault.what ≢ 1 → fault.what ≢ 4 → start ≤ at
     → AreNextWords text fault.line end start before at → HaveNoFault text fault before → IsWordOf fault.line at end mark → IsNextWord text fault.line at end mark → IsFaultPart text mark fault
     → IsFaultMark text fault mark
-word_mark text fault start end at before mark inside b other s words none w next part = (
+word_mark text fault start end at before mark inside b other four s words none w next part = (
   w.0,
   (omega (arith, w.2), omega (arith, w.3, inside.1)),
   (λ _. in_line text fault start end at mark b s w),
-  (λ _. (part, inl (other, (start, end, at, before, b, words, none, next)))),
+  (λ _. (part, (four, inl (other, (start, end, at, before, b, words, none, next))))),
   (λ same. absurd (omega (arith, same, w.2))),
   (λ _. part.0),
 )
 
 pub byte_mark : (text : List ℕ) (fault : Fault) (start end at : ℕ) (mark : Mark) → IsInside text start end → AreBounds text fault.line start end → IsWordOf fault.line start end mark → mark.to ≡ mark.from + 1
-    → IsFaultPart text mark fault → HasNoFaultyWord text fault at → IsFaultMark text fault mark
-byte_mark text fault start end at mark inside b w one part none = (
+    → fault.what ≢ 4 → IsFaultPart text mark fault → HasNoFaultyWord text fault at → IsFaultMark text fault mark
+byte_mark text fault start end at mark inside b w one four part none = (
   w.0,
   (omega (arith, w.2), omega (arith, w.3, inside.1)),
   (λ _. in_line text fault start end start mark b (omega arith) w),
-  (λ _. (part, inr (one, at, none))),
+  (λ _. (part, (four, inr (one, at, none)))),
   (λ same. absurd (omega (arith, same, w.2))),
   (λ _. part.0),
 )

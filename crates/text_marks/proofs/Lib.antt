@@ -4,3 +4,4 @@ pub mod WordOrder
 pub mod Trying
 pub mod LineScans
 pub mod FaultPlaces
+pub mod Listing

@@ -2,7 +2,7 @@
 use Rattle.std.proofs.Common.{◌≡◌, ◌++◌, ◌∷◌, [], ℕ, List, Bool, true, Option, Some, codes, inr, ap, subst, ◌∙◌}
 use Rattle.std.specs.List.{AllByRecursion}
 use Rattle.pact_record.proofs.Lists.{AllByRecursion-append}
-use Rattle.text_marks.specs.Marks.{HasFirst, TellsAccepted, IsAccepted, IsExpected, AreExpected, has_one_sample, is_beyond}
+use Rattle.text_marks.specs.Marks.{HasFirst, TellsAccepted, IsAccepted, IsExpected, IsFixedItem, has_one_sample, is_beyond}
 use Rattle.text_marks.specs.Samples.{sample_of}
 use Rattle.text_marks.specs.TextParts.{cut_with, line_number}
 use Rattle.text_marks.specs.declared.trials.Fault.{Fault}
@@ -27,25 +27,19 @@ tried_again from to word words text number fault completed accepted h e n w k a 
   a ∙ ap (λ (l : ℕ). is_beyond l completed) n,
 )
 
-one_expected : (from to : ℕ) (text : List ℕ) (item : Expected) → has_one_sample item ≡ true → IsAccepted from to (sample_of item) text → IsExpected from to text item
-one_expected from to text (Word word) h k = k
-one_expected from to text ValueRegister h k = k
-one_expected from to text RecordRegister h k = k
-one_expected from to text (Loop number) h k = k
-one_expected from to text (Number low high) h k = let no : ⊥ = cc in absurd no
-one_expected from to text Signed h k = k
-one_expected from to text Literal h k = k
-one_expected from to text Name h k = k
-one_expected from to text FileName h k = k
-one_expected from to text Column h k = k
-one_expected from to text FieldRegister h k = k
-one_expected from to text LineEnd h k = let no : ⊥ = cc in absurd no
+pub one_expected : (from to : ℕ) (text : List ℕ) (item : Expected) → has_one_sample item ≡ true → IsFixedItem item → IsAccepted from to (sample_of item) text → IsExpected from to text item
+one_expected from to text (Word word) h f k = (f, k)
+one_expected from to text ValueRegister h f k = k
+one_expected from to text RecordRegister h f k = k
+one_expected from to text (Loop number) h f k = k
+one_expected from to text (Number low high) h f k = let no : ⊥ = cc in absurd no
+one_expected from to text Signed h f k = k
+one_expected from to text Literal h f k = k
+one_expected from to text Name h f k = k
+one_expected from to text FileName h f k = k
+one_expected from to text Column h f k = k
+one_expected from to text FieldRegister h f k = k
+one_expected from to text LineEnd h f k = let no : ⊥ = cc in absurd no
 
 pub and_one : {X : Type 0} (P : X → Type 0) (xs : List X) (x : X) → AllByRecursion P xs → P x → AllByRecursion P (xs ++ x ∷ [])
 and_one P xs x a k = AllByRecursion-append P xs (x ∷ []) a (k, tt)
-
-pub and_expected : (from to : ℕ) (text : List ℕ) (items : List Expected) (item : Expected) → AreExpected from to text items → IsExpected from to text item → AreExpected from to text (items ++ item ∷ [])
-and_expected from to text items item a k = and_one (IsExpected from to text) items item a k
-
-pub and_sample : (from to : ℕ) (text : List ℕ) (items : List Expected) (item : Expected) → AreExpected from to text items → has_one_sample item ≡ true → IsAccepted from to (sample_of item) text → AreExpected from to text (items ++ item ∷ [])
-and_sample from to text items item a h k = and_expected from to text items item a (one_expected from to text item h k)

@@ -9,9 +9,10 @@ use Rattle.text_lines.specs.declared.lines.TextFault.TheVariants.{At}
 use Rattle.text_marks.specs.declared.trials.Fault.{Fault}
 use Rattle.text_marks.specs.declared.marks.Mark.{Mark}
 use Rattle.text_marks.specs.declared.expected.Expected.{Expected}
-use Rattle.text_marks.specs.declared.expected.Expected.TheVariants.{Number, LineEnd}
+use Rattle.text_marks.specs.declared.expected.Expected.TheVariants.{LineEnd, Number, Word}
 use Rattle.text_marks.specs.Samples.{sample_of}
 use Rattle.text_marks.specs.LineParts.{AreNextWords, HasNoWord, IsNextWord}
+use Rattle.text_marks.specs.Vocabulary.{IsFixedWord}
 use Rattle.text_marks.specs.TextParts.{AreBounds, IsInside, LacksLine, LiesInLine, cut_text, cut_with, line_number, text_with}
 
 -- ---- first faults
@@ -73,11 +74,13 @@ HasNoFaultyWord text fault at =
     × (((fault.what ≡ 1) × (at ≡ end))
     ⊎ ((words : List Mark) × AreNextWords text fault.line end from words at × HasNoWord text at end × HaveNoFault text fault words))
 
--- A mark with bytes is the first faulty word; or one byte, of fault 1 or if no word has the fault.
+-- A mark with bytes is the first faulty word; or one byte, of fault 1 or if no word has the fault. Of fault 4, where a
+-- word is missing, no mark has bytes.
 abbrev pub IsFaultPlace : List ℕ → Fault → Mark → Type 0
 IsFaultPlace text fault mark =
-    ((fault.what ≢ 1) × IsFirstFaulty text fault mark)
-    ⊎ ((mark.to ≡ mark.from + 1) × (at : ℕ) × HasNoFaultyWord text fault at)
+    (fault.what ≢ 4)
+    × (((fault.what ≢ 1) × IsFirstFaulty text fault mark)
+    ⊎ ((mark.to ≡ mark.from + 1) × (at : ℕ) × HasNoFaultyWord text fault at))
 
 -- A mark without bytes is after the last word if the text up to there has the fault, otherwise at the text's end.
 abbrev pub IsEmptyPlace : List ℕ → Fault → Mark → Type 0
@@ -128,11 +131,23 @@ is_later line (Some fault) = nat_lt line fault.line
 abbrev pub MayEnd : ℕ → List ℕ → Type 0
 MayEnd from text = (fault : Option Fault) × HasFirst (cut_text from text) fault × IsTrue (is_later (line_number from text) fault)
 
--- A sample of the item may be at the place; both ends of a range; for the line's end, no word.
+-- A range of accepted numbers can end with this one: it is the greatest number of 64 bits, or the next one is refused.
+abbrev pub EndsRange : ℕ → ℕ → List ℕ → ℕ → Type 0
+EndsRange from to text high = (high ≡ 18446744073709551615) ⊎ TellsAccepted from to (decimal (high + 1)) text false
+
+-- A sample of the item may be at the place; both ends of a range, and no number right above it; for the line's end, no
+-- word. A word that is listed as itself is one of the fixed ones.
 abbrev pub IsExpected : ℕ → ℕ → List ℕ → Expected → Type 0
-IsExpected from to text (Number low high) = IsAccepted from to (decimal low) text × IsAccepted from to (decimal high) text
+IsExpected from to text (Number low high) =
+    IsAccepted from to (decimal low) text × IsAccepted from to (decimal high) text × EndsRange from to text high
+IsExpected from to text (Word word) = IsFixedWord word.now × IsAccepted from to word.now text
 IsExpected from to text LineEnd = MayEnd from text
 IsExpected from to text item = IsAccepted from to (sample_of item) text
+
+-- a word that stands for itself is a fixed one
+abbrev pub IsFixedItem : Expected → Type 0
+IsFixedItem (Word word) = IsFixedWord word.now
+IsFixedItem item = Unit {0}
 
 -- whether one sample stands for the item
 abbrev pub has_one_sample : Expected → Bool

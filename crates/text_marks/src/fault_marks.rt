@@ -36,6 +36,7 @@ fn has_fault(alloc: Global, text: &[u8], mark: &Mark, fault: Fault) -> Result<bo
 fn is_faulty(alloc: Global, text: &[u8], word: &Mark, fault: Fault) -> Result<bool, OutOfMemory>
     requires { IsInside text.now word.now.from word.now.to }
     ensures yes { IfOk result (λ has. IsTrue has → IsFaultPart text.now word.now fault) }
+    ensures other { IfOk result (λ has. IsTrue has → fault.what ≢ 4) }
     ensures no { IfOk result (λ has. has ≡ false → fault.what ≢ 4 → fault.what ≢ 12 → HasNoFaultPart text.now word.now.from word.now.to fault) }
 {
     if fault.what == 4 {

@@ -6,8 +6,8 @@
 //! tried, and a fault of that line at the line itself.
 //!
 //! - `fault_mark` marks the part of a text that has the fault that `read_program` reports.
-//! - `is_accepted` says whether a word may be at a place, `expected_at` lists what may be there, and `cures` lists the
-//!   words that mend the text.
+//! - `is_accepted` says whether a word may be at a place, `expected_at` lists all that may be there, and `cures` lists
+//!   the words that mend the text.
 //! - `statement_line` and its neighbours find the lines of functions, statements and declarations.
 #![tactic(auto)]
 

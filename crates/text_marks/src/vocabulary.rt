@@ -1,10 +1,11 @@
 //! The fixed words of the language.
 
-ghost use Rattle.std.specs.Prelude.{◌≡◌};
+ghost use Rattle.std.specs.Prelude.{◌≡◌, map};
+ghost use Rattle.text_marks.specs.Vocabulary.{fixed_words};
 
 // The words that a text can have besides names, numbers, registers and literals, in the order of docs/language.md. A
 // check of tests/checks compares them with that page.
-static FIXED_WORDS: [&[u8]; 51] = [
+const FIXED_WORDS: &[&[u8]] = &[
     b"pact",
     b"fields",
     b"source",
@@ -59,6 +60,8 @@ static FIXED_WORDS: [&[u8]; 51] = [
 ];
 
 /// All fixed words of the language.
-pub fn fixed_words() -> &'static [&'static [u8]] {
-    &FIXED_WORDS
+pub fn fixed_words() -> &'static [&'static [u8]]
+    ensures { map (λ word. word.now) result.now ≡ fixed_words }
+{
+    FIXED_WORDS
 }

@@ -1,9 +1,15 @@
+use Rattle.std.proofs.lemmas.Result.{IfOk-weaker}
 use Rattle.std.proofs.Common.{◌≡◌, ◌<◌, ◌%◌, ◌∷◌, [], ap, arith, length, length-append, ◌∙◌}
 use Rattle.std.proofs.lemmas.Iterator.Adapters.{YieldsList-from_vec}
 use Rattle.std.proofs.lemmas.Iterator.Consumers.{YieldsList-turn}
 use Rattle.flow_instance.proofs.SplitRows.{more_wide}
-use Rattle.flow_core.proofs.SharesOfRows.{dealt-more, share_is, share_width}
+use Rattle.flow_core.specs.Starting.{AreDealt}
+use Rattle.flow_core.proofs.SharesOfRows.{dealt-more, dealt_to_one, share_is, share_width}
 use Rattle.flow_core.proofs.starting.deal.Goals as goal
+
+pub returns-then-workers-eq1 : goal.returns-then-workers-eq1
+returns-then-workers-eq1 c =
+    IfOk-weaker c.one_share.result _ (λ shares. AreDealt c.args.workers c.args.rows shares.items) (λ shares is. dealt_to_one c.args.workers c.args.rows shares.items c.if-workers-eq1.true is) c.one_share.ensures
 
 pub push-requires : goal.push-requires
 push-requires c =
