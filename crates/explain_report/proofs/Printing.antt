@@ -20,15 +20,15 @@ regrouped place more between list after =
     ∙ append_assoc place (more ++ between) (list ++ after))
 
 -- of a place, known by its equals
-pub its_line : (at line from from' marked marked' : ℕ) (text : List ℕ) → from ≡ from' → marked ≡ marked' → ((at ≡ from) × (line ≡ marked)) ⊎ (line ≡ line_at at text)
-    → ((at ≡ from') × (line ≡ marked')) ⊎ (line ≡ line_at at text)
-its_line at line from from' marked marked' text e f (inl h) = inl (h.0 ∙ e, h.1 ∙ f)
+pub its_line : (at line from from' marked marked' : ℕ) (text : List ℕ) → from ≡ from' → marked ≡ marked' → ((at ≡ from) × (at < length text) × (line ≡ marked)) ⊎ (line ≡ line_at at text)
+    → ((at ≡ from') × (at < length text) × (line ≡ marked')) ⊎ (line ≡ line_at at text)
+its_line at line from from' marked marked' text e f (inl h) = inl (h.0 ∙ e, h.1, h.2 ∙ f)
 its_line at line from from' marked marked' text e f (inr h) = inr h
 
 -- a place with what is shown there, some words, a list and more words
 pub printed :
     (name text : List ℕ) (s : Spot) (line at : ℕ) (old place_put words_put list_put all_put more between after : List ℕ)
-    → ((at ≡ s.mark.from) × (line ≡ s.mark.line)) ⊎ (line ≡ line_at at text) → at ≤ s.mark.from → (s.mark.from < length text → at ≡ s.mark.from)
+    → ((at ≡ s.mark.from) × (at < length text) × (line ≡ s.mark.line)) ⊎ (line ≡ line_at at text) → at ≤ s.mark.from → (s.mark.from < length text → at ≡ s.mark.from)
     → place_put ≡ old ++ (place_line name line (column_at at text) ++ more) → words_put ≡ place_put ++ between
     → ((fields : ℕ) × (is_key : Bool) × (list_put ≡ words_put ++ expected_line fields is_key s.expected)) → all_put ≡ list_put ++ after
     → (below : List ℕ) × (all_put ≡ old ++ below) × IsPrinted name text s below

@@ -43,7 +43,7 @@ pub record IsPrinted (name text : List ℕ) (s : Spot) (below : List ℕ) : Type
   pub before : at ≤ s.mark.from
   pub same : s.mark.from < length text → at ≡ s.mark.from
   pub line : ℕ
-  pub its_line : ((at ≡ s.mark.from) × (line ≡ s.mark.line)) ⊎ (line ≡ line_at at text)
+  pub its_line : ((at ≡ s.mark.from) × (at < length text) × (line ≡ s.mark.line)) ⊎ (line ≡ line_at at text)
   pub fields : ℕ
   pub is_key : Bool
   pub between : List ℕ

@@ -232,7 +232,7 @@ fn put_cures(
     for other in &found.words {
         put_mended(alloc, page, text, there, other)?;
     }
-    if found.deletes && (what == 5 || what == 12) {
+    if found.deletes && what == 5 {
         put_mended(alloc, page, text, there, b"")?;
     }
     if found.deletes && what == 10 {

@@ -152,15 +152,14 @@ pub fn put_side(
     }
 }
 
-/// The part to show: at the end of a text that ends with a line end, the end of its last line that isn't empty.
+/// The part to show: itself, or at the text's end the end of the last line that isn't empty.
 pub fn shown_part(text: &[u8], there: &Part) -> Part
     ensures before { result.from ≤ there.now.from }
     ensures same { there.now.from < length text.now → result.from ≡ there.now.from }
-    ensures line { ((result.from ≡ there.now.from) × (result.line ≡ there.now.line))
+    ensures line { ((result.from ≡ there.now.from) × (result.from < length text.now) × (result.line ≡ there.now.line))
         ⊎ (result.line ≡ line_at result.from text.now) }
 {
-    let is_last = there.from == there.to && there.to == text.len();
-    if !is_last || text.is_empty() {
+    if there.from < text.len() {
         return *there;
     }
     let cut = text.trim_ascii_end().len();
