@@ -610,6 +610,13 @@ printf 'pact 1\nfields 4\n%s' "$(head -c 1000000 /dev/zero | tr '\0' 'x')" >"$mi
 count foretells run long.pact
 count test "${#said}" -lt 2000
 
+# Without a word, and with the explainer's own words, the status is 0. The script takes no word for a filter.
+ends_well() { "$@" >"$scratch/own_words" 2>&1 && [ -s "$scratch/own_words" ]; }
+count ends_well "${PACT_EXPLAIN:-../release/pact_explain}"
+count ends_well "$explain" --help
+count ends_well "$explain" --faults
+count ends_well "$explain" --line 'usage: pact COMMAND ARGUMENTS'
+
 # The sentences of docs/faults.md are those of the program.
 "$explain" --faults >"$scratch/faults_said"
 awk '/^### / { if (head != "") print head "\n" text; head = substr($0, 5); text = ""; open = 1; next }
