@@ -38,7 +38,7 @@ sink c 0
 END
 printf '1\n2\n' >"$scratch/s.csv"
 listed() { # how many, and whether all; the words
-    [ "$(cd "$scratch" && "$pact" plan "${@:2}" | head -n 1)" = "plans $1" ]
+    is_text 'the first line of the plan' "$(cd "$scratch" && "$pact" plan "${@:2}" | head -n 1)" "plans $1"
 }
 count listed '6 complete' maps.pact
 count listed '6 complete' maps.pact --plans 6
@@ -67,7 +67,7 @@ echo '{"plan":"m(r(s))","steps":[],"version":1}' >"$scratch/no_step.json"
 count writes 0 "$scratch/no_step.json" /dev/null cert push.pact --plans 1
 # The certificate of a choice is accepted, for every program and several numbers of workers.
 certified() {
-    "$pact" cert "$@" >"$scratch/chosen.json" 2>"$scratch/err" && ! [ -s "$scratch/err" ] &&
+    "$pact" cert "$@" >"$scratch/chosen.json" 2>"$scratch/err" && is_file 'standard error' "$scratch/err" /dev/null &&
         writes 0 "$scratch/accepted" /dev/null check "$1" "$scratch/chosen.json"
 }
 for told in expected/*.plan; do
@@ -83,7 +83,7 @@ printf '1,7\n2,9\n' >"$scratch/last"
 count writes 0 expected/first.stdout /dev/null run first.pact --workers 1
 count writes 0 "$scratch/last" /dev/null run first.pact --workers 1 --local sort
 answers() { # the program's name, and options
-    writes 0 "$(or_none "expected/$1.stdout")" /dev/null run "$1.pact" "${@:2}" >/dev/null || { [ "$1" = first ] && cmp "$scratch/out" "$scratch/last"; }
+    writes 0 "$(or_none "expected/$1.stdout")" /dev/null run "$1.pact" "${@:2}" || { [ "$1" = first ] && cmp -s "$scratch/out" "$scratch/last"; }
 }
 for told in expected/*.plan; do
     name=$(basename "$told" .plan)

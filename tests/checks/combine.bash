@@ -7,7 +7,8 @@ mkdir "$combined"
 # Whether a run with `--combine` of a program in that folder writes the rows and the counts of one without it, and behind these the lines, with escapes.
 combines() { # lines, program, options
     (cd "$combined" && "$pact" run "${@:2}" --counts >plain 2>counts && "$pact" run "${@:2}" --combine --counts >out 2>err) || return
-    printf '%b' "$1" | cat "$combined/counts" - | cmp -s - "$combined/err" && cmp -s "$combined/plain" "$combined/out"
+    printf '%b' "$1" | cat "$combined/counts" - >"$combined/lines"
+    is_file 'standard error' "$combined/err" "$combined/lines" && is_file 'standard output' "$combined/out" "$combined/plain"
 }
 # How many partial records come of the rows in s.csv. Row i lies at worker i modulo the number of workers, and a Map keeps it there. So a worker sends one
 # for each key of its rows.
@@ -44,7 +45,8 @@ keeps_all() { # how many are combined, program, options
     local lines
     (cd "$combined/all" && "$pact" run "${@:2}" --counts >plain 2>counts && "$pact" run "${@:2}" --combine --counts >out 2>err) || return
     lines=$(wc -l <"$combined/all/counts")
-    cmp -s "$combined/all/plain" "$combined/all/out" && head -n "$lines" "$combined/all/err" | cmp -s - "$combined/all/counts" || return
+    head -n "$lines" "$combined/all/err" >"$combined/all/first_lines"
+    is_file 'standard output' "$combined/all/out" "$combined/all/plain" && is_file 'the counts' "$combined/all/first_lines" "$combined/all/counts" || return
     tail -n "+$((lines + 1))" "$combined/all/err" >"$combined/all/behind"
     [ "$(wc -l <"$combined/all/behind")" = "$1" ] && [ "$(grep -c '^[a-z0-9_]* partials [0-9]*$' "$combined/all/behind")" = "$1" ]
 }
@@ -69,7 +71,7 @@ for program in faulty wrong_key no_sink bad_row missing; do
 done
 tells_no_count() {
     "$pact" run sum.pact --combine --counts >"$scratch/out" 2>/dev/full
-    [ $? = 4 ] && cmp -s "$scratch/out" expected/sum.stdout
+    is_status $? 4 && is_file 'standard output' "$scratch/out" expected/sum.stdout
 }
 count tells_no_count
 # A drill tells the same, whatever its shares are: of a hundred thousand rows what generated.bash finds without, and so of fewer.
@@ -388,7 +390,7 @@ are_taken_up() { # how many workers
     for options in '--local hash' '--local sort --batch 2'; do
         # shellcheck disable=SC2086
         (cd "$combined" && "$pact" run values.pact --combine --counts --workers "$1" $options >out 2>err) || return
-        cmp -s "$combined/plain" "$combined/out" && cmp -s "$combined/told" "$combined/err" || return
+        is_file 'standard output' "$combined/out" "$combined/plain" && is_file 'standard error' "$combined/err" "$combined/told" || return
     done
 }
 # Files with no row, one, one for each of many keys, many for one, and many for some, with Null and texts among keys and values. A key that is a text may

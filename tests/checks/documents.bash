@@ -31,7 +31,7 @@ take_blocks() {
 # Whether a block's commands write what stands behind it.
 is_as_shown() {
     (cd "$shown/examples" && sed 's/^cd examples && //' "../$1.sh" | bash >"$scratch/out" 2>&1)
-    cmp -s "$scratch/out" "$shown/$1.out"
+    is_file 'both streams' "$scratch/out" "$shown/$1.out"
 }
 take_blocks ../README.md ../docs/*.md
 for block in "$shown"/*.sh; do

@@ -3,8 +3,9 @@
 # Whether it has this status, and writes these files' bytes on its streams: status, standard output, standard error,
 # standard input, and its words.
 draws() {
+    keep_command draw "${@:5}"
     ../draw "${@:5}" <"$4" >"$scratch/out" 2>"$scratch/err"
-    [ $? = "$1" ] && cmp "$scratch/out" "$2" && cmp "$scratch/err" "$3"
+    came_to_files $? "$1" "$2" "$3"
 }
 # Whether it refuses a text, in which escapes stand for bytes, with this line and nothing on standard output: the line,
 # the text, and its words.
@@ -198,7 +199,7 @@ texts_of() {
 # Whether a drawing in docs/ is the one of a plan, made as docs/optimizer.md says: its name, and the words of `plan`.
 stands_in_docs() {
     "$pact" plan "${@:2}" | ../draw --svg >"$scratch/out" 2>"$scratch/err" && [ ! -s "$scratch/err" ] &&
-        [ "$(texts_of "$scratch/out")" = "$(texts_of "../docs/$1")" ] && [ -n "$(texts_of "../docs/$1")" ]
+        is_text 'the texts of the drawing' "$(texts_of "$scratch/out")" "$(texts_of "../docs/$1")" && [ -n "$(texts_of "../docs/$1")" ]
 }
 if have dot 'the pictures in docs/'; then
     count stands_in_docs shop-before.svg shop.pact --plans 1

@@ -36,7 +36,7 @@ make_told() {
 
 # Whether the text is one of the lines that were said, or the beginning of one.
 is_said() {
-    [[ $said == *$'\n'"$1"* ]]
+    [[ $said == *$'\n'"$1"* ]] || other_text 'the lines of the explanation' "$said" "$1"
 }
 
 # The word over the marks of the place that was said first.
@@ -53,13 +53,14 @@ foretells() {
     (cd "$mistakes" && "$pact" "$@" >/dev/null 2>"$scratch/err")
     status=$?
     said=$'\n'$(cd "$mistakes" && "$explain" "$@")
-    [ $? = "$status" ] && [[ $said == $'\n'"$(<"$scratch/err")"* ]]
+    is_status $? "$status" && { [[ $said == $'\n'"$(<"$scratch/err")"* ]] || other_text 'the lines of the explanation' "$said" "$(<"$scratch/err")"; }
 }
 
 # Whether pact tells this line of a program, and explain says it first, then the place, the line with marks under this word, and these words.
 explains() {
     make_told "$1" "$2"
-    foretells run m.pact && is_said "$3" && is_said "$4" && [ "$(marked_word "$4")" = "$5" ] && is_said "$6" && is_said 'docs/faults.md, "'
+    foretells run m.pact && is_said "$3" && is_said "$4" && is_text 'the marked word' "$(marked_word "$4")" "$5" && is_said "$6" &&
+        is_said 'docs/faults.md, "'
 }
 
 # Each row has the place, the lines there, what is told of them, where that is, the word that is marked, and a line or the beginning of one that is said.
@@ -290,14 +291,15 @@ list_warnings() {
 # Whether `explain` with these words finds no fault and gives these warnings and no others: lines, with escapes, and the words. Each line is a
 # warning's place and sentence, or the beginning of it.
 warns() {
-    local found line
+    local found line all
     said=$(cd "$mistakes" && "$explain" "${@:2}") && [[ $said == 'no fault found'* ]] || return 1
-    mapfile -t found < <(list_warnings <<<"$said")
+    all=$(list_warnings <<<"$said")
+    mapfile -t found < <([ -z "$all" ] || printf '%s\n' "$all")
     while IFS= read -r line; do
-        [ "${#found[@]}" -gt 0 ] && [[ ${found[0]} == "$line"* ]] || return 1
+        [ "${#found[@]}" -gt 0 ] && [[ ${found[0]} == "$line"* ]] || { other_text 'the warnings' "$all" "$(printf '%b' "$1")"; return 1; }
         found=("${found[@]:1}")
     done < <([ -z "$1" ] || printf '%b\n' "$1")
-    [ "${#found[@]}" = 0 ]
+    [ "${#found[@]}" = 0 ] || other_text 'the warnings' "$all" "$(printf '%b' "$1")"
 }
 
 # The rows of a file of that number of rows, with one column or two.
@@ -441,13 +443,13 @@ count cmp "$scratch/expected" "$scratch/begun"
 # Whether the bytes of a file come out alone on standard output, with status 0, and only lines that are added on standard error; these are kept without their mark.
 adds_to() {
     local line
-    (cd "$mistakes" && "$explain" "${@:2}" <"$1" >"$scratch/out" 2>"$scratch/err") || return 1
-    cmp -s "$scratch/out" "$mistakes/$1" || return 1
+    (cd "$mistakes" && "$explain" "${@:2}" <"$1" >"$scratch/out" 2>"$scratch/added") || return 1
+    is_file 'standard output' "$scratch/out" "$mistakes/$1" || return 1
     said=$'\n'
     while IFS= read -r line; do
         [[ $line == 'explain: '* ]] || return 1
         said+=${line#explain: }$'\n'
-    done <"$scratch/err"
+    done <"$scratch/added"
 }
 
 # Whether of a line as the argument this is said.
@@ -505,13 +507,13 @@ END
 printf 'pact: each proof is checked, x\npact: 1 of 2 crates: a, 3 s\npact: 2 of 2 crates: b, 4 s\npact: built in 5 s\n' >"$mistakes/stream"
 count adds_to stream
 count is_said 'No fault: a source file of `pact` has changed, or'
-count test "$(grep -c 'While pact is built' "$scratch/err")" = 1
+count test "$(grep -c 'While pact is built' "$scratch/added")" = 1
 
 # What a certificate's refusal states and finds is compared.
 cp expected/certificates/push.c[356].stderr "$mistakes"
 count adds_to push.c3.stderr
 count is_said 'lower reads: the certificate states {0}, and `pact` finds {0,1}'
-count test "$(grep -c 'certificate states' "$scratch/err")" = 1
+count test "$(grep -c 'certificate states' "$scratch/added")" = 1
 count adds_to push.c5.stderr
 count is_said 'the steps lead to the plan r(m(s)), and the certificate states m(r(s))'
 count adds_to push.c6.stderr
@@ -522,7 +524,7 @@ make_told map 'set r0 4 v0'
 # Whether nothing is added to these bytes.
 adds_nothing() {
     printf '%b' "$1" >"$mistakes/stream"
-    adds_to stream && [ ! -s "$scratch/err" ]
+    adds_to stream && [ ! -s "$scratch/added" ]
 }
 count adds_nothing ''
 count adds_nothing '1,5'
@@ -555,7 +557,7 @@ s out 4
 r in 2 out 1
 END
 count adds_to stream
-count test ! -s "$scratch/err"
+count test ! -s "$scratch/added"
 
 # Each program that has the fault is told; a program that is named is the only one.
 cp "$mistakes/m.pact" "$mistakes/n.pact"
@@ -566,7 +568,7 @@ count test "${said/other.pact/}" = "$said"
 echo 'function f: V3 at statement 0' >"$mistakes/stream"
 count adds_to stream n.pact
 count is_said 'n.pact:5:8'
-count test "$(grep -c 'm.pact' "$scratch/err")" = 0
+count test "$(grep -c 'm.pact' "$scratch/added")" = 0
 count adds_to stream other.pact
 count is_said 'none of these programs has this fault now:'
 count adds_to stream none.pact
@@ -602,8 +604,8 @@ count is_said 'sub/m.pact:1:6'
 make_told map 'set r0 4 v0'
 printf '1,5\nfunction f: V3 at statement 0\nm: P1\n\nfunction f: V3 at statement 0\ncannot write' >"$mistakes/stream"
 count adds_to stream
-count test "$(grep -c '^explain: of the line ' "$scratch/err")" = 3
-count test "$(grep -c '^explain: m.pact:5:8' "$scratch/err")" = 1
+count test "$(grep -c '^explain: of the line ' "$scratch/added")" = 3
+count test "$(grep -c '^explain: m.pact:5:8' "$scratch/added")" = 1
 
 # A line of a megabyte is shown cut.
 printf 'pact 1\nfields 4\n%s' "$(head -c 1000000 /dev/zero | tr '\0' 'x')" >"$mistakes/long.pact"

@@ -115,7 +115,7 @@ run_case() {
 # Whether a case is refused with this line, which a certificate's refusal may have more lines behind.
 is_told() {
     make_case "$1" "$3" && ! run_case "$pact" "$1" "$3" || return 1
-    [ ! -s "$scratch/out" ] && [ "$(head -n 1 "$scratch/err")" = "$2" ] || return 1
+    is_file 'standard output' "$scratch/out" /dev/null && is_text 'the first line on standard error' "$(head -n 1 "$scratch/err")" "$2" || return 1
     [[ $2 == *'C3' || $2 == *'C5' || $2 == *'C6' ]] || [ "$(wc -l <"$scratch/err")" -eq 1 ]
 }
 
@@ -128,7 +128,9 @@ is_explained() {
     status=$?
     mv "$scratch/err" "$scratch/printed"
     run_case "$explains" "$1" "$3"
-    [ $? = "$status" ] && [ ! -s "$scratch/err" ] && cmp -s "$scratch/printed" <(head -c "$(wc -c <"$scratch/printed")" "$scratch/out") || return 1
+    is_status $? "$status" && is_file 'standard error' "$scratch/err" /dev/null || return 1
+    head -c "$(wc -c <"$scratch/printed")" "$scratch/out" >"$scratch/begun"
+    is_file "the first lines of the explanation" "$scratch/begun" "$scratch/printed" || return 1
     [[ $2 == *': text fault '* ]] || return 0
     { read -r && read -r place && read -r && IFS= read -r; } <"$scratch/out" || return 1
     [[ $place =~ ^"${2%%: *}":[0-9]+$ && $REPLY =~ ^\ {4}[[:blank:]]*\^+$ ]]

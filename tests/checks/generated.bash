@@ -10,14 +10,16 @@ count gives 0 '1,-752,t66\n' '' gen -- 0 1
 count gives 0 'rows 1\nout 1\ncheck 44790612456\n' '' drill --workers=2 0 --local=sort 1
 # A sink that takes nothing; where there is nothing to write it isn't touched.
 cannot_write() {
+    keep_command pact "$@"
     "$pact" "$@" >/dev/full 2>"$scratch/err"
-    [ $? = 4 ] && [ "$(cat "$scratch/err")" = 'cannot write' ]
+    came_to $? 4 '' 'cannot write\n'
 }
 count cannot_write gen 1 3
 count cannot_write drill 1 3
 count cannot_write drill 1 3 --workers 1
 writes_nothing() {
-    "$pact" "$@" >/dev/full 2>"$scratch/err" && [ ! -s "$scratch/err" ]
+    "$pact" "$@" >/dev/full 2>"$scratch/err"
+    came_to $? 0 '' ''
 }
 count writes_nothing gen 1 0
 
@@ -37,7 +39,7 @@ for seed in 0 1 2 1000000007 2147483646; do
 done
 # The most rows that can be asked for.
 counts_rows() {
-    [ "$("$pact" gen "$1" "$2" | wc -l)" = "$2" ]
+    is_text 'the number of rows' "$("$pact" gen "$1" "$2" | wc -l)" "$2"
 }
 count counts_rows 1 1000000
 

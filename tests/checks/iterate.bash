@@ -45,7 +45,7 @@ is_as_runs() {
     for ((round = 0; round < rounds; round++)); do
         (cd "$scratch/rounds" && "$pact" run "$program" >next && mv next "$file") || return
     done
-    (cd "$scratch" && "$pact" iterate "$program" "$source" "$rounds" >out) && cmp "$scratch/out" "$scratch/rounds/$file"
+    (cd "$scratch" && "$pact" iterate "$program" "$source" "$rounds" >out) && is_file 'standard output' "$scratch/out" "$scratch/rounds/$file"
 }
 for rounds in 1 2 3 4 5 9; do
     count is_as_runs "$rounds" inc.pact s s.csv
@@ -58,7 +58,8 @@ path_of() { awk -v n="$1" 'BEGIN { for (i = 1; i <= n; i++) { print i "," i >"v.
 mkdir "$scratch/path" && cp label.pact "$scratch/path" && (cd "$scratch/path" && path_of 40)
 walks() {
     (cd "$scratch/path" && "$pact" iterate label.pact v 100 --stable --workers "$1" >out 2>err)
-    [ $? = 0 ] && [ "$(cut -d, -f2 "$scratch/path/out" | sort -u)" = 1 ] && [ "$(cat "$scratch/path/err")" = 'rounds 40' ]
+    is_status $? 0 && is_text 'the numbers' "$(cut -d, -f2 "$scratch/path/out" | sort -u)" 1 &&
+        is_text 'standard error' "$(cat "$scratch/path/err")" 'rounds 40'
 }
 count walks 1
 count walks 4
@@ -165,11 +166,11 @@ count gives 7 '' 'source e: row 1 column 2: why 2\n' iterate label.pact v 3
 cp g.csv "$scratch"
 
 # ---- Streams that fail: the rows, and behind them the line of rounds.
-fails_to_write() { "$pact" iterate label.pact v 10 "$@" >/dev/full 2>"$scratch/err"; [ $? = 4 ] && [ "$(cat "$scratch/err")" = 'cannot write' ]; }
+fails_to_write() { "$pact" iterate label.pact v 10 "$@" >/dev/full 2>"$scratch/err"; came_to $? 4 '' 'cannot write\n'; }
 count fails_to_write
 count fails_to_write --stable
 count fails_to_write --stable --workers 1
-fails_to_tell() { "$pact" iterate label.pact v 10 "$@" >"$scratch/out" 2>/dev/full; [ $? = "$status" ] && printf '1,1\n2,1\n3,1\n4,4\n' | cmp -s - "$scratch/out"; }
+fails_to_tell() { "$pact" iterate label.pact v 10 "$@" >"$scratch/out" 2>/dev/full; came_to $? "$status" '1,1\n2,1\n3,1\n4,4\n' ''; }
 status=4
 count fails_to_tell --stable
 count fails_to_tell --stable --workers 1

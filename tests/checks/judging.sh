@@ -43,7 +43,7 @@ judged() {
 
 # Whether that is what is said.
 says() {
-    [ "$(judged "${@:2}")" = "$1" ]
+    is_text 'what check says' "$(judged "${@:2}")" "$1"
 }
 
 # One step, which leads to a plan, and a step that leads back to the plan as written.
@@ -63,5 +63,5 @@ places() { # rules, declarations, operator
     for rule in $rules; do
         [ "$(judged "$2" '' "$3" "$rule")" = 'step 1: C1' ] || words+=" $rule"
     done
-    [ "$words" = "${1:+ $1}" ]
+    is_text 'the rules with a place' "$words" "${1:+ $1}"
 }

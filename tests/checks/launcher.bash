@@ -27,7 +27,7 @@ two_at_once() {
     (PATH=$1 XDG_CACHE_HOME=$scratch/cache "$BASH" "$tree/pact" run 1 >"$scratch/first" 2>/dev/null) &
     (PATH=$1 XDG_CACHE_HOME=$scratch/cache "$BASH" "$tree/pact" run 2 >"$scratch/second" 2>/dev/null) &
     wait
-    [ "$(cat "$scratch/first")" = "$2 of run 1" ] && [ "$(cat "$scratch/second")" = "$2 of run 2" ]
+    is_text 'the first output' "$(cat "$scratch/first")" "$2 of run 1" && is_text 'the second output' "$(cat "$scratch/second")" "$2 of run 2"
 }
 count two_at_once "$plain" 'released,'
 # What is touched, or written again as it was, is the same.
@@ -149,7 +149,8 @@ printf '#!/bin/sh\n[ $# -gt 0 ] || exit 2\nprintf %%5000s x || echo unwritten >&
 release "$scratch/writing"
 is_limited() {
     (ulimit -c 0 && ulimit -S -f 1 && PATH=$plain XDG_CACHE_HOME=$scratch/cache exec "$BASH" "$tree/pact" run >"$scratch/out" 2>"$scratch/err")
-    [ $? = 6 ] && [ "$(stat -c %s "$scratch/out")" = 1024 ] && [ "$(tail -n 1 "$scratch/err")" = unwritten ]
+    is_status $? 6 && is_text 'the number of bytes' "$(stat -c %s "$scratch/out")" 1024 &&
+        is_text 'the last line on standard error' "$(tail -n 1 "$scratch/err")" unwritten
 }
 count is_limited
 count is_limited

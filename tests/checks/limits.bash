@@ -2,14 +2,14 @@
 
 # Whether a program of that name in the scratch folder is refused as too long, with this line.
 is_too_long() {
-    (cd "$scratch" && "$pact" run "$1" >out 2>err)
-    [ $? = 8 ] && [ ! -s "$scratch/out" ] && [ "$(cat "$scratch/err")" = "$2" ]
+    gives 8 '' "$2\n" run "$1"
 }
 
 # Whether a command over a program in the scratch folder has this status, and writes these files' bytes on its streams.
 comes_to() {
+    keep_command pact "$1" "$2"
     (cd "$scratch" && "$pact" "$1" "$2" >out 2>err)
-    [ $? = "$3" ] && cmp -s "$scratch/out" "$scratch/$4" && cmp -s "$scratch/err" "$scratch/$5"
+    came_to_files $? "$3" "$scratch/$4" "$scratch/$5"
 }
 
 # Records and a sink of 64 fields, a file name of 200 bytes, 1,001 rows, as many records of one call, and as many groups.
@@ -88,9 +88,4 @@ cp filter.pact "$scratch/filter.pact"
 count is_too_long filter.pact 's.csv is longer than 67108864 bytes'
 cp push.pact "$scratch/push.pact"
 head -c 1048577 /dev/zero | tr '\0' ' ' >"$scratch/long.json"
-echo 'long.json is longer than 1048576 bytes' >"$scratch/long.err"
-comes_to_check() {
-    (cd "$scratch" && "$pact" check push.pact long.json >out 2>err)
-    [ $? = 8 ] && [ ! -s "$scratch/out" ] && cmp -s "$scratch/err" "$scratch/long.err"
-}
-count comes_to_check
+count gives 8 '' 'long.json is longer than 1048576 bytes\n' check push.pact long.json

@@ -8,11 +8,14 @@ writes_wanted() {
     local words
     for words in '--workers 1' '--workers 4' '--workers 1 --local sort' '--workers 4 --local sort' '--workers 3 --batch 1 --depth 1'; do
         # shellcheck disable=SC2086
-        (cd "$scratch" && "$pact" run "$@" $words >out 2>err) && cmp -s "$scratch/out" "$scratch/wanted" && [ ! -s "$scratch/err" ] || return 1
+        keep_command pact run "$@" $words
+        # shellcheck disable=SC2086
+        (cd "$scratch" && "$pact" run "$@" $words >out 2>err)
+        came_to_files $? 0 "$scratch/wanted" /dev/null || return 1
     done
 }
 # Whether so many rows are wanted, as counted by hand: what is worked out isn't nothing.
-are_wanted() { [ "$(wc -l <"$scratch/wanted")" = "$1" ]; }
+are_wanted() { is_text 'the number of rows' "$(wc -l <"$scratch/wanted")" "$1"; }
 
 # ---- Programs of this folder
 
@@ -346,7 +349,7 @@ says_the_same() { # command, plan
         planned_program "$version" "$2" >"$scratch/planned.pact"
         (cd "$scratch" && "$pact" "$1" planned.pact >"told.$version") || return
     done
-    cmp -s "$scratch/told.1" "$scratch/told.2"
+    is_file 'of version 2' "$scratch/told.2" "$scratch/told.1"
 }
 for plan in 'h(g(s,t),u)' 'g(m(s),h(t,u))' 'n(h(g(s,t),u))'; do
     count says_the_same sets "$plan"

@@ -12,8 +12,9 @@ cp ./*.pact ./*.csv certificates/push.good.json "$outside"
 # Whether a command in that folder has this status, and writes these texts, in which escapes stand for bytes: status, standard output, standard
 # error, and the command.
 does() {
+    keep_command "${@:4}"
     (cd "$outside" && exec >"$scratch/out" 2>"$scratch/err" && "${@:4}")
-    [ $? = "$1" ] && printf '%b' "$2" | cmp -s - "$scratch/out" && printf '%b' "$3" | cmp -s - "$scratch/err"
+    came_to $? "$1" "$2" "$3"
 }
 # What waits for ever fails.
 patiently() { timeout 20 "$pact" "$@"; }
@@ -155,7 +156,7 @@ changes_when_read() { # least and most rows, how long it waits, and what is done
     (cd "$outside" && patiently run changing.pact >"$scratch/out" 2>"$scratch/err")
     ends_with $? || return
     rows=$(cat "$scratch/out")
-    [ ! -s "$scratch/err" ] && [ "${rows%,*}" = 1 ] && [ "${rows#*,}" -ge "$1" ] && [ "${rows#*,}" -le "$2" ]
+    is_file 'standard error' "$scratch/err" /dev/null && [ "${rows%,*}" = 1 ] && [ "${rows#*,}" -ge "$1" ] && [ "${rows#*,}" -le "$2" ]
 }
 for turns in 0 200 1000; do
     count changes_when_read 0 2048 "$turns" is_cut 0
@@ -240,11 +241,11 @@ sed -i 's/set r0 2/set r0 1/' "$outside/grouped.pact"
 rows_or_none() { # the greatest status, the least, kilobytes of memory, and options
     (cd "$outside" && limited -v "$3" run grouped.pact "${@:4}" >"$scratch/out" 2>"$scratch/err")
     local status=$?
-    [ "$status" -le "$1" ] && [ "$status" -ge "$2" ] || return
-    if [ "$status" = 0 ]; then
-        cmp -s "$scratch/out" "$scratch/grouped" && [ ! -s "$scratch/err" ]
+    keep_command limited -v "$3" run grouped.pact "${@:4}"
+    if [ "$status" = 0 ] && [ "$2" = 0 ]; then
+        came_to_files 0 0 "$scratch/grouped" /dev/null
     else
-        [ ! -s "$scratch/out" ] && [ "$(cat "$scratch/err")" = 'out of memory' ]
+        came_to "$status" "$1" '' 'out of memory\n'
     fi
 }
 for options in '--workers 1' '--workers 4' '--workers 4 --local sort'; do
@@ -259,7 +260,10 @@ for options in '--workers 1' '--workers 4' '--workers 4 --local sort'; do
 done
 
 # A source that is read in parts: the rows of each reading, and a bad row after the others with its number in the file.
-grouped_on() { (cd "$outside" && "$program" run grouped.pact --workers "$1" | cmp -s - "$scratch/grouped"); }
+grouped_on() {
+    (cd "$outside" && "$program" run grouped.pact --workers "$1" >"$scratch/out" 2>"$scratch/err")
+    came_to_files $? 0 "$scratch/grouped" /dev/null
+}
 for workers in 1 2 3 4 16; do
     count grouped_on "$workers"
 done
@@ -278,9 +282,8 @@ with_large_stacks() { ulimit -S -v 1000000 && ulimit -S -s "$1" && exec "$progra
 has_rows_with_large_stacks() { # kilobytes of a stack, the greatest status, the program's name, its rows, and workers
     (cd "$outside" && with_large_stacks "$1" run "$3" --workers "$5" >"$scratch/out" 2>"$scratch/err")
     case $? in
-    0) cmp -s "$scratch/out" "$4" && [ ! -s "$scratch/err" ] ;;
-    "$2") [ ! -s "$scratch/out" ] && [ "$(cat "$scratch/err")" = 'out of memory' ] ;;
-    *) false ;;
+    0) came_to_files 0 0 "$4" /dev/null ;;
+    *) came_to $? "$2" '' 'out of memory\n' ;;
     esac
 }
 for workers in 2 4 16; do
@@ -306,7 +309,7 @@ is_ignored() { # the signal with this name, by this shell
     done </proc/self/status
     return 1
 }
-is_told_of_limit() { [ "$1" = 4 ] && [ "$(cat "$scratch/err")" = 'cannot write' ]; }
+is_told_of_limit() { is_status "$1" 4 && is_text 'standard error' "$(cat "$scratch/err")" 'cannot write'; }
 bare_at_limit() {
     (cd "$outside" && ulimit -c 0 && ulimit -S -f 10 && exec "$program" run generated.pact >cut 2>"$scratch/err")
     local status=$?
@@ -394,8 +397,9 @@ nested() { awk -v times="$1" -v word="$2" 'BEGIN { for (i = 0; i < times; i++) p
     printf 'map m f s\nsink m 0\n'
 } >"$outside/twenty.pact"
 on_a_stack() { # kilobytes, status, and words; what stands in the environment is on the stack too
+    keep_command pact "${@:3}"
     (cd "$outside" && ulimit -S -s "$1" && exec env -i "$program" "${@:3}" >/dev/null 2>"$scratch/err")
-    [ $? = "$2" ]
+    is_status $? "$2"
 }
 for kilobytes in 8192 2048 192; do
     for workers in 1 4 16; do
@@ -440,7 +444,9 @@ rm "$outside/large.csv"
 # Programs and certificates that are made to keep pact busy. Each row has a limit in seconds of the processor, since a clock goes on while others have
 # the machine. The limits are 3 to 40 times what was measured.
 ends_within() { # seconds, and words; what is written is long
+    keep_command limited -t "$1" "${@:2}"
     (cd "$outside" && limited -t "$1" "${@:2}" >"$scratch/out" 2>"$scratch/err")
+    is_status $? 0
 }
 
 # Maps in a row that may stand in any order. Each has three loops inside each other. A loop hands on what it learns along some values and records, by

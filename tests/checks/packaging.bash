@@ -34,7 +34,7 @@ commands_of_completions() (
     done | sort
 )
 same_commands() {
-    diff <(commands_of_page) <("$1")
+    is_text 'the commands' "$("$1")" "$(commands_of_page)"
 }
 count test "$(commands_of_page | wc -l)" -eq 8
 count same_commands commands_of_manual

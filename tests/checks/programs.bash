@@ -14,5 +14,8 @@ for program in *.pact; do
 done
 
 # The tests that run these programs by picked events have their texts as they stand here.
-are_tested() { PACT_PROGRAM=$pact bash ../tests/as_tests | cmp -s - ../crates/thread_tests/src/example_tests.rt; }
+are_tested() {
+    PACT_PROGRAM=$pact bash ../tests/as_tests >"$scratch/texts"
+    is_file 'what as_tests writes' "$scratch/texts" ../crates/thread_tests/src/example_texts.rt
+}
 count are_tested

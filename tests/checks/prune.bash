@@ -8,7 +8,12 @@ cp ./*.pact ./*.csv "$pruned"
 # Whether a run with `--prune` of a program in that folder writes the rows and the counts of one without it, and behind these the lines, with escapes.
 prunes() { # lines, program, options
     (cd "$pruned" && "$pact" run "${@:2}" --counts >plain 2>counts && "$pact" run "${@:2}" --prune --counts >out 2>err) || return
-    printf '%b' "$1" | cat "$pruned/counts" - | cmp -s - "$pruned/err" && cmp -s "$pruned/plain" "$pruned/out"
+    is_counted "$1"
+}
+# Whether that run wrote the rows and the counts of the one without it, and behind these the lines.
+is_counted() {
+    printf '%b' "$1" | cat "$pruned/counts" - >"$pruned/lines"
+    is_file 'standard error' "$pruned/err" "$pruned/lines" && is_file 'standard output' "$pruned/out" "$pruned/plain"
 }
 
 # ---- Programs of this folder
@@ -43,7 +48,7 @@ for program in faulty wrong_key no_sink bad_row missing; do
 done
 tells_no_count() {
     "$pact" run shop.pact --prune --counts >"$scratch/out" 2>/dev/full
-    [ $? = 4 ] && cmp -s "$scratch/out" expected/shop.stdout
+    is_status $? 4 && is_file 'standard output' "$scratch/out" expected/shop.stdout
 }
 count tells_no_count
 
@@ -54,13 +59,15 @@ tells_alike() { # program, options
         cd "$pruned" && "$pact" run "$@" --counts >plain 2>counts || exit
         lines=$(wc -l <counts)
         for way in prune combine; do
-            "$pact" run "$@" --counts "--$way" >out 2>err && cmp -s plain out && head -n "$lines" err | cmp -s counts - || exit
+            "$pact" run "$@" --counts "--$way" >out 2>err && is_file 'standard output' out plain || exit
+            head -n "$lines" err >err_counts && is_file 'the counts' err_counts counts || exit
             tail -n "+$((lines + 1))" err >"$way.lines"
         done
         ! grep -qv '^[a-z][a-z0-9_]* keeps {[0-9,]*}$' prune.lines && ! grep -qv '^[a-z][a-z0-9_]* partials [0-9]*$' combine.lines || exit
-        "$pact" run "$@" --counts --combine --prune >out 2>err && cmp -s plain out && cat counts prune.lines combine.lines | cmp -s - err || exit
-        "$pact" run "$@" --prune >out 2>err && cmp -s plain out && [ ! -s err ] || exit
-        "$pact" run "$@" --prune --combine >out 2>err && cmp -s plain out && [ ! -s err ]
+        cat counts prune.lines combine.lines >all.lines
+        "$pact" run "$@" --counts --combine --prune >out 2>err && is_file 'standard output' out plain && is_file 'standard error' err all.lines || exit
+        "$pact" run "$@" --prune >out 2>err && is_file 'standard output' out plain && is_file 'standard error' err /dev/null || exit
+        "$pact" run "$@" --prune --combine >out 2>err && is_file 'standard output' out plain && is_file 'standard error' err /dev/null
     )
 }
 for program in *.pact; do
@@ -184,9 +191,11 @@ is_as_reckoned() { # program, number of workers, other options
         cd "$pruned" && set -- "$1" --workers "${@:2}" && "$pact" plan "$@" >reckoned.plan || exit
         as_planned reckoned.plan "$1" >reckoned.pact && "$pact" sets reckoned.pact >reckoned.sets || exit
         # As it is written now, it is shipped as the chosen plan is.
-        "$pact" plan reckoned.pact --workers "$3" --plans 1 | grep ' ship ' >again.plan && grep ' ship ' reckoned.plan | cmp -s - again.plan || exit
+        "$pact" plan reckoned.pact --workers "$3" --plans 1 | grep ' ship ' >again.plan && grep ' ship ' reckoned.plan >ships.plan || exit
+        is_file 'the plan' again.plan ships.plan || exit
         keeps_of reckoned.pact reckoned.sets reckoned.plan >reckoned.keeps && "$pact" run "$@" --prune --counts >out 2>err || exit
-        grep ' keeps ' err | cmp -s reckoned.keeps -
+        grep ' keeps ' err >keeps
+        is_file 'the lines of what is kept' keeps reckoned.keeps
     ) || return
     kept_lines=$((kept_lines + $(wc -l <"$pruned/reckoned.keeps")))
 }
@@ -479,7 +488,7 @@ prunes_first() { # the lines of both ways, those of partial records, operators, 
     of_operators "$3" "$4" >"$pruned/m.pact"
     prunes "$1" m.pact --workers 2 --plans 1 && is_as_reckoned m.pact 2 --plans 1 || return
     (cd "$pruned" && "$pact" run m.pact --workers 2 --plans 1 --prune --combine --counts >out 2>err) || return
-    printf '%b' "$1$2" | cat "$pruned/counts" - | cmp -s - "$pruned/err" && cmp -s "$pruned/plain" "$pruned/out"
+    is_counted "$1$2"
 }
 while IFS='|' read -r keeps partials operators functions; do
     for many in 12 13 14 15; do operators=${operators//MAPS$many/$(maps_over_s "$many")}; done

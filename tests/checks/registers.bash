@@ -9,8 +9,9 @@ printf '11,10\n' >"$registers/right.csv"
 
 # Whether a command there has this status and writes these texts, in which escapes stand for bytes: status, standard output, standard error, words.
 answers() {
+    keep_command pact "${@:4}"
     (cd "$registers" && "$pact" "${@:4}" >"$scratch/out" 2>"$scratch/err")
-    [ $? = "$1" ] && printf '%b' "$2" | cmp -s - "$scratch/out" && printf '%b' "$3" | cmp -s - "$scratch/err"
+    came_to $? "$1" "$2" "$3"
 }
 
 # A program of version 2 with one operator: its number of fields, its kind, its statements with "; " between them, and the sink's fields. A Map and a
@@ -130,7 +131,8 @@ END
 has_fault() {
     printf 'pact %s\nfields 4\nsource s s.csv int:0 int:1\nfunction f map\n%s\nend\nmap m f s\nsink m 0\n' "$1" "$2" >"$registers/m.pact"
     if [ "$3" = 0 ]; then
-        (cd "$registers" && "$pact" sets m.pact >"$scratch/out" 2>"$scratch/err") && [ -s "$scratch/out" ] && [ ! -s "$scratch/err" ]
+        (cd "$registers" && "$pact" sets m.pact >"$scratch/out" 2>"$scratch/err")
+        is_status $? 0 && [ -s "$scratch/out" ] && is_file 'standard error' "$scratch/err" /dev/null
     else
         answers 5 '' "m.pact:5: text fault $3\n" sets m.pact
     fi
@@ -248,7 +250,7 @@ count answers 0 '' '' run m.pact
 # statements, the operators, the status, and what is told.
 is_told_of() { # status, line
     (cd "$registers" && "$pact" sets m.pact >"$scratch/out" 2>"$scratch/err")
-    [ "$? $(<"$scratch/err")" = "$1 $2" ]
+    is_status $? "$1" && is_text 'standard error' "$(<"$scratch/err")" "$2"
 }
 while IFS='|' read -r statements operators status told; do
     {
@@ -330,7 +332,8 @@ END
 
 # Each row has whether a Reduce passes, what its loop has behind `v1 = get x1 1`, and what stands behind the loop, before v0 is emitted.
 is_ordered() { # yes or no
-    (cd "$registers" && "$pact" sets m.pact >"$scratch/out" 2>"$scratch/err") && [ ! -s "$scratch/err" ] && [[ $(<"$scratch/out") = "m reduce "*" order $1" ]]
+    (cd "$registers" && "$pact" sets m.pact >"$scratch/out" 2>"$scratch/err") && is_file 'standard error' "$scratch/err" /dev/null &&
+        [[ $(<"$scratch/out") = "m reduce "*" order $1" ]]
 }
 while IFS='|' read -r answer statements behind; do
     found_by_register reduce "each x1 of group; v1 = get x1 1; $statements; end; ${behind:+$behind; }r6 = new; set r6 2 v0; emit r6"

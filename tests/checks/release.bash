@@ -7,11 +7,12 @@
 fresh
 linked=$scratch/linked_program
 cat "$(command -v grep)" >"$linked"   # which ends with 2 where it has no words, as pact does
-make_release() { PATH=$with XDG_CACHE_HOME=$scratch/cache "$tree/release/make" "$@" 2>/dev/null; }
+make_release() { PATH=$with XDG_CACHE_HOME=$scratch/cache "$tree/release/make" "$@" >/dev/null 2>&1; }
 # Whether release/check, with these words, has this status and says this, or nothing.
 checked() {
     PATH=$with "$tree/release/check" "${@:3}" >"$scratch/said"
-    [ $? = "$1" ] && [ "$(cat "$scratch/said")" = "$2" ]
+    local status=$?
+    is_text 'what release/check prints' "$(cat "$scratch/said")" "$2" && is_status "$status" "$1"
 }
 line_of() { sed -n "s/^$1 //p" "$tree/release/built_of"; }
 
@@ -49,6 +50,12 @@ fails_to_make() { ! make_release "$1"; }
 count fails_to_make "$tree/crates.txt"
 count fails_to_make "$tree/none"
 count checked 1 'release: the released program is missing'
+# with no words it is made of a program that is built for it
+fresh
+cp "$linked" "$tree/linked"
+count make_release
+count checked 0 '' "$linked"
+count test "$(cat "$tree/builds")" = 1
 # another program beside it: what it was built of has its name, and only its own sources count
 fresh
 count make_release "$linked" low

@@ -14,7 +14,7 @@ END
 sorted() {
     shuf --random-source=<(yes) "$scratch/sorted.csv" >"$scratch/s.csv"
     (cd "$scratch" && "$pact" run sorted.pact --workers "$1" >out 2>err)
-    cmp -s "$scratch/out" "$scratch/sorted.csv"
+    came_to_files $? 0 "$scratch/sorted.csv" /dev/null
 }
 # Texts that share long prefixes, end early, and have bytes beyond ASCII, with second texts and numbers after them. The third column of the list is the
 # number's rank, by which `sort` puts the least numbers and Null where they belong.

@@ -9,8 +9,11 @@ query_of() {
 
 # Whether a query gives the rows of a file, whose order says nothing of an answer.
 gives_rows() {
-    sqlite3 -batch -list -separator , "$tables" "$1" >"$scratch/out" 2>"$scratch/err" &&
-        [ ! -s "$scratch/err" ] && cmp -s <(LC_ALL=C sort "$scratch/out") <(LC_ALL=C sort "$2")
+    keep_command sqlite3 "$1"
+    sqlite3 -batch -list -separator , "$tables" "$1" >"$scratch/rows" 2>"$scratch/err"
+    LC_ALL=C sort "$scratch/rows" >"$scratch/out"
+    LC_ALL=C sort "$2" >"$scratch/sorted"
+    came_to_files 0 0 "$scratch/sorted" /dev/null
 }
 
 # An empty cell is Null.

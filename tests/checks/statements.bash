@@ -11,7 +11,9 @@ examples_of_statements() {
 gives_shown_rows() { # body, row, rows
     statement_program "$1" >"$scratch/statement.pact"
     printf '%s\n' "$2" >"$scratch/row.csv"
-    (cd "$scratch" && "$pact" run statement.pact >out 2>err) && [ ! -s "$scratch/err" ] && cmp -s <(printf '%s' "$3") "$scratch/out"
+    printf '%s' "$3" >"$scratch/rows"
+    (cd "$scratch" && "$pact" run statement.pact >out 2>err)
+    came_to_files $? 0 "$scratch/rows" /dev/null
 }
 body=
 examples=0

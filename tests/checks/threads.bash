@@ -10,7 +10,8 @@ writes_the_same() {
     for ((i = 0; i < times; i++)); do
         "$pact" run "$name.pact" --workers "$workers" --batch "$batch" --depth "$depth"
     done >"$scratch/again" 2>"$scratch/err"
-    [ ! -s "$scratch/err" ] && cmp -s "$scratch/again" "$scratch/often"
+    keep_command pact run "$name.pact" --workers "$workers" --batch "$batch" --depth "$depth"
+    is_file 'standard error' "$scratch/err" /dev/null && is_file "the rows of $times runs" "$scratch/again" "$scratch/often"
 }
 for program in *.pact; do
     name=${program%.pact}
@@ -41,8 +42,8 @@ sink m 2 0
 END
 (cd "$scratch" && "$pact" run many.pact --workers 1 >by_one)
 has_lines_of_one_thread() {
-    (cd "$scratch" && "$pact" run many.pact --workers "$1" >in_parts 2>err) && [ ! -s "$scratch/err" ] &&
-        [ "$(wc -l <"$scratch/in_parts")" = 60000 ] && cmp "$scratch/by_one" "$scratch/in_parts"
+    (cd "$scratch" && "$pact" run many.pact --workers "$1" >in_parts 2>err) && is_file 'standard error' "$scratch/err" /dev/null &&
+        is_text 'the number of rows' "$(wc -l <"$scratch/in_parts")" 60000 && is_file 'the rows' "$scratch/in_parts" "$scratch/by_one"
 }
 for workers in 2 3 4 16; do
     count has_lines_of_one_thread "$workers"
@@ -52,7 +53,8 @@ done
 # source that is just too short to be read in two parts, and one that is not.
 is_the_same_on() { # workers, rows
     (cd "$scratch" && "$pact" run edge.pact --workers 1 >by_one 2>err && "$pact" run edge.pact --workers "$1" >in_parts 2>>err) &&
-        [ ! -s "$scratch/err" ] && cmp "$scratch/by_one" "$scratch/in_parts" && [ "$(wc -l <"$scratch/in_parts")" = "$2" ]
+        is_file 'standard error' "$scratch/err" /dev/null && is_file 'the rows' "$scratch/in_parts" "$scratch/by_one" &&
+        is_text 'the number of rows' "$(wc -l <"$scratch/in_parts")" "$2"
 }
 sed 's/many\.csv/edge.csv/' "$scratch/many.pact" >"$scratch/edge.pact"
 for limit in '2 4095' '2 4096' '4 8188' '4 8191' '4 8192' '4 8193' '16 32767' '16 32768' '4 24999' '4 25000' '4 25001' '4 37499' '4 37500'; do
@@ -66,45 +68,3 @@ for bytes in 65535 65536 131071 131072 131073; do
     count [ "$(wc -c <"$scratch/edge.csv")" = "$bytes" ]
     count is_the_same_on 4 "$(wc -l <"$scratch/edge.csv")"
 done
-
-# Every source of the programs here, repeated until it fills eight parts of 64 KiB, which as many threads read as there are workers.
-long_source() {
-    local file=$1 columns=${*:2} fields
-    fields=$(tr ' ' '\n' <<<"$columns" | sed 's/.*://')
-    awk 1 "$file" >"$scratch/eight.csv"
-    while [ "$(wc -c <"$scratch/eight.csv")" -lt $((8 * 65536)) ]; do
-        cp "$scratch/eight.csv" "$scratch/half.csv" && cat "$scratch/half.csv" >>"$scratch/eight.csv"
-    done
-    printf 'pact 2\nfields %d\nsource s eight.csv %s\nsink s %s\n' $(($(sort -n <<<"$fields" | tail -n 1) + 1)) "$columns" "${fields//$'\n'/ }"
-}
-# What a run of the long source writes, on both streams, and its status.
-reads_it() {
-    (cd "$scratch" && "$pact" run eight.pact --workers "$1" 2>&1; echo "status $?") >"$scratch/$2"
-}
-# Rows, or the fault of a row: what the sources of programs end with that show a bad row.
-ends_well() { tail -n 1 "$scratch/$1" | grep -q '^status [07]$'; }
-read_in_as_many_parts() {
-    reads_it "$1" in_parts && cmp "$scratch/by_one" "$scratch/in_parts"
-}
-# The sources of shop/ are its files without their header lines, with cents and with decimals.
-mkdir "$scratch/shop"
-tail -n +2 shop/customers.csv >"$scratch/shop/customers_rows.csv"
-tail -n +2 shop/orders.csv >"$scratch/shop/decimal_rows.csv"
-awk -F, -v OFS=, '$NF != "" { $NF = sprintf("%.0f", $NF * 100) } 1' "$scratch/shop/decimal_rows.csv" >"$scratch/shop/orders_rows.csv"
-sources=0
-while read -r file columns; do
-    [ -s "$file" ] || continue
-    # shellcheck disable=SC2086
-    long_source "$file" $columns >"$scratch/eight.pact"
-    reads_it 1 by_one
-    count ends_well by_one
-    sources=$((sources + 1))
-    for workers in 2 3 4 5 6 7 8; do
-        count read_in_as_many_parts "$workers"
-    done
-done < <(
-    source_lines() { sed -n 's/#.*//; s/^source  *[^ ]*  *//p' "$@" | sort -u; }
-    source_lines ./*.pact
-    source_lines shop/*.pact | sed "s:^:$scratch/shop/:"
-)
-count [ "$sources" -gt 32 ]

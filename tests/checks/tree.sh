@@ -5,9 +5,9 @@
 tree=$scratch/tree
 mkdir -p "$tree/bin" "$tree/crates/low/src" "$tree/crates/low/specs" "$tree/crates/pact_program/src" "$tree/crates/tests/src" "$tree/release"
 cp ../pact "$tree/pact"
-cp ../release/{functions.bash,make,check} "$tree/release"
+cp ../release/{functions.bash,build.bash,make,check} "$tree/release"
 # A file `broken` makes it fail in the lower crate, and a file `refused` in the program, which leaves what was linked before; with a file `hurried`
-# a source changes while it proves, and with a file `slow` it takes its time.
+# a source changes while it proves, and with a file `slow` it takes its time. A file `linked` is what it links.
 cat >"$tree/bin/rt" <<'END'
 #!/bin/sh
 top=$(dirname "$(dirname "$0")")
@@ -25,6 +25,7 @@ run)
     echo "$(($(cat "$top/builds") + 1))" >"$top/builds"
     printf '#!/bin/sh\n[ $# -gt 0 ] || exit 2\necho "build %s of $*"\nexit 5\n' "$(cat "$top/builds")" >out/pact_program
     chmod +x out/pact_program
+    [ ! -f "$top/linked" ] || cp "$top/linked" out/pact_program
     ;;
 esac
 END
@@ -38,7 +39,7 @@ done
 
 # The sources as they were at first; nothing was built or found out.
 fresh() {
-    rm -rf "$scratch/cache" "$tree"/{broken,refused,hurried,slow} "$tree"/crates/side_* "$tree/crates/low/src"/* "$tree/crates/low/specs"/* "$tree/crates/low/proofs"
+    rm -rf "$scratch/cache" "$tree"/{broken,refused,hurried,slow,linked} "$tree"/crates/side_* "$tree/crates/low/src"/* "$tree/crates/low/specs"/* "$tree/crates/low/proofs"
     echo 0 >"$tree/builds"
     echo 'kit one' >"$tree/kit"
     printf 'low:\npact_program: low\ntests: low\n' >"$tree/crates.txt"
@@ -53,7 +54,10 @@ fresh() {
 # Makes this the released program, of the sources that are there.
 release() {
     # shellcheck source=/dev/null
-    (root=$tree && PATH=$tree/bin:$PATH && . "$tree/release/functions.bash" && put_program "$tree/release" "$1" "$(sum_of_sources)")
+    (
+        root=$tree && PATH=$tree/bin:$PATH && . "$tree/release/functions.bash" && . "$tree/release/build.bash" &&
+            put_program "$tree/release" "$1" "$(sum_of_sources)"
+    )
 }
 # The launcher, where these commands are, its answer, its errors and its status.
 launch() {
@@ -64,22 +68,22 @@ launch() {
 # Whether it runs the released program, and builds nothing.
 runs_released() {
     launch "$1"
-    [ $? = 6 ] && [ "$(cat "$scratch/out")" = 'released, of run a b' ] && [ ! -s "$scratch/err" ] && [ "$(cat "$tree/builds")" = 0 ]
+    came_to $? 6 'released, of run a b\n' '' && is_text 'the number of builds' "$(cat "$tree/builds")" 0
 }
 # Whether it runs the program of this build, which is the last.
 runs_build() {
     launch "$2"
-    [ $? = 5 ] && [ "$(cat "$scratch/out")" = "build $1 of run a b" ] && [ "$(cat "$tree/builds")" = "$1" ]
+    is_status $? 5 && is_text 'standard output' "$(cat "$scratch/out")" "build $1 of run a b" && is_text 'the number of builds' "$(cat "$tree/builds")" "$1"
 }
 # Whether it runs the released program where nothing that it finds out can be kept.
 runs_without_cache() {
     PATH=$plain XDG_CACHE_HOME=/dev/null "$BASH" "$tree/pact" run 'a b' >"$scratch/out" 2>"$scratch/err"
-    [ $? = 6 ] && [ "$(cat "$scratch/out")" = 'released, of run a b' ] && [ ! -s "$scratch/err" ]
+    came_to $? 6 'released, of run a b\n' ''
 }
 # Whether it ends with the status of a command that isn't there, and says this in its last line.
 fails_with() {
     launch "$2"
-    [ $? = 127 ] && [ ! -s "$scratch/out" ] && [ "$(tail -n 1 "$scratch/err")" = "$1" ]
+    is_status $? 127 && is_file 'standard output' "$scratch/out" /dev/null && is_text 'the last line on standard error' "$(tail -n 1 "$scratch/err")" "$1"
 }
 with=$tree/bin:$PATH
 # Adds a line to a file of the tree.

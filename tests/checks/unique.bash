@@ -259,7 +259,9 @@ keeps_rows() { # version, side
         written "$1" "$form" "$2" cnt jn 0 "$best" >"$scratch/written.pact"
         for words in '--workers 1 --plans 1' '--workers 4 --plans 1' '--workers 1' '--workers 4 --batch 1 --depth 1' '--workers 3 --local sort'; do
             # shellcheck disable=SC2086
-            (cd "$scratch" && "$pact" run written.pact $words | LC_ALL=C sort >out 2>err) && cmp -s "$scratch/out" "$scratch/wanted" || return 1
+            keep_command pact run written.pact $words
+            # shellcheck disable=SC2086
+            (cd "$scratch" && "$pact" run written.pact $words | LC_ALL=C sort >out 2>err) && is_file 'the rows' "$scratch/out" "$scratch/wanted" || return 1
         done
         # two plans are listed, whichever of them was written
         (cd "$scratch" && "$pact" plan written.pact) | head -n 1 | grep -qx 'plans 2 complete' || return 1

@@ -3,7 +3,6 @@
 ghost use Rattle.std.specs.Prelude.{◌≡◌, ◌≢◌, IfOk, None};
 ghost use Rattle.pact_load.specs.Answers.{Comes};
 ghost use Rattle.pact_load.specs.Loading as work;
-ghost use Rattle.pact_load.specs.Readers.{CanRead, IsRead};
 ghost use Rattle.pact_load.specs.declared.refusals.Refusal.TheVariants as refusals;
 ghost use Rattle.explain_report.specs.Explaining.{ExplainsFile, ExplainsText, Foretells, ForetellsText, IsFaultExplained, Tells, reads_of};
 ghost use Rattle.explain_report.specs.TextStages.{checked_of, loaded_of, repeated_of};
@@ -14,19 +13,18 @@ use crate::explanations::{Explanation, of_refusal, refusal_line, without_fault};
 use crate::files::{SOURCE_LIMIT, TEXT_LIMIT, bytes_in};
 use crate::texts::{put_text_fault, spot_of};
 use crate::warnings::put_hint;
-use csv_source::{BadRow, read_source};
 use explain_declarations::Declared;
 use explain_rows::put_file_hints;
 use explain_words::Page;
 use explain_words::pages::Piece::Say;
-use pact_bag::{Inputs, Rows};
+use pact_bag::Inputs;
 use pact_load::{
-    Loaded, Refusal, is_source, load, load_sources, load_text, program_of, source_named,
+    Loaded, ReadAlone, Refusal, is_source, load, load_sources, load_text, program_of, source_named,
     text_refused,
 };
 use pact_operators::{Plan, Program};
 use pact_outside::Feed;
-use pact_record::{Columns, OutOfMemory};
+use pact_record::OutOfMemory;
 use program_hints::{program_hints, size_hints};
 use std::alloc::Global;
 use text_lines::TextFault;
@@ -159,12 +157,8 @@ fn load_of<F: Feed>(
 ) -> Result<Loaded, Refusal>
     ensures { Comes (λ files. loaded_of files name.now text.now) (F.shows feed.old) (F.shows feed.new) result }
 {
-    let read = |bytes: &[u8], columns: &Columns, fields: u32| -> Result<Rows, BadRow>
-        requires { CanRead fields columns.now }
-        ensures { IsRead fields columns.now bytes.now result }
-    { read_source(alloc, bytes, columns, fields) };
     let program = program_of(alloc, name, text)?;
-    let inputs = load_sources(alloc, feed, &program, &read)?;
+    let inputs = load_sources(alloc, feed, &program, &ReadAlone { alloc })?;
     Ok(Loaded { program, inputs })
 }
 
@@ -178,13 +172,9 @@ fn repeat_of<F: Feed>(
 ) -> Result<Loaded, Refusal>
     ensures { Comes (λ files. repeated_of files name.now source.now text.now) (F.shows feed.old) (F.shows feed.new) result }
 {
-    let read = |bytes: &[u8], columns: &Columns, fields: u32| -> Result<Rows, BadRow>
-        requires { CanRead fields columns.now }
-        ensures { IsRead fields columns.now bytes.now result }
-    { read_source(alloc, bytes, columns, fields) };
     let program = program_of(alloc, name, text)?;
     let _at = source_named(alloc, &program, source)?;
-    let inputs = load_sources(alloc, feed, &program, &read)?;
+    let inputs = load_sources(alloc, feed, &program, &ReadAlone { alloc })?;
     Ok(Loaded { program, inputs })
 }
 
@@ -337,11 +327,7 @@ pub fn run_refusal<F: Feed>(
     feed: &mut F,
     name: &[u8],
 ) -> Result<Option<Refusal>, OutOfMemory> {
-    let read = |bytes: &[u8], columns: &Columns, fields: u32| -> Result<Rows, BadRow>
-        requires { CanRead fields columns.now }
-        ensures { IsRead fields columns.now bytes.now result }
-    { read_source(alloc, bytes, columns, fields) };
-    match load(alloc, feed, name, &read) {
+    match load(alloc, feed, name, &ReadAlone { alloc }) {
         Ok(_) => Ok(None),
         Err(Refusal::OutOfMemory) => Err(OutOfMemory),
         Err(refusal) => Ok(Some(refusal)),

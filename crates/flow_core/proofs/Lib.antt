@@ -4,7 +4,7 @@ mod EnabledEvents
 mod WorldsAfterEvents
 pub mod SharesOfRows
 mod StartStands
-pub mod StartedRows
+pub mod StartedInstances
 mod LongestShares
 mod ReplayedEvents
 mod EventsOfWants

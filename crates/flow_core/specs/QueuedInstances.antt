@@ -16,8 +16,8 @@ abbrev pub with_put : QueuedInstanceData → (to : ℕ) → QueuedInstanceData
 with_put s to = record { instance = offered s.instance; queues = set s.queues to (get_or s.queues to [] ++ next_note s.instance.waiting ∷ []) }
 
 -- a note was taken from a pipe
-abbrev pub given : QueuedInstanceData → (to : ℕ) → QueuedInstanceData
-given s to = record { instance = s.instance; queues = set s.queues to (later (get_or s.queues to [])) }
+abbrev pub without_first : QueuedInstanceData → (to : ℕ) → QueuedInstanceData
+without_first s to = record { instance = s.instance; queues = set s.queues to (later (get_or s.queues to [])) }
 
 -- its instance has ended
 abbrev pub with_end : QueuedInstanceData → QueuedInstanceData

@@ -5,8 +5,8 @@ use Rattle.flow_instance.specs.Events.{Runs}
 use Rattle.flow_instance.specs.Most.{events}
 use Rattle.flow_instance.specs.Spots.{Setting}
 use Rattle.flow_instance.specs.Worlds.{History, enabled}
-use Rattle.flow_core.specs.declared.stops.Replay.{Replay}
-use Rattle.flow_core.specs.declared.stops.Replay.TheVariants.{Memory, NotEnabled}
+use Rattle.flow_core.specs.declared.replay_errors.Replay.{Replay}
+use Rattle.flow_core.specs.declared.replay_errors.Replay.TheVariants.{Memory, NotEnabled}
 use Rattle.flow_core.specs.Laws.{ObeysLaws}
 use Rattle.flow_core.specs.Worlds.{IsStanding, StandsForSome, WorldData, seen}
 

@@ -13,7 +13,7 @@ use Rattle.flow_instance.specs.Steps.{Started}
 use Rattle.flow_instance.specs.Instances.{Instance}
 use Rattle.flow_instance.specs.declared.before_start.Unstarted.{Unstarted}
 use Rattle.flow_instance.specs.Starting.{CanStart, IsStartedFrom, IsUnstarted}
-use Rattle.flow_core.specs.declared.starting.UnstartedRow.{UnstartedRow}
+use Rattle.flow_core.specs.declared.starting.UnstartedInstances.{UnstartedInstances}
 use Rattle.flow_core.specs.Worlds.{QueuedInstanceData, no_instance, no_queued_instance}
 
 -- a source takes the first bag of those that are left, and an operator takes none
@@ -51,45 +51,45 @@ pub record AreUnstarted (p : ProgramData) (physical : PhysicalData) (size at : �
 -- how many rows the first worker has of its own, and 0 if there is no worker
 abbrev pub first_share : List Unstarted → ℕ
 first_share [] = 0
-first_share (u ∷ row) = length u.rows
+first_share (u ∷ items) = length u.rows
 
 -- no worker has more than `most` rows
 abbrev pub HaveAtMost : (most : ℕ) → List Unstarted → Type 0
-HaveAtMost most row = AllByRecursion (λ (u : Unstarted). length u.rows ≤ most) row
+HaveAtMost most items = AllByRecursion (λ (u : Unstarted). length u.rows ≤ most) items
 
 -- each instance is started from the item at its place
 abbrev pub StartFrom : List Unstarted → List Instance → Type 0
 StartFrom [] [] = Unit {0}
-StartFrom (u ∷ row) (i ∷ own) = IsStartedFrom u i × StartFrom row own
+StartFrom (u ∷ items) (i ∷ own) = IsStartedFrom u i × StartFrom items own
 StartFrom [] (i ∷ own) = ⊥
-StartFrom (u ∷ row) [] = ⊥
+StartFrom (u ∷ items) [] = ⊥
 
--- each row of instances is started from the row at its place
-abbrev pub StartAllFrom : List UnstartedRow → List (List Instance) → Type 0
+-- the instances of each source and operator are started from the items at their place
+abbrev pub StartAllFrom : List UnstartedInstances → List (List Instance) → Type 0
 StartAllFrom [] [] = Unit {0}
-StartAllFrom (row ∷ rows) (own ∷ all) = StartFrom row.held.items own × StartAllFrom rows all
+StartAllFrom (u ∷ unstarted) (own ∷ all) = StartFrom u.held.items own × StartAllFrom unstarted all
 StartAllFrom [] (own ∷ all) = ⊥
-StartAllFrom (row ∷ rows) [] = ⊥
+StartAllFrom (u ∷ unstarted) [] = ⊥
 
--- each instance of a row can start
-abbrev pub CanStartRow : UnstartedRow → Type 0
-CanStartRow row = AllByRecursion CanStart row.held.items
+-- each of the instances can start
+abbrev pub CanStartEach : UnstartedInstances → Type 0
+CanStartEach u = AllByRecursion CanStart u.held.items
 
--- the row of one number, whose rows are those of the source in the program
-pub record IsRowUnstarted (p : ProgramData) (physical : PhysicalData) (inputs : List Bag) (size at : ℕ) (row : UnstartedRow) : Type 0 where
+-- the items of one number, whose rows are those of the source in the program
+pub record AreUnstartedOf (p : ProgramData) (physical : PhysicalData) (inputs : List Bag) (size at : ℕ) (u : UnstartedInstances) : Type 0 where
   pub own : Bag
   pub own_are : AreOwn p inputs at own
-  pub are : AreUnstarted p physical size at own physical.workers row.held.items
+  pub are : AreUnstarted p physical size at own physical.workers u.held.items
 
--- the rows of the numbers from `from` on
-abbrev pub AreRowsFrom : ProgramData → PhysicalData → List Bag → (size from : ℕ) → List UnstartedRow → Type 0
-AreRowsFrom p physical inputs size from [] = Unit {0}
-AreRowsFrom p physical inputs size from (row ∷ rows) = IsRowUnstarted p physical inputs size from row × AreRowsFrom p physical inputs size (from + 1) rows
+-- the items of the numbers from `from` on
+abbrev pub AreAllUnstartedFrom : ProgramData → PhysicalData → List Bag → (size from : ℕ) → List UnstartedInstances → Type 0
+AreAllUnstartedFrom p physical inputs size from [] = Unit {0}
+AreAllUnstartedFrom p physical inputs size from (u ∷ unstarted) = AreUnstartedOf p physical inputs size from u × AreAllUnstartedFrom p physical inputs size (from + 1) unstarted
 
--- the rows of the first `count` numbers
-pub record AreAllUnstarted (p : ProgramData) (physical : PhysicalData) (inputs : List Bag) (size count : ℕ) (rows : List UnstartedRow) : Type 0 where
-  pub long : length rows ≡ count
-  pub each : AreRowsFrom p physical inputs size 0 rows
+-- the items of the first `count` numbers
+pub record AreAllUnstarted (p : ProgramData) (physical : PhysicalData) (inputs : List Bag) (size count : ℕ) (unstarted : List UnstartedInstances) : Type 0 where
+  pub long : length unstarted ≡ count
+  pub each : AreAllUnstartedFrom p physical inputs size 0 unstarted
 
 -- ---- at the start
 

@@ -16,11 +16,11 @@ coded_queued_instance =
     (λ q. record { instance = q.0; queues = q.1 }) (λ _. refl)
 
 -- the queued instances of one source or operator
-abbrev pub coded_row : Coded (List QueuedInstanceData)
-coded_row = coded_list coded_queued_instance
+abbrev pub coded_queued_instances : Coded (List QueuedInstanceData)
+coded_queued_instances = coded_list coded_queued_instance
 
 -- all queued instances, with the physical plan and the depth
 abbrev pub coded_world : Coded WorldData
 coded_world =
-    code_by (PhysicalData × (ℕ × List (List QueuedInstanceData))) (coded× coded_physical (coded× coded_ℕ (coded_list coded_row)))
+    code_by (PhysicalData × (ℕ × List (List QueuedInstanceData))) (coded× coded_physical (coded× coded_ℕ (coded_list coded_queued_instances)))
     (λ w. (w.physical, (w.depth, w.queued_instances))) (λ q. record { physical = q.0; depth = q.1.0; queued_instances = q.1.1 }) (λ _. refl)

@@ -1,14 +1,16 @@
 //! Instances with the pipes that leave them.
 
 ghost use Rattle.std.specs.Prelude.{◌≡◌, ◌<◌, [], get_or, length, IfOk, OnOk};
+ghost use Rattle.std.specs.List.{AllByRecursion};
 ghost use Rattle.pact_bag.specs.Rows.{HaveOneWidth};
 ghost use Rattle.plan_trees.specs.Sending.{all_of};
 ghost use Rattle.flow_instance.specs.declared.notes.Want.TheVariants.{End, Put};
 ghost use Rattle.flow_instance.specs.Events.{first_note};
 ghost use Rattle.flow_instance.specs.Instances.{want};
-ghost use Rattle.flow_core.specs.Left.{refilled};
-ghost use Rattle.flow_core.specs.QueuedInstances.{CanTake, TakesNote, given, placed_by, total_given, with_end, with_put};
+ghost use Rattle.flow_core.specs.Left.{AreAllEmptied, AreEmptied, refilled};
+ghost use Rattle.flow_core.specs.QueuedInstances.{CanTake, TakesNote, placed_by, total_given, with_end, with_put, without_first};
 
+use crate::instance_lists::{InstanceList, Instances};
 use flow_instance::{Instance, Note};
 use local_strategy::Local;
 use pact_bag::Rows;
@@ -83,10 +85,10 @@ impl<L: Local> QueuedInstance<L> {
     }
 
     /// Removes and returns the first note of the pipe to a receiver.
-    pub(crate) fn give(&mut self, to: u32) -> Note
+    pub(crate) fn remove_first(&mut self, to: u32) -> Note
         requires { 0 < length (get_or self.old.queues to []) }
         ensures note { result ≡ first_note (get_or self.old.queues to []) }
-        ensures queued_instance { self.new ≡ given self.old to }
+        ensures queued_instance { self.new ≡ without_first self.old to }
     {
         let Some(note) = self.queues[to as usize].notes.pop_front() else {
             unreachable!()
@@ -126,23 +128,23 @@ impl<L: Local> QueuedInstance<L> {
 
 /// The queued instances of one source or operator, by worker.
 #[derive(Drop)]
-pub(crate) struct Row<L: Local> {
+pub(crate) struct QueuedInstances<L: Local> {
     pub(crate) held: Vec<QueuedInstance<L>>,
 }
 
-impl<L: Local> Model for Row<L> {
+impl<L: Local> Model for QueuedInstances<L> {
     ghost use Rattle.std.specs.Prelude.{List};
     ghost use Rattle.flow_core.specs.Worlds.{QueuedInstanceData};
-    ghost use Rattle.flow_core.specs.WorldCode.{coded_row};
+    ghost use Rattle.flow_core.specs.WorldCode.{coded_queued_instances};
 
     ghost Value = { List QueuedInstanceData };
 
-    ghost coded = { coded_row };
+    ghost coded = { coded_queued_instances };
 
     ghost view = { λ r. r.held.items };
 }
 
-impl<L: Local> Row<L> {
+impl<L: Local> QueuedInstances<L> {
     /// The number of records that the instances emitted together, where the greatest u64 also counts for more.
     pub(crate) fn given(&self) -> u64
         ensures { result ≡ total_given self.now }
@@ -167,4 +169,49 @@ impl<L: Local> Row<L> {
         }
         Ok(rows)
     }
+}
+
+// An empty pipe to each worker.
+fn empty_queues(alloc: Global, workers: u32) -> Result<Vec<Queue>, OutOfMemory>
+    ensures long { IfOk result (λ queues. length queues.items ≡ workers) }
+    ensures empty { IfOk result (λ queues. AllByRecursion (λ queue. queue ≡ []) queues.items) }
+{
+    let mut queues = Vec::with_capacity(alloc, workers as usize)?;
+    for _receiver in 0..workers {
+        queues.push_reserved(Queue {
+            notes: VecDeque::new(alloc),
+        });
+    }
+    Ok(queues)
+}
+
+// The instances of one source or operator, each with an empty pipe to every worker.
+fn queue_each<L: Local>(
+    alloc: Global,
+    workers: u32,
+    own: Instances<L>,
+) -> Result<QueuedInstances<L>, OutOfMemory>
+    ensures { IfOk result (AreEmptied workers (length own) own) }
+{
+    let mut held = Vec::with_capacity(alloc, own.held.len())?;
+    for instance in own.held {
+        let queues = empty_queues(alloc, workers)?;
+        held.push_reserved(QueuedInstance { instance, queues });
+    }
+    Ok(QueuedInstances { held })
+}
+
+/// The instances of all sources and operators, each with an empty pipe to every worker.
+pub(crate) fn queue_all<L: Local>(
+    alloc: Global,
+    workers: u32,
+    instances: InstanceList<L>,
+) -> Result<Vec<QueuedInstances<L>>, OutOfMemory>
+    ensures { IfOk result (λ all. AreAllEmptied workers (length instances) instances all.items) }
+{
+    let mut all = Vec::with_capacity(alloc, instances.all.len())?;
+    for own in instances.all {
+        all.push_reserved(queue_each(alloc, workers, own)?);
+    }
+    Ok(all)
 }

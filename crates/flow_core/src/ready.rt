@@ -8,8 +8,8 @@ use pact_record::OutOfMemory;
 use std::alloc::Global;
 use std::marker::Model;
 
-// The largest number of workers of a physical plan.
-const MAX_WORKERS: usize = 16;
+/// The largest number of workers of a physical plan.
+pub const MAX_WORKERS: usize = 16;
 
 type Marks = [[bool; MAX_WORKERS]; MAX_NODES];
 

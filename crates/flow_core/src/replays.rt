@@ -10,7 +10,7 @@ ghost use Rattle.flow_core.specs.Laws.{ObeysLaws};
 ghost use Rattle.flow_core.specs.Replays.{HandsBackLawful, IsReplayed, IsStopped};
 ghost use Rattle.flow_core.specs.Worlds.{IsStanding, StandsForSome};
 
-use crate::stops::Replay;
+use crate::replay_errors::Replay;
 use crate::worlds::World;
 use flow_instance::Event;
 use local_strategy::Local;

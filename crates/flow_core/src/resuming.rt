@@ -7,49 +7,18 @@ ghost use Rattle.flow_instance.specs.Limits.{batch_limit};
 ghost use Rattle.flow_instance.specs.Spots.{Setting};
 ghost use Rattle.flow_instance.specs.Worlds.{History, Stands};
 ghost use Rattle.flow_core.specs.Laws.{ObeysLaws};
-ghost use Rattle.flow_core.specs.Left.{AreAllEmptied, AreEmptied, AreFilled, AreOfPlan, IsPipeOf, LeftOn, StandForSome, instance_of, left_world};
+ghost use Rattle.flow_core.specs.Left.{AreFilled, AreOfPlan, IsPipeOf, LeftOn, StandForSome, instance_of, left_world};
 ghost use Rattle.flow_core.specs.Worlds.{IsStanding, IsWhole, StandsForSome, depth_limit, instance_in, seen};
 
-use crate::lefts::{InstanceList, Instances, NoteList, NoteLists};
+use crate::instance_lists::InstanceList;
+use crate::note_lists::{NoteList, NoteLists};
 use crate::plan_tables::PlanTables;
-use crate::queued_instances::{QueuedInstance, Row};
-use crate::starting::empty_queues;
+use crate::queued_instances::queue_all;
 use crate::worlds::World;
 use local_strategy::Local;
 use pact_operators::{Physical, Program};
 use pact_record::OutOfMemory;
 use std::alloc::Global;
-
-// The instances of one source or operator, each with an empty pipe to every worker.
-fn empty_row<L: Local>(
-    alloc: Global,
-    workers: u32,
-    own: Instances<L>,
-) -> Result<Row<L>, OutOfMemory>
-    ensures { IfOk result (AreEmptied workers (length own) own) }
-{
-    let mut held = Vec::with_capacity(alloc, own.held.len())?;
-    for instance in own.held {
-        let queues = empty_queues(alloc, workers)?;
-        held.push_reserved(QueuedInstance { instance, queues });
-    }
-    Ok(Row { held })
-}
-
-// The instances of all sources and operators, each with an empty pipe to every worker.
-pub(crate) fn empty_rows<L: Local>(
-    alloc: Global,
-    workers: u32,
-    instances: InstanceList<L>,
-) -> Result<Vec<Row<L>>, OutOfMemory>
-    ensures { IfOk result (λ rows. AreAllEmptied workers (length instances) instances rows.items) }
-{
-    let mut rows = Vec::with_capacity(alloc, instances.rows.len())?;
-    for own in instances.rows {
-        rows.push_reserved(empty_row(alloc, workers, own)?);
-    }
-    Ok(rows)
-}
 
 // Appends the notes that are left on a pipe to it.
 fn refill<L: Local>(world: &mut World<L>, left: NoteList) -> Result<(), OutOfMemory>
@@ -106,7 +75,7 @@ impl<L: Local> World<L> {
     {
         // `fields` makes it known that this is a program, and `workers` that this is a physical plan.
         let (_fields, workers) = (program.fields(), physical.workers());
-        let queued_instances = empty_rows(alloc, workers, instances)?;
+        let queued_instances = queue_all(alloc, workers, instances)?;
         let mut world = World {
             alloc,
             tables: PlanTables::new(physical),

@@ -10,25 +10,23 @@ ghost use Rattle.plan_trees.specs.Physicals.{PhysicalData};
 ghost use Rattle.pact_record.specs.Widths.{AreWide};
 ghost use Rattle.flow_instance.specs.Limits.{batch_limit};
 ghost use Rattle.flow_instance.specs.Spots.{setting};
-ghost use Rattle.flow_core.specs.Starting.{AreAllStarted, AreAllUnstarted, AreDealt, AreUnstarted, CanStartRow, HaveAtMost, StartAllFrom, StartFrom, TakesOwn, first_share};
+ghost use Rattle.flow_core.specs.Starting.{AreAllStarted, AreAllUnstarted, AreDealt, AreUnstarted, CanStartEach, HaveAtMost, StartAllFrom, StartFrom, TakesOwn, first_share};
 
-use crate::lefts::{InstanceList, Instances};
-use crate::queued_instances::Queue;
+use crate::instance_lists::{InstanceList, Instances};
 use flow_instance::{Instance, Unstarted};
 use local_strategy::Local;
 use pact_bag::{Inputs, Rows};
 use pact_operators::{Op, OpKind, Physical, Program};
 use pact_record::OutOfMemory;
 use std::alloc::Global;
-use std::collections::VecDeque;
 
 /// What the instances of one source or operator start from, by worker.
 #[derive(Drop)]
-pub struct UnstartedRow {
+pub struct UnstartedInstances {
     pub(crate) held: Vec<Unstarted>,
 }
 
-impl UnstartedRow {
+impl UnstartedInstances {
     /// How many rows the first worker has of its own. Rows are dealt in turn from the first worker on, so no worker has
     /// more.
     pub fn share_len(&self) -> usize
@@ -106,36 +104,22 @@ fn deal(alloc: Global, rows: Rows, workers: u32) -> Result<Vec<Rows>, OutOfMemor
     Ok(shares)
 }
 
-/// An empty pipe to each worker.
-pub(crate) fn empty_queues(alloc: Global, workers: u32) -> Result<Vec<Queue>, OutOfMemory>
-    ensures long { IfOk result (λ queues. length queues.items ≡ workers) }
-    ensures empty { IfOk result (λ queues. AllByRecursion (λ queue. queue ≡ []) queues.items) }
-{
-    let mut queues = Vec::with_capacity(alloc, workers as usize)?;
-    for _receiver in 0..workers {
-        queues.push_reserved(Queue {
-            notes: VecDeque::new(alloc),
-        });
-    }
-    Ok(queues)
-}
-
 // What the instances of a source or operator start from, each with its share of the rows.
-fn unstarted_row(
+fn unstarted_of(
     alloc: Global,
     program: &Program,
     physical: &Physical,
     rows: Rows,
     batch: u32,
     at: u32,
-) -> Result<UnstartedRow, OutOfMemory>
+) -> Result<UnstartedInstances, OutOfMemory>
     requires plan { IsPlanOf program.now.functions program.now.ops physical.now.tree }
     requires wide { AreWide program.now.fields rows }
     requires none { is_source_kind (kind_at program.now.ops at) ≡ false → rows ≡ [] }
     requires batch { 1 ≤ batch }
     requires at { at < length program.now.ops }
-    ensures { IfOk result (λ row. AreUnstarted program.now physical.now batch at rows physical.now.workers
-        row.held.items) }
+    ensures { IfOk result (λ unstarted. AreUnstarted program.now physical.now batch at rows physical.now.workers
+        unstarted.held.items) }
 {
     let workers = physical.workers();
     let mut held = Vec::with_capacity(alloc, workers as usize)?;
@@ -146,65 +130,65 @@ fn unstarted_row(
         held.push_reserved(unstarted);
         worker += 1;
     }
-    Ok(UnstartedRow { held })
+    Ok(UnstartedInstances { held })
 }
 
 /// What the instances of all sources and operators start from, by their numbers. Each row of a source moves to its
 /// worker. An instance emits batches of at most `batch` records.
-pub fn unstarted_rows(
+pub fn all_unstarted(
     alloc: Global,
     program: &Program,
     physical: &Physical,
     inputs: Inputs,
     batch: u32,
-) -> Result<Vec<UnstartedRow>, OutOfMemory>
+) -> Result<Vec<UnstartedInstances>, OutOfMemory>
     requires plan { IsPlanOf program.now.functions program.now.ops physical.now.tree }
     requires inputs { AreInputsOf program.now inputs }
     requires batch { (1 ≤ batch) × (batch ≤ batch_limit) }
-    ensures { IfOk result (λ rows. AreAllUnstarted program.now physical.now inputs batch
-        (length program.now.ops) rows.items) }
+    ensures { IfOk result (λ all. AreAllUnstarted program.now physical.now inputs batch
+        (length program.now.ops) all.items) }
 {
     let ops = program.ops();
     // `workers` makes it known that a physical plan has few numbers.
     let _workers = physical.workers();
     let mut left = inputs;
-    let mut rows = Vec::with_capacity(alloc, ops.len())?;
+    let mut all = Vec::with_capacity(alloc, ops.len())?;
     for (at, op) in ops.iter().enumerate() {
         let own = own_rows(alloc, op, &mut left);
-        let row = unstarted_row(alloc, program, physical, own, batch, at as u32)?;
-        rows.push_reserved(row);
+        let unstarted = unstarted_of(alloc, program, physical, own, batch, at as u32)?;
+        all.push_reserved(unstarted);
     }
-    Ok(rows)
+    Ok(all)
 }
 
-/// The instances of a row, started one after the other.
+/// The instances of one source or operator, started one after the other.
 pub fn start_in_turn<L: Local>(
     alloc: Global,
-    row: UnstartedRow,
+    own: UnstartedInstances,
 ) -> Result<Instances<L>, OutOfMemory>
-    requires may { CanStartRow row }
-    ensures { IfOk result (StartFrom row.held.items) }
+    requires may { CanStartEach own }
+    ensures { IfOk result (StartFrom own.held.items) }
 {
-    let mut held = Vec::with_capacity(alloc, row.held.len())?;
-    for unstarted in row.held {
+    let mut held = Vec::with_capacity(alloc, own.held.len())?;
+    for unstarted in own.held {
         held.push_reserved(Instance::start_from(alloc, unstarted)?);
     }
     Ok(Instances { held })
 }
 
-// The instances of all rows, started one after the other.
-fn start_rows<L: Local>(
+// The instances of all sources and operators, started one after the other.
+fn start_all<L: Local>(
     alloc: Global,
-    rows: Vec<UnstartedRow>,
+    unstarted: Vec<UnstartedInstances>,
 ) -> Result<InstanceList<L>, OutOfMemory>
-    requires may { AllByRecursion CanStartRow rows.items }
-    ensures { IfOk result (StartAllFrom rows.items) }
+    requires may { AllByRecursion CanStartEach unstarted.items }
+    ensures { IfOk result (StartAllFrom unstarted.items) }
 {
-    let mut all = Vec::with_capacity(alloc, rows.len())?;
-    for row in rows {
-        all.push_reserved(start_in_turn(alloc, row)?);
+    let mut all = Vec::with_capacity(alloc, unstarted.len())?;
+    for own in unstarted {
+        all.push_reserved(start_in_turn(alloc, own)?);
     }
-    Ok(InstanceList { rows: all })
+    Ok(InstanceList { all })
 }
 
 /// The plan's instances at their start, by number and then by worker. Each row of a source moves to its worker. An
@@ -221,6 +205,6 @@ pub fn start_instances<L: Local>(
     requires batch { (1 ≤ batch) × (batch ≤ batch_limit) }
     ensures { IfOk result (AreAllStarted (setting program.now inputs physical.now) batch (length program.now.ops)) }
 {
-    let rows = unstarted_rows(alloc, program, physical, inputs, batch)?;
-    start_rows(alloc, rows)
+    let unstarted = all_unstarted(alloc, program, physical, inputs, batch)?;
+    start_all(alloc, unstarted)
 }

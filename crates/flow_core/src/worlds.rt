@@ -20,8 +20,7 @@ ghost use Rattle.flow_core.specs.Laws.{ObeysLaws};
 ghost use Rattle.flow_core.specs.Worlds.{HasBatchSize, IsStanding, IsWhole, StandsForSome, depth_limit, instance_in, no_queued_instance, queue_in, seen, queued_instance_in};
 
 use crate::plan_tables::PlanTables;
-use crate::queued_instances::{QueuedInstance, Row};
-use crate::resuming::empty_rows;
+use crate::queued_instances::{QueuedInstance, QueuedInstances, queue_all};
 use crate::starting::start_instances;
 use flow_instance::{Event, Note, PipeId, Want};
 use local_strategy::Local;
@@ -37,7 +36,7 @@ pub struct World<L: Local> {
     pub(crate) alloc: Global,
     pub(crate) tables: PlanTables,
     pub(crate) depth: u32,
-    pub(crate) queued_instances: Vec<Row<L>>,
+    pub(crate) queued_instances: Vec<QueuedInstances<L>>,
 }
 
 impl<L: Local> Model for World<L> {
@@ -52,12 +51,12 @@ impl<L: Local> Model for World<L> {
 }
 
 // How many records each source and operator emitted.
-fn count_rows<L: Local>(alloc: Global, rows: &[Row<L>]) -> Result<Counts, OutOfMemory>
-    ensures { IfOk result (λ counts. counts ≡ map total_given rows.now) }
+fn counts_of<L: Local>(alloc: Global, ops: &[QueuedInstances<L>]) -> Result<Counts, OutOfMemory>
+    ensures { IfOk result (λ counts. counts ≡ map total_given ops.now) }
 {
     let mut counts = Counts::new(alloc);
-    for row in rows {
-        counts.push(row.given())?;
+    for op in ops {
+        counts.push(op.given())?;
     }
     Ok(counts)
 }
@@ -101,7 +100,7 @@ impl<L: Local> World<L> {
         // `fields` makes it known that this is a program, and `workers` that this is a physical plan.
         let (_fields, workers) = (program.fields(), physical.workers());
         let instances = start_instances(alloc, program, physical, inputs, batch)?;
-        let queued_instances = empty_rows(alloc, workers, instances)?;
+        let queued_instances = queue_all(alloc, workers, instances)?;
         Ok(World {
             alloc,
             tables: PlanTables::new(physical),
@@ -138,8 +137,8 @@ impl<L: Local> World<L> {
         ensures some { IfSome result (λ queued_instance. queued_instance.now ≡ queued_instance_in self.now.queued_instances at worker) }
         ensures none { IfNone result (queued_instance_in self.now.queued_instances at worker ≡ no_queued_instance) }
     {
-        let row = self.queued_instances.get(at as usize)?;
-        row.held.get(worker as usize)
+        let own = self.queued_instances.get(at as usize)?;
+        own.held.get(worker as usize)
     }
 
     // What an instance wants. An instance that doesn't exist wants nothing.
@@ -214,7 +213,7 @@ impl<L: Local> World<L> {
     }
 
     // Removes and returns the first note of a pipe.
-    fn give(&mut self, pipe: PipeId) -> Note
+    fn remove_first(&mut self, pipe: PipeId) -> Note
         requires some { 0 < length (queue_in self.old.queued_instances pipe.edge pipe.from pipe.to) }
         requires whole { IsWhole self.old.physical self.old.queued_instances }
         requires has { has pipe.edge self.old.physical.tree ≡ true }
@@ -229,7 +228,7 @@ impl<L: Local> World<L> {
         ensures physical { self.new.physical ≡ self.old.physical }
         ensures depth { self.new.depth ≡ self.old.depth }
     {
-        self.queued_instances[pipe.edge as usize].held[pipe.from as usize].give(pipe.to)
+        self.queued_instances[pipe.edge as usize].held[pipe.from as usize].remove_first(pipe.to)
     }
 
     fn receive(
@@ -284,7 +283,7 @@ impl<L: Local> World<L> {
         let Some((at, port)) = self.tables.reader(pipe.edge) else {
             unreachable!()
         };
-        let note = self.give(pipe);
+        let note = self.remove_first(pipe);
         self.receive(at, pipe.to, port, pipe.from, note)
     }
 
@@ -333,7 +332,7 @@ impl<L: Local> World<L> {
         requires { StandsForSome self }
         ensures { IfOk result (λ o. IsOutcome self o.rows o.counts) }
     {
-        let counts = count_rows(self.alloc, &self.queued_instances)?;
+        let counts = counts_of(self.alloc, &self.queued_instances)?;
         let root = self.tables.root();
         let mut queued_instances = self.queued_instances;
         let rows = queued_instances

@@ -9,7 +9,7 @@ use Rattle.flow_instance.proofs.Bags.{beside, is_same, joined}
 use Rattle.pact_bag.proofs.KeyGroups.{all-distinct, group_keys, keys_have_groups}
 use Rattle.pact_bag.specs.Groups.{group_of_key}
 use Rattle.pact_operators.specs.Allowed.{Bag, CoGrouped, Grouped, keys_in, keys_in_either}
-use Rattle.pact_record.proofs.Lists.{AllByRecursion-append, AllByRecursion-slice_get}
+use Rattle.pact_record.proofs.Lists.{AllByRecursion-slice_get}
 use Rattle.pact_record.proofs.Permutations.{Perm, nothing, keeps, swaps, chains, each_perm, filter_perm, from_permutation, to_permutation}
 use Rattle.pact_record.specs.Record.{key_of}
 use Rattle.pact_record.specs.Widths.{AreWide}

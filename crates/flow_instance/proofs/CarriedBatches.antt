@@ -18,8 +18,8 @@ rows_for-append to [] b = refl
 rows_for-append to (w ∷ a) b = ap (λ (l : Bag). cond (w.0 == to) w.1 [] ++ l) (rows_for-append to a b) ∙ sym (append_assoc (cond (w.0 == to) w.1 []) (rows_for to a) (rows_for to b))
 
 -- the held rows are queued as a batch
-pub queued_if_full : (fields to : ℕ) (done held : Bag) (old before after : List AddressedNote) → 0 < length held → after ≡ before ++ addressed_batch (to, held) ∷ [] → AreCarriedBut fields to done old before held → AreCarriedBut fields to done old after []
-queued_if_full fields to done held old before after some e c = record {
+pub queued_as_batch : (fields to : ℕ) (done held : Bag) (old before after : List AddressedNote) → 0 < length held → after ≡ before ++ addressed_batch (to, held) ∷ [] → AreCarriedBut fields to done old before held → AreCarriedBut fields to done old after []
+queued_as_batch fields to done held old before after some e c = record {
   more = c.more ++ (to, held) ∷ [];
   behind = e ∙ ap (λ (l : List AddressedNote). l ++ addressed_batch (to, held) ∷ []) c.behind ∙ append_assoc old (map addressed_batch c.more) (addressed_batch (to, held) ∷ [])
       ∙ ap (λ (l : List AddressedNote). old ++ l) (sym (map-append addressed_batch c.more ((to, held) ∷ [])));
@@ -43,12 +43,13 @@ one_more fields to done row old new held width c = record {
   wide = AllByRecursion-append (λ (r : List Value). length r ≡ fields) held (row ∷ []) c.wide (width, tt);
 }
 
-pub all_carried : (fields to : ℕ) (done : Bag) (old new : List AddressedNote) (held : Bag) → length held < 1 → AreCarriedBut fields to done old new held → AreCarried fields to done old new
-all_carried fields to done old new held few c = record {
+-- no row is held any more
+pub all_carried : (fields to : ℕ) (done : Bag) (old new : List AddressedNote) → AreCarriedBut fields to done old new [] → AreCarried fields to done old new
+all_carried fields to done old new c = record {
   more = c.more;
   behind = c.behind;
   batches = c.batches;
-  carried = sym (append-nil (rows_for to c.more)) ∙ ap (λ (l : Bag). rows_for to c.more ++ l) (sym (nil_from_length held (omega (arith, few)))) ∙ c.carried;
+  carried = sym (append-nil (rows_for to c.more)) ∙ c.carried;
 }
 
 -- ---- rows that come one by one

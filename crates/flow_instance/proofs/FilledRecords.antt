@@ -1,5 +1,7 @@
 -- Filling the missing fields of a record with Null doesn't change its key values.
-use Rattle.std.proofs.Common.{◌≡◌, ◌<◌, ◌≤◌, ◌+◌, ◌-◌, ◌++◌, ℕ, zero, suc, List, [], ◌∷◌, length, map, take, set, replicate, refl, ap, sym, ◌∙◌, arith, length-append}
+use Rattle.std.proofs.Common.{◌≡◌, ◌<◌, ◌≤◌, ◌+◌, ◌-◌, ◌++◌, ℕ, zero, suc, List, [], ◌∷◌, Some, length, map, take, set, slice_get, replicate, refl, ap, sym, ◌∙◌, arith, length-append}
+use Rattle.std.proofs.lemmas.Option.{same_Some}
+use Rattle.pact_record.specs.Widths.{AreBelow, AreWide}
 use Rattle.std.proofs.lemmas.List.{length-replicate, length-take-le, take_more}
 use Rattle.pact_bag.proofs.FilledFromLeft.{set_next}
 use Rattle.pact_record.specs.Hash as hash
@@ -19,8 +21,18 @@ key_of-filled keys row m = λ i. map (λ k. at_field-filled row m k i) keys
 pub target-filled : (workers m to : ℕ) (keys : List ℕ) (row filled : List Value) → filled ≡ row ++ replicate m Null → to ≡ hash.target workers (key_of keys filled) → to ≡ hash.target workers (key_of keys row)
 target-filled workers m to keys row filled f e = e ∙ ap (hash.target workers) (ap (key_of keys) f ∙ key_of-filled keys row m)
 
-pub length-filled : (m size : ℕ) (row filled : List Value) → filled ≡ row ++ replicate m Null → m ≡ size - length row → length row ≤ size → size ≡ length filled
-length-filled m size row filled f e le = omega (arith, ap length f, length-append row (replicate m Null), length-replicate m Null)
+wider : (keys : List ℕ) (m n : ℕ) → m ≤ n → AreBelow m keys → AreBelow n keys
+wider [] m n le h = tt
+wider (k ∷ keys) m n le h = (omega (arith, h.0, le), wider keys m n le h.1)
+
+-- a record that is filled up to a size has all fields below it
+pub filled_below : (m size : ℕ) (row filled : List Value) (keys : List ℕ) → filled ≡ row ++ replicate m Null → m ≡ size - length row → AreBelow size keys → AreBelow (length filled) keys
+filled_below m size row filled keys f e h = wider keys size (length filled) (omega (arith, e, ap length f, length-append row (replicate m Null), length-replicate m Null)) h
+
+-- the first of some rows has their width
+pub first_width : (fields : ℕ) (rows : List (List Value)) (row : List Value) → slice_get rows 0 ≡ Some row → AreWide fields rows → length row ≡ fields
+first_width fields [] row e wide = absurd (cc)
+first_width fields (r ∷ rows) row e wide = ap length (sym (same_Some r row e)) ∙ wide.0
 
 pub filled-more : (row filled : List Value) (size n : ℕ) (v : Value) → n < length row → length row ≤ size → v ≡ at_field row n → filled ≡ take n row ++ replicate (size - n) Null
     → set filled n v ≡ take (n + 1) row ++ replicate (size - (n + 1)) Null

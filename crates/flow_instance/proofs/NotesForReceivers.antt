@@ -1,26 +1,27 @@
 -- Batches and end marks for all receivers.
-use Rattle.std.proofs.Common.{◌≡◌, ◌≢◌, ◌<◌, ◌≤◌, ◌+◌, ◌-◌, ◌==◌, inl, inr, ℕ, Bool, true, false, cond, List, [], ◌∷◌, ◌++◌, length, map, filter, get_or, refl, ap, sym, ◌∙◌, subst, arith, append_assoc, append-nil}
+use Rattle.std.proofs.Common.{◌≡◌, ◌≢◌, ◌<◌, ◌+◌, ◌-◌, ◌==◌, inl, inr, ℕ, Bool, true, false, cond, List, [], ◌∷◌, ◌++◌, map, filter, refl, ap, sym, ◌∙◌, subst, arith, append_assoc, append-nil}
 use Rattle.std.specs.List.{AllByRecursion}
 use Rattle.std.proofs.lemmas.Bool.{cases_eq, cases_lt, eq-eqb, ne_eqb}
 use Rattle.std.proofs.lemmas.List.{map-append}
+use Rattle.std.proofs.Math.Nat.{mod-one}
 use Rattle.flow_instance.specs.Local.{marks_for, one_if, rows_for}
 use Rattle.pact_operators.specs.Allowed.{Bag}
-use Rattle.pact_record.proofs.Lists.{AllByRecursion-append, AllByRecursion-filter}
-use Rattle.pact_record.specs.Widths.{AreWide}
+use Rattle.pact_record.proofs.Lists.{AllByRecursion-append}
+use Rattle.pact_record.specs.Hash.{key_hash, target}
+use Rattle.pact_record.specs.Record.{key_of}
 use Rattle.pact_record.specs.declared.values.Value.{Value}
-use Rattle.plan_trees.specs.Sending.{goes, has_pipe, sent}
+use Rattle.plan_trees.specs.Sending.{has_pipe, sent}
 use Rattle.plan_trees.specs.declared.physicals.Ship.{Ship}
 use Rattle.plan_trees.specs.declared.physicals.Ship.TheVariants.{Forward, Partition, Broadcast}
-use Rattle.flow_instance.specs.Sending.{AreCarried, AreFew, AreMarked, AreSent, AreSentSoFar, IsBatchFor, HasPipe, IsSent, IsSplit, IsTurn, addressed_batch, addressed_mark}
+use Rattle.flow_instance.specs.Sending.{AreCarried, AreFew, AreMarked, AreSent, AreSentSoFar, IsBatchFor, HasPipe, IsSent, IsTurn, addressed_batch, addressed_mark}
 use Rattle.flow_instance.specs.declared.addressed_notes.AddressedNote.{AddressedNote}
 use Rattle.flow_instance.proofs.CarriedBatches.{rows_for-append}
-use Rattle.flow_instance.proofs.SplitRows.{read}
 
 others_none : (fields to t : ℕ) (more : List (ℕ × Bag)) → AllByRecursion (IsBatchFor fields to) more → t ≢ to → rows_for t more ≡ []
 others_none fields to t [] h other = refl
 others_none fields to t (w ∷ more) h other = ap (λ (b : Bool). cond b w.1 [] ++ rows_for t more) (ne_eqb w.0 t (λ e. other (sym e ∙ h.0.0))) ∙ others_none fields to t more h.1 other
 
-as_sent : (fields workers to from : ℕ) (ship : Ship) (more : List (ℕ × Bag)) → to < workers → has_pipe ship from to ≡ true → AllByRecursion (IsBatchFor fields to) more → AllByRecursion (IsSent fields workers ship from) more
+pub as_sent : (fields workers to from : ℕ) (ship : Ship) (more : List (ℕ × Bag)) → to < workers → has_pipe ship from to ≡ true → AllByRecursion (IsBatchFor fields to) more → AllByRecursion (IsSent fields workers ship from) more
 as_sent fields workers to from ship [] below pipe h = tt
 as_sent fields workers to from ship (w ∷ more) below pipe h =
     (((subst (λ (n : ℕ). n < workers) (sym h.0.0) below, subst (λ (n : ℕ). has_pipe ship from n ≡ true) (sym h.0.0) pipe), h.0.1, h.0.2), as_sent fields workers to from ship more below pipe h.1)
@@ -28,9 +29,9 @@ as_sent fields workers to from ship (w ∷ more) below pipe h =
 pub none_few : (most : ℕ) (queue : List AddressedNote) → queue ≡ [] → AreFew most queue
 none_few most queue e = subst (AreFew most) (sym e) tt
 
-pub none_sent : (fields workers from : ℕ) (ship : Ship) (rows : Bag) (queue : List AddressedNote) → queue ≡ [] → AreSentSoFar fields workers ship from 0 rows queue
-none_sent fields workers from ship rows queue e =
-    record { list = []; is = e; batches = tt; each = λ turn t less _ _. absurd (omega (arith, less)); later = λ _ t _ _ _ _. refl; others = λ t above. refl }
+pub none_sent : (fields workers from : ℕ) (ship : Ship) (rows : Bag) (queue : List AddressedNote) (held : ℕ → Bag) → queue ≡ [] → ((to : ℕ) → held to ≡ sent ship workers from to rows) → AreSentSoFar fields workers ship from 0 rows queue held
+none_sent fields workers from ship rows queue held e all =
+    record { list = []; is = e; batches = tt; each = λ turn t less _ _. absurd (omega (arith, less)); later = λ _ t _ _ _ _. all t; others = λ t above. refl }
 
 -- each receiver has exactly one turn
 one_turn : (workers from a b t u : ℕ) → a < workers → b < workers → t < workers → u < workers → IsTurn workers from a t → IsTurn workers from b u → a ≡ b → t ≡ u
@@ -52,24 +53,31 @@ sooner workers from n to m t early below tl turn its other less = elim (cases_lt
   | inr after ↦ absurd (other (one_turn workers from m n t to (omega (arith, less, early)) early tl below its turn (omega (arith, less, after))))
 ]
 
+-- batches for one worker were added at the end
+pub others_same : (fields to t : ℕ) (list more : List (ℕ × Bag)) → AllByRecursion (IsBatchFor fields to) more → t ≢ to → rows_for t (list ++ more) ≡ rows_for t list
+others_same fields to t list more batches other =
+    rows_for-append t list more ∙ ap (λ (l : Bag). rows_for t list ++ l) (others_none fields to t more batches other) ∙ append-nil (rows_for t list)
+
+pub is_longer : (list more : List (ℕ × Bag)) (old new : List AddressedNote) → new ≡ old ++ map addressed_batch more → old ≡ map addressed_batch list → new ≡ map addressed_batch (list ++ more)
+is_longer list more old new behind is = behind ∙ ap (λ (l : List AddressedNote). l ++ map addressed_batch more) is ∙ sym (map-append addressed_batch list more)
+
 -- one more receiver to which the edge leads
-pub sent_one : (fields workers from n to : ℕ) (ship : Ship) (rows part : Bag) (old new : List AddressedNote) → n < workers → to < workers → IsTurn workers from n to → has_pipe ship from to ≡ true → part ≡ sent ship workers from to rows
-    → AreCarried fields to part old new → AreSentSoFar fields workers ship from n rows old → AreSentSoFar fields workers ship from (n + 1) rows new
-sent_one fields workers from n to ship rows part old new early below turn pipe part_is c h =
+pub sent_one : (fields workers from n to : ℕ) (ship : Ship) (rows part : Bag) (old new : List AddressedNote) (held : ℕ → Bag) → n < workers → to < workers → IsTurn workers from n to → has_pipe ship from to ≡ true → part ≡ held to
+    → AreCarried fields to part old new → AreSentSoFar fields workers ship from n rows old held → AreSentSoFar fields workers ship from (n + 1) rows new held
+sent_one fields workers from n to ship rows part old new held early below turn pipe part_is c h =
     let all = h.list ++ c.more in
-    let apart : (t : ℕ) → t ≢ to → rows_for t all ≡ rows_for t h.list = λ t other.
-    rows_for-append t h.list c.more ∙ ap (λ (l : Bag). rows_for t h.list ++ l) (others_none fields to t c.more c.batches other) ∙ append-nil (rows_for t h.list) in
+    let apart : (t : ℕ) → t ≢ to → rows_for t all ≡ rows_for t h.list = λ t other. others_same fields to t h.list c.more c.batches other in
     let here : rows_for to all ≡ sent ship workers from to rows =
-    rows_for-append to h.list c.more ∙ ap (λ (l : Bag). l ++ rows_for to c.more) (h.later n to (omega arith) early below turn) ∙ c.carried ∙ part_is in
+    rows_for-append to h.list c.more ∙ ap (λ (l : Bag). rows_for to h.list ++ l) (c.carried ∙ part_is) ∙ h.later n to (omega arith) early below turn in
     record {
       list = all;
-      is = c.behind ∙ ap (λ (l : List AddressedNote). l ++ map addressed_batch c.more) h.is ∙ sym (map-append addressed_batch h.list c.more);
+      is = is_longer h.list c.more old new c.behind h.is;
       batches = AllByRecursion-append (IsSent fields workers ship from) h.list c.more h.batches (as_sent fields workers to from ship c.more below pipe c.batches);
       each = λ m t less tl its. elim (cases_eq t to) as (λ _. rows_for t all ≡ sent ship workers from t rows) [
         | inl e ↦ subst (λ (k : ℕ). rows_for k all ≡ sent ship workers from k rows) (sym e) here
         | inr other ↦ apart t other ∙ h.each m t (sooner workers from n to m t early below tl turn its other less) tl its
       ];
-      later = λ m t above ml tl its. apart t (λ e. omega (arith, above, one_receiver workers from m n t to ml early tl below its turn e)) ∙ h.later m t (omega (arith, above)) ml tl its;
+      later = λ m t above ml tl its. ap (λ (l : Bag). l ++ held t) (apart t (λ e. omega (arith, above, one_receiver workers from m n t to ml early tl below its turn e))) ∙ h.later m t (omega (arith, above)) ml tl its;
       others = λ t above. apart t (λ e. omega (arith, e, above, below)) ∙ h.others t above;
     }
 
@@ -80,8 +88,8 @@ turn_of workers from t fl tl = elim (cases_lt t from) as (λ _. (turn : ℕ) × 
   | inr above ↦ (t - from, omega (arith, above, tl), inl (omega (arith, above)))
 ]
 
-pub all_sent : (fields workers from : ℕ) (ship : Ship) (rows : Bag) (queue : List AddressedNote) → from < workers → AreSentSoFar fields workers ship from workers rows queue → AreSent fields workers ship from rows queue
-all_sent fields workers from ship rows queue fl h = record {
+pub all_sent : (fields workers from : ℕ) (ship : Ship) (rows : Bag) (queue : List AddressedNote) (held : ℕ → Bag) → from < workers → AreSentSoFar fields workers ship from workers rows queue held → AreSent fields workers ship from rows queue
+all_sent fields workers from ship rows queue held fl h = record {
   list = h.list;
   is = h.is;
   batches = h.batches;
@@ -89,37 +97,51 @@ all_sent fields workers from ship rows queue fl h = record {
   others = h.others;
 }
 
--- an edge that forwards leads to one worker
+-- ---- edges by which all rows of a sender go to one worker
+
 filter-const : {X : Type 0} (b : Bool) (xs : List X) → filter (λ x. b) xs ≡ cond b xs []
 filter-const true [] = refl
 filter-const false [] = refl
 filter-const true (x ∷ xs) = ap (λ (l : List _). x ∷ l) (filter-const true xs)
 filter-const false (x ∷ xs) = filter-const false xs
 
-pub sent_forward : (fields workers from : ℕ) (rows : Bag) (old new : List AddressedNote) → from < workers → old ≡ [] → AreCarried fields from rows old new → AreSent fields workers Forward from rows new
-sent_forward fields workers from rows old new below none c = record {
+-- the worker with the sender's number
+sent_alone : (fields workers from : ℕ) (ship : Ship) (rows : Bag) (old new : List AddressedNote) → from < workers → old ≡ [] → has_pipe ship from from ≡ true → ((to : ℕ) → to < workers → sent ship workers from to rows ≡ cond (from == to) rows [])
+    → AreCarried fields from rows old new → AreSent fields workers ship from rows new
+sent_alone fields workers from ship rows old new below none pipe goes c = record {
   list = c.more;
   is = c.behind ∙ ap (λ (l : List AddressedNote). l ++ map addressed_batch c.more) none;
-  batches = as_sent fields workers from from Forward c.more below (eq-eqb from from refl) c.batches;
-  each = λ t less. elim (cases_eq t from) as (λ _. rows_for t c.more ≡ sent Forward workers from t rows) [
-    | inl e ↦ subst (λ (n : ℕ). rows_for n c.more ≡ sent Forward workers from n rows) (sym e)
-        (c.carried ∙ sym (filter-const (from == from) rows ∙ ap (λ (b : Bool). cond b rows []) (eq-eqb from from refl)))
-    | inr other ↦ others_none fields from t c.more c.batches other ∙ sym (filter-const (from == t) rows ∙ ap (λ (b : Bool). cond b rows []) (ne_eqb from t (λ e. other (sym e))))
+  batches = as_sent fields workers from from ship c.more below pipe c.batches;
+  each = λ t less. elim (cases_eq t from) as (λ _. rows_for t c.more ≡ sent ship workers from t rows) [
+    | inl e ↦ ap (λ (n : ℕ). rows_for n c.more) e ∙ c.carried ∙ sym (goes t less ∙ ap (λ (b : Bool). cond b rows []) (eq-eqb from t (sym e)))
+    | inr other ↦ others_none fields from t c.more c.batches other ∙ sym (goes t less ∙ ap (λ (b : Bool). cond b rows []) (ne_eqb from t (λ e. other (sym e))))
   ];
   others = λ t above. others_none fields from t c.more c.batches (λ e. omega (arith, e, above, below));
 }
 
+-- an edge that forwards leads to this worker only
+pub sent_forward : (fields workers from : ℕ) (rows : Bag) (old new : List AddressedNote) → from < workers → old ≡ [] → AreCarried fields from rows old new → AreSent fields workers Forward from rows new
+sent_forward fields workers from rows old new below none c = sent_alone fields workers from Forward rows old new below none (eq-eqb from from refl) (λ to less. filter-const (from == to) rows) c
+
+target_one : (values : List Value) → target 1 values ≡ 0
+unfolding target
+target_one values = mod-one (key_hash values)
+
+goes_to_first : (keys : List ℕ) (from : ℕ) (rows : Bag) → sent (Partition keys) 1 from 0 rows ≡ rows
+goes_to_first keys from [] = refl
+goes_to_first keys from (row ∷ rows) =
+    ap (λ (b : Bool). cond b (row ∷ sent (Partition keys) 1 from 0 rows) (sent (Partition keys) 1 from 0 rows)) (eq-eqb (target 1 (key_of keys row)) 0 (target_one (key_of keys row))) ∙ ap (λ (l : Bag). row ∷ l) (goes_to_first keys from rows)
+
+-- if there is one worker, all key values send to it
+pub sent_to_only : (fields workers from : ℕ) (keys : List ℕ) (rows : Bag) (old new : List AddressedNote) → workers ≡ 1 → from < workers → old ≡ [] → AreCarried fields from rows old new → AreSent fields workers (Partition keys) from rows new
+sent_to_only fields workers from keys rows old new one below none c = sent_alone fields workers from (Partition keys) rows old new below none refl (λ to less.
+    let to_is : to ≡ 0 = omega (arith, one, less) in
+    let from_is : from ≡ to = omega (arith, one, less, below) in
+    ap (λ (w : ℕ). sent (Partition keys) w from to rows) one ∙ ap (λ (t : ℕ). sent (Partition keys) 1 from t rows) to_is ∙ goes_to_first keys from rows ∙ sym (ap (λ (b : Bool). cond b rows []) (eq-eqb from to from_is))) c
+
 -- a broadcast sends all rows to each worker
-pub sent_broadcast : (workers from to : ℕ) (rows copy : Bag) → copy ≡ rows → copy ≡ sent Broadcast workers from to rows
-sent_broadcast workers from to rows copy e = e ∙ sym (filter-const true rows)
-
--- a worker's part
-pub sent_part : (keys : List ℕ) (workers from to : ℕ) (rows part : Bag) (parts : List Bag) → IsSplit keys workers rows parts → to < workers → part ≡ get_or parts to part → part ≡ sent (Partition keys) workers from to rows
-sent_part keys workers from to rows part parts split less is = read parts to (sent (Partition keys) workers from to rows) part (split.1 from to less) is
-
-pub part_wide : (fields : ℕ) (keys : List ℕ) (workers from to : ℕ) (rows part : Bag) → AreWide fields rows → part ≡ sent (Partition keys) workers from to rows → AreWide fields part
-part_wide fields keys workers from to rows part wide e =
-    subst (AreWide fields) (sym e) (AllByRecursion-filter (λ (r : List Value). length r ≡ fields) (goes (Partition keys) workers from to) rows wide)
+pub sent_broadcast : (workers from to : ℕ) (rows : Bag) → rows ≡ sent Broadcast workers from to rows
+sent_broadcast workers from to rows = sym (filter-const true rows)
 
 -- ---- end marks
 

@@ -1,5 +1,5 @@
 -- Notes in a queue, each with its receiver.
-use Rattle.std.specs.Prelude.{◌≡◌, ◌<◌, ◌≤◌, ◌+◌, ◌⊎◌, ℕ, true, List, [], ◌∷◌, ◌++◌, length, map, slice_get, Some}
+use Rattle.std.specs.Prelude.{◌≡◌, ◌<◌, ◌≤◌, ◌+◌, ◌⊎◌, ℕ, true, List, [], ◌∷◌, ◌++◌, length, map, get_or}
 use Rattle.std.specs.List.{AllByRecursion}
 use Rattle.flow_instance.specs.Local.{marks_for, one_if, rows_for}
 use Rattle.flow_instance.specs.declared.notes.Note.{Note}
@@ -73,10 +73,6 @@ pub record AreCarriedBut (fields to : ℕ) (rows : Bag) (old new : List Addresse
 
 -- ---- all receivers
 
--- one part for each worker: the rows that their key values send to it
-abbrev pub IsSplit : List ℕ → (workers : ℕ) → Bag → List Bag → Type 0
-IsSplit keys workers rows parts = (length parts ≡ workers) × ((from to : ℕ) → to < workers → slice_get parts to ≡ Some (sent (Partition keys) workers from to rows))
-
 -- a worker to which the edge leads
 abbrev pub HasPipe : (workers : ℕ) → Ship → (from to : ℕ) → Type 0
 HasPipe workers ship from to = (to < workers) × (has_pipe ship from to ≡ true)
@@ -96,14 +92,20 @@ pub record AreSent (fields workers : ℕ) (ship : Ship) (from : ℕ) (rows : Bag
 abbrev pub IsTurn : (workers from n to : ℕ) → Type 0
 IsTurn workers from n to = (from + n ≡ to) ⊎ (from + n ≡ to + workers)
 
--- the batches for the first n receivers
-pub record AreSentSoFar (fields workers : ℕ) (ship : Ship) (from n : ℕ) (rows : Bag) (queue : List AddressedNote) : Type 0 where
+-- The queue has all rows for the first n receivers. For each of the others it has all rows but those that are held.
+pub record AreSentSoFar (fields workers : ℕ) (ship : Ship) (from n : ℕ) (rows : Bag) (queue : List AddressedNote) (held : ℕ → Bag) : Type 0 where
   pub list : List (ℕ × Bag)
   pub is : queue ≡ map addressed_batch list
   pub batches : AllByRecursion (IsSent fields workers ship from) list
   pub each : (turn to : ℕ) → turn < n → to < workers → IsTurn workers from turn to → rows_for to list ≡ sent ship workers from to rows
-  pub later : (turn to : ℕ) → n ≤ turn → turn < workers → to < workers → IsTurn workers from turn to → rows_for to list ≡ []
+  pub later : (turn to : ℕ) → n ≤ turn → turn < workers → to < workers → IsTurn workers from turn to → rows_for to list ++ held to ≡ sent ship workers from to rows
   pub others : (to : ℕ) → workers ≤ to → rows_for to list ≡ []
+
+-- `held` has each worker's open batch. The other rows that their key values send to a worker are in the queue.
+pub record AreDivided (fields workers : ℕ) (keys : List ℕ) (from : ℕ) (rows : Bag) (queue : List AddressedNote) (held : List Bag) : Type 0 where
+  pub long : length held ≡ workers
+  pub wide : (to : ℕ) → AreWide fields (get_or held to [])
+  pub sent : AreSentSoFar fields workers (Partition keys) from 0 rows queue (λ to. get_or held to [])
 
 -- end marks for those of the first n workers to which the edge leads were added at the end of the queue
 pub record AreMarked (workers : ℕ) (ship : Ship) (from n : ℕ) (old new : List AddressedNote) : Type 0 where

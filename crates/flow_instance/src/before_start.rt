@@ -8,14 +8,14 @@ ghost use Rattle.plan_trees.specs.Plans.{has};
 ghost use Rattle.flow_instance.specs.Starting.{IsUnstarted};
 
 use crate::parts::Part;
-use crate::starting::part_at;
+use crate::plan_parts::part_at;
 use pact_bag::Rows;
 use pact_operators::{Physical, Program};
 use pact_record::OutOfMemory;
 use std::alloc::Global;
 
-/// The data from which an instance starts: its part of the plan and, for a source, the worker's share of the rows. It
-/// can move to the worker's thread and start there.
+/// The data from which an instance starts: its part of the plan and, for a source, the worker's share of the rows. In a
+/// run with threads it can move to another one and start there.
 #[derive(Drop)]
 pub struct Unstarted {
     pub(crate) part: Part,

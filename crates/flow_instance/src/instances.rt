@@ -81,8 +81,9 @@ impl<L: Local> Instance<L> {
         Instance::start_from(alloc, unstarted)
     }
 
-    /// Starts an instance. The rows of a source are cut into batches for their receivers here, so this may be called on
-    /// the thread of the worker. Out of memory is the only error.
+    /// Starts an instance. A source divides its rows into batches for their receivers here. A run with threads can
+    /// start each instance on another one, so that several workers do this at the same time. Out of memory is the only
+    /// error.
     pub fn start_from(alloc: Global, unstarted: Unstarted) -> Result<Instance<L>, OutOfMemory>
         requires may { CanStart unstarted }
         ensures small { IfOk result HasSmallBatches }

@@ -37,7 +37,7 @@ fn keep_row<L: Local>(
     kept.add(row)
 }
 
-/// Keeps those of the rows that may match by these keys. All rows have `fields` fields.
+/// Keeps those of the rows that may match by these keys. All rows have `fields` fields, which only the contract reads.
 pub(crate) fn keep<L: Local>(
     kept: &mut L,
     fields: u32,

@@ -12,7 +12,8 @@
 //! it knows neither pipes nor threads. Each call preserves `IsLocal`. `states` has its fields, and `specs/StateSteps`
 //! what a step does to them. `taking` and `ending` handle batches and end marks. `matching` and `grouping` call the
 //! operator's function for kept records, which the trait `Local` finds. `sending` turns the given records into notes:
-//! batches, each for a worker to which an edge leads, and end marks after them.
+//! batches, each for a worker to which an edge leads, and end marks after them. If an edge partitions records, each
+//! receiver has one open batch at a time.
 #![tactic(auto)]
 
 pub mod addressed_notes;
@@ -24,9 +25,9 @@ mod keeping;
 mod matching;
 pub mod notes;
 mod parts;
+mod plan_parts;
 mod senders;
 pub mod sending;
-mod starting;
 mod states;
 mod taking;
 mod targets;

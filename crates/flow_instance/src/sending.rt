@@ -1,44 +1,57 @@
 //! Records in batches for their receivers.
 
-ghost use Rattle.std.specs.Prelude.{◌≡◌, ◌<◌, ◌≤◌, ◌+◌, ◌^◌, [], ℕ, List, Some, length, slice_get, IfOk, OnOk};
+ghost use Rattle.std.specs.Prelude.{◌≡◌, ◌<◌, ◌≤◌, ◌+◌, ◌++◌, ◌∷◌, [], ℕ, List, length, get_or, replicate, IfOk, IsTrue, OnOk};
 ghost use Rattle.pact_operators.specs.Allowed.{Bag};
-ghost use Rattle.pact_record.specs.Widths.{AreWide};
-ghost use Rattle.flow_instance.specs.Sending.{AreCarried, AreCarriedBut, AreFew, AreMarked, AreSent, IsSplit, IsTurn};
+ghost use Rattle.pact_record.specs.Widths.{AreBelow, AreWide};
+ghost use Rattle.pact_record.specs.declared.records.TheConstants.{MAX_FIELDS};
+ghost use Rattle.flow_instance.specs.Sending.{AreCarried, AreCarriedBut, AreDivided, AreFew, AreMarked, AreSent, IsTurn};
 ghost use Rattle.flow_instance.specs.declared.addressed_notes.AddressedNote.{AddressedNote as Sealed};
 
 use crate::addressed_notes::AddressedNote;
 use crate::notes::Note;
-use crate::targets::target;
+use crate::targets::{have_fields, target};
 use pact_bag::Rows;
-use pact_record::{Keys, OutOfMemory};
+use pact_record::{Keys, OutOfMemory, Record};
 use plan_trees::Ship;
 use std::alloc::Global;
 use std::collections::VecDeque;
 use std::mem;
 
-// Queues the rows as a batch if there are at least `least` of them, and otherwise returns them. `more` rows are still
-// to come; the next batch has room for up to `least` of them.
-fn queue_if_full(
-    alloc: Global,
-    to: u32,
-    least: u32,
-    more: usize,
-    rows: Rows,
-    queue: &mut VecDeque<AddressedNote>,
-) -> Result<Rows, OutOfMemory>
-    requires { 1 ≤ least }
-    ensures queued_if_full { IfOk result (λ held. (fields : ℕ) (done : Bag) (old : List Sealed) → AreCarriedBut fields to done old queue.old.items rows → AreCarriedBut fields to done old queue.new.items held) }
-    ensures few { IfOk result (λ held. length held < least) }
-    ensures batches { IfOk result (λ _. (most : ℕ) → length rows ≤ most → AreFew most queue.old.items → AreFew most queue.new.items) }
+// Queues the rows as one batch, unless there are none.
+fn queue_batch(to: u32, rows: Rows, queue: &mut VecDeque<AddressedNote>) -> Result<(), OutOfMemory>
+    ensures queued { OnOk result ((fields : ℕ) (done : Bag) (old : List Sealed) → AreCarriedBut fields to done old queue.old.items rows → AreCarriedBut fields to done old queue.new.items []) }
+    ensures batches { OnOk result ((most : ℕ) → length rows ≤ most → AreFew most queue.old.items → AreFew most queue.new.items) }
 {
-    if rows.len() < least as usize {
-        return Ok(rows);
+    if rows.len() == 0 {
+        return Ok(());
     }
     queue.push_back(AddressedNote {
         to,
         note: Note::Batch(rows),
     })?;
-    Rows::with_capacity(alloc, more.min(least as usize))
+    Ok(())
+}
+
+// Queues the open batch if it is full, and begins the next one. `more` rows are still to come.
+fn queue_if_full(
+    alloc: Global,
+    to: u32,
+    batch: u32,
+    more: usize,
+    held: &mut Rows,
+    queue: &mut VecDeque<AddressedNote>,
+) -> Result<(), OutOfMemory>
+    requires { 1 ≤ batch }
+    ensures queued { OnOk result ((fields : ℕ) (done : Bag) (old : List Sealed) → AreCarriedBut fields to done old queue.old.items held.old → AreCarriedBut fields to done old queue.new.items held.new) }
+    ensures few { OnOk result (length held.new < batch) }
+    ensures batches { OnOk result ((most : ℕ) → length held.old ≤ most → AreFew most queue.old.items → AreFew most queue.new.items) }
+{
+    if held.len() < batch as usize {
+        return Ok(());
+    }
+    let next = Rows::with_capacity(alloc, more.min(batch as usize))?;
+    let full = mem::replace(held, next);
+    queue_batch(to, full, queue)
 }
 
 // Appends the rows to the queue in batches of at most `batch`.
@@ -53,17 +66,16 @@ fn cut(
     ensures carried { OnOk result ((fields : ℕ) → AreWide fields rows → AreCarried fields to rows queue.old.items queue.new.items) }
     ensures batches { OnOk result (AreFew batch queue.old.items → AreFew batch queue.new.items) }
 {
-    // this call shows the prover that all rows have one width
+    // this call makes it known that all rows have one width
     let _same = rows.rows();
     let mut more = rows.len();
     let mut held = Rows::with_capacity(alloc, more.min(batch as usize))?;
     for row in rows.into_records() {
         held.push(row)?;
         more -= 1;
-        held = queue_if_full(alloc, to, batch, more, held, queue)?;
+        queue_if_full(alloc, to, batch, more, &mut held, queue)?;
     }
-    let _none = queue_if_full(alloc, to, 1, 0, held, queue)?;
-    Ok(())
+    queue_batch(to, held, queue)
 }
 
 // Like `cut`, but rows that fit into one batch are queued as they are.
@@ -81,34 +93,77 @@ fn send_to(
     if rows.len() > batch as usize {
         return cut(alloc, to, batch, rows, queue);
     }
-    let _none = queue_if_full(alloc, to, 1, 0, rows, queue)?;
-    Ok(())
+    queue_batch(to, rows, queue)
 }
 
-fn no_rows(alloc: Global, workers: u32) -> Result<Vec<Rows>, OutOfMemory>
-    ensures long { IfOk result (λ parts. length parts.items ≡ workers) }
-    ensures none { IfOk result (λ parts. (to : ℕ) → to < workers → slice_get parts.items to ≡ Some []) }
-{
-    let mut parts = Vec::with_capacity(alloc, workers as usize)?;
-    for _ in 0..workers {
-        parts.push_reserved(Rows::new(alloc));
-    }
-    Ok(parts)
-}
-
-// The rows for each worker, by their key values.
-fn split(alloc: Global, keys: &Keys, workers: u32, rows: Rows) -> Result<Vec<Rows>, OutOfMemory>
+// The number of rows for which a worker's next batch gets memory if `more` rows are still to come. It is an equal share
+// of them and a quarter more, since shares differ, but at most a batch.
+fn room(more: usize, workers: u32, batch: u32) -> usize
     requires { 1 ≤ workers }
-    ensures { IfOk result (λ parts. IsSplit keys.now workers rows parts.items) }
 {
-    // this call shows the prover that all rows have one width
-    let _same = rows.rows();
-    let mut parts = no_rows(alloc, workers)?;
-    for row in rows.into_records() {
-        let to = target(alloc, &row, keys, workers)?;
-        parts[to as usize].push(row)?;
+    let share = more / workers as usize;
+    share.saturating_add(share / 4).min(batch as usize)
+}
+
+// An open batch for each worker, with memory for this number of rows.
+fn no_rows(alloc: Global, workers: u32, room: usize) -> Result<Vec<Rows>, OutOfMemory>
+    ensures { IfOk result (λ held. held.items ≡ replicate workers []) }
+{
+    let mut held = Vec::with_capacity(alloc, workers as usize)?;
+    for _ in 0..workers {
+        let rows = Rows::with_capacity(alloc, room)?;
+        held.push_reserved(rows);
     }
-    Ok(parts)
+    Ok(held)
+}
+
+// Adds the row to the open batch of the worker to which its key values send it, and returns that worker. `is_whole`
+// says that the row lacks no key field.
+fn hold_row(
+    alloc: Global,
+    keys: &Keys,
+    workers: u32,
+    is_whole: bool,
+    row: Record,
+    held: &mut Vec<Rows>,
+) -> Result<u32, OutOfMemory>
+    requires some { 1 ≤ workers }
+    requires whole { IsTrue is_whole → AreBelow (length row) keys.now }
+    requires fields { AreBelow MAX_FIELDS keys.now }
+    requires long { length held.old.items ≡ workers }
+    requires wide { (to : ℕ) → AreWide (length row) (get_or held.old.items to []) }
+    ensures below { IfOk result (λ to. to < workers) }
+    ensures long { IfOk result (λ _. length held.new.items ≡ workers) }
+    ensures divided { IfOk result (λ _. (fields from : ℕ) (done : Bag) (queue : List Sealed) → length row ≡ fields → AreDivided fields workers keys.now from done queue held.old.items
+        → AreDivided fields workers keys.now from (done ++ row ∷ []) queue held.new.items) }
+{
+    let to = target(alloc, &row, keys, workers, is_whole)?;
+    held[to as usize].push(row)?;
+    Ok(to)
+}
+
+// Queues the worker's open batch if it is full, and begins the next one. `more` rows are still to come.
+fn send_if_full(
+    alloc: Global,
+    to: u32,
+    workers: u32,
+    batch: u32,
+    more: usize,
+    held: &mut Vec<Rows>,
+    queue: &mut VecDeque<AddressedNote>,
+) -> Result<(), OutOfMemory>
+    requires some { 1 ≤ batch }
+    requires below { to < workers }
+    requires long { length held.old.items ≡ workers }
+    ensures divided { OnOk result ((fields from : ℕ) (keys : List ℕ) (rows : Bag) → AreDivided fields workers keys from rows queue.old.items held.old.items → AreDivided fields workers keys from rows queue.new.items held.new.items) }
+    ensures batches { OnOk result (AreFew batch queue.old.items → AreFew batch queue.new.items) }
+{
+    if held[to as usize].len() < batch as usize {
+        return Ok(());
+    }
+    let next = Rows::with_capacity(alloc, room(more, workers, batch))?;
+    let full = mem::replace(&mut held[to as usize], next);
+    send_to(alloc, to, batch, full, queue)
 }
 
 // The receiver after `n` others. Each sender begins with the worker of its own number and goes around. Otherwise all
@@ -127,30 +182,58 @@ fn receiver(workers: u32, from: u32, n: u32) -> u32
     }
 }
 
-// Queues part `to` for worker `to`.
-fn send_parts(
+// Queues the open batches that have rows.
+fn send_held(
     alloc: Global,
     from: u32,
     workers: u32,
     batch: u32,
-    parts: Vec<Rows>,
+    held: Vec<Rows>,
+    queue: &mut VecDeque<AddressedNote>,
+) -> Result<(), OutOfMemory>
+    requires some { 1 ≤ batch }
+    requires from { from < workers }
+    requires long { length held.items ≡ workers }
+    ensures sent { OnOk result ((fields : ℕ) (keys : List ℕ) (rows : Bag) → AreDivided fields workers keys from rows queue.old.items held.items → AreSent fields workers (Ship.Partition keys) from rows queue.new.items) }
+    ensures batches { OnOk result (AreFew batch queue.old.items → AreFew batch queue.new.items) }
+{
+    let mut held = held;
+    for n in 0..workers {
+        let to = receiver(workers, from, n);
+        let rows = mem::replace(&mut held[to as usize], Rows::new(alloc));
+        send_to(alloc, to, batch, rows, queue)?;
+    }
+    Ok(())
+}
+
+// Queues each row for the worker to which its key values send it. Each worker has one open batch, which is queued as
+// soon as it is full. Dividing all rows first and cutting them into batches afterwards would move each row twice.
+fn send_by_key(
+    alloc: Global,
+    keys: &Keys,
+    from: u32,
+    workers: u32,
+    batch: u32,
+    rows: Rows,
     queue: &mut VecDeque<AddressedNote>,
 ) -> Result<(), OutOfMemory>
     requires some { 1 ≤ batch }
     requires from { from < workers }
     requires none { queue.old.items ≡ [] }
-    requires parts { length parts.items ≡ workers }
-    ensures sent { OnOk result ((fields : ℕ) (keys : List ℕ) (rows : Bag) → AreWide fields rows → IsSplit keys workers rows parts.items
-        → AreSent fields workers (Ship.Partition keys) from rows queue.new.items) }
+    ensures sent { OnOk result ((fields : ℕ) → AreWide fields rows → AreSent fields workers (Ship.Partition keys.now) from rows queue.new.items) }
     ensures batches { OnOk result (AreFew batch queue.new.items) }
 {
-    let mut parts = parts;
-    for n in 0..workers {
-        let to = receiver(workers, from, n);
-        let part = mem::replace(&mut parts[to as usize], Rows::new(alloc));
-        send_to(alloc, to, batch, part, queue)?;
+    // this call makes it known that all rows have one width
+    let _same = rows.rows();
+    let are_whole = have_fields(&rows, keys);
+    let mut more = rows.len();
+    let mut held = no_rows(alloc, workers, room(more, workers, batch))?;
+    for row in rows.into_records() {
+        more -= 1;
+        let to = hold_row(alloc, keys, workers, are_whole, row, &mut held)?;
+        send_if_full(alloc, to, workers, batch, more, &mut held, queue)?;
     }
-    Ok(())
+    send_held(alloc, from, workers, batch, held, queue)
 }
 
 // Queues all rows for each worker. The last one gets the rows themselves instead of a copy.
@@ -177,8 +260,8 @@ fn send_all(
     send_to(alloc, to, batch, rows, queue)
 }
 
-/// Queues the records for all workers to which an edge leads, in batches of at most `batch`. The queue must be empty. Out
-/// of memory is the only error, and the queue then has some of the batches.
+/// Queues the records for all workers to which an edge leads, in batches of at most `batch`. The queue must be empty.
+/// Out of memory is the only error, and the queue then has some of the batches.
 pub fn queue_rows(
     alloc: Global,
     ship: &Ship,
@@ -196,10 +279,9 @@ pub fn queue_rows(
 {
     match ship {
         Ship::Forward => send_to(alloc, from, batch, rows, queue),
-        Ship::Partition(keys) => {
-            let parts = split(alloc, keys, workers, rows)?;
-            send_parts(alloc, from, workers, batch, parts, queue)
-        }
+        // a single worker gets all rows, whatever their keys are
+        Ship::Partition(_) if workers == 1 => send_to(alloc, from, batch, rows, queue),
+        Ship::Partition(keys) => send_by_key(alloc, keys, from, workers, batch, rows, queue),
         Ship::Broadcast => send_all(alloc, from, workers, batch, rows, queue),
     }
 }

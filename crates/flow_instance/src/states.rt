@@ -68,7 +68,8 @@ impl<L: Local> State<L> {
         self.left_ended.have_all_ended() && self.right_ended.have_all_ended()
     }
 
-    /// A source gives its rows and queues its end marks.
+    /// An instance starts: it gives its own rows, which only a source has, and queues its end marks if no sender is to
+    /// come.
     pub(crate) fn begin(&mut self, rows: Rows) -> Result<(), OutOfMemory>
         requires batch { 1 ≤ self.old.part.batch }
         requires worker { self.old.part.worker < self.old.part.workers }

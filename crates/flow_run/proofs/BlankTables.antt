@@ -4,7 +4,7 @@ use Rattle.std.specs.List.{AllByRecursion}
 use Rattle.std.proofs.lemmas.Bool.{cases_eq, cases_lt}
 use Rattle.std.proofs.lemmas.List.{get_or-set_other, get_or-set_same, length-set, get_or_past}
 use Rattle.std.proofs.Common.{inl, inr}
-use Rattle.flow_run.specs.Tables.{HasPlace, IsBlank, IsBlankRow, IsBlankTable, IsShaped, cell}
+use Rattle.flow_run.specs.Tables.{HasPlace, IsBlank, AreBlankCells, IsBlankTable, IsShaped, cell}
 
 module _ {T : Type 0} where
   abbrev blank : Option T
@@ -19,18 +19,18 @@ module _ {T : Type 0} where
   many zero x = refl
   many (suc n) x = ap suc (many n x)
 
-  pub blank_row : (columns n : ℕ) (row : List (Option T)) → row ≡ replicate n None → n ≡ columns → IsBlankRow columns row
-  blank_row columns n row is same = record {
+  pub blank_cells : (columns n : ℕ) (row : List (Option T)) → row ≡ replicate n None → n ≡ columns → AreBlankCells columns row
+  blank_cells columns n row is same = record {
     long = ap length is ∙ many n blank ∙ same;
     none = λ c. ap (λ (r : List (Option T)). get_or r c None) is ∙ no_items n c;
   }
 
-  row_none : (columns : ℕ) (table : List (List (Option T))) (b c : ℕ) → AllByRecursion (IsBlankRow columns) table → cell table b c ≡ None
+  row_none : (columns : ℕ) (table : List (List (Option T))) (b c : ℕ) → AllByRecursion (AreBlankCells columns) table → cell table b c ≡ None
   row_none columns [] b c h = ap (λ (r : List (Option T)). get_or r c None) (get_or_past [] b [] (omega arith)) ∙ get_or_past [] c None (omega arith)
   row_none columns (row ∷ table) zero c h = h.0.none c
   row_none columns (row ∷ table) (suc b) c h = row_none columns table b c h.1
 
-  row_long : (columns : ℕ) (table : List (List (Option T))) (b : ℕ) → AllByRecursion (IsBlankRow columns) table → b < length table → length (get_or table b []) ≡ columns
+  row_long : (columns : ℕ) (table : List (List (Option T))) (b : ℕ) → AllByRecursion (AreBlankCells columns) table → b < length table → length (get_or table b []) ≡ columns
   row_long columns [] b h less = absurd (omega (arith, less))
   row_long columns (row ∷ table) zero h less = h.0.long
   row_long columns (row ∷ table) (suc b) h less = row_long columns table b h.1 (omega (arith, less))

@@ -174,9 +174,9 @@ gone_next pipes new n gone keeps here edge from to f t less = elim (cases_eq (nu
       (λ i. cell_in new (sym e i) (sym g i) (sym h i)) ∙ here
 ]
 
-all_gone : (pipes new : PipeTables) → ((edge from to : ℕ) → IsBeyond edge from to → cell_in pipes edge from to ≡ None) → ((a b c : ℕ) → cell_in pipes a b c ≡ None → cell_in new a b c ≡ None) → AreGone new 16384
+all_gone : (ops : ℕ) (pipes new : PipeTables) → ((edge from to : ℕ) → IsBeyond ops edge from to → cell_in pipes edge from to ≡ None) → ((a b c : ℕ) → cell_in pipes a b c ≡ None → cell_in new a b c ≡ None) → AreGone new (256 * ops)
     → (edge from to : ℕ) → cell_in new edge from to ≡ None
-all_gone pipes new inside keeps gone edge from to = elim (cases_lt edge 64) as (λ _. cell_in new edge from to ≡ None) [
+all_gone ops pipes new inside keeps gone edge from to = elim (cases_lt edge ops) as (λ _. cell_in new edge from to ≡ None) [
   | inr more ↦ keeps edge from to (inside edge from to (inl more))
   | inl few ↦ elim (cases_lt from 16) as (λ _. cell_in new edge from to ≡ None) [
     | inr more ↦ keeps edge from to (inside edge from to (inr (inl more)))
@@ -187,10 +187,10 @@ all_gone pipes new inside keeps gone edge from to = elim (cases_lt edge 64) as (
   ]
 ]
 
-pub gathered : (pipes new : PipeTables) (ws rest : List WorkerData) (lists : List LeftOn) → ((edge from to : ℕ) → IsBeyond edge from to → cell_in pipes edge from to ≡ None) → Goes pipes ws [] new rest lists → AreGone new 16384
+pub gathered : (ops : ℕ) (pipes new : PipeTables) (ws rest : List WorkerData) (lists : List LeftOn) → ((edge from to : ℕ) → IsBeyond ops edge from to → cell_in pipes edge from to ≡ None) → Goes pipes ws [] new rest lists → AreGone new (256 * ops)
     → AreGathered pipes ws lists rest
-gathered pipes new ws rest lists inside g gone =
-    let none = all_gone pipes new inside g.gone gone in
+gathered ops pipes new ws rest lists inside g gone =
+    let none = all_gone ops pipes new inside g.gone gone in
     let h : History = history_of ws in
     let all = g.hold h (λ a b c. inl (record { put_is = refl; taken_is = refl; none = refl })) in
     record {

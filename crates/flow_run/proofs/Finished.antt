@@ -16,7 +16,6 @@ use Rattle.plan_trees.specs.Physicals.{IsPhysical, PhysicalData, has_edge, ship_
 use Rattle.plan_trees.specs.Plans.{has, subtree_of}
 use Rattle.plan_trees.specs.Sending.{has_out}
 use Rattle.plan_trees.specs.declared.physicals.Ship.{Ship}
-use Rattle.plan_trees.proofs.Ships.{below_limit}
 use Rattle.flow_instance.proofs.PartsOfPlans.{number_below}
 use Rattle.flow_instance.specs.declared.notes.Note.{Note}
 use Rattle.flow_instance.specs.Instances.{Instance}
@@ -88,10 +87,10 @@ module _ (physical : PhysicalData) (ops : ℕ) (pipes : PipeTables) (ws : List W
       let t = of.to in
       elim out as (λ _. ⊥) [ inl more ↦ omega (arith, more, f) | inr more ↦ omega (arith, more, t) ])
 
-  pub none_beyond : IsPhysical physical → (edge from to : ℕ) → IsBeyond edge from to → cell_in pipes edge from to ≡ None
-  none_beyond plan edge from to out = unless_some (cell_in pipes edge from to) (λ pipe is.
+  pub none_beyond : IsPhysical physical → ((at : ℕ) → has at physical.tree ≡ true → at < ops) → (edge from to : ℕ) → IsBeyond ops edge from to → cell_in pipes edge from to ≡ None
+  none_beyond plan only edge from to out = unless_some (cell_in pipes edge from to) (λ pipe is.
       let of = there_of_plan edge from to pipe is in
-      let e = below_limit edge physical.tree plan.plan of.edge in
+      let e = only edge of.edge in
       let f = of.from in
       let t = of.to in
       let few = plan.few_workers in

@@ -16,7 +16,7 @@ use Rattle.flow_instance.proofs.LocalAfterPuts.{started_local}
 use Rattle.flow_run.specs.WorkerStates.{AllLocal, IsReady, IsReadyFor, Works, worker_state}
 use Rattle.flow_run.specs.Ends.{EndTable, PipeTables}
 use Rattle.flow_run.specs.WorkerData.{AreLocal, HaveReturned, WorkerData, nothing, worker_at, with_columns}
-use Rattle.flow_run.specs.Runs.{AreAssembled, AreAtStart, AreDealt, IsAssembled}
+use Rattle.flow_run.specs.Runs.{AreAssembled, AreAtStart, AreAssigned, IsAssembled}
 use Rattle.flow_run.specs.Schedules.{AreJobs, AreWorkersOf, HasWorkedIn, IsJobReady, job_worker}
 use Rattle.flow_run.specs.Wires.{AreWired, EndTables}
 use Rattle.flow_run.specs.Workers.{HasWorked, HaveAllWorked, IsWorkerReady, all_data, data_of}
@@ -189,8 +189,8 @@ module _ (g : Setting) (ops depth : ℕ) (pipes : PipeTables) (puts takes : EndT
     are_local : AreLocal g ws
     are_local = all_local g ws (λ worker below at there. kept_local worker below at there)
 
-  pub are_dealt : AreDealt g ops g.fields pipes workers
-  are_dealt = record {
+  pub are_assigned : AreAssigned g ops g.fields pipes workers
+  are_assigned = record {
     some = omega (arith, plan.some_worker, assembled.long);
     ready = are_ready;
     returned = λ after worked. have_returned after worked;

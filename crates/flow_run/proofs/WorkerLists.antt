@@ -192,11 +192,11 @@ module _ {L W : Type 0} where
         take_made = subst (λ (x : AnEnd × EndTables). IsChangedIn x.1 to edge from (Some x.0) (takes_in new)) (λ i. (take_is i, same_takes i)) take_made;
       }
 
--- ---- instances that are dealt out
+-- ---- instances that are assigned
 
 module _ {L W : Type 0} where
   -- the workers have the instances of all rows before this one, and the rows from here on are left
-  pub record DealOut (p : PhysicalData) (ops depth : ℕ) (list left : List (List Instance)) (at : ℕ) (pipes : PipeTables) (ws : List (Worker L W)) : Type 0 where
+  pub record AssignedSoFar (p : PhysicalData) (ops depth : ℕ) (list left : List (List Instance)) (at : ℕ) (pipes : PipeTables) (ws : List (Worker L W)) : Type 0 where
     pub columns : with_columns (instances_in ws) (drop at list) ≡ with_columns (replicate p.workers []) list
     pub long : length ws ≡ p.workers
     pub still : AreStill at list left
@@ -204,9 +204,9 @@ module _ {L W : Type 0} where
     pub numbered : AreNumbered (numbers_in ws)
     pub wired : AreWired p ops depth (256 * ops) pipes (puts_in ws) (takes_in ws)
 
-  pub none_dealt : (p : PhysicalData) (ops depth : ℕ) (list left : List (List Instance)) (pipes : PipeTables) (ws : List (Worker L W)) → left ≡ list → HaveNone p.workers ws → AreWired p ops depth (256 * ops) pipes (puts_in ws) (takes_in ws)
-      → DealOut p ops depth list left 0 pipes ws
-  none_dealt p ops depth list left pipes ws same h w = record {
+  pub none_assigned : (p : PhysicalData) (ops depth : ℕ) (list left : List (List Instance)) (pipes : PipeTables) (ws : List (Worker L W)) → left ≡ list → HaveNone p.workers ws → AreWired p ops depth (256 * ops) pipes (puts_in ws) (takes_in ws)
+      → AssignedSoFar p ops depth list left 0 pipes ws
+  none_assigned p ops depth list left pipes ws same h w = record {
     columns = ap (λ l. with_columns l list) h.none;
     long = sym (length-map ws (λ (w : Worker L W). w.instances.items)) ∙ ap length h.none ∙ length-replicate p.workers [];
     still = λ k more. ap (λ (l : List (List Instance)). get_or l k []) same;
@@ -215,9 +215,9 @@ module _ {L W : Type 0} where
     wired = w;
   }
 
-  pub deal_next : (p : PhysicalData) (ops depth : ℕ) (list left rest : List (List Instance)) (at : ℕ) (pipes : PipeTables) (ws new : List (Worker L W)) (row : List Instance) → at < length list → row ≡ get_or left at [] → rest ≡ set left at []
-      → instances_in new ≡ with_column (instances_in ws) row → KeepEnds ws new → DealOut p ops depth list left at pipes ws → DealOut p ops depth list rest (at + 1) pipes new
-  deal_next p ops depth list left rest at pipes ws new row less row_is rest_is new_is kept h = record {
+  pub assign_next : (p : PhysicalData) (ops depth : ℕ) (list left rest : List (List Instance)) (at : ℕ) (pipes : PipeTables) (ws new : List (Worker L W)) (row : List Instance) → at < length list → row ≡ get_or left at [] → rest ≡ set left at []
+      → instances_in new ≡ with_column (instances_in ws) row → KeepEnds ws new → AssignedSoFar p ops depth list left at pipes ws → AssignedSoFar p ops depth list rest (at + 1) pipes new
+  assign_next p ops depth list left rest at pipes ws new row less row_is rest_is new_is kept h = record {
     columns = ap (λ l. with_columns l (drop (at + 1) list)) (new_is ∙ ap (with_column (instances_in ws)) (row_is ∙ h.still at (omega arith))) ∙ sym (ap (with_columns (instances_in ws)) (drop_more list at [] less)) ∙ h.columns;
     long = as_many_ends ws new kept ∙ h.long;
     still = λ k more. ap (λ (l : List (List Instance)). get_or l k []) rest_is ∙ get_or-set_other left at k [] [] (omega (arith, more)) ∙ h.still k (omega (arith, more));
@@ -226,10 +226,10 @@ module _ {L W : Type 0} where
     wired = subst (λ (x : EndTables × EndTables). AreWired p ops depth (256 * ops) pipes x.0 x.1) (λ i. (sym kept.puts i, sym kept.takes i)) h.wired;
   }
 
-  -- all rows are dealt out
-  pub all_dealt : (p : PhysicalData) (ops depth : ℕ) (list left : List (List Instance)) (at : ℕ) (pipes : PipeTables) (ws : List (Worker L W)) → length list ≤ at → DealOut p ops depth list left at pipes ws
+  -- all rows are assigned
+  pub all_assigned : (p : PhysicalData) (ops depth : ℕ) (list left : List (List Instance)) (at : ℕ) (pipes : PipeTables) (ws : List (Worker L W)) → length list ≤ at → AssignedSoFar p ops depth list left at pipes ws
       → instances_in ws ≡ with_columns (replicate p.workers []) list
-  all_dealt p ops depth list left at pipes ws past h = ap (with_columns (instances_in ws)) (sym (drop_all at list past)) ∙ h.columns
+  all_assigned p ops depth list left at pipes ws past h = ap (with_columns (instances_in ws)) (sym (drop_all at list past)) ∙ h.columns
 
   -- each worker at the place of its number, with what the lists have at that place
   pub assembled : (count : ℕ) (ws : List (Worker L W)) → length ws ≡ count → AreNumbered (numbers_in ws) → AreAssembled (instances_in ws) (puts_in ws) (takes_in ws) count ws

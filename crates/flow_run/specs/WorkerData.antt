@@ -103,9 +103,9 @@ pub record Goes (pipes : PipeTables) (ws : List WorkerData) (lists : List LeftOn
   pub of_plan : (p : PhysicalData) → AreThePlans p pipes lists → AreThePlans p new_pipes new_lists
   pub instances : map (λ (w : WorkerData). w.instances) new_ws ≡ map (λ (w : WorkerData). w.instances) ws
 
--- no plan has a pipe with these numbers
-abbrev pub IsBeyond : (edge from to : ℕ) → Type 0
-IsBeyond edge from to = (64 ≤ edge) ⊎ ((16 ≤ from) ⊎ (16 ≤ to))
+-- no plan with `ops` sources and operators has a pipe with these numbers
+abbrev pub IsBeyond : (ops edge from to : ℕ) → Type 0
+IsBeyond ops edge from to = (ops ≤ edge) ⊎ ((16 ≤ from) ⊎ (16 ≤ to))
 
 -- The notes put on each pipe are those taken, followed by those listed. The listed pipes are the plan's.
 pub record AreGathered (pipes : PipeTables) (ws : List WorkerData) (lists : List LeftOn) (new : List WorkerData) : Type 0 where

@@ -50,8 +50,9 @@ pub(crate) fn resume_workers<L: Local, W: Width, R: Wait>(
     // `workers` makes it known that this is a physical plan.
     let _workers = physical.workers();
     let mut workers = workers;
-    let notes = gather(rt, alloc, pipes, &mut workers)?;
-    let instances = arrange(alloc, program.ops().len(), workers)?;
+    let count = program.ops().len();
+    let notes = gather(rt, alloc, count as u32, pipes, &mut workers)?;
+    let instances = arrange(alloc, count, workers)?;
     let (batch, depth) = (options.batch, options.depth);
     World::resume(alloc, program, physical, instances, notes, batch, depth)
 }

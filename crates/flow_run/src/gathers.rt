@@ -1,6 +1,6 @@
 //! Pipes are closed, and the notes that are left on them are read out.
 
-ghost use Rattle.std.specs.Prelude.{◌≡◌, ◌++◌, ◌∷◌, [], ℕ, None, Some, IfOk, OnOk};
+ghost use Rattle.std.specs.Prelude.{◌≡◌, ◌≤◌, ◌++◌, ◌∷◌, [], ℕ, None, Some, IfOk, OnOk};
 ghost use Rattle.flow_run.specs.Ends.{IsEndOf, notes_in};
 ghost use Rattle.flow_run.specs.WorkerData.{AreEnds, AreGathered, Goes, IsBeyond, IsPutOut, IsTakeOut, put_at, take_at};
 ghost use Rattle.flow_run.specs.Workers.{all_data};
@@ -17,9 +17,6 @@ use pact_record::OutOfMemory;
 use std::alloc::Global;
 use std::collections::VecDeque;
 use std::sync::Wait;
-
-// No physical plan has more pipes: there are at most 64 edges, and 16 senders and receivers for each.
-const MAX_PIPES: u32 = 64 * 16 * 16;
 
 // The notes that are left in a pipe.
 fn read_out<W: Width, R: Wait>(
@@ -110,21 +107,23 @@ fn close_at<L: Local, W: Width, R: Wait>(
     list_left(lists, id, notes)
 }
 
-/// Closes all pipes, one after the other, and lists the notes that are left on each. If memory runs out, the notes that
-/// were read out are gone.
+/// Closes all pipes of a plan with `ops` sources and operators, one after the other, and lists the notes that are left
+/// on each. If memory runs out, the notes that were read out are gone.
 pub(crate) fn gather<L: Local, W: Width, R: Wait>(
     rt: &R,
     alloc: Global,
+    ops: u32,
     pipes: Tables<Pipe<W>>,
     workers: &mut [Worker<L, W>],
 ) -> Result<NoteLists, OutOfMemory>
-    requires inside { (edge from to : ℕ) → IsBeyond edge from to → cell_in pipes edge from to ≡ None }
+    requires few { ops ≤ 64 }
+    requires inside { (edge from to : ℕ) → IsBeyond ops edge from to → cell_in pipes edge from to ≡ None }
     requires ends { AreEnds pipes (all_data workers.old) }
     ensures { IfOk result (λ lists. AreGathered pipes (all_data workers.old) lists (all_data workers.new)) }
 {
     let mut pipes = pipes;
     let mut lists = NoteLists::new(alloc);
-    for number in 0..MAX_PIPES {
+    for number in 0..ops * 256 {
         close_at(rt, alloc, pipe_of(number), &mut pipes, workers, &mut lists)?;
     }
     Ok(lists)

@@ -7,11 +7,11 @@ ghost use Rattle.flow_instance.specs.Limits.{batch_limit};
 ghost use Rattle.flow_core.specs.Worlds.{depth_limit};
 ghost use Rattle.flow_run.specs.Outcomes.{IsPlanOutcome};
 
-use crate::begins::start_on_threads;
-use crate::dealing::deal;
+use crate::assigning::assign;
 use crate::finishing::finish;
 use crate::options::Options;
 use crate::schedules::{work_in_turn, work_side_by_side};
+use crate::thread_starts::start_on_threads;
 use crate::wires::Network;
 use batch_channel::Width;
 use flow_core::{World, run_alone, start_instances};
@@ -69,7 +69,7 @@ fn run_on_threads<L: Local, W: Width + Sync + Send, R: Threads + Wait + Sync, G:
 {
     let flags = Flags::new(physical.workers());
     let list = start_on_threads(rt, alloc, program, physical, inputs, options.batch)?;
-    let network = deal::<L, W, R>(rt, alloc, program, physical, list, options.depth)?;
+    let network = assign::<L, W, R>(rt, alloc, program, physical, list, options.depth)?;
     let Network { workers, pipes } = network;
     let after = work_side_by_side(rt, alloc, gate, workers, &pipes, &flags)?;
     finish(rt, alloc, program, physical, pipes, after, options)
@@ -94,7 +94,7 @@ fn run_turns<L: Local, W: Width, R: Wait, G: Gate>(
 {
     let flags = Flags::new(physical.workers());
     let list = start_instances(alloc, program, physical, inputs, options.batch)?;
-    let network = deal::<L, W, R>(rt, alloc, program, physical, list, options.depth)?;
+    let network = assign::<L, W, R>(rt, alloc, program, physical, list, options.depth)?;
     let Network { workers, pipes } = network;
     let after = work_in_turn(rt, gate, workers, &pipes, &flags)?;
     finish(rt, alloc, program, physical, pipes, after, options)
@@ -102,8 +102,9 @@ fn run_turns<L: Local, W: Width, R: Wait, G: Gate>(
 
 /// Runs a plan. With two workers or more, each has a thread of its own and gets its instances and its ends of the
 /// pipes. When all have returned, the caller's thread finishes what they have left. With one worker the plan runs on
-/// the caller's thread from the start, and waits for no other. The gate is called before each event of a worker, and
-/// never for an event of the caller's thread. The rows of the sources are given away: each moves to its worker.
+/// the caller's thread from the start, and waits for no other. A worker calls the gate before each attempt to put or to
+/// take a note, and before an instance ends; the caller's thread never calls it. The rows of the sources are given
+/// away: each moves to its worker.
 ///
 /// Out of memory is the only error, whether a worker or the caller runs out of it. All results are gone then.
 pub fn run_owned<L: Local, R: Threads + Wait + Sync, G: Gate>(

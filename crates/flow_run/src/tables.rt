@@ -1,7 +1,7 @@
 //! Tables of places that are empty or hold something.
 
 ghost use Rattle.std.specs.Prelude.{◌≡◌, ℕ, None, Some, IfOk, IfSome, IfNone};
-ghost use Rattle.flow_run.specs.Tables.{HasPlace, HasPlaceIn, IsBlank, IsBlankRow, IsBlankTable, IsChanged, IsChangedIn, IsShaped, IsTakenOut, cell, cell_in};
+ghost use Rattle.flow_run.specs.Tables.{HasPlace, HasPlaceIn, IsBlank, AreBlankCells, IsBlankTable, IsChanged, IsChangedIn, IsShaped, IsTakenOut, cell, cell_in};
 
 use pact_record::OutOfMemory;
 use std::alloc::Global;
@@ -9,11 +9,11 @@ use std::marker::Model;
 
 /// Places that are empty or hold something.
 #[derive(Drop)]
-pub struct Row<T> {
+pub struct Cells<T> {
     pub(crate) held: Vec<Option<T>>,
 }
 
-impl<T> Model for Row<T> {
+impl<T> Model for Cells<T> {
     ghost use Rattle.std.specs.Prelude.{List, Option};
 
     ghost Value = { List (Option T) };
@@ -24,7 +24,7 @@ impl<T> Model for Row<T> {
 /// Rows of places.
 #[derive(Drop)]
 pub struct Table<T> {
-    pub(crate) rows: Vec<Row<T>>,
+    pub(crate) rows: Vec<Cells<T>>,
 }
 
 impl<T> Model for Table<T> {
@@ -114,14 +114,14 @@ impl<T> Tables<T> {
 }
 
 // A row with nothing in it.
-fn blank_row<T: Drop>(alloc: Global, columns: u32) -> Result<Row<T>, OutOfMemory>
-    ensures { IfOk result (IsBlankRow columns) }
+fn blank_cells<T: Drop>(alloc: Global, columns: u32) -> Result<Cells<T>, OutOfMemory>
+    ensures { IfOk result (AreBlankCells columns) }
 {
     let mut held = Vec::with_capacity(alloc, columns as usize)?;
     for _ in 0..columns {
         held.push_reserved(None);
     }
-    Ok(Row { held })
+    Ok(Cells { held })
 }
 
 /// A table with nothing in it.
@@ -134,7 +134,7 @@ pub(crate) fn blank_table<T: Drop>(
 {
     let mut all = Vec::with_capacity(alloc, rows as usize)?;
     for _ in 0..rows {
-        all.push_reserved(blank_row(alloc, columns)?);
+        all.push_reserved(blank_cells(alloc, columns)?);
     }
     Ok(Table { rows: all })
 }

@@ -14,6 +14,7 @@ use crate::attempts::Attempt;
 use crate::tables::{Table, Tables};
 use crate::worker_contexts::WorkerContext;
 use batch_channel::{Pipe, PutEnd, TakeEnd, Width};
+use flow_core::MAX_WORKERS;
 use flow_instance::{Instance, Note, PipeId, Want};
 use local_strategy::Local;
 use pact_record::OutOfMemory;
@@ -22,9 +23,6 @@ use worker_gate::{Act, Gate};
 
 // The most notes that an end puts.
 const MOST_PUTS: u64 = (1 << 61) - 1;
-
-// The most workers that a physical plan can have.
-const MAX_WORKERS: u32 = 16;
 
 // Attempts to put the note that the instance wants to put.
 fn put_by<L: Local, W: Width, R: Wait, G: Gate>(
@@ -132,7 +130,7 @@ pub(crate) fn try_take<L: Local, W: Width, R: Wait, G: Gate>(
         × ((a b : ℕ) → notes_in (cell takes.new a b) ≡ notes_in (cell takes.old a b)))) }
 {
     let edge = i.edge(port);
-    for from in 0..MAX_WORKERS {
+    for from in 0..MAX_WORKERS as u32 {
         let id = PipeId {
             edge,
             from,

@@ -2,7 +2,7 @@
 
 use worker_gate::{Act, Gate};
 
-/// A worker's number, the runtime that lets it wait, and the gate that it calls before each of its events.
+/// A worker's number, the runtime that lets it wait, and the gate that it calls before each attempt.
 #[derive(Drop)]
 pub(crate) struct WorkerContext<'a, R, G> {
     pub(crate) number: u32,

@@ -49,10 +49,9 @@ impl Buckets {
         ensures heads { OnOk result ((c : ℕ) → get nat_eq self.new.heads c ≡ cond (nat_eq code c) (Some (length self.old.nexts.items)) (get nat_eq self.old.heads c)) }
         ensures nexts { OnOk result (self.new.nexts.items ≡ self.old.nexts.items ++ get nat_eq self.old.heads code ∷ []) }
     {
-        let next = self.head(code);
         let n = self.nexts.len();
+        let next = self.heads.insert(code, n)?;
         self.nexts.push(next)?;
-        self.heads.insert(code, n)?;
         Ok(())
     }
 }

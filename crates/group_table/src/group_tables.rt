@@ -10,6 +10,7 @@ ghost use Rattle.group_table.specs.Stored.{held};
 ghost use Rattle.group_table.specs.Tables.{IsIndex};
 
 use crate::buckets::Buckets;
+use crate::codes::row_code;
 use crate::finding::find;
 use crate::gathering::gather;
 use crate::storing::put;
@@ -116,6 +117,8 @@ impl Local for GroupTable {
     }
 
     fn borrow_group_of(&self, row: &Record, keys: &Keys) -> &Rows {
-        self.groups.of(find(&self.buckets, &self.groups, row, keys))
+        let hash = row_code(row, keys);
+        let found = find(&self.buckets, &self.groups, hash, row, keys);
+        self.groups.of(found)
     }
 }

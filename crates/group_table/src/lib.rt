@@ -8,8 +8,8 @@
 //! and copies no record.
 //!
 //! Until the table is sealed, each key's first record is in its group, and the later ones are in a list of one arena.
-//! `seal` moves the lists into the groups, so that the records of a key are lent side by side, and frees the arena's
-//! memory.
+//! `seal` makes room in the groups and moves the lists there, so that the records of a key are lent side by side. It
+//! also frees the arena's memory.
 //!
 //! Different keys nearly always have different codes. The map spreads the codes over its places, so a row usually costs
 //! one code and a comparison or two. But neither the fold nor the map's own hash of a code has a secret. So an attacker

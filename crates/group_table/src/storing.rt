@@ -4,6 +4,7 @@ ghost use Rattle.std.specs.Prelude.{◌≡◌, ◌<◌, ◌++◌, ◌∷◌, [],
 ghost use Rattle.pact_record.specs.Record.{key_of};
 ghost use Rattle.pact_record.specs.Widths.{AreBelow, AreWide};
 ghost use Rattle.local_strategy.specs.Grouped.{IsFound, order_of, rows_of};
+ghost use Rattle.group_table.specs.Codes.{code};
 ghost use Rattle.group_table.specs.Stored.{AreBehind, IsAdded, IsNewGroup};
 ghost use Rattle.group_table.specs.Tables.{IsIndex};
 
@@ -24,22 +25,23 @@ fn put_behind(lists: &mut Chains<Record>, n: usize, row: Record) -> Result<(), O
     Ok(())
 }
 
-// Adds the row as the first of a new group, with an empty list for later rows.
+// Adds the row as the first of a new group, with an empty list for later rows. `hash` is the code of its key values.
 fn put_new(
     buckets: &mut Buckets,
     groups: &mut Groups,
     lists: &mut Chains<Record>,
+    hash: u64,
     row: Record,
 ) -> Result<(), OutOfMemory>
     requires index { IsIndex buckets.old (order_of groups.old.keys groups.old.groups) }
     requires found { IsFound (order_of groups.old.keys groups.old.groups) (key_of groups.old.keys row) None }
     requires wide { AreWide (length row) (rows_of groups.old.groups) }
     requires below { AreBelow (length row) groups.old.keys }
+    requires hash { hash ≡ code (key_of groups.old.keys row) }
     ensures { OnOk result (IsNewGroup row groups.old lists.old.lists buckets.new groups.new lists.new.lists) }
 {
-    let code = row_code(&row, groups.keys());
     groups.put(None, row)?;
-    buckets.add(code)?;
+    buckets.add(hash)?;
     lists.new_chain()?;
     Ok(())
 }
@@ -57,8 +59,10 @@ pub(crate) fn put(
     requires below { AreBelow (length row) groups.old.keys }
     ensures { OnOk result (IsAdded row groups.old lists.old.lists buckets.new groups.new lists.new.lists) }
 {
-    match find(buckets, groups, &row, groups.keys()) {
+    let keys = groups.keys();
+    let hash = row_code(&row, keys);
+    match find(buckets, groups, hash, &row, keys) {
         Some(n) => put_behind(lists, n, row),
-        None => put_new(buckets, groups, lists, row),
+        None => put_new(buckets, groups, lists, hash, row),
     }
 }

@@ -65,6 +65,25 @@ fn put(
     }
 }
 
+// Moves the rows to memory with room for `more` further rows.
+fn make_room(alloc: Global, rows: &mut Rows, more: usize) -> Result<(), OutOfMemory>
+    ensures { rows.new ≡ rows.old }
+{
+    let all = rows.rows().len().saturating_add(more);
+    let mut roomy = Rows::with_capacity(alloc, all)?;
+    roomy.append(rows)?;
+    *rows = roomy;
+    Ok(())
+}
+
+// Makes room for more rows of one group.
+fn reserve(alloc: Global, groups: &mut Vec<Rows>, n: usize, more: usize) -> Result<(), OutOfMemory>
+    requires { n < length groups.old.items }
+    ensures { groups.new.items ≡ groups.old.items }
+{
+    make_room(alloc, &mut groups[n], more)
+}
+
 /// Records in a group for each key. The groups are numbered in the order in which their keys came.
 #[derive(Drop)]
 pub struct Groups {
@@ -139,6 +158,14 @@ impl Groups {
             Some(n) => &self.held[n],
             None => &self.none,
         }
+    }
+
+    /// Makes room for `more` further rows of the key with this number.
+    pub fn reserve(&mut self, n: usize, more: usize) -> Result<(), OutOfMemory>
+        requires { n < length (order_of self.old.keys self.old.groups) }
+        ensures { self.new ≡ self.old }
+    {
+        reserve(self.alloc, &mut self.held, n, more)
     }
 
     /// Appends a row to the group of its key, if the key was found there, and adds it as a new last group otherwise.

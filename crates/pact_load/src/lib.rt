@@ -3,6 +3,7 @@
 //! - `load` reads a program's file and then the files of its sources from a feed.
 //! - `files` reads a named file whole.
 //! - `programs` goes from a text to a program, and `loading` from files to a program and the rows of its sources.
+//! - `readers` says what makes the rows of a source.
 //! - `named_sources` finds a source by its name.
 //! - A `Refusal` says why a call gives no answer, and `refusal_lines` has the lines for what the files decide.
 //!
@@ -15,6 +16,7 @@ pub mod loaded;
 mod loading;
 mod named_sources;
 mod programs;
+pub mod readers;
 mod refusal_lines;
 pub mod refusals;
 
@@ -22,4 +24,5 @@ pub use loaded::{Loaded, is_source, push_rows};
 pub use loading::{load, load_program, load_sources, load_text};
 pub use named_sources::source_named;
 pub use programs::{program_of, text_refused};
+pub use readers::{CalledReads, ReadAlone, SourceReader};
 pub use refusals::Refusal;

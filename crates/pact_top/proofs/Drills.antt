@@ -8,7 +8,7 @@ use Rattle.tac_syntax.specs.Valid.{WithFields}
 use Rattle.order_free.specs.OrderFree.{IsOrderFree}
 use Rattle.pact_operators.specs.Allowed.{Bag}
 use Rattle.pact_operators.specs.PlanOps.{function_in, kind_in}
-use Rattle.pact_operators.specs.Programs.{ProgramData}
+use Rattle.plan_trees.specs.Plans.{PlanTree}
 use Rattle.pact_gen.specs.Generated.{behind_row, generated, listed}
 use Rattle.pact_bag.specs.Rows.{cut}
 use Rattle.prune_fields.specs.SameAnswers.{HaveSameRows}
@@ -17,9 +17,10 @@ use Rattle.drill_program.specs.Summary.{summary_text}
 use Rattle.drill_program.proofs.DrillFree.{total_free}
 use Rattle.drill_program.proofs.DrillProgram.{is_a_program}
 use Rattle.pact_top.specs.CommandTexts.{IsDrillText, IsSummary, drilled}
-use Rattle.pact_top.specs.PrivateCalls.{IsFinishedRun}
+use Rattle.pact_top.specs.PrivateCalls.{IsLayoutOutcome}
 use Rattle.pact_top.specs.OrderFreePrograms.{AreGroupsFree, IsGrouping}
-use Rattle.pact_top.specs.declared.running.FinishedRun.{FinishedRun}
+use Rattle.pact_load.specs.declared.loaded.Loaded.{Loaded}
+use Rattle.pact_top.specs.declared.rewriting.RunOutcome.{RunOutcome}
 use Rattle.pact_top.proofs.OnlyBag.{one_text, only_bag}
 use Rattle.pact_top.proofs.RunPlans.{lines_beside}
 
@@ -60,16 +61,16 @@ summary_beside rows sink bag left text same h =
     let lengths : length left ≡ length bag = sym (length-map left (cut sink)) ∙ ap (λ (cuts : Bag). length cuts) (sym same) ∙ length-map bag (cut sink) in
     record { lines = h.lines; spelled = lines_beside sink bag left h.lines same h.spelled; told = h.told ∙ ap (λ (n : ℕ). summary_text rows n h.lines) lengths }
 
-pub is_drill_text : (seed rows workers plans : ℕ) (prune combine : Bool) (run : FinishedRun) (text : List ℕ) → IsFinishedRun (drilled seed rows) workers plans prune combine run
-    → IsSummary rows run.program.sink run.ran.outcome.rows text → IsDrillText seed rows text
-is_drill_text seed rows workers plans prune combine run text is told =
-    let bag = is.outcome.bag in
-    let summary = summary_beside rows drill_program.sink bag run.ran.outcome.rows text is.outcome.rows (subst (λ (p : ProgramData). IsSummary rows p.sink run.ran.outcome.rows text) is.program told) in
+pub is_drill_text : (seed rows : ℕ) (l : Loaded) (workers : ℕ) (plan : PlanTree) (layout : ℕ) (prune combine : Bool) (ran : RunOutcome) (text : List ℕ) → l ≡ drilled seed rows
+    → IsLayoutOutcome (drilled seed rows) workers plan layout prune combine ran → IsSummary rows l.program.sink ran.outcome.rows text → IsDrillText seed rows text
+is_drill_text seed rows l workers plan layout prune combine ran text loaded is told =
+    let bag = is.bag in
+    let summary = summary_beside rows drill_program.sink bag ran.outcome.rows text is.rows (subst (λ (x : Loaded). IsSummary rows x.program.sink ran.outcome.rows text) loaded told) in
     let only = only_bag drill_program is_a_program groups_free (generated seed rows ∷ []) drill_program.plan bag in
     record {
       bag = bag;
-      allowed = is.outcome.allowed;
+      allowed = is.allowed;
       summary = summary;
-      only_bag = λ other also. only other is.outcome.allowed also;
-      only_text = λ other theirs also summed. one_summary rows drill_program.sink bag other text theirs (only other is.outcome.allowed also) summary summed;
+      only_bag = λ other also. only other is.allowed also;
+      only_text = λ other theirs also summed. one_summary rows drill_program.sink bag other text theirs (only other is.allowed also) summary summed;
     }

@@ -21,15 +21,13 @@ use Rattle.pact_record.specs.Widths.{AreWide}
 use Rattle.pact_words.specs.declared.commands.Options.{Options}
 use Rattle.pact_words.specs.Words.{AreOptionsInRange}
 use Rattle.pact_top.specs.declared.choosing.Choice.{Choice}
-use Rattle.pact_top.specs.declared.running.FinishedRun.{FinishedRun}
 use Rattle.pact_load.specs.declared.loaded.Loaded.{Loaded}
 use Rattle.pact_top.specs.declared.rewriting.RunOutcome.{RunOutcome}
-use Rattle.pact_top.specs.declared.tasks.Task.{Task}
 use Rattle.pact_top.specs.declared.texts.Texts.{Texts}
 use Rattle.pact_top.specs.CommandTexts.{IsAnswerOf, IsChoice, in_layout}
-use Rattle.pact_top.specs.PrivateCalls.{AreReportedCounts, IsLayoutOutcome, IsFinishedRun}
+use Rattle.pact_top.specs.PrivateCalls.{AreReportedCounts, IsLayoutOutcome}
 use Rattle.bag_lines.specs.Lines.{AreLines}
-use Rattle.pact_top.specs.Runs.{CanRun, IsCombinedAs, IsPrunedAs, IsPrunedRewrite, IsRunOutcome, IsRunCombinedAs, IsRunRewrittenAs, IsSamePlan, KeepsPlan, task_of}
+use Rattle.pact_top.specs.Runs.{CanRun, IsCombinedAs, IsPrunedAs, IsPrunedRewrite, IsRunOutcome, IsRunCombinedAs, IsRunRewrittenAs, IsSamePlan, KeepsPlan}
 use Rattle.pact_top.proofs.ChosenTexts.{told-AreCounts}
 use Rattle.pact_top.proofs.CommandsRun.{is_answer}
 
@@ -59,15 +57,15 @@ pub combined_can : (asked : Bool) (p q : ProgramData) (x y : PhysicalData) (of :
 combined_can true p q x y of rows count h g = kept_can p q x y rows count h g.keeps
 combined_can false p q x y of rows count h g = same_can p q x y rows count h g.0
 
--- the task of running such a plan can be run
-pub task_can : (p : ProgramData) (x : PhysicalData) (rows : List Bag) (options : Options) (task : Task) → IsRunnable p x rows options.workers → AreOptionsInRange options → task ≡ task_of x options → CanRun p task rows
-task_can p x rows options task h range is = subst (λ (t : Task). CanRun p t rows) (sym is) (record {
+-- such a plan can be run with options within their ranges
+pub runnable_can : (p : ProgramData) (x : PhysicalData) (rows : List Bag) (options : Options) → IsRunnable p x rows options.workers → AreOptionsInRange options → CanRun p x rows options
+runnable_can p x rows options h range = record {
   plan = h.plan;
   inputs = h.inputs;
   workers = h.workers;
   batch = (range.least_batch, range.most_batch);
   depth = (range.least_depth, range.most_depth);
-})
+}
 
 -- ---- what its run leaves
 
@@ -119,12 +117,12 @@ pruned_left false combine p q x y inputs r legal are h left =
     h.1
 
 -- what the run of the plan that was rewritten step by step leaves is that of the plan
-pub run_left : (prune combine : Bool) (p q s : ProgramData) (x y z : PhysicalData) (options : Options) (inputs : List Bag) (task : Task) (r : RunOutcome) → LegalShip (facts_of p x.tree) x → AreInputsOf p inputs → AreInputsOf q inputs
-    → IsPrunedAs prune (planned p x) (planned q y) r.kept.items → IsCombinedAs combine (planned q y) (planned s z) r.combined.items → task ≡ task_of z options → IsPlanOutcome s inputs task.physical r.outcome
+pub run_left : (prune combine : Bool) (p q s : ProgramData) (x y z : PhysicalData) (inputs : List Bag) (r : RunOutcome) → LegalShip (facts_of p x.tree) x → AreInputsOf p inputs → AreInputsOf q inputs
+    → IsPrunedAs prune (planned p x) (planned q y) r.kept.items → IsCombinedAs combine (planned q y) (planned s z) r.combined.items → IsPlanOutcome s inputs z r.outcome
     → IsRunOutcome (planned p x) inputs prune combine r
-run_left prune combine p q s x y z options inputs task r legal are own pruned combined is left =
+run_left prune combine p q s x y z inputs r legal are own pruned combined left =
     pruned_left prune combine p q x y inputs r legal are pruned
-    (grouped_left combine q s y z inputs r.outcome r.combined.items own combined (subst (λ (t : Task). IsPlanOutcome s inputs t.physical r.outcome) is left))
+    (grouped_left combine q s y z inputs r.outcome r.combined.items own combined left)
 
 pub is_outcome : {E : Type 0} (l : Loaded) (workers : ℕ) (plan : PlanTree) (layout : ℕ) (prune combine : Bool) (physical : PhysicalData) (result : Result RunOutcome E) → physical ≡ (in_layout l workers plan layout).physical
     → physical.tree ≡ plan → AreInputsOf l.program l.inputs → KeepAnswers l.program l.program.plan plan
@@ -154,19 +152,3 @@ are_answers l workers plans asked prune combine (Ok t) choice r program chosen i
     is_answer l workers plans asked prune combine t is.bag program is.allowed (lines_beside l.program.sink is.bag r.outcome.rows t.out is.rows lines)
     (told-AreCounts l workers plans choice prune combine r is asked t.told chosen told)
 are_answers l workers plans asked prune combine (Err e) choice r program chosen is lines told = tt
-
--- the texts of a run of the chosen plan
-pub run_answers : {E : Type 0} (l : Loaded) (workers plans : ℕ) (asked prune combine : Bool) (run : FinishedRun) (result : Result Texts E) → IsFinishedRun l workers plans prune combine run → IsProgram run.program
-    → IfOk result (λ t. AreLines run.program.sink run.ran.outcome.rows t.out)
-    → IfOk result (λ t. AreReportedCounts run.program run.choice.best.plan run.ran.outcome.counts run.ran.kept.items run.ran.combined.items asked t.told) → IfOk result (IsAnswerOf l workers plans asked prune combine)
-run_answers l workers plans asked prune combine run result is program lines told =
-    are_answers l workers plans asked prune combine result run.choice run.ran (subst IsProgram is.program program) is.chosen.choice is.outcome
-    (subst (λ (p : ProgramData). IfOk result (λ t. AreLines p.sink run.ran.outcome.rows t.out)) is.program lines)
-    (subst (λ (p : ProgramData). IfOk result (λ t. AreReportedCounts p run.choice.best.plan run.ran.outcome.counts run.ran.kept.items run.ran.combined.items asked t.told)) is.program told)
-
--- what is known of the program that was run
-pub run-IsPlanOf : (l : Loaded) (workers plans : ℕ) (prune combine : Bool) (run : FinishedRun) → IsFinishedRun l workers plans prune combine run → IsPlanOf run.program.functions run.program.ops run.choice.best.plan
-run-IsPlanOf l workers plans prune combine run is = subst (λ (p : ProgramData). IsPlanOf p.functions p.ops run.choice.best.plan) (sym is.program) is.chosen.plan
-
-pub run-AreWide : (l : Loaded) (workers plans : ℕ) (prune combine : Bool) (run : FinishedRun) → IsFinishedRun l workers plans prune combine run → AreWide run.program.fields run.ran.outcome.rows
-run-AreWide l workers plans prune combine run is = subst (λ (p : ProgramData). AreWide p.fields run.ran.outcome.rows) (sym is.program) is.outcome.widths

@@ -18,7 +18,6 @@ use Rattle.pact_top.specs.Runs.{IsRunRewrittenAs}
 use Rattle.pact_top.specs.declared.choosing.Choice.{Choice}
 use Rattle.pact_top.specs.declared.choosing.ListedChoice.{ListedChoice}
 use Rattle.pact_load.specs.declared.loaded.Loaded.{Loaded}
-use Rattle.pact_top.specs.declared.running.FinishedRun.{FinishedRun}
 use Rattle.pact_top.specs.declared.rewriting.RunOutcome.{RunOutcome}
 use Rattle.pact_top.specs.CommandTexts.{AllowsWritten, IsChoice, in_layout, row_counts, told_text}
 
@@ -37,16 +36,18 @@ pub record IsListedChoice (p : ProgramData) (inputs : List Bag) (workers : ℕ) 
   pub plan : IsPlanOf p.functions p.ops c.plan
   pub answers : KeepAnswers p p.plan c.plan
   pub known : facts_in c.facts ≡ facts_of p c.plan
+  pub counts : c.counts ≡ row_counts p.ops inputs
   pub entry : c.chosen.entry < length entries
   pub layout : c.chosen.layout < layout_count p.ops
 
 -- The choice's plan is one of the program's, and allows the same bags as the plan as written. Its facts are those of
--- the plan, and its numbers are those of an entry and of a layout.
+-- the plan, its row counts are those of the sources, and its numbers are those of an entry and of a layout.
 pub record IsSoundChoice (l : Loaded) (workers plans : ℕ) (c : Choice) : Type 0 where
   pub choice : IsChoice l workers plans c
   pub plan : IsPlanOf l.program.functions l.program.ops c.best.plan
   pub answers : KeepAnswers l.program l.program.plan c.best.plan
   pub known : facts_in c.best.facts ≡ facts_of l.program c.best.plan
+  pub counts : c.best.counts ≡ row_counts l.program.ops l.inputs
   pub entry : c.best.chosen.entry < length c.listed.entries
   pub layout : c.best.chosen.layout < layout_count l.program.ops
 
@@ -63,12 +64,6 @@ pub record IsLayoutOutcome (l : Loaded) (workers : ℕ) (plan : PlanTree) (layou
   pub counted : Counted (plan_ops l.program l.inputs) plan bag r.outcome.counts
   pub widths : AreWide l.program.fields r.outcome.rows
   pub run : IsRunRewrittenAs (in_layout l workers plan layout) l.inputs prune combine r.outcome r.kept.items r.combined.items
-
--- The chosen plan was run, and gave this.
-pub record IsFinishedRun (l : Loaded) (workers plans : ℕ) (prune combine : Bool) (run : FinishedRun) : Type 0 where
-  pub program : run.program ≡ l.program
-  pub chosen : IsSoundChoice l workers plans run.choice
-  pub outcome : IsLayoutOutcome l workers run.choice.best.plan run.choice.best.chosen.layout prune combine run.ran
 
 -- the text of the counts if it is asked for, and none otherwise
 abbrev pub AreReportedCounts : ProgramData → PlanTree → List ℕ → List Kept → List (ℕ × ℕ) → Bool → Option (List ℕ) → Type 0

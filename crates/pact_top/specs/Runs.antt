@@ -10,6 +10,7 @@ use Rattle.flow_instance.specs.Limits.{batch_limit}
 use Rattle.flow_instance.specs.Spots.{setting}
 use Rattle.flow_instance.specs.Spread.{Spread}
 use Rattle.flow_run.specs.Outcomes.{IsPlanOutcome}
+use Rattle.flow_run.specs.declared.options.Options.{Options as RunOptions}
 use Rattle.pact_bag.specs.declared.outcomes.Outcome.{Outcome}
 use Rattle.pact_operators.specs.Allowed.{Bag}
 use Rattle.pact_operators.specs.Inputs.{AreInputsOf}
@@ -24,27 +25,30 @@ use Rattle.prune_fields.specs.SameAnswers.{AnswersSame, IsCountedBeside}
 use Rattle.ship_strategy.specs.PlanFacts.{facts_of}
 use Rattle.ship_strategy.specs.Ships.{LegalShip}
 use Rattle.pact_top.specs.declared.rewriting.RunOutcome.{RunOutcome}
-use Rattle.pact_top.specs.declared.tasks.Task.{Task}
 
 -- ---- a run
 
--- The task's plan is one of the program's, the rows are those of its sources, and the numbers are within their ranges.
-pub record CanRun (p : ProgramData) (task : Task) (rows : List Bag) : Type 0 where
-  pub plan : IsPlanOf p.functions p.ops task.physical.tree
+-- The plan is one of the program's, the rows are those of its sources, the plan has the number of workers that the
+-- options have, and the other numbers are within their ranges.
+pub record CanRun (p : ProgramData) (physical : PhysicalData) (rows : List Bag) (o : Options) : Type 0 where
+  pub plan : IsPlanOf p.functions p.ops physical.tree
   pub inputs : AreInputsOf p rows
-  pub workers : task.options.workers ≡ task.physical.workers
-  pub batch : (1 ≤ task.options.batch) × (task.options.batch ≤ batch_limit)
-  pub depth : (1 ≤ task.options.depth) × (task.options.depth ≤ depth_limit)
+  pub workers : o.workers ≡ physical.workers
+  pub batch : (1 ≤ o.batch) × (o.batch ≤ batch_limit)
+  pub depth : (1 ≤ o.depth) × (o.depth ≤ depth_limit)
 
--- the task of running a plan with these options
-abbrev pub task_of : PhysicalData → Options → Task
-task_of physical o = record { physical = physical; options = record { workers = o.workers; batch = o.batch; depth = o.depth }; local = o.local }
+-- those of a command's options that tell how workers run a plan
+abbrev pub run_options : Options → RunOptions
+run_options o = record { workers = o.workers; batch = o.batch; depth = o.depth }
 
 -- a call that may be made whenever a run is possible, and that returns what such a run leaves
-pub record IsRunner {E : Type 0} (Pre : Bor ProgramData → Bor Task → List Bag → Type 0) (Post : Bor ProgramData → Bor Task → List Bag → Result Outcome E → Type 0) : Type 0 where
-  pub pre : (p : Bor ProgramData) (task : Bor Task) (inputs : List Bag) → CanRun p.now task.now inputs → Pre p task inputs
-  pub post : (p : Bor ProgramData) (task : Bor Task) (inputs : List Bag) (result : Result Outcome E) → CanRun p.now task.now inputs → Post p task inputs result
-      → IfOk result (IsPlanOutcome p.now inputs task.now.physical)
+pub record IsRunner {E : Type 0} (Pre : Bor ProgramData → Bor PhysicalData → List Bag → Options → Type 0)
+    (Post : Bor ProgramData → Bor PhysicalData → List Bag → Options → Result Outcome E → Type 0) : Type 0 where
+  pub pre : (p : Bor ProgramData) (physical : Bor PhysicalData) (inputs : List Bag) (o : Options)
+      → CanRun p.now physical.now inputs o → Pre p physical inputs o
+  pub post : (p : Bor ProgramData) (physical : Bor PhysicalData) (inputs : List Bag) (o : Options) (result : Result Outcome E)
+      → CanRun p.now physical.now inputs o → Post p physical inputs o result
+      → IfOk result (IsPlanOutcome p.now inputs physical.now)
 
 -- ---- a plan that is rewritten
 

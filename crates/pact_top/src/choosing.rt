@@ -27,13 +27,14 @@ use ship_strategy::{Table, layout_known};
 use std::alloc::Global;
 use swap_certificate::{certificate, certificate_line};
 
-/// Which of the listed plans is chosen for some rows and with which layout, the plan itself, and what is known of its
-/// operators.
+/// Which of the listed plans is chosen for some rows and with which layout, the plan itself, what is known of its
+/// operators, and how many rows each source has.
 #[derive(Drop)]
 pub struct ListedChoice {
     pub chosen: Chosen,
     pub plan: Plan,
     pub facts: Table,
+    pub counts: Counts,
 }
 
 /// The listed plans, and the best of them for some rows.
@@ -106,6 +107,7 @@ pub fn choose_listed(
         chosen,
         plan,
         facts,
+        counts,
     })
 }
 
@@ -136,34 +138,32 @@ fn steps_to(alloc: Global, choice: &Choice) -> Result<ConditionList, OutOfMemory
 }
 
 // What `plan` shows of the choice.
-fn shown(
-    alloc: Global,
-    loaded: &Loaded,
-    workers: u32,
-    choice: &Choice,
-    steps: ConditionList,
-) -> Result<Shown, OutOfMemory>
-    requires inputs { AreInputsOf loaded.now.program loaded.now.inputs }
+fn shown(loaded: &Loaded, workers: u32, choice: Choice, steps: ConditionList) -> Shown
     requires workers { (1 ≤ workers) × (workers ≤ worker_limit) }
-    requires plan { IsPlanOf loaded.now.program.functions loaded.now.program.ops choice.now.best.plan }
-    requires facts { facts_in choice.now.best.facts ≡ facts_of loaded.now.program choice.now.best.plan }
-    requires layout { choice.now.best.chosen.layout < layout_count loaded.now.program.ops }
-    ensures { IfOk result (λ s. s ≡ texts.shown loaded.now workers choice.now steps) }
+    requires plan { IsPlanOf loaded.now.program.functions loaded.now.program.ops choice.best.plan }
+    requires facts { facts_in choice.best.facts ≡ facts_of loaded.now.program choice.best.plan }
+    requires layout { choice.best.chosen.layout < layout_count loaded.now.program.ops }
+    requires counts { choice.best.counts ≡ texts.row_counts loaded.now.program.ops loaded.now.inputs }
+    ensures { result ≡ texts.shown loaded.now workers choice steps }
 {
-    let counts = row_counts(alloc, &loaded.program, &loaded.inputs)?;
-    let entries = choice.listed.entries();
-    let best = &choice.best;
-    let number = best.chosen.layout;
-    Ok(Shown {
-        plans: entries.len() as u32,
-        complete: choice.listed.complete(),
-        entry: best.chosen.entry,
-        layout: number,
-        cost: best.chosen.cost,
-        physical: layout_known(&loaded.program, &best.plan, &best.facts, number, workers),
+    let Choice { listed, best } = choice;
+    let ListedChoice {
+        chosen,
+        plan,
+        facts,
+        counts,
+    } = best;
+    let physical = layout_known(&loaded.program, &plan, &facts, chosen.layout, workers);
+    Shown {
+        plans: listed.entries().len() as u32,
+        complete: listed.complete(),
+        entry: chosen.entry,
+        layout: chosen.layout,
+        cost: chosen.cost,
+        physical,
         counts,
         steps,
-    })
+    }
 }
 
 /// The chosen plan with its layout and the exchanges that lead to it.
@@ -180,7 +180,7 @@ pub fn plan_texts(
 {
     let choice = choose_plan(alloc, loaded, workers, plans)?;
     let steps = steps_to(alloc, &choice)?;
-    let shown = shown(alloc, loaded, workers, &choice, steps)?;
+    let shown = shown(loaded, workers, choice, steps);
     let out = plan_text(alloc, &loaded.program, &shown)?;
     Ok(Texts::out_alone(out))
 }

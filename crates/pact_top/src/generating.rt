@@ -5,17 +5,17 @@ ghost use Rattle.pact_gen.specs.Generated.{seed_limit};
 ghost use Rattle.pact_record.specs.Widths.{AreWide};
 ghost use Rattle.pact_words.specs.Words.{AreOptionsInRange};
 ghost use Rattle.pact_top.specs.CommandTexts.{IsDrillText, IsGeneratedText, IsSummary, drilled};
-ghost use Rattle.pact_top.specs.Formatters.{IsFormatter};
 
-use crate::lines::lines_of;
-use crate::rewriting::RunOutcome;
+use crate::choosing::choose_plan;
+use crate::formatters::Formatter;
 use crate::runners::Runner;
-use crate::running::{FinishedRun, run_chosen};
+use crate::running::run_plan;
 use csv_sink::write_fields;
 use drill_program::{drill_program, summary_text};
-use pact_bag::{Inputs, Outcome, Rows};
+use pact_bag::{Inputs, Rows};
 use pact_gen::make_input;
 use pact_load::{Loaded, push_rows};
+use pact_operators::Program;
 use pact_record::{Bytes, OutOfMemory};
 use pact_words::{Options, Rewrites};
 use std::alloc::Global;
@@ -41,42 +41,50 @@ fn load_drill(alloc: Global, seed: u32, rows: u32) -> Result<Loaded, OutOfMemory
     Ok(Loaded { program, inputs })
 }
 
-// The summary of a run on `rows` rows.
-fn summary<W: Fn(Rows, &[u32]) -> Result<Bytes, OutOfMemory>>(
+// The summary of what a run of the program on `rows` rows gave.
+fn summary<W: Formatter>(
     alloc: Global,
     rows: u32,
-    run: FinishedRun,
-    format: &W,
+    program: &Program,
+    bag: Rows,
+    formatter: &W,
 ) -> Result<Bytes, OutOfMemory>
-    requires widths { AreWide run.program.fields run.ran.outcome.rows }
-    requires formats { IsFormatter (W.pre format.now) (W.post format.now) }
-    ensures { IfOk result (IsSummary rows run.program.sink run.ran.outcome.rows) }
+    requires widths { AreWide program.now.fields bag }
+    requires formats { W.ready formatter.now }
+    ensures { IfOk result (IsSummary rows program.now.sink bag) }
 {
-    let FinishedRun { program, ran, .. } = run;
-    let RunOutcome { outcome, .. } = ran;
-    let Outcome { rows: bag, .. } = outcome;
     let out = bag.len() as u64;
-    let lines = lines_of(bag, program.sink(), format)?;
+    let lines = formatter.lines(bag, program.sink())?;
     summary_text(alloc, u64::from(rows), out, lines.bytes())
 }
 
 /// Runs the program of a drill on `rows` generated rows, and returns the summary of the run.
-pub fn drill_text<T: Runner, W: Fn(Rows, &[u32]) -> Result<Bytes, OutOfMemory>>(
+pub fn drill_text<T: Runner, W: Formatter>(
     alloc: Global,
     seed: u32,
     rows: u32,
     options: Options,
     rewrites: Rewrites,
-    run: &T,
-    format: &W,
+    runner: &T,
+    formatter: &W,
 ) -> Result<Bytes, OutOfMemory>
     requires seed { seed ≤ seed_limit }
     requires options { AreOptionsInRange options }
-    requires runs { T.ready run.now }
-    requires formats { IsFormatter (W.pre format.now) (W.post format.now) }
+    requires runs { T.ready runner.now }
+    requires formats { W.ready formatter.now }
     ensures { IfOk result (IsDrillText seed rows) }
 {
     let loaded = load_drill(alloc, seed, rows)?;
-    let finished = run_chosen(alloc, loaded, options, rewrites, run)?;
-    summary(alloc, rows, finished, format)
+    let choice = choose_plan(alloc, &loaded, options.workers, options.plans)?;
+    let Loaded { program, inputs } = loaded;
+    let ran = run_plan(
+        alloc,
+        &program,
+        inputs,
+        &choice.best,
+        options,
+        rewrites,
+        runner,
+    )?;
+    summary(alloc, rows, &program, ran.outcome.rows, formatter)
 }

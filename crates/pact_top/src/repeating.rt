@@ -13,10 +13,9 @@ ghost use Rattle.pact_top.specs.PrivateCalls.{ArePlansOf};
 ghost use Rattle.pact_top.specs.Iterations as specs;
 ghost use Rattle.pact_top.specs.Iterations.{HasSource, IsCallOf, IsIterationText, columns_at};
 ghost use Rattle.bag_lines.specs.Lines.{AreLines};
-ghost use Rattle.pact_top.specs.Formatters.{IsFormatter};
 
 use crate::choosing::choose_listed;
-use crate::lines::lines_of;
+use crate::formatters::Formatter;
 use crate::runners::Runner;
 use crate::running::run_plan;
 use crate::texts::Texts;
@@ -73,13 +72,13 @@ fn one_round<T: Runner>(
     known: &KnownPlans,
     options: Options,
     inputs: &Inputs,
-    run: &T,
+    runner: &T,
 ) -> Result<Rows, OutOfMemory>
     requires inputs { AreInputsOf program.now inputs.now }
     requires options { AreOptionsInRange options }
     requires plans { ArePlansOf program.now listed.now.entries }
     requires known { AreKnownPlans program.now (plans_of listed.now.entries) known.now }
-    requires runs { T.ready run.now }
+    requires runs { T.ready runner.now }
     ensures { IfOk result (AllowsOn program.now inputs.now) }
 {
     let best = choose_listed(alloc, program, inputs, listed, known, options.workers)?;
@@ -88,7 +87,7 @@ fn one_round<T: Runner>(
         combine: false,
         prune: false,
     };
-    let left = run_plan(alloc, program, copied, &best, options, unchanged, run)?;
+    let left = run_plan(alloc, program, copied, &best, options, unchanged, runner)?;
     Ok(left.outcome.rows)
 }
 
@@ -117,7 +116,7 @@ fn run_rounds<T: Runner>(
     at: usize,
     options: Options,
     limits: IterationLimits,
-    run: &T,
+    runner: &T,
 ) -> Result<Iterated, OutOfMemory>
     requires inputs { AreInputsOf program.now inputs }
     requires source { HasSource program.now at }
@@ -125,7 +124,7 @@ fn run_rounds<T: Runner>(
     requires plans { ArePlansOf program.now listed.now.entries }
     requires known { AreKnownPlans program.now (plans_of listed.now.entries) known.now }
     requires rounds { 1 ≤ limits.rounds }
-    requires runs { T.ready run.now }
+    requires runs { T.ready runner.now }
     ensures { IfOk result (λ i. IsIterated program.now inputs (source_place program.now.ops at) (columns_at program.now at) limits.rounds limits.stable i.rows i.rounds) }
 {
     let ops = program.ops();
@@ -137,9 +136,9 @@ fn run_rounds<T: Runner>(
             requires options { AreOptionsInRange options }
             requires plans { ArePlansOf program.now listed.now.entries }
             requires known { AreKnownPlans program.now (plans_of listed.now.entries) known.now }
-            requires runs { T.ready run.now }
+            requires runs { T.ready runner.now }
             ensures { IfOk result (AllowsOn program.entry.now inputs.now) }
-        { one_round(alloc, program, listed, known, options, inputs, run) },
+        { one_round(alloc, program, listed, known, options, inputs, runner) },
     };
     let columns = &ops[at].columns;
     iterate(
@@ -167,40 +166,40 @@ fn told_rounds(alloc: Global, rounds: u32, stable: bool) -> Result<Option<Bytes>
 }
 
 // The sorted rows of the last round, and the number of rounds if an iteration may end early.
-fn texts_of_rounds<W: Fn(Rows, &[u32]) -> Result<Bytes, OutOfMemory>>(
+fn texts_of_rounds<W: Formatter>(
     alloc: Global,
     program: &Program,
     iterated: Iterated,
     stable: bool,
-    format: &W,
+    formatter: &W,
 ) -> Result<Texts, OutOfMemory>
     requires widths { AreWide program.now.fields iterated.rows }
-    requires formats { IsFormatter (W.pre format.now) (W.post format.now) }
+    requires formats { W.ready formatter.now }
     ensures lines { IfOk result (λ texts. AreLines program.now.sink iterated.rows texts.out) }
     ensures told { IfOk result (λ texts. texts.told ≡ specs.told_rounds stable iterated.rounds) }
 {
     let Iterated { rows, rounds } = iterated;
-    let out = lines_of(rows, program.sink(), format)?;
+    let out = formatter.lines(rows, program.sink())?;
     let told = told_rounds(alloc, rounds, stable)?;
     Ok(Texts { out, told })
 }
 
 /// The sorted rows of the last round. If the iteration may end early, the texts also include the number of rounds. The
 /// plans of the program are listed and their operators analysed once. One plan is chosen for the rows of each round.
-pub fn iteration_texts<T: Runner, W: Fn(Rows, &[u32]) -> Result<Bytes, OutOfMemory>>(
+pub fn iteration_texts<T: Runner, W: Formatter>(
     alloc: Global,
     repeated: IterationInput,
     limits: IterationLimits,
     options: Options,
-    run: &T,
-    format: &W,
+    runner: &T,
+    formatter: &W,
 ) -> Result<Texts, OutOfMemory>
     requires inputs { AreInputsOf repeated.loaded.program repeated.loaded.inputs }
     requires source { HasSource repeated.loaded.program repeated.at }
     requires options { AreOptionsInRange options }
     requires rounds { 1 ≤ limits.rounds }
-    requires runs { T.ready run.now }
-    requires formats { IsFormatter (W.pre format.now) (W.post format.now) }
+    requires runs { T.ready runner.now }
+    requires formats { W.ready formatter.now }
     ensures { IfOk result (IsIterationText repeated limits.rounds limits.stable) }
 {
     let IterationInput { loaded, at } = repeated;
@@ -209,7 +208,7 @@ pub fn iteration_texts<T: Runner, W: Fn(Rows, &[u32]) -> Result<Bytes, OutOfMemo
     let _fields = program.fields();
     let (listed, known) = enumerate_and_analyse(alloc, &program, options.plans)?;
     let iterated = run_rounds(
-        alloc, &program, &listed, &known, inputs, at, options, limits, run,
+        alloc, &program, &listed, &known, inputs, at, options, limits, runner,
     )?;
-    texts_of_rounds(alloc, &program, iterated, limits.stable, format)
+    texts_of_rounds(alloc, &program, iterated, limits.stable, formatter)
 }

@@ -10,7 +10,6 @@ ghost use Rattle.ship_strategy.specs.Ships.{LegalShip};
 ghost use Rattle.pact_top.specs.Runs.{IsCombinedAs, IsPrunedAs, IsRunOutcome};
 
 use crate::runners::Runner;
-use crate::tasks::task_of;
 use combine_rule::{Combined, combine};
 use pact_bag::{Inputs, Outcome};
 use pact_operators::{Physical, Program};
@@ -81,20 +80,19 @@ pub fn run_rewritten<T: Runner>(
     inputs: Inputs,
     options: Options,
     rewrites: Rewrites,
-    run: &T,
+    runner: &T,
 ) -> Result<RunOutcome, OutOfMemory>
     requires plan { IsPlanOf program.now.functions program.now.ops physical.now.tree }
     requires legal { LegalShip (facts_of program.now physical.now.tree) physical.now }
     requires inputs { AreInputsOf program.now inputs }
     requires workers { options.workers ≡ physical.now.workers }
     requires options { AreOptionsInRange options }
-    requires runs { T.ready run.now }
+    requires runs { T.ready runner.now }
     ensures { IfOk result (IsRunOutcome (planned program.now physical.now) inputs rewrites.prune rewrites.combine) }
 {
     let (pruned, small, kept) = prune_if(alloc, program, physical, rewrites.prune)?;
     let (rewritten, last, combined) = combine_if(alloc, &pruned, &small, rewrites.combine)?;
-    let task = task_of(last, options);
-    let outcome = run.run(&rewritten, &task, inputs)?;
+    let outcome = runner.run(&rewritten, &last, inputs, options)?;
     Ok(RunOutcome {
         outcome,
         kept,

@@ -11,11 +11,10 @@ ghost use Rattle.ship_strategy.specs.Layouts.{layout_count};
 ghost use Rattle.ship_strategy.specs.PlanFacts.{facts_of};
 ghost use Rattle.ship_strategy.specs.Views.{facts_in};
 ghost use Rattle.pact_top.specs.CommandTexts.{IsAnswerOf, keeps_text};
-ghost use Rattle.pact_top.specs.Formatters.{IsFormatter};
-ghost use Rattle.pact_top.specs.PrivateCalls.{AreReportedCounts, IsLayoutOutcome, IsFinishedRun};
+ghost use Rattle.pact_top.specs.PrivateCalls.{AreReportedCounts, IsLayoutOutcome};
 
-use crate::choosing::{Choice, ListedChoice, choose_plan};
-use crate::lines::lines_of;
+use crate::choosing::{ListedChoice, choose_plan};
+use crate::formatters::Formatter;
 use crate::rewriting::{RunOutcome, run_rewritten};
 use crate::runners::Runner;
 use crate::texts::Texts;
@@ -29,14 +28,6 @@ use prune_fields::Kept;
 use ship_strategy::layout_known;
 use std::alloc::Global;
 
-/// A run of a program by the plan that was chosen for it, and what the run gave.
-#[derive(Drop)]
-pub struct FinishedRun {
-    pub program: Program,
-    pub choice: Choice,
-    pub ran: RunOutcome,
-}
-
 /// What a run of the chosen plan in parts gives, in the chosen layout. Cut to the sink's fields, the records are those
 /// of a bag that the plan as written also allows.
 pub fn run_plan<T: Runner>(
@@ -46,7 +37,7 @@ pub fn run_plan<T: Runner>(
     best: &ListedChoice,
     options: Options,
     rewrites: Rewrites,
-    run: &T,
+    runner: &T,
 ) -> Result<RunOutcome, OutOfMemory>
     requires inputs { AreInputsOf program.now inputs }
     requires options { AreOptionsInRange options }
@@ -54,16 +45,17 @@ pub fn run_plan<T: Runner>(
     requires facts { facts_in best.now.facts ≡ facts_of program.now best.now.plan }
     requires layout { best.now.chosen.layout < layout_count program.now.ops }
     requires answers { KeepAnswers program.now program.now.plan best.now.plan }
-    requires runs { T.ready run.now }
+    requires runs { T.ready runner.now }
     ensures { IfOk result (IsLayoutOutcome (record { program = program.now; inputs = inputs }) options.workers best.now.plan best.now.chosen.layout rewrites.prune rewrites.combine) }
 {
     let ListedChoice {
         chosen,
         plan,
         facts,
+        counts: _,
     } = best;
     let physical = layout_known(program, plan, facts, chosen.layout, options.workers);
-    run_rewritten(alloc, program, &physical, inputs, options, rewrites, run)
+    run_rewritten(alloc, program, &physical, inputs, options, rewrites, runner)
 }
 
 // Appends the `keeps` lines to the counts, one for each source or operator whose records lost fields.
@@ -104,56 +96,22 @@ fn reported_counts(
     Ok(Some(text))
 }
 
-/// Chooses a plan and runs it. The rows of the sources go into the run.
-pub fn run_chosen<T: Runner>(
-    alloc: Global,
-    loaded: Loaded,
-    options: Options,
-    rewrites: Rewrites,
-    run: &T,
-) -> Result<FinishedRun, OutOfMemory>
-    requires inputs { AreInputsOf loaded.program loaded.inputs }
-    requires options { AreOptionsInRange options }
-    requires runs { T.ready run.now }
-    ensures { IfOk result (IsFinishedRun loaded options.workers options.plans rewrites.prune rewrites.combine) }
-{
-    let choice = choose_plan(alloc, &loaded, options.workers, options.plans)?;
-    let Loaded { program, inputs } = loaded;
-    let ran = run_plan(
-        alloc,
-        &program,
-        inputs,
-        &choice.best,
-        options,
-        rewrites,
-        run,
-    )?;
-    Ok(FinishedRun {
-        program,
-        choice,
-        ran,
-    })
-}
-
 // The sorted rows that a run of the chosen plan gave, and its counts if they are asked for.
-fn texts_of_run<W: Fn(Rows, &[u32]) -> Result<Bytes, OutOfMemory>>(
+fn texts_of_run<W: Formatter>(
     alloc: Global,
-    run: FinishedRun,
+    program: &Program,
+    plan: &Plan,
+    ran: RunOutcome,
     counts: bool,
-    format: &W,
+    formatter: &W,
 ) -> Result<Texts, OutOfMemory>
-    requires plan { IsPlanOf run.program.functions run.program.ops run.choice.best.plan }
-    requires widths { AreWide run.program.fields run.ran.outcome.rows }
-    requires formats { IsFormatter (W.pre format.now) (W.post format.now) }
-    ensures lines { IfOk result (λ texts. AreLines run.program.sink run.ran.outcome.rows texts.out) }
-    ensures counts { IfOk result (λ texts. AreReportedCounts run.program run.choice.best.plan run.ran.outcome.counts run.ran.kept.items run.ran.combined.items counts texts.told) }
-    ensures program { IsProgram run.program }
+    requires plan { IsPlanOf program.now.functions program.now.ops plan.now }
+    requires widths { AreWide program.now.fields ran.outcome.rows }
+    requires formats { W.ready formatter.now }
+    ensures lines { IfOk result (λ texts. AreLines program.now.sink ran.outcome.rows texts.out) }
+    ensures counts { IfOk result (λ texts. AreReportedCounts program.now plan.now ran.outcome.counts ran.kept.items ran.combined.items counts texts.told) }
+    ensures program { IsProgram program.now }
 {
-    let FinishedRun {
-        program,
-        choice,
-        ran,
-    } = run;
     let RunOutcome {
         outcome,
         kept,
@@ -163,35 +121,30 @@ fn texts_of_run<W: Fn(Rows, &[u32]) -> Result<Bytes, OutOfMemory>>(
         rows,
         counts: given,
     } = outcome;
-    let out = lines_of(rows, program.sink(), format)?;
-    let told = reported_counts(
-        alloc,
-        &program,
-        &choice.best.plan,
-        &given,
-        &kept,
-        &combined,
-        counts,
-    )?;
+    let out = formatter.lines(rows, program.sink())?;
+    let told = reported_counts(alloc, program, plan, &given, &kept, &combined, counts)?;
     Ok(Texts { out, told })
 }
 
 /// Chooses a plan and runs it: the sorted rows, and the counts of the run if they are asked for.
-pub fn run_texts<T: Runner, W: Fn(Rows, &[u32]) -> Result<Bytes, OutOfMemory>>(
+pub fn run_texts<T: Runner, W: Formatter>(
     alloc: Global,
     loaded: Loaded,
     options: Options,
     rewrites: Rewrites,
     counts: bool,
-    run: &T,
-    format: &W,
+    runner: &T,
+    formatter: &W,
 ) -> Result<Texts, OutOfMemory>
     requires inputs { AreInputsOf loaded.program loaded.inputs }
     requires options { AreOptionsInRange options }
-    requires runs { T.ready run.now }
-    requires formats { IsFormatter (W.pre format.now) (W.post format.now) }
+    requires runs { T.ready runner.now }
+    requires formats { W.ready formatter.now }
     ensures { IfOk result (IsAnswerOf loaded options.workers options.plans counts rewrites.prune rewrites.combine) }
 {
-    let finished = run_chosen(alloc, loaded, options, rewrites, run)?;
-    texts_of_run(alloc, finished, counts, format)
+    let choice = choose_plan(alloc, &loaded, options.workers, options.plans)?;
+    let Loaded { program, inputs } = loaded;
+    let best = &choice.best;
+    let ran = run_plan(alloc, &program, inputs, best, options, rewrites, runner)?;
+    texts_of_run(alloc, &program, &best.plan, ran, counts, formatter)
 }

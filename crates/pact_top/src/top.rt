@@ -13,20 +13,21 @@ ghost use Rattle.pact_top.specs.Writing.{WritesLine};
 ghost use Rattle.pact_words.specs.Words.{IsInRange, asked, texts_of};
 
 use crate::answering::answer;
+use crate::formatters::{CalledFormats, FormatAlone};
 use crate::refusals::tell;
-use crate::runners::CalledRuns;
-use crate::tasks::{Task, run_task, run_task_on_threads};
+use crate::runners::{CalledRuns, RunAlone};
+use crate::strategies::run_by_strategy_on_threads;
 use crate::texts::Texts;
 use crate::writing::write_all;
-use bag_lines::{parts_for_rows, sorted_lines, sorted_lines_on_threads};
+use bag_lines::{parts_for_rows, sorted_lines_on_threads};
 use csv_parts::{parts_for, read_source_on_threads};
-use csv_source::{BadRow, read_source};
+use csv_source::BadRow;
 use pact_bag::{Inputs, Outcome, Rows};
-use pact_load::Refusal;
-use pact_operators::Program;
+use pact_load::{CalledReads, ReadAlone, Refusal};
+use pact_operators::{Physical, Program};
 use pact_outside::{Failed, Feed, Sink};
 use pact_record::{Bytes, Columns, OutOfMemory};
-use pact_words::{Command, Refused, read_words};
+use pact_words::{Command, Options, Refused, read_words};
 use std::alloc::Global;
 use std::sync::Wait;
 use std::thread::Threads;
@@ -83,25 +84,16 @@ fn answer_alone<F: Feed>(
     requires range { IfOk command (λ known. IsInRange (asked known)) }
     ensures { AnswersWords command.entry (feed.new ≡ feed.old) (F.shows feed.old) (F.shows feed.new) result }
 {
-    let read = |bytes: &[u8], columns: &Columns, fields: u32| -> Result<Rows, BadRow>
-        requires { CanRead fields columns.now }
-        ensures { IsRead fields columns.now bytes.now result }
-    { read_source(alloc, bytes, columns, fields) };
-    let run = CalledRuns {
-        call: |program: &Program, task: &Task, inputs: Inputs| -> Result<Outcome, OutOfMemory>
-            requires { CanRun program.now task.now inputs }
-            ensures { IfOk result (IsPlanOutcome program.now inputs task.now.physical) }
-        { run_task(alloc, program, task, inputs) },
-    };
-    let format = |bag: Rows, fields: &[u32]| -> Result<Bytes, OutOfMemory>
-        requires { CanFormat fields.now bag }
-        ensures { IfOk result (AreLines fields.now bag) }
-    { sorted_lines(alloc, bag, fields) };
-    answer(alloc, command, feed, &read, &run, &format)
+    let (reader, runner, formatter) = (
+        ReadAlone { alloc },
+        RunAlone { alloc },
+        FormatAlone { alloc },
+    );
+    answer(alloc, command, feed, &reader, &runner, &formatter)
 }
 
 // The texts of the command that was read, with up to `workers` threads for a run, for a long source and for a long
-// text.
+// text. If there are fewer than two, the calling thread makes them.
 fn answer_on_threads<R: Threads + Wait + Sync, F: Feed, G: Gate>(
     rt: &R,
     alloc: Global,
@@ -113,46 +105,34 @@ fn answer_on_threads<R: Threads + Wait + Sync, F: Feed, G: Gate>(
     requires range { IfOk command (λ known. IsInRange (asked known)) }
     ensures { AnswersWords command.entry (feed.new ≡ feed.old) (F.shows feed.old) (F.shows feed.new) result }
 {
-    let read = |bytes: &[u8], columns: &Columns, fields: u32| -> Result<Rows, BadRow>
-        requires { CanRead fields columns.now }
-        ensures { IsRead fields columns.now bytes.now result }
-    {
-        let parts = parts_for(bytes.len(), workers);
-        read_source_on_threads(rt, alloc, bytes, columns, fields, parts)
+    let reader = CalledReads {
+        call: |bytes: &[u8], columns: &Columns, fields: u32| -> Result<Rows, BadRow>
+            requires { CanRead fields columns.now }
+            ensures { IsRead fields columns.now bytes.now result }
+        {
+            let parts = parts_for(bytes.len(), workers);
+            read_source_on_threads(rt, alloc, bytes, columns, fields, parts)
+        },
     };
-    let run = CalledRuns {
-        call: |program: &Program, task: &Task, inputs: Inputs| -> Result<Outcome, OutOfMemory>
-            requires { CanRun program.now task.now inputs }
-            ensures { IfOk result (IsPlanOutcome program.now inputs task.now.physical) }
-        { run_task_on_threads(rt, alloc, program, task, inputs, gate) },
+    let runner = CalledRuns {
+        call: |program: &Program, physical: &Physical, inputs: Inputs, options: Options| -> Result<
+            Outcome,
+            OutOfMemory,
+        >
+            requires { CanRun program.now physical.now inputs options }
+            ensures { IfOk result (IsPlanOutcome program.now inputs physical.now) }
+        { run_by_strategy_on_threads(rt, alloc, program, physical, inputs, options, gate) },
     };
-    let format = |bag: Rows, fields: &[u32]| -> Result<Bytes, OutOfMemory>
-        requires { CanFormat fields.now bag }
-        ensures { IfOk result (AreLines fields.now bag) }
-    {
-        let parts = parts_for_rows(bag.len(), workers);
-        sorted_lines_on_threads(rt, alloc, bag, fields, parts)
+    let formatter = CalledFormats {
+        call: |bag: Rows, fields: &[u32]| -> Result<Bytes, OutOfMemory>
+            requires { CanFormat fields.now bag }
+            ensures { IfOk result (AreLines fields.now bag) }
+        {
+            let parts = parts_for_rows(bag.len(), workers);
+            sorted_lines_on_threads(rt, alloc, bag, fields, parts)
+        },
     };
-    answer(alloc, command, feed, &read, &run, &format)
-}
-
-// The answer, on threads if there are two workers or more.
-fn answer_as_asked<R: Threads + Wait + Sync, F: Feed, G: Gate>(
-    rt: &R,
-    alloc: Global,
-    command: Result<Command, Refused>,
-    workers: u32,
-    feed: &mut F,
-    gate: &G,
-) -> Result<Texts, Refusal>
-    requires range { IfOk command (λ known. IsInRange (asked known)) }
-    ensures { AnswersWords command.entry (feed.new ≡ feed.old) (F.shows feed.old) (F.shows feed.new) result }
-{
-    if workers < 2 {
-        answer_alone(alloc, command, feed)
-    } else {
-        answer_on_threads(rt, alloc, command, workers, feed, gate)
-    }
+    answer(alloc, command, feed, &reader, &runner, &formatter)
 }
 
 // How many threads the words ask for. Words that couldn't be read for lack of memory ask for none.
@@ -219,11 +199,11 @@ pub fn pact_alone<F: Feed, O: Sink, E: Sink>(
 /// `specs/Headline.antt` says what each of them means.
 ///
 /// A run, a drill or an iteration with two workers or more has a thread for each worker, as far as the system provides
-/// them. There `gate` is called before each event of the worker's instances. Long sources are read on at most that
-/// number of threads, one source after the other (`csv_parts`). The text of a long answer is made on at most that
-/// number too (`bag_lines`). The workers wait for one another's notes, so the call may wait, and the promises hold if
-/// it returns. With one worker, and for every other command, it does what `pact_alone` does and waits for no other
-/// thread. That follows from how it is built; no clause says so.
+/// them. There `gate` is called before an instance tries to put or to take a note, and before it ends. Long sources are
+/// read on at most that number of threads, one source after the other (`csv_parts`). The text of a long answer is made
+/// on at most that number too (`bag_lines`). The workers wait for one another's notes, so the call may wait, and the
+/// promises hold if it returns. With one worker, and for every other command, it does what `pact_alone` does and waits
+/// for no other thread. That follows from how it is built; no clause says so.
 ///
 /// Exit statuses:
 /// - 0: the text was written whole.
@@ -249,6 +229,6 @@ pub fn pact_main<R: Threads + Wait + Sync, F: Feed, O: Sink, E: Sink, G: Gate>(
 {
     let command = read_words(alloc, words);
     let workers = threads_asked(&command);
-    let answered = answer_as_asked(rt, alloc, command, workers, feed, gate);
+    let answered = answer_on_threads(rt, alloc, command, workers, feed, gate);
     finish(out, err, answered)
 }

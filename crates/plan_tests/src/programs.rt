@@ -1,16 +1,14 @@
 //! Programs, and the rows of their sources, from their texts.
 
 ghost use Rattle.std.specs.Prelude.{IfOk};
-ghost use Rattle.pact_load.specs.Readers.{CanRead, IsRead};
 ghost use Rattle.pact_operators.specs.Inputs.{AreInputsOf};
 ghost use Rattle.pact_operators.specs.Programs.{AreNames, NamesDiffer};
 
-use csv_source::{BadRow, read_source};
-use pact_bag::{Inputs, Rows};
-use pact_load::{is_source, load_sources, program_of};
+use pact_bag::Inputs;
+use pact_load::{ReadAlone, is_source, load_sources, program_of};
 use pact_operators::{Op, Program};
 use pact_outside::{FailList, MemFeed, MemFiles, NamedFile};
-use pact_record::{Bytes, Columns, OutOfMemory};
+use pact_record::{Bytes, OutOfMemory};
 use std::alloc::Global;
 use std::test::Fail;
 
@@ -58,11 +56,7 @@ pub fn inputs(alloc: Global, program: &Program, texts: &[&str]) -> Result<Inputs
 {
     let files = files_of(alloc, program, texts)?;
     let mut feed = MemFeed::new(files, usize::MAX, FailList::new(alloc));
-    let read = |bytes: &[u8], columns: &Columns, fields: u32| -> Result<Rows, BadRow>
-        requires { CanRead fields columns.now }
-        ensures { IsRead fields columns.now bytes.now result }
-    { read_source(alloc, bytes, columns, fields) };
-    match load_sources(alloc, &mut feed, program, &read) {
+    match load_sources(alloc, &mut feed, program, &ReadAlone { alloc }) {
         Ok(inputs) => Ok(inputs),
         Err(_) => Err(Fail::new("no rows")),
     }

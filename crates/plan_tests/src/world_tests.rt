@@ -237,10 +237,21 @@ fn workers_share_the_rows_of_a_source_in_turn(rt: HostRuntime) -> Result<(), Fai
     assert_eq!(rt; notes_put(rt.alloc(), TWICE, &[two], 0, 2, 1)?, 2);
     assert_eq!(rt; notes_put(rt.alloc(), TWICE, &[two], 0, 3, 1)?, 1);
     assert_eq!(rt; notes_put(rt.alloc(), TWICE, &[four], 0, 3, 1)?, 2);
-    // worker 1 has the second row of either key, and the keys belong to different workers: it begins with its own
-    let world = world(rt.alloc(), GROUP, &["0,5\n0,6\n1,7\n1,8\n"], 2, 1, 64)?;
+    Ok(())
+}
+
+// Worker 1 has the second row of either key. Key 0 belongs to worker 0, and key 1 to worker 1.
+#[test]
+fn batches_go_as_they_fill_up_and_then_to_its_own_worker_first(
+    rt: HostRuntime,
+) -> Result<(), Fail> {
+    let rows = "0,5\n0,6\n1,7\n1,8\n";
+    let filled = world(rt.alloc(), GROUP, &[rows], 2, 1, 64)?;
+    let notes = [put(0, 1, 0), put(0, 1, 1), put(0, 1, 0), put(0, 1, 1)];
+    assert_eq!(rt; followed(filled, &notes)?, (4, 2));
+    let left = world(rt.alloc(), GROUP, &[rows], 2, 2, 64)?;
     let notes = [put(0, 1, 1), put(0, 1, 0), put(0, 1, 0), put(0, 1, 1)];
-    assert_eq!(rt; followed(world, &notes)?, (4, 2));
+    assert_eq!(rt; followed(left, &notes)?, (4, 2));
     Ok(())
 }
 

@@ -14,6 +14,8 @@ mod csv_tests;
 #[cfg(test)]
 mod example_tests;
 #[cfg(test)]
+mod example_texts;
+#[cfg(test)]
 mod gate_tests;
 #[cfg(test)]
 mod lines_tests;

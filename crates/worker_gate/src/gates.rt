@@ -1,6 +1,6 @@
-//! What a worker calls before each of its events.
+//! What a worker calls before each attempt.
 
-/// The kind of the event that comes next.
+/// The kind of the event that is attempted next.
 #[derive(Clone, Copy, Debug, PartialEq, Eq)]
 pub enum Act {
     /// A note is put.

@@ -3,7 +3,7 @@
 use crate::gates::{Act, Gate};
 use std::hint;
 
-/// This gate makes one worker spin for a number of turns before each of its events, and lets every other worker go on
+/// This gate makes one worker spin for a number of turns before each of its attempts, and lets every other worker go on
 /// at once. It waits for no other worker and keeps no record.
 #[derive(Drop)]
 pub struct HoldGate {

@@ -6,7 +6,7 @@ use crate::gates::{Act, Gate};
 use std::sync::atomic::{AtomicU64, Ordering};
 use std::thread;
 
-/// At this gate each worker's first event waits until every worker has reached its first event, or until a number of
+/// At this gate each worker waits at its first attempt until every worker has reached its own, or until a number of
 /// turns is over.
 #[derive(Drop)]
 pub struct MeetGate {
@@ -42,7 +42,7 @@ impl MeetGate {
         bits.load(Ordering::SeqCst) & self.all == self.all
     }
 
-    // Waits for the others at the worker's first event.
+    // Waits for the others at the worker's first attempt.
     fn meet(&self, bit: u64) {
         if self.came.fetch_or(bit, Ordering::SeqCst) & bit != 0 {
             return;
@@ -58,7 +58,7 @@ impl MeetGate {
         }
     }
 
-    /// Whether every worker saw all the others at its first event, so that all of them were at work at once. It reads
+    /// Whether every worker saw all the others at its first attempt, so that all of them were at work at once. It reads
     /// the atomics at the time of the call, and no contract says anything about it: call it after the workers have
     /// returned.
     pub fn met(&self) -> bool {

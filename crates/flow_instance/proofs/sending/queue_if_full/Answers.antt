@@ -1,13 +1,19 @@
-use Rattle.std.proofs.Common.{◌<◌, length, sym, subst, arith}
-use Rattle.std.proofs.lemmas.Result.{IfOk-weaker}
+use Rattle.std.proofs.Common.{[], ap, arith, length, subst, sym, ◌∙◌}
+use Rattle.std.proofs.lemmas.Result.{on_ok_weaker}
 use Rattle.pact_operators.specs.Allowed.{Bag}
 use Rattle.flow_instance.specs.Sending.{AreCarriedBut}
-use Rattle.flow_instance.proofs.CarriedBatches.{queued_if_full}
 use Rattle.flow_instance.proofs.sending.queue_if_full.Goals as goal
 
-pub returns-clause-queued_if_full : goal.returns-clause-queued_if_full
-returns-clause-queued_if_full c =
-    let some : 0 < length c.args.rows = omega arith in
-    IfOk-weaker c.with_capacity.result _ _ (λ rows e fields done old h.
-    subst (λ (held : Bag). AreCarriedBut fields c.args.to done old c.push_back.new.self.items held) (sym e)
-    (queued_if_full fields c.args.to done c.args.rows old c.args.queue.now.items c.push_back.new.self.items some c.in_ok-push_back.ensures.items h)) c.with_capacity.ensures
+pub returns-clause-queued : goal.returns-clause-queued
+returns-clause-queued c =
+    on_ok_weaker c.queue_batch.result (λ queued fields done old h.
+    subst (λ (held : Bag). AreCarriedBut fields c.args.to done old c.queue_batch.new.queue.items held) (sym (c.replace-full.ensures.after ∙ c.in_ok-next.ensures))
+    (queued fields done old (subst (λ (full : Bag). AreCarriedBut fields c.args.to done old c.args.queue.now.items full) (sym c.replace-full.ensures.value) h))) c.queue_batch.ensures.queued
+
+pub returns-clause-few : goal.returns-clause-few
+returns-clause-few c =
+    on_ok_weaker c.queue_batch.result (λ queued. let none = ap length (c.replace-full.ensures.after ∙ c.in_ok-next.ensures) in omega (arith, none, c.requires)) c.queue_batch.ensures.queued
+
+pub returns-clause-batches : goal.returns-clause-batches
+returns-clause-batches c =
+    on_ok_weaker c.queue_batch.result (λ batches most le few. batches most (omega (arith, le, ap length c.replace-full.ensures.value)) few) c.queue_batch.ensures.batches

@@ -6,5 +6,5 @@ use Rattle.flow_instance.proofs.sending.send_all.Given as goal
 
 abbrev pub invariant-loop-n : goal.invariant-loop-n
 invariant-loop-n l =
-    ((fields : ℕ) → AreWide fields l.fn.rows → AreSentSoFar fields l.workers Broadcast l.from l.n l.fn.rows l.queue.items)
+    ((fields : ℕ) → AreWide fields l.fn.rows → AreSentSoFar fields l.workers Broadcast l.from l.n l.fn.rows l.queue.items (λ _. l.fn.rows))
     × AreFew l.batch l.queue.items

@@ -1,7 +1,7 @@
 use Rattle.flow_run.proofs.runs.run_on_threads.Goals as goal
 
-pub deal-requires-clause-started : goal.deal-requires-clause-started
-deal-requires-clause-started g c κs within = record { inputs = c.args.inputs; size = c.args.options.batch; started = c.in_ok-list.ensures }
+pub assign-requires-clause-started : goal.assign-requires-clause-started
+assign-requires-clause-started g c κs within = record { inputs = c.args.inputs; size = c.args.options.batch; started = c.in_ok-list.ensures }
 
 pub work_side_by_side-requires-clause-some : goal.work_side_by_side-requires-clause-some
 work_side_by_side-requires-clause-some g c κs within = (c.in_ok-network.ensures c.args.inputs c.args.options.batch c.in_ok-list.ensures).some

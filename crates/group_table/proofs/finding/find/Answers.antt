@@ -7,7 +7,7 @@ use Rattle.group_table.proofs.finding.find.Goals as goal
 
 pub loop-at-init : goal.loop-at-init
 loop-at-init c =
-    left_all c.args.buckets.now (order_of c.args.groups.now.keys c.args.groups.now.groups) (key_of c.args.keys.now c.args.row.now) c.row_code.result c.head-at.result c.requires.index c.row_code.ensures c.head-at.ensures
+    left_all c.args.buckets.now (order_of c.args.groups.now.keys c.args.groups.now.groups) (key_of c.args.keys.now c.args.row.now) c.args.hash c.head-at.result c.requires.index c.requires.hash c.head-at.ensures
 
 pub returns-then-has_key : goal.returns-then-has_key
 returns-then-has_key c =

@@ -9,7 +9,7 @@ pub returns-in-Some : goal.returns-in-Some
 returns-in-Some c =
     let old = c.args.groups.now in
     let found = subst (IsFound (order_of old.keys old.groups) (key_of old.keys c.args.row)) c.in-Some.is
-    (subst (λ (ks : List ℕ). IsFound (order_of old.keys old.groups) (key_of ks c.args.row) c.find.result) c.keys.ensures c.find.ensures) in
+    (subst (λ (ks : List ℕ). IsFound (order_of old.keys old.groups) (key_of ks c.args.row) c.find.result) c.keys-keys.ensures c.find.ensures) in
     on_ok_weaker c.put_behind.result
     (λ e. added_behind c.args.row old c.args.lists.now.lists c.put_behind.new.lists.lists c.args.buckets.now c.in-Some.n c.requires.index c.requires.behind found c.requires.wide c.requires.below e) c.put_behind.ensures
 

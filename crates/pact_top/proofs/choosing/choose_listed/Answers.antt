@@ -20,6 +20,7 @@ returns c =
       there = there;
       plan = c.requires.plans.plans plan (n, there);
       answers = c.requires.plans.answers plan (n, there);
+      counts = c.in_ok-counts.ensures;
       known = c.requires.known.facts n plan c.table-facts.result.now there c.table-facts.ensures;
       entry = subst (λ (es : List Entry). n < length es) c.entries.ensures.entries (slice_get_within entries n c.at-plan.result c.at-plan.ensures);
       layout = c.choose_known-chosen.ensures.second_within;

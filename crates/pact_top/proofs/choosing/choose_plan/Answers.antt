@@ -11,6 +11,7 @@ returns c =
       plan = p.plan;
       answers = p.answers;
       known = p.known;
+      counts = p.counts;
       entry = p.entry;
       layout = p.layout;
     }

@@ -6,5 +6,5 @@ use Rattle.pact_top.proofs.generating.summary.Goals as goal
 
 pub returns : goal.returns
 returns g c =
-    let spelled = subst (λ (sink : List ℕ). AreLines sink c.args.run.ran.outcome.rows c.in_ok-lines.lines) c.sink.ensures.sink c.in_ok-lines.ensures in
+    let spelled = subst (λ (sink : List ℕ). AreLines sink c.args.bag c.in_ok-lines.lines) c.sink.ensures.sink c.in_ok-lines.ensures in
     IfOk-weaker c.summary_text.result _ _ (λ text e. record { lines = c.in_ok-lines.lines; spelled = spelled; told = e ∙ (λ i. specs.summary_text (c.from.ensures i) (c.len-out.ensures i) (c.bytes.ensures i)) }) c.summary_text.ensures

@@ -3,7 +3,7 @@ use Rattle.flow_instance.specs.Spots.{setting}
 use Rattle.flow_core.specs.Worlds.{WorldData}
 use Rattle.flow_core.proofs.WorldLaws.{laws_hold}
 use Rattle.flow_core.proofs.StartStands.{size_start, some_start, standing_start}
-use Rattle.flow_core.proofs.StartedRows.{started_queued_instances}
+use Rattle.flow_core.proofs.StartedInstances.{started_queued_instances}
 use Rattle.flow_instance.proofs.PartsOfPlans.{number_below}
 use Rattle.flow_core.proofs.worlds.World.start_owned.Goals as goal
 

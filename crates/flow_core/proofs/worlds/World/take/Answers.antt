@@ -12,15 +12,15 @@ use Rattle.flow_core.proofs.EnabledEvents.{can_take_at, not_unread}
 use Rattle.flow_core.proofs.WorldsAfterEvents.{take_steps}
 use Rattle.flow_core.proofs.worlds.World.take.Goals as goal
 
-pub give-note-requires-clause-some : goal.give-note-requires-clause-some
-give-note-requires-clause-some g c κs within =
+pub remove_first-note-requires-clause-some : goal.remove_first-note-requires-clause-some
+remove_first-note-requires-clause-some g c κs within =
     let reader : reader_of c.args.pipe.edge c.args.self.now.physical.tree ≡ Some (c.in-Some.at, c.in-Some.port) =
     ap (λ (w : WorldData). reader_of c.args.pipe.edge w.physical.tree) (sym c.self.view_is) ∙ sym c.reader.ensures ∙ c.in-Some.is in
     let can = can_take_at c.args.self.now c.args.pipe c.in-Some.at c.in-Some.port c.requires.stands c.requires.can reader in
     can.some
 
-pub give-note-requires-clause-has : goal.give-note-requires-clause-has
-give-note-requires-clause-has g c κs within =
+pub remove_first-note-requires-clause-has : goal.remove_first-note-requires-clause-has
+remove_first-note-requires-clause-has g c κs within =
     let reader : reader_of c.args.pipe.edge c.args.self.now.physical.tree ≡ Some (c.in-Some.at, c.in-Some.port) =
     ap (λ (w : WorldData). reader_of c.args.pipe.edge w.physical.tree) (sym c.self.view_is) ∙ sym c.reader.ensures ∙ c.in-Some.is in
     let can = can_take_at c.args.self.now c.args.pipe c.in-Some.at c.in-Some.port c.requires.stands c.requires.can reader in
@@ -32,61 +32,61 @@ receive-requires-clause-ready g c κs within =
     ap (λ (w : WorldData). reader_of c.args.pipe.edge w.physical.tree) (sym c.self.view_is) ∙ sym c.reader.ensures ∙ c.in-Some.is in
     let can = can_take_at c.args.self.now c.args.pipe c.in-Some.at c.in-Some.port c.requires.stands c.requires.can reader in
     let p = c.args.pipe in
-    subst (λ (n : Note). IsReadyFor (instance_in c.give-note.new.self.queued_instances c.in-Some.at p.to) p.to c.in-Some.port p.from n) (sym c.give-note.ensures.note)
-    (subst (λ (i : Instance). IsReadyFor i p.to c.in-Some.port p.from (first_note (queue_in c.args.self.now.queued_instances p.edge p.from p.to))) (sym (c.give-note.ensures.instances c.in-Some.at p.to)) can.ready)
+    subst (λ (n : Note). IsReadyFor (instance_in c.remove_first-note.new.self.queued_instances c.in-Some.at p.to) p.to c.in-Some.port p.from n) (sym c.remove_first-note.ensures.note)
+    (subst (λ (i : Instance). IsReadyFor i p.to c.in-Some.port p.from (first_note (queue_in c.args.self.now.queued_instances p.edge p.from p.to))) (sym (c.remove_first-note.ensures.instances c.in-Some.at p.to)) can.ready)
 
 pub receive-requires-clause-has : goal.receive-requires-clause-has
 receive-requires-clause-has g c κs within =
     let reader : reader_of c.args.pipe.edge c.args.self.now.physical.tree ≡ Some (c.in-Some.at, c.in-Some.port) =
     ap (λ (w : WorldData). reader_of c.args.pipe.edge w.physical.tree) (sym c.self.view_is) ∙ sym c.reader.ensures ∙ c.in-Some.is in
     let can = can_take_at c.args.self.now c.args.pipe c.in-Some.at c.in-Some.port c.requires.stands c.requires.can reader in
-    subst (λ (q : PhysicalData). has c.in-Some.at q.tree ≡ true) (sym c.give-note.ensures.physical) can.receiver.there
+    subst (λ (q : PhysicalData). has c.in-Some.at q.tree ≡ true) (sym c.remove_first-note.ensures.physical) can.receiver.there
 
 pub returns-clause-stepped : goal.returns-clause-stepped
 returns-clause-stepped g c =
     let reader : reader_of c.args.pipe.edge c.args.self.now.physical.tree ≡ Some (c.in-Some.at, c.in-Some.port) =
     ap (λ (w : WorldData). reader_of c.args.pipe.edge w.physical.tree) (sym c.self.view_is) ∙ sym c.reader.ensures ∙ c.in-Some.is in
     let can = can_take_at c.args.self.now c.args.pipe c.in-Some.at c.in-Some.port c.requires.stands c.requires.can reader in
-    let give = c.give-note.ensures in
+    let removed = c.remove_first-note.ensures in
     on_ok_three c.receive.result (λ took others kept s h st.
-    take_steps s c.args.self.now c.give-note.new.self c.receive.new.self h c.args.pipe c.in-Some.at c.in-Some.port c.give-note.result st reader can.receiver.there can.receiver.below
-    give.instances give.queue give.note took others kept)
+    take_steps s c.args.self.now c.remove_first-note.new.self c.receive.new.self h c.args.pipe c.in-Some.at c.in-Some.port c.remove_first-note.result st reader can.receiver.there can.receiver.below
+    removed.instances removed.queue removed.note took others kept)
     c.receive.ensures.took c.receive.ensures.others c.receive.ensures.queues
 
 pub unreachable-requires : goal.unreachable-requires
 unreachable-requires g c =
     not_unread c.args.self.now c.args.pipe c.requires.can (ap (λ (w : WorldData). reader_of c.args.pipe.edge w.physical.tree) (sym c.self.view_is) ∙ sym c.reader.ensures ∙ c.in_default.is)
 
-pub give-note-requires-clause-whole : goal.give-note-requires-clause-whole
-give-note-requires-clause-whole g c κs within = c.requires.stands.standing.whole
+pub remove_first-note-requires-clause-whole : goal.remove_first-note-requires-clause-whole
+remove_first-note-requires-clause-whole g c κs within = c.requires.stands.standing.whole
 
-pub give-note-requires-clause-from : goal.give-note-requires-clause-from
-give-note-requires-clause-from g c κs within =
+pub remove_first-note-requires-clause-from : goal.remove_first-note-requires-clause-from
+remove_first-note-requires-clause-from g c κs within =
     let reader : reader_of c.args.pipe.edge c.args.self.now.physical.tree ≡ Some (c.in-Some.at, c.in-Some.port) =
     ap (λ (w : WorldData). reader_of c.args.pipe.edge w.physical.tree) (sym c.self.view_is) ∙ sym c.reader.ensures ∙ c.in-Some.is in
     (can_take_at c.args.self.now c.args.pipe c.in-Some.at c.in-Some.port c.requires.stands c.requires.can reader).sender.below
 
-pub give-note-requires-clause-to : goal.give-note-requires-clause-to
-give-note-requires-clause-to g c κs within =
+pub remove_first-note-requires-clause-to : goal.remove_first-note-requires-clause-to
+remove_first-note-requires-clause-to g c κs within =
     let reader : reader_of c.args.pipe.edge c.args.self.now.physical.tree ≡ Some (c.in-Some.at, c.in-Some.port) =
     ap (λ (w : WorldData). reader_of c.args.pipe.edge w.physical.tree) (sym c.self.view_is) ∙ sym c.reader.ensures ∙ c.in-Some.is in
     (can_take_at c.args.self.now c.args.pipe c.in-Some.at c.in-Some.port c.requires.stands c.requires.can reader).receiver.below
 
 pub receive-requires-clause-whole : goal.receive-requires-clause-whole
-receive-requires-clause-whole g c κs within = c.give-note.ensures.whole
+receive-requires-clause-whole g c κs within = c.remove_first-note.ensures.whole
 
 pub receive-requires-clause-worker : goal.receive-requires-clause-worker
 receive-requires-clause-worker g c κs within =
     let reader : reader_of c.args.pipe.edge c.args.self.now.physical.tree ≡ Some (c.in-Some.at, c.in-Some.port) =
     ap (λ (w : WorldData). reader_of c.args.pipe.edge w.physical.tree) (sym c.self.view_is) ∙ sym c.reader.ensures ∙ c.in-Some.is in
     let can = can_take_at c.args.self.now c.args.pipe c.in-Some.at c.in-Some.port c.requires.stands c.requires.can reader in
-    subst (λ (q : PhysicalData). c.args.pipe.to < q.workers) (sym c.give-note.ensures.physical) can.receiver.below
+    subst (λ (q : PhysicalData). c.args.pipe.to < q.workers) (sym c.remove_first-note.ensures.physical) can.receiver.below
 
 pub returns-clause-whole : goal.returns-clause-whole
 returns-clause-whole g c = c.receive.ensures.whole
 
 pub returns-clause-physical : goal.returns-clause-physical
-returns-clause-physical g c = c.receive.ensures.physical ∙ c.give-note.ensures.physical
+returns-clause-physical g c = c.receive.ensures.physical ∙ c.remove_first-note.ensures.physical
 
 pub returns-clause-depth : goal.returns-clause-depth
-returns-clause-depth g c = c.receive.ensures.depth ∙ c.give-note.ensures.depth
+returns-clause-depth g c = c.receive.ensures.depth ∙ c.remove_first-note.ensures.depth

@@ -1,6 +1,0 @@
-use Rattle.std.proofs.Common.{length}
-use Rattle.flow_run.proofs.WorkerLists.{DealOut}
-use Rattle.flow_run.proofs.dealing.deal.Given as goal
-
-abbrev pub invariant-loop-at : goal.invariant-loop-at
-invariant-loop-at g l = DealOut l.physical (length l.program.ops) l.depth l.fn.list l.list l.at l.network.pipes l.network.workers.items
